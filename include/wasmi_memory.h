@@ -1,4 +1,4 @@
-/* Memories, fuel and tables whose state lies with the caller, for C and C++, in libwasmi_embed.a (x86-64 Linux).
+/* Memories, fuel and tables whose state lies with the caller, for C and C++, in libwasmi_core.a (x86-64 Linux).
 
    State: all of it is in structs of plain numbers and in arrays of the caller's; the library keeps nothing between
    calls. A memory is a wasmi_memory and a region of bytes: its first `size` bytes are the memory's, and the rest is
@@ -26,7 +26,7 @@
 
    Statuses are those of wasmi_core.h and wasmi_machine.h and the four below. After a status other than WASMI_DONE the
    structs, the regions and the numbers are as they were, except where a call says otherwise, and except that a quota
-   that is on may have another `last` and last_kind where the state was valid. No call writes a flag that it reads
+   that is on may have another `last` and last_kind where it was asked. No call writes a flag that it reads
    (is_on, has_maximum, is_64), and none writes a meter or a quota that is off.
 
    What is promised, by proof: a growth is a growth of the library's memory or table, between the states that the
@@ -148,6 +148,32 @@ uint8_t wasmi_memory_read(const wasmi_memory *memory, const uint8_t *region, siz
 uint8_t wasmi_memory_write(const wasmi_memory *memory, uint8_t *region, size_t region_len, size_t offset,
                            const uint8_t *bytes, size_t len);
 
+/* What is written over: count bytes or elements from `to` on, in a copy by those from `from` on. */
+typedef struct {
+    uint64_t to, from, count;
+} wasmi_range;
+
+/* Bulk memory. Each takes as much fuel as a copy of count bytes (wasmi_fuel_copy_cost), for no byte too. Refusals in
+   their order: INVALID_STATE, for either memory; MEMORY_ACCESS where a range ends past its memory or its bytes;
+   MEMORY_OUT_OF_FUEL with what is needed in *number. */
+
+/* Fills the bytes of a range with a value; range->from isn't read. */
+uint8_t wasmi_memory_fill(const wasmi_memory *memory, uint8_t *region, size_t region_len, const wasmi_range *range,
+                          uint8_t value, wasmi_meter *meter, uint64_t *number);
+
+/* Copies bytes of a memory over others of it. Where the ranges overlap, the old bytes are copied. */
+uint8_t wasmi_memory_copy_within(const wasmi_memory *memory, uint8_t *region, size_t region_len,
+                                 const wasmi_range *range, wasmi_meter *meter, uint64_t *number);
+
+/* Copies bytes of another memory, in another region, over those of a memory. */
+uint8_t wasmi_memory_copy(const wasmi_memory *memory, uint8_t *region, size_t region_len, const wasmi_memory *source,
+                          const uint8_t *source_region, size_t source_len, const wasmi_range *range,
+                          wasmi_meter *meter, uint64_t *number);
+
+/* Copies bytes, such as a data segment's, over those of a memory. */
+uint8_t wasmi_memory_init(const wasmi_memory *memory, uint8_t *region, size_t region_len, const uint8_t *bytes,
+                          size_t len, const wasmi_range *range, wasmi_meter *meter, uint64_t *number);
+
 /* Sets the fuel that is left; METERING_DISABLED where the meter is off. */
 uint8_t wasmi_fuel_set(wasmi_meter *meter, uint64_t amount);
 
@@ -161,8 +187,14 @@ uint8_t wasmi_fuel_consume(wasmi_meter *meter, uint64_t amount, uint64_t *number
 /* The price of a copy of so many bytes, also by a meter that is off: UINT64_MAX where bytes_copied_per_fuel is 0. */
 uint64_t wasmi_fuel_copy_cost(const wasmi_meter *meter, uint64_t bytes);
 
+/* Takes the price of a copy of so many bytes, as wasmi_fuel_consume takes an amount. */
+uint8_t wasmi_fuel_consume_copy(wasmi_meter *meter, uint64_t bytes, uint64_t *number);
+
 /* Tables. A reference is a number, 0 for null; its type is the caller's matter. elements_len is the length of the
-   region in elements. The calls that write over a range or grow take fuel for 4 bytes an element. */
+   region in elements. The calls that write over a range or grow take fuel for 4 bytes an element.
+   The elements lie in the caller's own array. So an engine may read and write elements[k] itself for each k below the
+   size, as wasmi_table_get and _set do, and need not call for it: table->size is the size since the last call that was
+   done, and wasmi_table_size tests that the struct stands for a table first. */
 
 /* Makes a table with one reference in each place, at its minimum, and sets its size. It takes no fuel, and leaves the
    elements past the minimum alone.
@@ -188,6 +220,9 @@ uint8_t wasmi_table_question(const wasmi_table *table, const uint32_t *elements,
 uint8_t wasmi_table_settle(wasmi_table *table, uint32_t *elements, size_t elements_len, uint64_t delta,
                            uint32_t reference, wasmi_meter *meter, wasmi_answers *answers, uint64_t *number);
 
+/* The size in elements; INVALID_STATE. */
+uint8_t wasmi_table_size(const wasmi_table *table, const uint32_t *elements, size_t elements_len, uint64_t *size);
+
 /* The element at an index; INVALID_STATE, then NO_ELEMENT past the end. */
 uint8_t wasmi_table_get(const wasmi_table *table, const uint32_t *elements, size_t elements_len, uint64_t index,
                         uint32_t *reference);
@@ -195,11 +230,6 @@ uint8_t wasmi_table_get(const wasmi_table *table, const uint32_t *elements, size
 /* Sets the element at an index; INVALID_STATE, then TABLE_SET past the end. */
 uint8_t wasmi_table_set(const wasmi_table *table, uint32_t *elements, size_t elements_len, uint64_t index,
                         uint32_t reference);
-
-/* What is written over: count elements from `to` on, in a copy by those from `from` on. */
-typedef struct {
-    uint64_t to, from, count;
-} wasmi_range;
 
 /* Fills the elements of a range with a reference; range->from isn't read. Refusals in their order: INVALID_STATE;
    TABLE_FILL where they end past the table; TABLE_OUT_OF_FUEL with what is needed in *number. */

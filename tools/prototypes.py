@@ -5,20 +5,18 @@ CRATE_TYPES = {
     "bool": "bool", "i32": "int32_t", "i64": "int64_t", "u8": "uint8_t", "u16": "uint16_t", "u32": "uint32_t", "u64": "uint64_t", "usize": "size_t",
     "RawVal": "wasmi_words", "Words": "wasmi_words", "InstructionResult": "wasmi_result",
     "Handle": "wasmi_machine", "Limits": "wasmi_limits", "PlainCall": "wasmi_call", "PlainReply": "wasmi_reply", "Totals": "wasmi_totals",
-    "MemoryHeader": "wasmi_memory", "TableHeader": "wasmi_table", "MeterHeader": "wasmi_meter", "QuotaHeader": "wasmi_quota",
+    "MemoryNumbers": "wasmi_memory", "TableNumbers": "wasmi_table", "MeterNumbers": "wasmi_meter", "QuotaNumbers": "wasmi_quota",
     "HostAnswers": "wasmi_answers", "Question": "wasmi_question", "Range": "wasmi_range",
 }
 # Parameters and fields that C calls by another name: (name in the crate, type in C without const) -> name in C.
 OTHER_NAMES = {
     ("handle", "wasmi_machine *"): "machine",
-    ("header", "wasmi_memory *"): "memory",
-    ("header", "wasmi_table *"): "table",
     ("region", "uint32_t *"): "elements",
     ("source_region", "uint32_t *"): "source_elements",
     ("ty", "uint8_t"): "type",
 }
 # Lengths that aren't named after their array.
-LENGTHS = {"source_elements": "source_len"}
+LENGTHS = {"source_elements": "source_len", "source_region": "source_len"}
 
 
 class Unread(Exception):

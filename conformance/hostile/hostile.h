@@ -10,11 +10,20 @@ static uint8_t flag(void) {
     return flags[below(sizeof flags)];
 }
 
+/* What reading a quota and writing it back does, which it is where it is asked. */
+static void written_back(wasmi_quota *quota) {
+    if (quota->last_kind != 1 && quota->last_kind != 2) {
+        quota->last_kind = 0;
+        quota->last = 0;
+    }
+}
+
 /* Whether a quota permits so many more: of bytes (1) or of elements (2). */
 static bool permits(wasmi_quota *quota, size_t more, uint8_t kind) {
     uint64_t *held = kind == 1 ? &quota->held_bytes : &quota->held_elements;
     if (!quota->is_on)
         return true;
+    written_back(quota);
     if ((wide)*held + more > (kind == 1 ? quota->cap_bytes : quota->cap_elements))
         return false;
     *held += more;
@@ -31,16 +40,6 @@ static void gives_back(wasmi_quota *quota, uint8_t kind) {
     *held -= quota->last < *held ? quota->last : *held;
     quota->last = 0;
     quota->last_kind = 0;
-}
-
-/* What reading a quota and writing it back does. */
-static void written_back(wasmi_quota *quota) {
-    if (!quota->is_on)
-        return;
-    if (quota->last_kind != 1 && quota->last_kind != 2) {
-        quota->last_kind = 0;
-        quota->last = 0;
-    }
 }
 
 /* The price of a copy. */

@@ -49,7 +49,6 @@ static uint8_t new_by_model(state *s, int i) {
     wasmi_memory *m = &s->memory[i];
     if (!has_type(m))
         return WASMI_INVALID_STATE;
-    written_back(&s->quota);
     wide size = (wide)m->minimum * page_of(m);
     if (size > UINT64_MAX)
         return WASMI_MEMORY_SIZE_OVERFLOW;
@@ -78,8 +77,6 @@ static uint8_t grow_by_model(state *s, int i, uint64_t pages, bool by_answers) {
         s->answers.asked = s->answers.told = 0;
     if (pages != 0 && !in_bounds(m, (wide)old + pages))
         return WASMI_MEMORY_GROWTH;
-    if (!by_answers)
-        written_back(&s->quota);
     if (pages == 0) {
         s->number = old;
         return WASMI_DONE;
@@ -155,6 +152,50 @@ static uint8_t access_by_model(state *s, int i, size_t offset, uint8_t *bytes, s
     if (length > 0)
         memcpy(is_write ? s->region[i] + offset : bytes, is_write ? bytes : s->region[i] + offset, length);
     return WASMI_DONE;
+}
+
+/* Whether a range lies within so many bytes. */
+static bool within(uint64_t from, uint64_t count, size_t length) {
+    return (wide)from + count <= length;
+}
+
+/* A write over a range, by bytes or by one value where there are none, once the memories are known to be ones. */
+static uint8_t write_by_model(state *s, int i, const wasmi_range *range, const uint8_t *bytes, uint8_t value) {
+    uint64_t price = price_of(&s->meter, range->count);
+    if (s->meter.is_on && s->meter.left < price) {
+        s->number = price;
+        return WASMI_MEMORY_OUT_OF_FUEL;
+    }
+    if (s->meter.is_on)
+        s->meter.left -= price;
+    if (range->count > 0 && bytes)
+        memmove(s->region[i] + range->to, bytes + range->from, (size_t)range->count);
+    else if (range->count > 0)
+        memset(s->region[i] + range->to, value, (size_t)range->count);
+    return WASMI_DONE;
+}
+
+static uint8_t fill_by_model(state *s, int i, const wasmi_range *range, uint8_t value) {
+    if (!is_state(&s->memory[i], s->length[i]))
+        return WASMI_INVALID_STATE;
+    if (!within(range->to, range->count, s->memory[i].size))
+        return WASMI_MEMORY_ACCESS;
+    return write_by_model(s, i, range, NULL, value);
+}
+
+/* A copy from so many bytes, which are those of a memory or of a segment. */
+static uint8_t init_by_model(state *s, int i, const uint8_t *bytes, size_t length, const wasmi_range *range) {
+    if (!is_state(&s->memory[i], s->length[i]))
+        return WASMI_INVALID_STATE;
+    if (!within(range->from, range->count, length) || !within(range->to, range->count, s->memory[i].size))
+        return WASMI_MEMORY_ACCESS;
+    return write_by_model(s, i, range, bytes, 0);
+}
+
+static uint8_t copy_by_model(state *s, int i, int from, const wasmi_range *range) {
+    if (!is_state(&s->memory[from], s->length[from]))
+        return WASMI_INVALID_STATE;
+    return init_by_model(s, i, s->region[from], s->memory[from].size, range);
 }
 
 /* ---- the comparison */
@@ -257,6 +298,46 @@ static bool access_agrees(state *s, state *model, int i, bool is_write) {
            (length == 0 || memcmp(bytes, expected, length) == 0);
 }
 
+/* A range that mostly lies within two memories, or within a memory and so many bytes. */
+static wasmi_range some_range(const state *s, int i, size_t source) {
+    size_t size = s->memory[i].size % (MOST + 1), least = size < source ? size : source;
+    uint64_t count = below(8) ? below(below(8) ? least % SMALL + 2 : least + 2) : number();
+    wasmi_range range = {number(), number(), count};
+    if (below(8))
+        range.to = below((size > count ? size - count : size) + 2);
+    if (below(8))
+        range.from = below((source > count ? source - count : source) + 2);
+    return range;
+}
+
+/* A range of a memory is written over. */
+static bool write_agrees(state *s, state *model, int i) {
+    int other = 1 - i;
+    wasmi_memory *m = &s->memory[i];
+    const wasmi_memory *o = &s->memory[other];
+    uint8_t value = (uint8_t)any();
+    size_t length = some_length();
+    const wasmi_range range = some_range(s, i, below(3) ? m->size % (MOST + 1) : length);
+    switch (below(4)) {
+    case 0:
+        return wasmi_memory_fill(m, s->region[i], s->length[i], &range, value, &s->meter, &s->number) ==
+               fill_by_model(model, i, &range, value);
+    case 1:
+        return wasmi_memory_copy_within(m, s->region[i], s->length[i], &range, &s->meter, &s->number) ==
+               copy_by_model(model, i, i, &range);
+    case 2:
+        return wasmi_memory_copy(m, s->region[i], s->length[i], o, s->region[other], s->length[other], &range, &s->meter,
+                                 &s->number) == copy_by_model(model, i, other, &range);
+    default: {
+        uint8_t *bytes = length > 0 ? bytes_end - length : NULL;
+        for (size_t k = 0; k < length; k++)
+            bytes[k] = (uint8_t)(any() >> (k % 8));
+        return wasmi_memory_init(m, s->region[i], s->length[i], bytes, length, &range, &s->meter, &s->number) ==
+               init_by_model(model, i, bytes, length, &range);
+    }
+    }
+}
+
 /* A call that reads a number alone. */
 static bool number_agrees(state *s, state *model, int i) {
     const wasmi_memory *m = &s->memory[i];
@@ -284,7 +365,7 @@ static bool call_agrees(state *s, state *model) {
     int i = (int)below(MEMORIES);
     wasmi_memory *m = &s->memory[i];
     uint64_t pages = some_pages(s, i);
-    switch (below(9)) {
+    switch (below(11)) {
     case 0: return wasmi_memory_new(m, s->region[i], s->length[i], &s->quota) == new_by_model(model, i);
     case 1:
     case 2:
@@ -305,6 +386,12 @@ static bool call_agrees(state *s, state *model) {
     case 7: {
         uint64_t amount = number();
         return wasmi_fuel_consume(&s->meter, amount, &s->number) == consume_by_model(model, amount);
+    }
+    case 8: return write_agrees(s, model, i);
+    case 9: {
+        uint64_t amount = number();
+        return wasmi_fuel_consume_copy(&s->meter, amount, &s->number) ==
+               consume_by_model(model, price_of(&model->meter, amount));
     }
     default: return number_agrees(s, model, i);
     }

@@ -80,6 +80,12 @@ static bool get_agrees(state *s, int i) {
            found == wanted;
 }
 
+static bool size_agrees(const state *s, int i) {
+    uint64_t found = 7, wanted = 7;
+    return wasmi_table_size(&s->table[i], s->region[i], s->length[i], &found) == size_by_model(s, i, &wanted) &&
+           found == wanted;
+}
+
 static bool set_agrees(state *s, state *model, int i) {
     uint64_t index = place(s, i);
     uint32_t reference = (uint32_t)any();
@@ -115,7 +121,7 @@ static bool call_agrees(state *s, state *model) {
     wasmi_table *t = &s->table[i];
     const wasmi_range range = {place(s, i), place(s, below(2) ? i : other), below(3) ? below(6) : number()};
     uint32_t reference = (uint32_t)any();
-    switch (below(9)) {
+    switch (below(10)) {
     case 0: return get_agrees(s, i);
     case 1: return set_agrees(s, model, i);
     case 2:
@@ -128,6 +134,7 @@ static bool call_agrees(state *s, state *model) {
         return wasmi_table_copy_from(t, s->region[i], s->length[i], &s->table[other], s->region[other], s->length[other],
                                      &range, &s->meter, &s->number) == copy_by_model(model, i, other, &range);
     case 5: return init_agrees(s, model, i, &range);
+    case 6: return size_agrees(s, i);
     default: return growth_agrees(s, model, i);
     }
 }

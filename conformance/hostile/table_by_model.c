@@ -1,5 +1,5 @@
 /* The tables of include/wasmi_memory.h, and the setting of fuel, by the plain model: a program that is linked with this file in
-   place of libwasmi_embed.a prints what it should print. examples/run does so with examples/c/table.c. */
+   place of libwasmi_core.a prints what it should print. examples/run does so with examples/c/table.c. */
 #include "table_model.h"
 
 /* All that a call takes, as the model has it; what it doesn't take is zeros. */
@@ -70,6 +70,11 @@ uint8_t wasmi_table_settle(wasmi_table *table, uint32_t *elements, size_t length
     *table = s.table[0];
     *answers = s.answers;
     return given(&s, status, meter, number);
+}
+
+uint8_t wasmi_table_size(const wasmi_table *table, const uint32_t *elements, size_t length, uint64_t *size) {
+    state s = taken(table, (uint32_t *)elements, length);
+    return size_by_model(&s, 0, size);
 }
 
 uint8_t wasmi_table_get(const wasmi_table *table, const uint32_t *elements, size_t length, uint64_t index,

@@ -48,7 +48,6 @@ static uint8_t new_by_model(state *s, int i, uint32_t reference) {
     wasmi_table *t = &s->table[i];
     if (!has_type(t))
         return WASMI_INVALID_STATE;
-    written_back(&s->quota);
     if (!permits(&s->quota, t->minimum, 2))
         return WASMI_TABLE_DENIED;
     if (s->length[i] < t->minimum) {
@@ -84,8 +83,6 @@ static uint8_t grow_by_model(state *s, int i, uint64_t delta, uint32_t reference
         return WASMI_OTHER_SIZE;
     if (by_answers)
         s->answers.asked = s->answers.told = 0;
-    else
-        written_back(&s->quota);
     if (delta == 0) {
         s->number = old;
         return WASMI_DONE;
@@ -182,6 +179,13 @@ static uint8_t init_by_model(state *s, int i, const uint32_t *items, size_t leng
     if (!within(range->from, range->count, length) || !within(range->to, range->count, s->table[i].size))
         return WASMI_TABLE_INIT;
     return range->count == 0 ? WASMI_DONE : write_by_model(s, i, range, items, 0);
+}
+
+static uint8_t size_by_model(const state *s, int i, uint64_t *size) {
+    if (!is_state(&s->table[i], s->length[i]))
+        return WASMI_INVALID_STATE;
+    *size = s->table[i].size;
+    return WASMI_DONE;
 }
 
 static uint8_t get_by_model(const state *s, int i, uint64_t index, uint32_t *reference) {

@@ -1,6 +1,14 @@
 -- What the calls for C take and give.
+pub mod BulkCalls
+pub mod FuelCalls
+pub mod Host
 pub mod Instruction
 pub mod Machine
+pub mod MemoryCalls
+pub mod Numbers
 pub mod Script
+pub mod Settlements
+pub mod SharedQuota
 pub mod Status
+pub mod TableCalls
 pub mod Types

@@ -3,8 +3,23 @@
 //! What the calls take and give stands in the headers of `include/`.
 #![tactic(auto)]
 
+pub mod fuel;
+pub mod host;
 pub mod instruction;
+pub mod laws;
 pub mod machine;
+pub mod memory;
+pub mod quota;
+pub mod range;
+pub mod refusal;
 pub mod script;
 pub mod status;
+pub mod table;
 pub mod types;
+
+pub use fuel::MeterNumbers;
+pub use host::{HostAnswers, Question};
+pub use memory::MemoryNumbers;
+pub use quota::QuotaNumbers;
+pub use range::Range;
+pub use table::TableNumbers;

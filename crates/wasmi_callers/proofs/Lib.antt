@@ -4,6 +4,7 @@ mod LendingLemmas
 mod LentGrowthLemmas
 mod PlacesLemmas
 mod PoolsLemmas
+mod QuotasLemmas
 mod RecorderLemmas
 mod RunsLemmas
 mod TypesLemmas

@@ -8,7 +8,8 @@ ghost use Rattle.wasmi_types.specs.Access.{overwrite};
 ghost use Rattle.wasmi_meter.specs.Limiter.{optional_rules};
 ghost use Rattle.wasmi_meter.specs.LimiterRef.{lent_limiter, KeepsLoan};
 ghost use Rattle.wasmi_store.specs.Buffer.{Lent};
-ghost use Rattle.wasmi_store.specs.Growth.{metered_value};
+ghost use Rattle.wasmi_store.specs.Bulk.{filled, copied, BulkWrites};
+ghost use Rattle.wasmi_store.specs.Growth.{metered_value, metered};
 ghost use Rattle.wasmi_store.specs.Memory.{IsSized, MakesMemory, GrowsMemory};
 ghost use Rattle.wasmi_store.specs.MemoryType.{page_bytes, in_bounds, maximum_bytes};
 ghost use Rattle.wasmi_region.specs.Memory.{memory_in, made_in};
@@ -16,6 +17,7 @@ ghost use Rattle.wasmi_region.specs.Memory.{memory_in, made_in};
 use wasmi_meter::growth::tell;
 use wasmi_meter::{Fuel, MemoryError, ResourceLimiter, ResourceLimiterRef};
 use wasmi_store::MemoryType;
+use wasmi_store::bulk::{copy_bytes, copy_bytes_within, fill_bytes};
 use wasmi_store::growth::{MEMORY_DENIED as DENIED, decide_growth, permitted_minimum};
 pub use wasmi_store::range::read_bytes;
 use wasmi_store::range::{fill_range, write_range};
@@ -24,9 +26,8 @@ use wasmi_store::range::{fill_range, write_range};
 pub fn is_sized(ty: MemoryType, size: usize) -> bool
     ensures { (result ≡ true → IsSized ty size) × (IsSized ty size → result ≡ true) }
 {
-    let page = u64::from(ty.page_size());
-    let pages = size as u64 / page;
-    size as u64 % page == 0 && ty.minimum() <= pages && ty.size_of_pages(pages).is_some()
+    let pages = ty.pages_in(size);
+    ty.minimum() <= pages && ty.size_of_pages(pages) == Some(size)
 }
 
 /// The number of whole pages in `size` bytes.
@@ -99,7 +100,7 @@ pub fn grow<L: ResourceLimiter>(
         return Err(MemoryError::OutOfBoundsGrowth);
     };
     let maximum = ty.maximum_size();
-    let has_room = has_place(region, new_size);
+    let has_room = has_room(region, new_size);
     decide_growth(old_size, new_size, maximum, has_room, fuel, limiter)?;
     fill_range(region, old_size, new_size, 0);
     *size = new_size;
@@ -144,8 +145,94 @@ pub fn write(
     Ok(())
 }
 
+/// Fills `len` bytes from `dst` on with a value, of a memory of `size` bytes at the front of a
+/// region. The errors are those of [`wasmi_store::LinearMemory::fill`].
+pub fn fill(
+    region: &mut [u8],
+    size: usize,
+    dst: u64,
+    value: u8,
+    len: u64,
+    fuel: &mut Fuel,
+) -> Result<(), MemoryError>
+    requires within { size ≤ length region.old }
+    ensures written { BulkWrites (filled (take size region.old) dst value len) len
+        (metered (take size region.old) (Some fuel.old)) result
+        (metered (take size region.new) (Some fuel.new)) }
+    ensures rest { drop size region.new ≡ drop size region.old }
+    ensures len { length region.new ≡ length region.old }
+{
+    fill_bytes(&mut region[..size], dst, value, len, fuel)
+}
+
+/// Copies `len` bytes from `src` on over those from `dst` on, of a memory of `size` bytes at the
+/// front of a region. The errors are those of [`wasmi_store::LinearMemory::copy_within`].
+pub fn copy_within(
+    region: &mut [u8],
+    size: usize,
+    dst: u64,
+    src: u64,
+    len: u64,
+    fuel: &mut Fuel,
+) -> Result<(), MemoryError>
+    requires within { size ≤ length region.old }
+    ensures written { BulkWrites
+        (copied (take size region.old) dst (take size region.old) src len) len
+        (metered (take size region.old) (Some fuel.old)) result
+        (metered (take size region.new) (Some fuel.new)) }
+    ensures rest { drop size region.new ≡ drop size region.old }
+    ensures len { length region.new ≡ length region.old }
+{
+    copy_bytes_within(&mut region[..size], dst, src, len, fuel)
+}
+
+/// Copies `len` bytes of another memory, from `src` on, over those from `dst` on, of a memory of
+/// `size` bytes at the front of a region. The errors are those of
+/// [`wasmi_store::LinearMemory::copy`].
+pub fn copy(
+    region: &mut [u8],
+    size: usize,
+    source: &[u8],
+    dst: u64,
+    src: u64,
+    len: u64,
+    fuel: &mut Fuel,
+) -> Result<(), MemoryError>
+    requires within { size ≤ length region.old }
+    ensures written { BulkWrites (copied (take size region.old) dst source.now src len) len
+        (metered (take size region.old) (Some fuel.old)) result
+        (metered (take size region.new) (Some fuel.new)) }
+    ensures rest { drop size region.new ≡ drop size region.old }
+    ensures len { length region.new ≡ length region.old }
+{
+    copy_bytes(&mut region[..size], dst, source, src, len, fuel)
+}
+
+/// Copies `len` bytes of a data segment, from `src` on, over those from `dst` on, of a memory of
+/// `size` bytes at the front of a region. The errors are those of
+/// [`wasmi_store::LinearMemory::init`].
+pub fn init(
+    region: &mut [u8],
+    size: usize,
+    segment: &[u8],
+    dst: u64,
+    src: u32,
+    len: u32,
+    fuel: &mut Fuel,
+) -> Result<(), MemoryError>
+    requires within { size ≤ length region.old }
+    ensures written { BulkWrites (copied (take size region.old) dst segment.now src len) len
+        (metered (take size region.old) (Some fuel.old)) result
+        (metered (take size region.new) (Some fuel.new)) }
+    ensures rest { drop size region.new ≡ drop size region.old }
+    ensures len { length region.new ≡ length region.old }
+{
+    let (src, len) = (u64::from(src), u64::from(len));
+    copy_bytes(&mut region[..size], dst, segment, src, len, fuel)
+}
+
 /// Whether a region has `size` bytes.
-fn has_place(region: &[u8], size: usize) -> bool
+fn has_room(region: &[u8], size: usize) -> bool
     ensures { result ≡ nat_le size (length region.now) }
 {
     size <= region.len()

@@ -15,7 +15,8 @@ use Rattle.wasmi_meter.proofs.AttemptLemmas.{meter_after_nothing}
 use Rattle.wasmi_types.specs.declared.value.RefType.{RefType}
 use Rattle.wasmi_types.specs.declared.value.RefType.TheVariants.{Func, Extern}
 use Rattle.wasmi_store.specs.Growth.{metered}
-use Rattle.wasmi_store.specs.Table.{TableValue, TableWrite, MeteredTable, copied, element_price, write_due, WritesTable}
+use Rattle.wasmi_store.specs.Bulk.{copied}
+use Rattle.wasmi_store.specs.Table.{TableValue, TableWrite, MeteredTable, element_price, write_due, WritesTable}
 use Rattle.wasmi_store.specs.TableType.{same_type}
 use Rattle.wasmi_store.proofs.GrowthLemmas.{payable, unpayable}
 

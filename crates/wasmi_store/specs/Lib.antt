@@ -1,5 +1,6 @@
 pub mod Limits
 pub mod Growth
+pub mod Bulk
 pub mod Buffer
 pub mod Front
 pub mod Lending

@@ -114,3 +114,8 @@ WritesMemory x offset source (Ok _) x' =
     (overwrite x.bytes offset source ≡ Some x'.bytes) × (x'.ty ≡ x.ty) × (x'.room ≡ x.room)
 WritesMemory x offset source (Err error) x' =
     (error ≡ OutOfBoundsAccess) × (overwrite x.bytes offset source ≡ None) × (x' ≡ x)
+
+-- bytes are written over, and the type of the memory and its room stay
+pub record KeepsPlace (x x' : MemoryValue) : Type 0 where
+  pub type : x'.ty ≡ x.ty
+  pub room : x'.room ≡ x.room

@@ -1,7 +1,7 @@
 -- Tables: making one, growing it, reading and writing its elements (core specification, table instances).
 use Rattle.std.specs.Prelude.{◌≡◌, ◌+◌, ◌≤◌, ℕ, Bool, true, false, List, [], ◌∷◌, ◌++◌, length, replicate, nat_eq, if◌then◌else◌, MatchBool, MatchOption, Option, Some, None, Result, Ok, Err, slice_get}
-use Rattle.std.specs.Option.{option_map, option_and_then}
-use Rattle.wasmi_types.specs.Access.{at, overwrite}
+use Rattle.std.specs.Option.{option_map}
+use Rattle.wasmi_types.specs.Access.{overwrite}
 use Rattle.wasmi_types.specs.declared.value.RefType.{RefType}
 use Rattle.wasmi_typed.specs.declared.typed_ref.TypedRawRef.{TypedRawRef}
 use Rattle.wasmi_meter.specs.declared.fuel.CustomFuelCosts.{CustomFuelCosts}
@@ -12,6 +12,7 @@ use Rattle.wasmi_meter.specs.Limiter.{TableFailure, Rules}
 use Rattle.wasmi_meter.specs.Costs.{copy_cost}
 use Rattle.wasmi_meter.specs.Meter.{meter_after}
 use Rattle.wasmi_meter.specs.Attempt.{MeteredValue, Request, optional_due, covers}
+use Rattle.wasmi_store.specs.Bulk.{filled, copied}
 use Rattle.wasmi_store.specs.Growth.{WithCharge, Makes, Grows}
 use Rattle.wasmi_store.specs.Segment.{SegmentValue}
 use Rattle.wasmi_store.specs.TableType.{TableTypeValue, IsValid, is_indexable, is_within_maximum, same_type}
@@ -147,7 +148,7 @@ abbrev pub raw_filling_of : ℕ → ℕ → ℕ → TableValue → TableWrite
 raw_filling_of dst reference len x =
     record {
       typed = true;
-      written = overwrite x.elements dst (replicate len reference);
+      written = filled x.elements dst reference len;
       outside = FillOutOfBounds;
       paid = Some len;
     }
@@ -156,10 +157,6 @@ raw_filling_of dst reference len x =
 abbrev pub filling_of : ℕ → TypedRawRef → ℕ → TableValue → TableWrite
 filling_of dst value len x =
     record (raw_filling_of dst value.raw len x) { typed = same_type x.ty.element value.ty }
-
--- elements whose part from dst on is written over by so many items of a list from src on
-abbrev pub copied : List ℕ → ℕ → List ℕ → ℕ → ℕ → Option (List ℕ)
-copied elements dst source src len = option_and_then (λ part. overwrite elements dst part) (at source src len)
 
 -- so many elements from src on of a table, perhaps the same one, are copied over those from dst on
 abbrev pub copy_of : ℕ → ℕ → ℕ → TableValue → TableValue → TableWrite

@@ -1,6 +1,7 @@
 //! Linear memories and tables: their types, what they contain, and how they are made and grow.
 #![tactic(auto)]
 
+pub mod bulk;
 pub mod growth;
 pub mod laws;
 mod limits;

@@ -7,7 +7,8 @@ ghost use Rattle.wasmi_meter.specs.LimiterRef.{lent_limiter, KeepsLoan};
 ghost use Rattle.wasmi_meter.specs.Costs.{copy_cost};
 ghost use Rattle.wasmi_meter.specs.Meter.{Charges, due, meter_at_entry, meter_at_exit};
 ghost use Rattle.wasmi_store.specs.Buffer.{fits_room};
-ghost use Rattle.wasmi_store.specs.Growth.{metered_value, IsAsked};
+ghost use Rattle.wasmi_store.specs.Bulk.{filled, copied, BulkWrites};
+ghost use Rattle.wasmi_store.specs.Growth.{metered_value, metered, IsAsked};
 ghost use Rattle.wasmi_store.specs.Memory.{MemoryValue, PermitsMinimum, GrowsMemory, IsSized, IsValidMemory, size_question, growth_of};
 ghost use Rattle.wasmi_store.specs.MemoryType.{in_bounds};
 
@@ -15,6 +16,7 @@ mod buffer;
 mod region;
 mod ty;
 
+use crate::bulk::{copy_bytes, copy_bytes_within, fill_bytes};
 use crate::growth::{MEMORY_DENIED as DENIED, decide_growth, permitted_minimum};
 use crate::optional_meter::with_meter;
 use crate::range::{read_bytes, write_range};
@@ -137,7 +139,7 @@ impl<'r> LinearMemory<&'r mut [u8]> {
 }
 
 impl<R: Region> LinearMemory<R> {
-    ghost use Rattle.wasmi_store.specs.Memory.{memory_of, buffer_of, pages_of, dynamic_type, WritesMemory};
+    ghost use Rattle.wasmi_store.specs.Memory.{memory_of, buffer_of, pages_of, dynamic_type, WritesMemory, KeepsPlace};
     ghost use Rattle.wasmi_store.specs.Buffer.{with_bytes};
     ghost use Rattle.wasmi_store.specs.MemoryType.{IsSubtype};
     ghost use Rattle.wasmi_store.specs.contracts.memory.LinearMemory.{the_row};
@@ -299,5 +301,176 @@ impl<R: Region> LinearMemory<R> {
         }
         write_range(self.buffer.data_mut(), offset, buffer);
         Ok(())
+    }
+
+    /// Fills `len` bytes from `dst` on with a value.
+    ///
+    /// Errors, in the order of the tests: `OutOfBoundsAccess` if they end past the memory;
+    /// `OutOfFuel`, which is tested also if no byte is filled. Then no byte is written, and no fuel
+    /// taken.
+    ///
+    /// Core specification, memory.fill. Own: upstream's memories have no bulk instructions. This
+    /// one is charged as a table's `fill`, by the bytes.
+    pub fn fill(
+        &mut self,
+        dst: u64,
+        value: u8,
+        len: u64,
+        fuel: Option<&mut Fuel>,
+    ) -> Result<(), MemoryError>
+        ensures written { BulkWrites (filled self.old.bytes dst value len) len
+            (metered self.old.bytes (meter_at_entry fuel.entry)) result
+            (metered self.new.bytes (meter_at_exit fuel.exit)) }
+        ensures kept { KeepsPlace self.old self.new }
+    {
+        with_meter!(fuel => self.fill_metered(dst, value, len, fuel))
+    }
+
+    /// As `fill`, with a meter that isn't optional.
+    pub fn fill_metered(
+        &mut self,
+        dst: u64,
+        value: u8,
+        len: u64,
+        fuel: &mut Fuel,
+    ) -> Result<(), MemoryError>
+        ensures written { BulkWrites (filled self.old.bytes dst value len) len
+            (metered self.old.bytes (Some fuel.old)) result
+            (metered self.new.bytes (Some fuel.new)) }
+        ensures kept { KeepsPlace self.old self.new }
+    {
+        fill_bytes(self.buffer.data_mut(), dst, value, len, fuel)
+    }
+
+    /// Copies `len` bytes from `src` on over those from `dst` on. If the ranges overlap, the old
+    /// bytes are copied.
+    ///
+    /// Errors, in the order of the tests: `OutOfBoundsAccess` if a range ends past the memory;
+    /// `OutOfFuel`, which is tested also if no byte is copied. Then no byte is written, and no fuel
+    /// taken.
+    ///
+    /// Core specification, memory.copy within a memory. Own: upstream's memories have no bulk
+    /// instructions.
+    pub fn copy_within(
+        &mut self,
+        dst: u64,
+        src: u64,
+        len: u64,
+        fuel: Option<&mut Fuel>,
+    ) -> Result<(), MemoryError>
+        ensures written { BulkWrites (copied self.old.bytes dst self.old.bytes src len) len
+            (metered self.old.bytes (meter_at_entry fuel.entry)) result
+            (metered self.new.bytes (meter_at_exit fuel.exit)) }
+        ensures kept { KeepsPlace self.old self.new }
+    {
+        with_meter!(fuel => self.copy_within_metered(dst, src, len, fuel))
+    }
+
+    /// As `copy_within`, with a meter that isn't optional.
+    pub fn copy_within_metered(
+        &mut self,
+        dst: u64,
+        src: u64,
+        len: u64,
+        fuel: &mut Fuel,
+    ) -> Result<(), MemoryError>
+        ensures written { BulkWrites (copied self.old.bytes dst self.old.bytes src len) len
+            (metered self.old.bytes (Some fuel.old)) result
+            (metered self.new.bytes (Some fuel.new)) }
+        ensures kept { KeepsPlace self.old self.new }
+    {
+        copy_bytes_within(self.buffer.data_mut(), dst, src, len, fuel)
+    }
+
+    /// Copies `len` bytes of another memory, from `src` on, over the bytes of a memory from `dst`
+    /// on.
+    ///
+    /// Errors, in the order of the tests: `OutOfBoundsAccess` if a range ends past its memory;
+    /// `OutOfFuel`, which is tested also if no byte is copied. Then no byte is written, and no fuel
+    /// taken.
+    ///
+    /// Core specification, memory.copy of two memories. Own: upstream's memories have no bulk
+    /// instructions.
+    pub fn copy<S: Region>(
+        dst_memory: &mut LinearMemory<R>,
+        dst: u64,
+        src_memory: &LinearMemory<S>,
+        src: u64,
+        len: u64,
+        fuel: Option<&mut Fuel>,
+    ) -> Result<(), MemoryError>
+        ensures written { BulkWrites
+            (copied dst_memory.old.bytes dst src_memory.now.bytes src len) len
+            (metered dst_memory.old.bytes (meter_at_entry fuel.entry)) result
+            (metered dst_memory.new.bytes (meter_at_exit fuel.exit)) }
+        ensures kept { KeepsPlace dst_memory.old dst_memory.new }
+    {
+        with_meter!(fuel => dst_memory.copy_metered(dst, src_memory, src, len, fuel))
+    }
+
+    /// As `copy`, with a meter that isn't optional.
+    pub fn copy_metered<S: Region>(
+        &mut self,
+        dst: u64,
+        src_memory: &LinearMemory<S>,
+        src: u64,
+        len: u64,
+        fuel: &mut Fuel,
+    ) -> Result<(), MemoryError>
+        ensures written { BulkWrites (copied self.old.bytes dst src_memory.now.bytes src len) len
+            (metered self.old.bytes (Some fuel.old)) result
+            (metered self.new.bytes (Some fuel.new)) }
+        ensures kept { KeepsPlace self.old self.new }
+    {
+        copy_bytes(
+            self.buffer.data_mut(),
+            dst,
+            src_memory.data(),
+            src,
+            len,
+            fuel,
+        )
+    }
+
+    /// Copies `len` bytes of a data segment, from `src` on, over the bytes from `dst` on. A segment
+    /// that was dropped has no bytes.
+    ///
+    /// Errors, in the order of the tests: `OutOfBoundsAccess` if a range ends past the segment or
+    /// the memory; `OutOfFuel`, which is tested also if no byte is copied. Then no byte is written,
+    /// and no fuel taken.
+    ///
+    /// Core specification, memory.init. Own: upstream's memories have no bulk instructions.
+    pub fn init(
+        &mut self,
+        segment: &[u8],
+        dst: u64,
+        src: u32,
+        len: u32,
+        fuel: Option<&mut Fuel>,
+    ) -> Result<(), MemoryError>
+        ensures written { BulkWrites (copied self.old.bytes dst segment.now src len) len
+            (metered self.old.bytes (meter_at_entry fuel.entry)) result
+            (metered self.new.bytes (meter_at_exit fuel.exit)) }
+        ensures kept { KeepsPlace self.old self.new }
+    {
+        with_meter!(fuel => self.init_metered(segment, dst, src, len, fuel))
+    }
+
+    /// As `init`, with a meter that isn't optional.
+    pub fn init_metered(
+        &mut self,
+        segment: &[u8],
+        dst: u64,
+        src: u32,
+        len: u32,
+        fuel: &mut Fuel,
+    ) -> Result<(), MemoryError>
+        ensures written { BulkWrites (copied self.old.bytes dst segment.now src len) len
+            (metered self.old.bytes (Some fuel.old)) result
+            (metered self.new.bytes (Some fuel.new)) }
+        ensures kept { KeepsPlace self.old self.new }
+    {
+        let (src, len) = (u64::from(src), u64::from(len));
+        copy_bytes(self.buffer.data_mut(), dst, segment, src, len, fuel)
     }
 }

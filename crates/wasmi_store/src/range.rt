@@ -4,7 +4,7 @@ ghost use Rattle.wasmi_types.specs.Access.{at, overwrite};
 
 mod copy;
 
-pub use copy::{CHUNK, Chunk, copy_overlapping};
+pub use copy::{CHUNK, Chunk, copy_overlapping, copy_range};
 use wasmi_meter::MemoryError;
 
 /// Whether `len` items from an index on lie within a list.

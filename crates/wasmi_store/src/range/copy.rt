@@ -2,6 +2,7 @@
 ghost use Rattle.std.specs.Prelude.{◌≡◌, ◌+◌, ◌≤◌, ◌++◌, length, take, drop, Some};
 ghost use Rattle.wasmi_types.specs.Access.{overwrite};
 
+use super::write_range;
 use wasmi_raw::RawRef;
 
 /// How many items are copied at once.
@@ -24,6 +25,14 @@ pub trait Chunk: Copy {
 impl Chunk for RawRef {
     fn copy_chunk(elements: &mut [RawRef], dst: usize, src: usize, len: usize) {
         let mut few = [RawRef::null(); CHUNK];
+        few[..len].copy_from_slice(&elements[src..src + len]);
+        elements[dst..dst + len].copy_from_slice(&few[..len]);
+    }
+}
+
+impl Chunk for u8 {
+    fn copy_chunk(elements: &mut [u8], dst: usize, src: usize, len: usize) {
+        let mut few = [0; CHUNK];
         few[..len].copy_from_slice(&elements[src..src + len]);
         elements[dst..dst + len].copy_from_slice(&few[..len]);
     }
@@ -59,5 +68,24 @@ pub fn copy_overlapping<T: Chunk>(elements: &mut [T], dst: usize, src: usize, le
             left -= count;
             T::copy_chunk(elements, dst + left, src + left, count);
         }
+    }
+}
+
+/// Copies `len` items from `src` on over those from `dst` on: at once if the ranges are apart, and
+/// in parts if they overlap.
+pub fn copy_range<T: Chunk>(elements: &mut [T], dst: usize, src: usize, len: usize)
+    requires dst { dst + len ≤ length elements.old }
+    requires src { src + len ≤ length elements.old }
+    ensures copied { overwrite elements.old dst (take len (drop src elements.old))
+        ≡ Some elements.new }
+{
+    if src + len <= dst {
+        let (front, back) = elements.split_at_mut(dst);
+        write_range(back, 0, &front[src..src + len]);
+    } else if dst + len <= src {
+        let (front, back) = elements.split_at_mut(src);
+        write_range(front, dst, &back[..len]);
+    } else {
+        copy_overlapping(elements, dst, src, len);
     }
 }

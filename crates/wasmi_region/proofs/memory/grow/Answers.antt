@@ -23,20 +23,20 @@ returns-in_err-decide_growth-clause-grown g c =
     (asked_in c.args.ty c.args.region.now c.args.size.now c.requires.within c.args.additional c.in-Some.ensures.size
     c.maximum_size-maximum.ensures)
     (room_is c.args.ty c.args.region.now c.args.size.now c.requires.within c.in-Some.new_size more _
-    c.has_place-has_room.ensures)
+    c.has_room-has_room.ensures)
     )
 
 pub fill_range-requires-clause-end : goal.fill_range-requires-clause-end
 fill_range-requires-clause-end g c =
     let more : c.args.size.now ≤ c.in-Some.new_size = let e = c.in-Some.ensures.size.1 in omega arith in
     place c.args.ty c.args.region.now c.args.size.now c.requires.within c.in-Some.new_size more _
-    c.has_place-has_room.ensures c.in_ok-decide_growth.ensures.room
+    c.has_room-has_room.ensures c.in_ok-decide_growth.ensures.room
 
 pub returns-clause-within : goal.returns-clause-within
 returns-clause-within g c =
     let more : c.args.size.now ≤ c.in-Some.new_size = let e = c.in-Some.ensures.size.1 in omega arith in
     let holds = place c.args.ty c.args.region.now c.args.size.now c.requires.within c.in-Some.new_size more _
-    c.has_place-has_room.ensures c.in_ok-decide_growth.ensures.room in
+    c.has_room-has_room.ensures c.in_ok-decide_growth.ensures.room in
     rw c.fill_range.ensures.len holds
 
 pub returns-clause-grown : goal.returns-clause-grown
@@ -49,9 +49,9 @@ returns-clause-grown g c =
     c.maximum_size-maximum.ensures)
     refl c.in_ok-decide_growth.ensures.permitted in
     let fits = room_is c.args.ty c.args.region.now c.args.size.now c.requires.within c.in-Some.new_size more _
-    c.has_place-has_room.ensures in
+    c.has_room-has_room.ensures in
     let holds = place c.args.ty c.args.region.now c.args.size.now c.requires.within c.in-Some.new_size more _
-    c.has_place-has_room.ensures c.in_ok-decide_growth.ensures.room in
+    c.has_room-has_room.ensures c.in_ok-decide_growth.ensures.room in
     grows_met permits (fits ∙ c.in_ok-decide_growth.ensures.room) c.decide_growth.new.fuel
     c.in_ok-decide_growth.ensures.paid _
     (grown c.args.ty c.args.region.now c.args.size.now c.requires.within c.in-Some.new_size more holds _

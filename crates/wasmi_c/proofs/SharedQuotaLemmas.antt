@@ -1,0 +1,435 @@
+-- What one quota holds, as memories and tables are made and grow under it.
+use Rattle.std.proofs.Common.{◌≡◌, ◌∙◌, ℕ, ◌+◌, ◌-◌, ◌*◌, true, false, Option, Some, None, Result, Ok, Err, List, [], ◌∷◌, ◌++◌, length, take, replicate, sum, refl, ap, sym, subst, inl, inr, arith, length-append}
+use Rattle.std.specs.Prelude.{MatchOption, nat_eq, slice_get, slice_set}
+use Rattle.std.proofs.lemmas.List.{length-replicate, length-take-le}
+use Rattle.std.proofs.lemmas.List.Elements.{All-cons, All-nil}
+use Rattle.std.proofs.lemmas.List.Sums.{sum_by-set, sum_by_push}
+use Rattle.std.proofs.lemmas.Option.{get_or_from_slice_get, slice_get_within}
+use Rattle.std.proofs.lemmas.Bool.Decides.{nat_tests}
+use Rattle.wasmi_meter.specs.declared.error.MemoryError.{MemoryError}
+use Rattle.wasmi_meter.specs.declared.error.MemoryError.TheVariants as memory_error
+use Rattle.wasmi_meter.specs.declared.error.TableError.{TableError}
+use Rattle.wasmi_meter.specs.declared.error.TableError.TheVariants as table_error
+use Rattle.wasmi_meter.specs.declared.limiter.Kind.{Kind}
+use Rattle.wasmi_meter.specs.declared.limiter.Kind.TheVariants.{Bytes, Elements}
+use Rattle.wasmi_meter.specs.declared.holdings.Holdings.{Holdings}
+use Rattle.wasmi_meter.specs.declared.quota.Quota.{Quota}
+use Rattle.wasmi_meter.specs.Attempt.{Request, AttemptOutcome, Unasked, Denied, Met, Failed, MayEnd, Follows, answer_of, value_after}
+use Rattle.wasmi_meter.specs.Capped.{Asked, Noticed}
+use Rattle.wasmi_meter.specs.CappedProofs.{asked_reserves}
+use Rattle.wasmi_meter.specs.Holdings.{HoldsTheSame, Reserves, amount_held, with_more, without_last}
+use Rattle.wasmi_meter.specs.Limiter.{Question, Answer, NoticeAnswer, IsDenial, kind_of, optional_rules}
+use Rattle.wasmi_meter.specs.Meter.{Meter}
+use Rattle.wasmi_meter.specs.Quota.{IsWithinCaps, holdings, capped_quota, quota_rules}
+use Rattle.wasmi_meter.proofs.CappedLemmas.{asked_is_within, noticed_is_within}
+use Rattle.wasmi_meter.proofs.QuotaLemmas.{quota_keeps}
+use Rattle.wasmi_store.specs.Buffer.{Lent}
+use Rattle.wasmi_store.specs.Growth.{Growth, Grows, Makes, metered_value}
+use Rattle.wasmi_store.specs.Memory.{MemoryValue, creation_of, new_memory}
+use Rattle.wasmi_store.specs.MemoryType.{MemoryTypeValue, minimum_bytes, page_bytes}
+use Rattle.wasmi_store.specs.Table.{TableValue, new_table, size_of}
+use Rattle.wasmi_store.specs.TableType.{TableTypeValue}
+use Rattle.wasmi_region.specs.Memory as memory
+use Rattle.wasmi_region.specs.Memory.{memory_in}
+use Rattle.wasmi_region.specs.Table as table
+use Rattle.wasmi_region.specs.Table.{table_in, creation_in, region_growth}
+use Rattle.wasmi_c.specs.Numbers.{KeepsQuota, limiter_of, quota_of}
+use Rattle.wasmi_c.specs.Host.{memory_growth}
+use Rattle.wasmi_c.specs.MemoryCalls.{LeavesAs, memory_status_of}
+use Rattle.wasmi_c.specs.TableCalls.{LeavesTableAs, MakesTableAs, table_status_of}
+use Rattle.wasmi_c.specs.SharedQuota.{UnderQuota, HoldsSums, MakesMemoryUnder, GrowsMemoryUnder, MakesTableUnder, GrowsTableUnder, CallsUnder, OneQuotaHoldsAll, sizes_made}
+use Rattle.wasmi_c.specs.Numbers.{Placed}
+use Rattle.wasmi_c.specs.Status.{invalid_state_status, memory_status, table_status}
+use Rattle.wasmi_c.specs.Numbers.{table_type_of}
+use Rattle.wasmi_c.specs.declared.memory.numbers.MemoryNumbers.{MemoryNumbers}
+use Rattle.wasmi_c.specs.declared.quota.QuotaNumbers.{QuotaNumbers}
+use Rattle.wasmi_c.specs.declared.table.numbers.TableNumbers.{TableNumbers}
+
+-- the kind that isn't this one
+abbrev other : Kind → Kind
+other Bytes = Elements
+other Elements = Bytes
+
+-- from one quota to another, so much more of a kind is held and the same of the other, and the caps are kept
+record Counts (kind : Kind) (size size' : ℕ) (quota quota' : Quota) : Type 0 where
+  pub held : amount_held (holdings quota') kind + size ≡ amount_held (holdings quota) kind + size'
+  pub others : amount_held (holdings quota') (other kind) ≡ amount_held (holdings quota) (other kind)
+  pub within : IsWithinCaps quota → IsWithinCaps quota'
+
+-- after n more of a kind, n more of it is held
+held_more : (kind : Kind) (n : ℕ) (h h' : Holdings) → h' ≡ with_more h kind n
+    → (amount_held h' kind ≡ amount_held h kind + n) × (amount_held h' (other kind) ≡ amount_held h (other kind))
+held_more Bytes n h h' more =
+    (ap (λ (k : Holdings). k.held.bytes) more, ap (λ (k : Holdings). k.held.elements) more)
+held_more Elements n h h' more =
+    (ap (λ (k : Holdings). k.held.elements) more, ap (λ (k : Holdings). k.held.bytes) more)
+
+-- where as much is held of each kind, as much is held of one
+held_same : (kind : Kind) (h h' : Holdings) → HoldsTheSame h h'
+    → (amount_held h' kind ≡ amount_held h kind) × (amount_held h' (other kind) ≡ amount_held h (other kind))
+held_same Bytes h h' same = (same.bytes, same.elements)
+held_same Elements h h' same = (same.elements, same.bytes)
+
+-- after n more of a kind that were taken back, as much is held
+taken_back : (kind : Kind) (n : ℕ) (h p h' : Holdings) → p ≡ with_more h kind n → h' ≡ without_last kind p
+    → (amount_held h' kind ≡ amount_held h kind) × (amount_held h' (other kind) ≡ amount_held h (other kind))
+taken_back Bytes n h p h' more back =
+    let after = back ∙ ap (without_last Bytes) more in
+    let less : h'.held.bytes ≡ (h.held.bytes + n) - n = ap (λ (k : Holdings). k.held.bytes) after in
+    (omega arith, ap (λ (k : Holdings). k.held.elements) after)
+taken_back Elements n h p h' more back =
+    let after = back ∙ ap (without_last Elements) more in
+    let less : h'.held.elements ≡ (h.held.elements + n) - n = ap (λ (k : Holdings). k.held.elements) after in
+    (omega arith, ap (λ (k : Holdings). k.held.bytes) after)
+
+-- a denial keeps what is held
+denied_same : (q : Question) (answer : Answer) (h h' : Holdings) → IsDenial answer → Reserves q answer h h'
+    → HoldsTheSame h h'
+denied_same q (Ok true) h h' denial reserves = elim denial [ ]
+denied_same q (Ok false) h h' denial reserves = reserves
+denied_same q (Err error) h h' denial reserves = reserves
+
+-- nothing happened
+nothing_counts : (kind : Kind) (size : ℕ) (quota quota' : Quota) → quota' ≡ quota
+    → Counts kind size size quota quota'
+nothing_counts kind size quota quota' same = rw same (record { held = refl; others = refl; within = λ caps. caps })
+
+-- an attempt's notices are of the kind that is asked for
+abbrev TellsOfKind : {V E : Type 0} → Request V E → Type 0
+TellsOfKind {E = E} e = (cause : E) → kind_of (e.notice cause) ≡ e.question.kind
+
+module _ {V E : Type 0} (e : Request V E) where
+  abbrev kind : Kind
+  kind = e.question.kind
+
+  abbrev asked_for : ℕ
+  asked_for = e.question.desired - e.question.current
+
+  -- by how much an attempt adds to what is held
+  abbrev added : AttemptOutcome E → ℕ
+  added (Unasked cause) = 0
+  added (Denied answer) = 0
+  added Met = asked_for
+  added (Failed cause notice_answer) = 0
+
+  module _ (tells : TellsOfKind e) (quota quota' : Quota) where
+    -- a permission that is followed by a notice
+    failure_counts : (cause : E) (notice_answer : NoticeAnswer) (p : Quota)
+        → Asked capped_quota quota e.question (Ok true) p
+        → Noticed capped_quota p (e.notice cause) notice_answer quota' → Counts kind 0 0 quota quota'
+    failure_counts cause notice_answer p asked noticed =
+        let more = asked_reserves capped_quota quota p e.question (Ok true) asked in
+        let back = rw (tells cause) at noticed.gives_back in
+        let same = taken_back kind asked_for (holdings quota) (holdings p) (holdings quota') more back in
+        record {
+          held = omega (arith, same.0);
+          others = same.1;
+          within = λ caps.
+              let permitted = asked_is_within capped_quota quota_keeps quota p caps e.question (Ok true) asked in
+              noticed_is_within capped_quota quota_keeps p quota' permitted (e.notice cause) notice_answer noticed;
+        }
+
+    -- an attempt, however it ends
+    attempt_counts : (m : Option Meter) (outcome : AttemptOutcome E) → MayEnd e m outcome
+        → Follows e (optional_rules quota_rules) (Some quota) outcome (Some quota')
+        → Counts kind 0 (added outcome) quota quota'
+    attempt_counts m (Unasked cause) may follows =
+        let same : quota' ≡ quota = cc in
+        nothing_counts kind 0 quota quota' same
+    attempt_counts m (Denied answer) may follows =
+        let reserves = asked_reserves capped_quota quota quota' e.question answer follows in
+        let denied = denied_same e.question answer (holdings quota) (holdings quota') may.1 reserves in
+        let same = held_same kind (holdings quota) (holdings quota') denied in
+        record {
+          held = omega (arith, same.0);
+          others = same.1;
+          within = λ caps. asked_is_within capped_quota quota_keeps quota quota' caps e.question answer follows;
+        }
+    attempt_counts m Met may follows =
+        let reserves = asked_reserves capped_quota quota quota' e.question (Ok true) follows in
+        let more = held_more kind asked_for (holdings quota) (holdings quota') reserves in
+        record {
+          held = omega (arith, more.0);
+          others = more.1;
+          within = λ caps. asked_is_within capped_quota quota_keeps quota quota' caps e.question (Ok true) follows;
+        }
+    attempt_counts m (Failed cause notice_answer) may (Some p, asked, noticed) =
+        failure_counts cause notice_answer p asked noticed
+    attempt_counts m (Failed cause notice_answer) may (None, asked, noticed) = elim asked [ ]
+
+-- what is made counts as what was asked for, and a refusal as nothing
+module _ {T E : Type 0} (e : Request (Unit {0}) E) (made : T) (size : Result T E → ℕ)
+    (full : size (Ok made) ≡ asked_for e) (empty : (cause : E) → size (Err cause) ≡ 0) where
+  -- an attempt adds the size of its answer to what is held
+  size_made : (outcome : AttemptOutcome E) → added e outcome ≡ size (answer_of e made outcome)
+  size_made (Unasked cause) = sym (empty cause)
+  size_made (Denied answer) = sym (empty _)
+  size_made Met = sym full
+  size_made (Failed cause notice_answer) = sym (empty _)
+
+  -- a creation counts as the size of what it answers
+  creation_counts : TellsOfKind e → (quota quota' : Quota) (result : Result T E)
+      → Makes (optional_rules quota_rules) e made (Some quota) result (Some quota')
+      → Counts (kind e) 0 (size result) quota quota'
+  creation_counts tells quota quota' result (outcome, attempt, answered) =
+      let counts = attempt_counts e tells quota quota' None outcome attempt.may_end attempt.follows in
+      subst (λ n. Counts (kind e) 0 n quota quota') (size_made outcome ∙ ap size (sym answered)) counts
+
+-- the size of what has grown is that of the value and what was asked for, and notices are of the kind that is asked for
+record IsCounted {V E : Type 0} (g : Growth V E) (size : V → ℕ) (x : V) : Type 0 where
+  pub full : size g.request.grown ≡ size x + asked_for g.request
+  pub tells : TellsOfKind g.request
+
+module _ {V E : Type 0} (g : Growth V E) (size : V → ℕ) (x : V) (counted : IsCounted g size x) where
+  -- an attempt adds the same to the size as to what is held
+  size_grown : (outcome : AttemptOutcome E) → size (value_after g.request x outcome) ≡ size x + added g.request outcome
+  size_grown (Unasked cause) = omega arith
+  size_grown (Denied answer) = omega arith
+  size_grown Met = counted.full
+  size_grown (Failed cause notice_answer) = omega arith
+
+  -- a growth counts as the difference of the sizes, however it ends
+  growth_counts : (m m' : Option Meter) (quota quota' : Quota) (x' : V) (result : Result ℕ E) (charge : ℕ)
+      → Grows (optional_rules quota_rules) g (metered_value x m (Some quota)) result charge
+      (metered_value x' m' (Some quota'))
+      → Counts (kind g.request) (size x) (size x') quota quota'
+  growth_counts m m' quota quota' x' result charge (inl none) =
+      let value : x' ≡ x = ap (λ s. s.value) none.same in
+      let limiter : Some quota' ≡ Some quota = ap (λ s. s.limiter) none.same in
+      let same : quota' ≡ quota = cc in
+      rw value (nothing_counts (kind g.request) (size x) quota quota' same)
+  growth_counts m m' quota quota' x' result charge (inr some) =
+      let counts = attempt_counts g.request counted.tells quota quota' m some.outcome some.attempt.may_end
+      some.attempt.follows in
+      let sizes = ap size some.attempt.value ∙ size_grown some.outcome in
+      record { held = omega (arith, sizes, counts.held); others = counts.others; within = counts.within }
+
+-- ---- sums of sizes
+
+-- the sum, as one size becomes another
+sum_set : (sizes : List ℕ) (k size size' : ℕ) → slice_get sizes k ≡ Some size
+    → sum (slice_set sizes k size') + size ≡ sum sizes + size'
+sum_set sizes k size size' there =
+    ap (λ n. sum (slice_set sizes k size') + n) (sym (get_or_from_slice_get sizes k size 0 there))
+    ∙ sum_by-set (λ x. x) sizes k size' 0 (slice_get_within sizes k size there)
+
+-- the sum with one more
+sum_push : (sizes : List ℕ) (size : ℕ) → sum (sizes ++ size ∷ []) ≡ sum sizes + size
+sum_push sizes size = sum_by_push (λ x. x) sizes size
+
+-- the length of n items is the difference of n and 0
+length_made : (n y : ℕ) → length (replicate n y) ≡ n - 0
+length_made n y = omega (arith, length-replicate {A = ℕ} n y)
+
+-- the length after n more items is the length before, and the difference of the two
+length_grown : (xs : List ℕ) (n y : ℕ) → length (xs ++ replicate n y) ≡ length xs + (length xs + n - length xs)
+length_grown xs n y = omega (arith, length-append xs (replicate n y), length-replicate {A = ℕ} n y)
+
+-- no error of a memory has the status of a call that is done
+refused_status : (e : MemoryError) → nat_eq (memory_status e) 0 ≡ false
+refused_status memory_error.OutOfSystemMemory = refl
+refused_status memory_error.OutOfBoundsGrowth = refl
+refused_status memory_error.OutOfBoundsAccess = refl
+refused_status memory_error.InvalidMemoryType = refl
+refused_status memory_error.InvalidStaticBufferSize = refl
+refused_status memory_error.ResourceLimiterDeniedAllocation = refl
+refused_status memory_error.MinimumSizeOverflow = refl
+refused_status memory_error.MaximumSizeOverflow = refl
+refused_status (memory_error.OutOfFuel required) = refl
+
+-- and none of a table
+refused_table_status : (e : TableError) → nat_eq (table_status e) 0 ≡ false
+refused_table_status table_error.OutOfSystemMemory = refl
+refused_table_status table_error.MinimumSizeOverflow = refl
+refused_table_status table_error.MaximumSizeOverflow = refl
+refused_table_status table_error.ResourceLimiterDeniedAllocation = refl
+refused_table_status table_error.GrowOutOfBounds = refl
+refused_table_status table_error.InitOutOfBounds = refl
+refused_table_status table_error.FillOutOfBounds = refl
+refused_table_status table_error.SetOutOfBounds = refl
+refused_table_status table_error.CopyOutOfBounds = refl
+refused_table_status table_error.ElementTypeMismatch = refl
+refused_table_status (table_error.OutOfFuel required) = refl
+
+-- the bytes of a memory that was made, if it was
+abbrev bytes_made : Result MemoryValue MemoryError → ℕ
+bytes_made (Ok x) = length x.bytes
+bytes_made (Err error) = 0
+
+-- the elements of a table that was made, if it was
+abbrev elements_made : Result TableValue TableError → ℕ
+elements_made (Ok x) = size_of x
+elements_made (Err error) = 0
+
+-- a creation of a memory adds the bytes that were made to the sum
+memory_summed : (ty : MemoryTypeValue) (p p' : Placed MemoryNumbers) (result : Result ℕ MemoryError) (status : ℕ)
+    (sizes : List ℕ) → status ≡ memory_status_of result → LeavesAs ty p result p'
+    → sum (sizes_made sizes status p'.numbers.size) ≡ sum sizes + bytes_made (memory.made_in ty p'.region result)
+memory_summed ty p p' (Ok size) status sizes is left =
+    let sized : p'.numbers.size ≡ size = ap (λ (h : MemoryNumbers). h.size) left.0 in
+    let long : length (take size p'.region) ≡ size = length-take-le size p'.region (rw sized at left.1.within) in
+    rw (is, long, ← sized) (sum_push sizes p'.numbers.size)
+memory_summed ty p p' (Err e) status sizes is left = rw (is, refused_status e) (omega arith)
+
+-- and one of a table
+table_summed : (ty : TableTypeValue) (p p' : Placed TableNumbers) (result : Result ℕ TableError) (status : ℕ)
+    (sizes : List ℕ) → status ≡ table_status_of result → LeavesTableAs ty p result p'
+    → sum (sizes_made sizes status p'.numbers.size) ≡ sum sizes + elements_made (table.made_in ty p'.region result)
+table_summed ty p p' (Ok size) status sizes is left =
+    let sized : p'.numbers.size ≡ size = ap (λ (h : TableNumbers). h.size) left.0 in
+    let long : length (take size p'.region) ≡ size = length-take-le size p'.region (rw sized at left.1.within) in
+    rw (is, long, ← sized) (sum_push sizes p'.numbers.size)
+table_summed ty p p' (Err e) status sizes is left = rw (is, refused_table_status e) (omega arith)
+
+-- ---- calls
+
+-- a number that isn't 0
+not_zero : (n : ℕ) → (n ≡ 0 → ⊥) → nat_eq n 0 ≡ false
+not_zero n some = grind (arith, nat_tests, some)
+
+-- a quota that is on is a limiter
+limiter_on : (h : QuotaNumbers) → (h.is_on ≡ 0 → ⊥) → limiter_of h ≡ Some (quota_of h)
+limiter_on h on = rw (not_zero h.is_on on) refl
+
+module _ (u u' : UnderQuota) (holds : HoldsSums u) (keeps : KeepsQuota u.quota u'.quota) where
+  abbrev q : Quota
+  q = quota_of u.quota
+
+  abbrev q' : Quota
+  q' = quota_of u'.quota
+
+  -- it stays on
+  on : u'.quota.is_on ≡ 0 → ⊥
+  on off = holds.on (sym keeps.flag ∙ off)
+
+  -- if no limiter has changed, the quota hasn't
+  same_quota : limiter_of u'.quota ≡ limiter_of u.quota → q' ≡ q
+  same_quota same =
+      let some : Some q' ≡ Some q = sym (limiter_on u'.quota on) ∙ same ∙ limiter_on u.quota holds.on in
+      cc
+
+  -- as the sum of the bytes, so what is held
+  by_bytes : (size size' : ℕ) → Counts Bytes size size' q q' → sum u'.bytes + size ≡ sum u.bytes + size'
+      → u'.elements ≡ u.elements → HoldsSums u'
+  by_bytes size size' counts sums same = record {
+    on = on;
+    bytes = omega (arith, counts.held, holds.bytes, sums);
+    elements = counts.others ∙ holds.elements ∙ ap sum (sym same);
+    within = counts.within holds.within;
+  }
+
+  -- as the sum of the elements, so what is held
+  by_elements : (size size' : ℕ) → Counts Elements size size' q q'
+      → sum u'.elements + size ≡ sum u.elements + size' → u'.bytes ≡ u.bytes → HoldsSums u'
+  by_elements size size' counts sums same = record {
+    on = on;
+    bytes = counts.others ∙ holds.bytes ∙ ap sum (sym same);
+    elements = omega (arith, counts.held, holds.elements, sums);
+    within = counts.within holds.within;
+  }
+
+  -- a memory is made
+  memory_made : MakesMemoryUnder u u' → HoldsSums u'
+  memory_made c =
+      elim c.makes [
+        | inl refused ↦
+            let sums : sum u'.bytes + 0 ≡ sum u.bytes + 0 = rw (c.bytes, refused.1) refl in
+            by_bytes 0 0 (nothing_counts Bytes 0 q q' (same_quota refused.3)) sums c.elements
+        | inr made ↦
+            let room = Lent c.before.region in
+            let makes = rw (limiter_on u.quota holds.on, limiter_on u'.quota on) at made.2.makes in
+            let counts = creation_counts (creation_of room made.0) (new_memory room made.0) bytes_made
+            (length_made (minimum_bytes made.0) 0) (λ cause. refl) (λ cause. refl) q q' _ makes in
+            let sized = ap sum c.bytes
+            ∙ memory_summed made.0 c.before c.after made.2.result c.status u.bytes made.2.status_is made.2.left in
+            by_bytes 0 _ counts (omega (arith, sized)) c.elements
+      ]
+
+  -- a table is made
+  table_made : MakesTableUnder u u' → HoldsSums u'
+  table_made c = by_type (table_type_of c.before.numbers) c.makes
+    where
+      by_type : (type : Option TableTypeValue)
+          → MatchOption type
+          ((c.status ≡ invalid_state_status) × (c.after ≡ c.before) × (limiter_of u'.quota ≡ limiter_of u.quota))
+          (λ ty. MakesTableAs c.reference ty c.before (limiter_of u.quota) c.status c.after (limiter_of u'.quota))
+          → HoldsSums u'
+      by_type None refused =
+          let sums : sum u'.elements + 0 ≡ sum u.elements + 0 = rw (c.elements, refused.0) refl in
+          by_elements 0 0 (nothing_counts Elements 0 q q' (same_quota refused.2)) sums c.bytes
+      by_type (Some ty) made =
+          let room = length c.before.region in
+          let makes = rw (limiter_on u.quota holds.on, limiter_on u'.quota on) at made.makes in
+          let counts = creation_counts (creation_in ty room) (new_table ty c.reference) elements_made
+          (length_made ty.minimum c.reference) (λ cause. refl) (λ cause. refl) q q' _ makes in
+          let sized = ap sum c.elements
+          ∙ table_summed ty c.before c.after made.result c.status u.elements made.status_is made.left in
+          by_elements 0 _ counts (omega (arith, sized)) c.bytes
+
+  -- a memory grows
+  memory_grown : GrowsMemoryUnder u u' → HoldsSums u'
+  memory_grown c =
+      let set : sum u'.bytes + c.before.numbers.size ≡ sum u.bytes + c.after.numbers.size =
+      rw c.bytes (sum_set u.bytes c.index c.before.numbers.size c.after.numbers.size c.there) in
+      elim c.grows [
+        | inl refused ↦
+            let limiter : limiter_of u'.quota ≡ limiter_of u.quota =
+            sym c.left ∙ ap (λ s. s.limiter) refused.same ∙ c.asked in
+            let size : c.after.numbers.size ≡ c.before.numbers.size = ap (λ s. s.numbers.size) refused.same in
+            by_bytes c.before.numbers.size c.after.numbers.size
+            (rw size (nothing_counts Bytes c.before.numbers.size q q' (same_quota limiter))) set c.elements
+        | inr grown ↦
+            let x = memory_in grown.0 c.before.region c.before.numbers.size in
+            let grows = rw (c.asked, c.left, limiter_on u.quota holds.on, limiter_on u'.quota on) at grown.2.grows in
+            let counts = growth_counts (memory_growth x c.pages) (λ (y : MemoryValue). length y.bytes) x
+            (record { full = length_grown x.bytes (c.pages * page_bytes grown.0.page) 0; tells = λ cause. refl })
+            _ _ q q' _ _ _ grows.1 in
+            by_bytes c.before.numbers.size c.after.numbers.size
+            (rw (
+              length-take-le c.before.numbers.size c.before.region grown.1.within,
+              length-take-le c.after.numbers.size c.after.region grown.2.state.within,
+            ) at counts)
+            set c.elements
+      ]
+
+  -- a table grows
+  table_grown : GrowsTableUnder u u' → HoldsSums u'
+  table_grown c =
+      let set : sum u'.elements + c.before.numbers.size ≡ sum u.elements + c.after.numbers.size =
+      rw c.elements (sum_set u.elements c.index c.before.numbers.size c.after.numbers.size c.there) in
+      elim c.grows [
+        | inl refused ↦
+            let limiter : limiter_of u'.quota ≡ limiter_of u.quota =
+            sym c.left ∙ ap (λ s. s.limiter) refused.same ∙ c.asked in
+            let size : c.after.numbers.size ≡ c.before.numbers.size = ap (λ s. s.numbers.size) refused.same in
+            by_elements c.before.numbers.size c.after.numbers.size
+            (rw size (nothing_counts Elements c.before.numbers.size q q' (same_quota limiter))) set c.bytes
+        | inr grown ↦
+            let x = table_in grown.0 c.before.region c.before.numbers.size in
+            let grows = rw (c.asked, c.left, limiter_on u.quota holds.on, limiter_on u'.quota on) at grown.2.grows in
+            let counts = growth_counts (region_growth (length c.before.region) c.delta c.reference x) size_of x
+            (record { full = length_grown x.elements c.delta c.reference; tells = λ cause. refl })
+            _ _ q q' _ _ _ grows.1 in
+            by_elements c.before.numbers.size c.after.numbers.size
+            (rw (
+              length-take-le c.before.numbers.size c.before.region grown.1.within,
+              length-take-le c.after.numbers.size c.after.region grown.2.state.within,
+            ) at counts)
+            set c.bytes
+      ]
+
+-- so after each call
+after_call : (u u' : UnderQuota) → HoldsSums u → CallsUnder u u' → HoldsSums u'
+after_call u u' holds (keeps, call) = elim call [
+  | inl made ↦ memory_made u u' holds keeps made
+  | inr (inl grown) ↦ memory_grown u u' holds keeps grown
+  | inr (inr (inl made)) ↦ table_made u u' holds keeps made
+  | inr (inr (inr grown)) ↦ table_grown u u' holds keeps grown
+]
+
+-- and after all of them
+pub one_quota_holds_all : OneQuotaHoldsAll
+one_quota_holds_all u [] holds calls = All-nil HoldsSums
+one_quota_holds_all u (u' ∷ after) holds calls =
+    let held = after_call u u' holds calls.0 in
+    All-cons HoldsSums u' after held (one_quota_holds_all u' after held calls.1)

@@ -1,0 +1,16 @@
+use Rattle.std.proofs.Common.{sym}
+use Rattle.wasmi_meter.specs.Limiter.{AskedIf}
+use Rattle.wasmi_meter.specs.Quota.{quota_rules}
+use Rattle.wasmi_c.proofs.QuotaNumbersLemmas.{of_equals}
+use Rattle.wasmi_c.proofs.quota.QuotaNumbersLimiterByKind.growing.Goals as goal
+
+pub returns : goal.returns
+returns c = record {
+  asked = λ maximum. (
+    of_equals (λ l l'. AskedIf quota_rules l
+        (record { kind = c.args.kind; current = c.args.current; desired = c.args.desired; maximum = maximum })
+        c.growing-answer.result l')
+        (sym c.in-Some.ensures.value) c.store.ensures.limiter (c.growing-answer.ensures.asked maximum),
+    c.store.ensures.kept,
+  );
+}

@@ -1,0 +1,46 @@
+//! A memory is measured, read and written.
+ghost use Rattle.std.specs.Prelude.{◌≡◌};
+ghost use Rattle.wasmi_c.specs.MemoryCalls.{CountsEmbedded, ReadsEmbedded, WritesEmbedded};
+
+use crate::memory::numbers::MemoryNumbers;
+use crate::status::{DONE, INVALID_STATE, MEMORY_ACCESS};
+use wasmi_region::memory as region_memory;
+
+/// The size of a memory in pages.
+pub fn size(memory: &MemoryNumbers, region: &[u8], pages: &mut u64) -> u8
+    ensures { CountsEmbedded memory.now region.now pages.old result pages.new }
+{
+    let Some(ty) = memory.type_if_valid(region) else {
+        return INVALID_STATE;
+    };
+    *pages = region_memory::pages(ty, memory.size);
+    DONE
+}
+
+/// Copies bytes of a memory from an offset on, as many as the caller's.
+pub fn read(memory: &MemoryNumbers, region: &[u8], offset: usize, bytes: &mut [u8]) -> u8
+    ensures { ReadsEmbedded (record { numbers = memory.now; region = region.now }) offset bytes.old
+        result bytes.new }
+{
+    let Some(_ty) = memory.type_if_valid(region) else {
+        return INVALID_STATE;
+    };
+    match region_memory::read_bytes(&region[..memory.size], offset, bytes) {
+        Ok(()) => DONE,
+        Err(_) => MEMORY_ACCESS,
+    }
+}
+
+/// Writes bytes over those of a memory from an offset on.
+pub fn write(memory: &MemoryNumbers, region: &mut [u8], offset: usize, bytes: &[u8]) -> u8
+    ensures { WritesEmbedded (record { numbers = memory.now; region = region.old }) offset bytes.now
+        result region.new }
+{
+    let Some(_ty) = memory.type_if_valid(region) else {
+        return INVALID_STATE;
+    };
+    match region_memory::write(region, memory.size, offset, bytes) {
+        Ok(()) => DONE,
+        Err(_) => MEMORY_ACCESS,
+    }
+}

@@ -1,0 +1,151 @@
+//! A memory grows.
+ghost use Rattle.std.specs.Prelude.{◌≡◌, ◌+◌, ◌/◌, false, Some};
+ghost use Rattle.wasmi_meter.specs.Quota.{quota_rules};
+ghost use Rattle.wasmi_store.specs.MemoryType.{MemoryTypeValue, in_bounds, page_bytes};
+ghost use Rattle.wasmi_region.specs.Memory.{memory_in};
+ghost use Rattle.wasmi_c.specs.Host.{is_about, memory_growth};
+ghost use Rattle.wasmi_c.specs.MemoryCalls.{memory_status_of, number_of, IsNoState, GrowsAs, GrowsEmbedded, SettlesEmbedded, AsksEmbedded};
+ghost use Rattle.wasmi_c.specs.Numbers.{embedded, limiter_of, IsState, KeepsQuota};
+
+use crate::fuel::MeterNumbers;
+use crate::host::{HostAnswers, Question};
+use crate::memory::numbers::MemoryNumbers;
+use crate::quota::QuotaNumbers;
+use crate::refusal::memory_refusal;
+use crate::status::{ASKS, DONE, INVALID_STATE, MEMORY_GROWTH, OTHER_SIZE};
+use wasmi_meter::{MemoryError, ResourceLimiter, ResourceLimiterRef};
+use wasmi_region::memory as region_memory;
+use wasmi_store::MemoryType;
+
+/// Leaves the number of a growth, and returns its status.
+fn leave_growth(outcome: Result<u64, MemoryError>, number: &mut u64) -> u8
+    ensures status { result ≡ memory_status_of outcome }
+    ensures number { number.new ≡ number_of outcome number.old }
+{
+    match outcome {
+        Ok(pages) => {
+            *number = pages;
+            DONE
+        }
+        Err(error) => memory_refusal(error, number),
+    }
+}
+
+/// Grows a memory of this type under a limiter.
+pub fn grow_under<L: ResourceLimiter>(
+    memory: &mut MemoryNumbers,
+    ty: MemoryType,
+    region: &mut [u8],
+    pages: u64,
+    meter: &mut MeterNumbers,
+    limiter: &mut L,
+    number: &mut u64,
+) -> u8
+    requires state { IsState memory.old region.old ty }
+    ensures grown { GrowsAs L.rules ty pages
+        (embedded memory.old region.old meter.old (Some limiter.old) number.old) result
+        (embedded memory.new region.new meter.new (Some limiter.new) number.new) }
+{
+    let mut fuel = meter.fuel();
+    let mut size = memory.size;
+    let mut lent = ResourceLimiterRef::from(limiter);
+    let grown = region_memory::grow(ty, &mut size, region, pages, &mut fuel, &mut lent);
+    let Some(_limiter) = lent.into_resource_limiter() else {
+        unreachable!()
+    };
+    memory.size = size;
+    meter.store_left(&fuel);
+    leave_growth(grown, number)
+}
+
+/// Grows a memory by so many pages of zeros. `number` is set to the old size in pages, or to the
+/// fuel that is needed where less is left.
+pub fn grow(
+    memory: &mut MemoryNumbers,
+    region: &mut [u8],
+    pages: u64,
+    meter: &mut MeterNumbers,
+    quota: &mut QuotaNumbers,
+    number: &mut u64,
+) -> u8
+    ensures grown { GrowsEmbedded quota_rules pages
+        (embedded memory.old region.old meter.old (limiter_of quota.old) number.old) result
+        (embedded memory.new region.new meter.new (limiter_of quota.new) number.new) }
+    ensures quota { KeepsQuota quota.old quota.new }
+    ensures invalid { IsNoState memory.old region.old → quota.new ≡ quota.old }
+    ensures unasked { (ty : MemoryTypeValue) → IsState memory.old region.old ty
+        → in_bounds ty (memory.old.size / page_bytes ty.page + pages) ≡ false
+        → quota.new ≡ quota.old }
+{
+    let Some(ty) = memory.type_if_valid(region) else {
+        return INVALID_STATE;
+    };
+    grow_under(memory, ty, region, pages, meter, quota, number)
+}
+
+/// What a growth by so many pages asks a limiter, with the status `ASKS`; it asks nothing where it
+/// is by 0 (`DONE`), where the type refuses it, and where the numbers stand for no memory.
+pub fn question(memory: &MemoryNumbers, region: &[u8], pages: u64, question: &mut Question) -> u8
+    ensures { AsksEmbedded memory.now region.now pages result question.old question.new }
+{
+    let Some(ty) = memory.type_if_valid(region) else {
+        return INVALID_STATE;
+    };
+    if pages == 0 {
+        return DONE;
+    }
+    let Some((desired, most)) = region_memory::question(ty, memory.size, pages) else {
+        return MEMORY_GROWTH;
+    };
+    *question = Question::new(memory.size, desired, most);
+    ASKS
+}
+
+/// Grows a memory by so many pages of zeros, under a limiter that answers as the host says. If the
+/// answers are about other sizes than the growth's, nothing is written; else `answers` says whether
+/// the limiter was asked and is told.
+pub fn settle(
+    memory: &mut MemoryNumbers,
+    region: &mut [u8],
+    pages: u64,
+    meter: &mut MeterNumbers,
+    answers: &mut HostAnswers,
+    number: &mut u64,
+) -> u8
+    ensures { SettlesEmbedded pages answers.old
+        (embedded memory.old region.old meter.old (Some answers.old) number.old) result
+        (embedded memory.new region.new meter.new (Some answers.new) number.new) }
+{
+    let Some(ty) = memory.type_if_valid(region) else {
+        return INVALID_STATE;
+    };
+    if !are_about(memory, ty, region, pages, answers) {
+        return OTHER_SIZE;
+    }
+    answers.reset();
+    grow_under(memory, ty, region, pages, meter, answers, number)
+}
+
+/// Whether the host's answers are to what a growth by so many pages asks.
+fn are_about(
+    memory: &MemoryNumbers,
+    ty: MemoryType,
+    region: &[u8],
+    pages: u64,
+    answers: &HostAnswers,
+) -> bool
+    requires state { IsState memory.now region.now ty }
+    ensures about { result ≡ is_about answers.now
+        (memory_growth (memory_in ty region.now memory.now.size) pages) }
+{
+    if memory.size != answers.current {
+        return false;
+    }
+    if pages == 0 {
+        return true;
+    }
+    match region_memory::question(ty, memory.size, pages) {
+        Some((desired, _)) => desired == answers.desired,
+        None => true,
+    }
+}

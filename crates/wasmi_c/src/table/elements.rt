@@ -1,0 +1,48 @@
+//! The elements of a table are counted, read and set.
+ghost use Rattle.std.specs.Prelude.{◌≡◌};
+ghost use Rattle.wasmi_c.specs.TableCalls.{CountsElements, GetsElement, SetsElement};
+
+use crate::status::{DONE, INVALID_STATE, NO_ELEMENT, table_status};
+use crate::table::numbers::TableNumbers;
+use wasmi_region::table as region_table;
+
+/// The size of a table in elements.
+pub fn size(table: &TableNumbers, region: &[u32], size: &mut u64) -> u8
+    ensures { CountsElements table.now region.now size.old result size.new }
+{
+    let Some(_ty) = table.type_if_valid(region) else {
+        return INVALID_STATE;
+    };
+    *size = table.size as u64;
+    DONE
+}
+
+/// The element at an index.
+pub fn get(table: &TableNumbers, region: &[u32], index: u64, reference: &mut u32) -> u8
+    ensures { GetsElement (record { numbers = table.now; region = region.now }) index reference.old
+        result reference.new }
+{
+    let Some(_ty) = table.type_if_valid(region) else {
+        return INVALID_STATE;
+    };
+    let elements = &region[..table.size];
+    let Some(found) = elements.get(index as usize) else {
+        return NO_ELEMENT;
+    };
+    *reference = *found;
+    DONE
+}
+
+/// Sets the element at an index.
+pub fn set(table: &TableNumbers, region: &mut [u32], index: u64, reference: u32) -> u8
+    ensures { SetsElement (record { numbers = table.now; region = region.old }) index reference
+        result region.new }
+{
+    let Some(ty) = table.type_if_valid(region) else {
+        return INVALID_STATE;
+    };
+    match region_table::set(ty, &mut region[..table.size], index, reference) {
+        Ok(()) => DONE,
+        Err(error) => table_status(error),
+    }
+}

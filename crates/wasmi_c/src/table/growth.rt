@@ -1,0 +1,158 @@
+//! A table grows.
+ghost use Rattle.std.specs.Prelude.{◌≡◌, ◌+◌, ℕ, false, Some, length};
+ghost use Rattle.wasmi_meter.specs.Quota.{quota_rules};
+ghost use Rattle.wasmi_store.specs.TableType.{TableTypeValue, is_indexable};
+ghost use Rattle.wasmi_region.specs.Table.{table_in, region_growth};
+ghost use Rattle.wasmi_c.specs.Host.{is_about};
+ghost use Rattle.wasmi_c.specs.Numbers.{embedded, limiter_of, IsTable, KeepsQuota};
+ghost use Rattle.wasmi_c.specs.TableCalls.{table_status_of, grown_number, IsNoTable, GrowsTableAs, GrowsTableEmbedded, SettlesTableEmbedded, AsksTableEmbedded};
+
+use crate::fuel::MeterNumbers;
+use crate::host::{HostAnswers, Question};
+use crate::quota::QuotaNumbers;
+use crate::refusal::table_refusal;
+use crate::status::{ASKS, DONE, INVALID_STATE, OTHER_SIZE, TABLE_GROWTH};
+use crate::table::numbers::TableNumbers;
+use wasmi_meter::{ResourceLimiter, ResourceLimiterRef, TableError};
+use wasmi_region::table as region_table;
+use wasmi_store::TableType;
+
+/// Leaves the number of a growth, and returns its status.
+fn leave_growth(outcome: Result<u64, TableError>, number: &mut u64) -> u8
+    ensures status { result ≡ table_status_of outcome }
+    ensures number { number.new ≡ grown_number outcome number.old }
+{
+    match outcome {
+        Ok(old_size) => {
+            *number = old_size;
+            DONE
+        }
+        Err(error) => table_refusal(error, number),
+    }
+}
+
+/// Grows a table of this type under a limiter.
+pub fn grow_under<L: ResourceLimiter>(
+    table: &mut TableNumbers,
+    ty: TableType,
+    region: &mut [u32],
+    delta: u64,
+    reference: u32,
+    meter: &mut MeterNumbers,
+    limiter: &mut L,
+    number: &mut u64,
+) -> u8
+    requires state { IsTable table.old region.old ty }
+    ensures grown { GrowsTableAs L.rules
+        (record { ty = ty; delta = delta; reference = reference })
+        (embedded table.old region.old meter.old (Some limiter.old) number.old) result
+        (embedded table.new region.new meter.new (Some limiter.new) number.new) }
+{
+    let mut fuel = meter.fuel();
+    let mut size = table.size;
+    let mut lent = ResourceLimiterRef::from(limiter);
+    let grown = region_table::grow(
+        ty, &mut size, region, delta, reference, &mut fuel, &mut lent,
+    );
+    let Some(_limiter) = lent.into_resource_limiter() else {
+        unreachable!()
+    };
+    table.size = size;
+    meter.store_left(&fuel);
+    leave_growth(grown, number)
+}
+
+/// Grows a table by so many elements of one reference. `number` is set to the old size, or to the
+/// fuel that is needed where less is left.
+pub fn grow(
+    table: &mut TableNumbers,
+    region: &mut [u32],
+    delta: u64,
+    reference: u32,
+    meter: &mut MeterNumbers,
+    quota: &mut QuotaNumbers,
+    number: &mut u64,
+) -> u8
+    ensures grown { GrowsTableEmbedded quota_rules delta reference
+        (embedded table.old region.old meter.old (limiter_of quota.old) number.old) result
+        (embedded table.new region.new meter.new (limiter_of quota.new) number.new) }
+    ensures quota { KeepsQuota quota.old quota.new }
+    ensures invalid { IsNoTable table.old region.old → quota.new ≡ quota.old }
+    ensures unasked { (ty : TableTypeValue) → IsTable table.old region.old ty
+        → is_indexable ty (table.old.size + delta) ≡ false → quota.new ≡ quota.old }
+{
+    let Some(ty) = table.type_if_valid(region) else {
+        return INVALID_STATE;
+    };
+    grow_under(table, ty, region, delta, reference, meter, quota, number)
+}
+
+/// What a growth by so many elements asks a limiter, with the status `ASKS`; it asks nothing where
+/// it is by 0 (`DONE`), where there would be as many elements as indices, and where the
+/// numbers stand for no table.
+pub fn question(table: &TableNumbers, region: &[u32], delta: u64, question: &mut Question) -> u8
+    ensures { AsksTableEmbedded table.now region.now delta result question.old question.new }
+{
+    let Some(ty) = table.type_if_valid(region) else {
+        return INVALID_STATE;
+    };
+    if delta == 0 {
+        return DONE;
+    }
+    let Some((desired, most)) = region_table::question(ty, table.size, delta) else {
+        return TABLE_GROWTH;
+    };
+    *question = Question::new(table.size, desired, most);
+    ASKS
+}
+
+/// Grows a table by so many elements of one reference, under a limiter that answers as the host
+/// says. If the answers are about other sizes than the growth's, nothing is written; else `answers`
+/// says whether the limiter was asked and is told.
+pub fn settle(
+    table: &mut TableNumbers,
+    region: &mut [u32],
+    delta: u64,
+    reference: u32,
+    meter: &mut MeterNumbers,
+    answers: &mut HostAnswers,
+    number: &mut u64,
+) -> u8
+    ensures { SettlesTableEmbedded delta reference answers.old
+        (embedded table.old region.old meter.old (Some answers.old) number.old) result
+        (embedded table.new region.new meter.new (Some answers.new) number.new) }
+{
+    let Some(ty) = table.type_if_valid(region) else {
+        return INVALID_STATE;
+    };
+    if !are_about(table, ty, region, delta, answers) {
+        return OTHER_SIZE;
+    }
+    answers.reset();
+    grow_under(table, ty, region, delta, reference, meter, answers, number)
+}
+
+/// Whether the host's answers are to what a growth by so many elements asks.
+fn are_about(
+    table: &TableNumbers,
+    ty: TableType,
+    region: &[u32],
+    delta: u64,
+    answers: &HostAnswers,
+) -> bool
+    requires state { IsTable table.now region.now ty }
+    ensures about { (reference : ℕ) → result ≡ is_about answers.now
+        (region_growth (length region.now) delta reference
+        (table_in ty region.now table.now.size)) }
+{
+    if table.size != answers.current {
+        return false;
+    }
+    if delta == 0 {
+        return true;
+    }
+    match region_table::question(ty, table.size, delta) {
+        Some((desired, _)) => desired == answers.desired,
+        None => true,
+    }
+}

@@ -1,0 +1,189 @@
+//! Memories in regions of the caller's.
+ghost use Rattle.std.specs.Prelude.{◌≡◌, ◌+◌, ◌/◌, false, Some};
+ghost use Rattle.wasmi_c.specs.MemoryCalls.{IsNoType, MakesEmbedded, IsNoState, GrowsEmbedded, AsksEmbedded, SettlesEmbedded, CountsEmbedded, ReadsEmbedded, WritesEmbedded};
+ghost use Rattle.wasmi_c.specs.Numbers.{limiter_of, KeepsQuota, embedded, IsState};
+ghost use Rattle.wasmi_meter.specs.Quota.{quota_rules};
+ghost use Rattle.wasmi_store.specs.MemoryType.{MemoryTypeValue, in_bounds, page_bytes};
+ghost use Rattle.wasmi_store.specs.Bulk.{filled, copied};
+ghost use Rattle.wasmi_c.specs.BulkCalls.{WritesBytesEmbedded, CopiesBytesEmbedded};
+
+use wasmi_c::memory::{bulk, bytes, creation, growth};
+use wasmi_c::{HostAnswers, MemoryNumbers, MeterNumbers, Question, QuotaNumbers, Range};
+
+/// Makes a memory of zeros at its minimum, under a quota.
+#[unsafe(no_mangle)]
+pub extern "C" fn wasmi_memory_new(
+    memory: &mut MemoryNumbers,
+    region: &mut [u8],
+    quota: &mut QuotaNumbers,
+) -> u8
+    ensures made { MakesEmbedded (record { numbers = memory.old; region = region.old })
+        (limiter_of quota.old) result (record { numbers = memory.new; region = region.new })
+        (limiter_of quota.new) }
+    ensures quota { KeepsQuota quota.old quota.new }
+    ensures invalid { IsNoType memory.old → quota.new ≡ quota.old }
+{
+    creation::make(memory, region, quota)
+}
+
+/// Grows a memory by pages of zeros, under a quota.
+#[unsafe(no_mangle)]
+pub extern "C" fn wasmi_memory_grow(
+    memory: &mut MemoryNumbers,
+    region: &mut [u8],
+    pages: u64,
+    meter: &mut MeterNumbers,
+    quota: &mut QuotaNumbers,
+    number: &mut u64,
+) -> u8
+    ensures grown { GrowsEmbedded quota_rules pages
+        (embedded memory.old region.old meter.old (limiter_of quota.old) number.old) result
+        (embedded memory.new region.new meter.new (limiter_of quota.new) number.new) }
+    ensures quota { KeepsQuota quota.old quota.new }
+    ensures invalid { IsNoState memory.old region.old → quota.new ≡ quota.old }
+    ensures unasked { (ty : MemoryTypeValue) → IsState memory.old region.old ty
+        → in_bounds ty (memory.old.size / page_bytes ty.page + pages) ≡ false
+        → quota.new ≡ quota.old }
+{
+    growth::grow(memory, region, pages, meter, quota, number)
+}
+
+/// What a growth asks a limiter of the caller's own.
+#[unsafe(no_mangle)]
+pub extern "C" fn wasmi_memory_question(
+    memory: &MemoryNumbers,
+    region: &[u8],
+    pages: u64,
+    question: &mut Question,
+) -> u8
+    ensures { AsksEmbedded memory.now region.now pages result question.old question.new }
+{
+    growth::question(memory, region, pages, question)
+}
+
+/// Grows a memory as a limiter of the caller's own answered.
+#[unsafe(no_mangle)]
+pub extern "C" fn wasmi_memory_settle(
+    memory: &mut MemoryNumbers,
+    region: &mut [u8],
+    pages: u64,
+    meter: &mut MeterNumbers,
+    answers: &mut HostAnswers,
+    number: &mut u64,
+) -> u8
+    ensures { SettlesEmbedded pages answers.old
+        (embedded memory.old region.old meter.old (Some answers.old) number.old) result
+        (embedded memory.new region.new meter.new (Some answers.new) number.new) }
+{
+    growth::settle(memory, region, pages, meter, answers, number)
+}
+
+/// The size of a memory in pages.
+#[unsafe(no_mangle)]
+pub extern "C" fn wasmi_memory_size(memory: &MemoryNumbers, region: &[u8], pages: &mut u64) -> u8
+    ensures { CountsEmbedded memory.now region.now pages.old result pages.new }
+{
+    bytes::size(memory, region, pages)
+}
+
+/// Reads bytes of a memory.
+#[unsafe(no_mangle)]
+pub extern "C" fn wasmi_memory_read(
+    memory: &MemoryNumbers,
+    region: &[u8],
+    offset: usize,
+    bytes: &mut [u8],
+) -> u8
+    ensures { ReadsEmbedded (record { numbers = memory.now; region = region.now }) offset bytes.old
+        result bytes.new }
+{
+    bytes::read(memory, region, offset, bytes)
+}
+
+/// Writes bytes of a memory.
+#[unsafe(no_mangle)]
+pub extern "C" fn wasmi_memory_write(
+    memory: &MemoryNumbers,
+    region: &mut [u8],
+    offset: usize,
+    bytes: &[u8],
+) -> u8
+    ensures { WritesEmbedded (record { numbers = memory.now; region = region.old }) offset bytes.now
+        result region.new }
+{
+    bytes::write(memory, region, offset, bytes)
+}
+
+/// Fills bytes of a memory with a value.
+#[unsafe(no_mangle)]
+pub extern "C" fn wasmi_memory_fill(
+    memory: &MemoryNumbers,
+    region: &mut [u8],
+    range: &Range,
+    value: u8,
+    meter: &mut MeterNumbers,
+    number: &mut u64,
+) -> u8
+    ensures { WritesBytesEmbedded (λ bytes. filled bytes range.now.to value range.now.count)
+        range.now.count memory.now
+        (record { region = region.old; meter = meter.old; number = number.old }) result
+        (record { region = region.new; meter = meter.new; number = number.new }) }
+{
+    bulk::fill(memory, region, range, value, meter, number)
+}
+
+/// Copies bytes of a memory over others of it.
+#[unsafe(no_mangle)]
+pub extern "C" fn wasmi_memory_copy_within(
+    memory: &MemoryNumbers,
+    region: &mut [u8],
+    range: &Range,
+    meter: &mut MeterNumbers,
+    number: &mut u64,
+) -> u8
+    ensures { WritesBytesEmbedded
+        (λ bytes. copied bytes range.now.to bytes range.now.from range.now.count)
+        range.now.count memory.now
+        (record { region = region.old; meter = meter.old; number = number.old }) result
+        (record { region = region.new; meter = meter.new; number = number.new }) }
+{
+    bulk::copy_within(memory, region, range, meter, number)
+}
+
+/// Copies bytes of another memory.
+#[unsafe(no_mangle)]
+pub extern "C" fn wasmi_memory_copy(
+    memory: &MemoryNumbers,
+    region: &mut [u8],
+    source: &MemoryNumbers,
+    source_region: &[u8],
+    range: &Range,
+    meter: &mut MeterNumbers,
+    number: &mut u64,
+) -> u8
+    ensures { CopiesBytesEmbedded (record { numbers = source.now; region = source_region.now })
+        range.now memory.now
+        (record { region = region.old; meter = meter.old; number = number.old }) result
+        (record { region = region.new; meter = meter.new; number = number.new }) }
+{
+    bulk::copy(memory, region, source, source_region, range, meter, number)
+}
+
+/// Copies bytes, such as a data segment's, to a memory.
+#[unsafe(no_mangle)]
+pub extern "C" fn wasmi_memory_init(
+    memory: &MemoryNumbers,
+    region: &mut [u8],
+    bytes: &[u8],
+    range: &Range,
+    meter: &mut MeterNumbers,
+    number: &mut u64,
+) -> u8
+    ensures { WritesBytesEmbedded
+        (λ front. copied front range.now.to bytes.now range.now.from range.now.count)
+        range.now.count memory.now
+        (record { region = region.old; meter = meter.old; number = number.old }) result
+        (record { region = region.new; meter = meter.new; number = number.new }) }
+{
+    bulk::init(memory, region, bytes, range, meter, number)
+}

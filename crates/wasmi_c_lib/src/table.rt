@@ -1,0 +1,187 @@
+//! Tables in regions of the caller's.
+ghost use Rattle.std.specs.Prelude.{◌≡◌, None, ◌+◌, false, Some};
+ghost use Rattle.wasmi_c.specs.Numbers.{limiter_of, table_type_of, KeepsQuota, embedded, IsTable};
+ghost use Rattle.wasmi_c.specs.TableCalls.{MakesTableEmbedded, IsNoTable, GrowsTableEmbedded, AsksTableEmbedded, SettlesTableEmbedded, CountsElements, GetsElement, SetsElement, WritesTableEmbedded, CopiesEmbedded};
+ghost use Rattle.wasmi_meter.specs.Quota.{quota_rules};
+ghost use Rattle.wasmi_store.specs.TableType.{TableTypeValue, is_indexable};
+ghost use Rattle.wasmi_store.specs.Table.{raw_filling_of, copy_of, initialization_of};
+ghost use Rattle.wasmi_region.specs.Table.{table_in, items_of};
+
+use wasmi_c::table::{creation, elements, growth, ranges};
+use wasmi_c::{HostAnswers, MeterNumbers, Question, QuotaNumbers, Range, TableNumbers};
+
+/// Makes a table of one reference at its minimum, under a quota.
+#[unsafe(no_mangle)]
+pub extern "C" fn wasmi_table_new(
+    table: &mut TableNumbers,
+    region: &mut [u32],
+    reference: u32,
+    quota: &mut QuotaNumbers,
+) -> u8
+    ensures made { MakesTableEmbedded reference
+        (record { numbers = table.old; region = region.old }) (limiter_of quota.old) result
+        (record { numbers = table.new; region = region.new }) (limiter_of quota.new) }
+    ensures quota { KeepsQuota quota.old quota.new }
+    ensures invalid { table_type_of table.old ≡ None → quota.new ≡ quota.old }
+{
+    creation::make(table, region, reference, quota)
+}
+
+/// Grows a table by elements of one reference, under a quota.
+#[unsafe(no_mangle)]
+pub extern "C" fn wasmi_table_grow(
+    table: &mut TableNumbers,
+    region: &mut [u32],
+    delta: u64,
+    reference: u32,
+    meter: &mut MeterNumbers,
+    quota: &mut QuotaNumbers,
+    number: &mut u64,
+) -> u8
+    ensures grown { GrowsTableEmbedded quota_rules delta reference
+        (embedded table.old region.old meter.old (limiter_of quota.old) number.old) result
+        (embedded table.new region.new meter.new (limiter_of quota.new) number.new) }
+    ensures quota { KeepsQuota quota.old quota.new }
+    ensures invalid { IsNoTable table.old region.old → quota.new ≡ quota.old }
+    ensures unasked { (ty : TableTypeValue) → IsTable table.old region.old ty
+        → is_indexable ty (table.old.size + delta) ≡ false → quota.new ≡ quota.old }
+{
+    growth::grow(table, region, delta, reference, meter, quota, number)
+}
+
+/// What a growth asks a limiter of the caller's own.
+#[unsafe(no_mangle)]
+pub extern "C" fn wasmi_table_question(
+    table: &TableNumbers,
+    region: &[u32],
+    delta: u64,
+    question: &mut Question,
+) -> u8
+    ensures { AsksTableEmbedded table.now region.now delta result question.old question.new }
+{
+    growth::question(table, region, delta, question)
+}
+
+/// Grows a table as a limiter of the caller's own answered.
+#[unsafe(no_mangle)]
+pub extern "C" fn wasmi_table_settle(
+    table: &mut TableNumbers,
+    region: &mut [u32],
+    delta: u64,
+    reference: u32,
+    meter: &mut MeterNumbers,
+    answers: &mut HostAnswers,
+    number: &mut u64,
+) -> u8
+    ensures { SettlesTableEmbedded delta reference answers.old
+        (embedded table.old region.old meter.old (Some answers.old) number.old) result
+        (embedded table.new region.new meter.new (Some answers.new) number.new) }
+{
+    growth::settle(table, region, delta, reference, meter, answers, number)
+}
+
+/// The size of a table in elements.
+#[unsafe(no_mangle)]
+pub extern "C" fn wasmi_table_size(table: &TableNumbers, region: &[u32], size: &mut u64) -> u8
+    ensures { CountsElements table.now region.now size.old result size.new }
+{
+    elements::size(table, region, size)
+}
+
+/// The element at an index.
+#[unsafe(no_mangle)]
+pub extern "C" fn wasmi_table_get(
+    table: &TableNumbers,
+    region: &[u32],
+    index: u64,
+    reference: &mut u32,
+) -> u8
+    ensures { GetsElement (record { numbers = table.now; region = region.now }) index reference.old
+        result reference.new }
+{
+    elements::get(table, region, index, reference)
+}
+
+/// Sets the element at an index.
+#[unsafe(no_mangle)]
+pub extern "C" fn wasmi_table_set(
+    table: &TableNumbers,
+    region: &mut [u32],
+    index: u64,
+    reference: u32,
+) -> u8
+    ensures { SetsElement (record { numbers = table.now; region = region.old }) index reference
+        result region.new }
+{
+    elements::set(table, region, index, reference)
+}
+
+/// Fills elements of a table with a reference.
+#[unsafe(no_mangle)]
+pub extern "C" fn wasmi_table_fill(
+    table: &TableNumbers,
+    region: &mut [u32],
+    range: &Range,
+    reference: u32,
+    meter: &mut MeterNumbers,
+    number: &mut u64,
+) -> u8
+    ensures { WritesTableEmbedded (λ ty. raw_filling_of range.now.to reference range.now.count)
+        table.now (record { region = region.old; meter = meter.old; number = number.old }) result
+        (record { region = region.new; meter = meter.new; number = number.new }) }
+{
+    ranges::fill(table, region, range, reference, meter, number)
+}
+
+/// Copies elements of a table over others of it.
+#[unsafe(no_mangle)]
+pub extern "C" fn wasmi_table_copy(
+    table: &TableNumbers,
+    region: &mut [u32],
+    range: &Range,
+    meter: &mut MeterNumbers,
+    number: &mut u64,
+) -> u8
+    ensures { WritesTableEmbedded (λ ty. copy_of range.now.to range.now.from range.now.count
+        (table_in ty region.old table.now.size))
+        table.now (record { region = region.old; meter = meter.old; number = number.old }) result
+        (record { region = region.new; meter = meter.new; number = number.new }) }
+{
+    ranges::copy_within(table, region, range, meter, number)
+}
+
+/// Copies elements of another table.
+#[unsafe(no_mangle)]
+pub extern "C" fn wasmi_table_copy_from(
+    table: &TableNumbers,
+    region: &mut [u32],
+    source: &TableNumbers,
+    source_region: &[u32],
+    range: &Range,
+    meter: &mut MeterNumbers,
+    number: &mut u64,
+) -> u8
+    ensures { CopiesEmbedded (record { numbers = source.now; region = source_region.now }) range.now
+        table.now (record { region = region.old; meter = meter.old; number = number.old }) result
+        (record { region = region.new; meter = meter.new; number = number.new }) }
+{
+    ranges::copy(table, region, source, source_region, range, meter, number)
+}
+
+/// Copies items, such as an element segment's, to a table.
+#[unsafe(no_mangle)]
+pub extern "C" fn wasmi_table_init(
+    table: &TableNumbers,
+    region: &mut [u32],
+    items: &[u32],
+    range: &Range,
+    meter: &mut MeterNumbers,
+    number: &mut u64,
+) -> u8
+    ensures { WritesTableEmbedded (λ ty. initialization_of range.now.to range.now.from
+        range.now.count (items_of ty items.now))
+        table.now (record { region = region.old; meter = meter.old; number = number.old }) result
+        (record { region = region.new; meter = meter.new; number = number.new }) }
+{
+    ranges::init(table, region, items, range, meter, number)
+}

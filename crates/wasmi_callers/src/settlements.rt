@@ -1,0 +1,106 @@
+//! Growths and creations by the answers of a limiter that only a host sees.
+ghost use Rattle.std.specs.Prelude.{Option, length};
+ghost use Rattle.wasmi_meter.specs.Limiter.{optional_rules};
+ghost use Rattle.wasmi_store.specs.Buffer.{Lent};
+ghost use Rattle.wasmi_store.specs.Memory.{MakesMemory, creation_of, growth_of};
+ghost use Rattle.wasmi_region.specs.Memory as memories;
+ghost use Rattle.wasmi_region.specs.Memory.{memory_in};
+ghost use Rattle.wasmi_region.specs.Table as tables;
+ghost use Rattle.wasmi_region.specs.Table.{table_in, creation_in, growth_in, MakesTableIn};
+ghost use Rattle.wasmi_c.specs.Numbers.{IsState};
+ghost use Rattle.wasmi_c.specs.Settlements.{Limited, Allows, limiter_after};
+ghost use Rattle.wasmi_c.specs.MemoryCalls.{GrowsAs};
+ghost use Rattle.wasmi_c.specs.Numbers.{embedded};
+ghost use Rattle.wasmi_c.specs.TableCalls.{GrowsTableAs};
+ghost use Rattle.wasmi_c.specs.Numbers.{IsTable};
+
+use wasmi_c::laws::{settlements_are_creations, settlements_are_growths};
+use wasmi_c::memory::{creation as memory_creation, growth as memory_growth};
+use wasmi_c::table::{creation as table_creation, growth as table_growth};
+use wasmi_c::{HostAnswers, MemoryNumbers, MeterNumbers, TableNumbers};
+use wasmi_core::{MemoryError, MemoryType, ResourceLimiter, TableError, TableType};
+
+/// Grows a memory of this type by so many pages by the answers of a limiter of any type. If the
+/// rules of that limiter allow the answers, this is a growth under that limiter.
+pub fn grow_as_answered<L: ResourceLimiter>(
+    memory: &mut MemoryNumbers,
+    ty: MemoryType,
+    region: &mut [u8],
+    pages: u64,
+    meter: &mut MeterNumbers,
+    answers: &mut HostAnswers,
+    number: &mut u64,
+) -> u8
+    requires state { IsState memory.old region.old ty }
+    ensures grown { (l : Limited (Option L)) → Allows (optional_rules L.rules)
+        (growth_of (memory_in ty region.old memory.old.size) pages) answers.new l
+        → GrowsAs L.rules ty pages
+        (embedded memory.old region.old meter.old l.before number.old) result
+        (embedded memory.new region.new meter.new (limiter_after answers.new l) number.new) }
+{
+    settlements_are_growths::<L>();
+    answers.reset();
+    memory_growth::grow_under(memory, ty, region, pages, meter, answers, number)
+}
+
+/// Grows a table of this type by so many elements by the answers of a limiter of any type, as
+/// `grow_as_answered` does a memory.
+pub fn grow_table_as_answered<L: ResourceLimiter>(
+    table: &mut TableNumbers,
+    ty: TableType,
+    region: &mut [u32],
+    delta: u64,
+    reference: u32,
+    meter: &mut MeterNumbers,
+    answers: &mut HostAnswers,
+    number: &mut u64,
+) -> u8
+    requires state { IsTable table.old region.old ty }
+    ensures grown { (l : Limited (Option L)) → Allows (optional_rules L.rules)
+        (growth_in (length region.old) (table_in ty region.old table.old.size) delta reference)
+        answers.new l
+        → GrowsTableAs L.rules (record { ty = ty; delta = delta; reference = reference })
+        (embedded table.old region.old meter.old l.before number.old) result
+        (embedded table.new region.new meter.new (limiter_after answers.new l) number.new) }
+{
+    settlements_are_growths::<L>();
+    answers.reset();
+    table_growth::grow_under(table, ty, region, delta, reference, meter, answers, number)
+}
+
+/// Makes a memory of this type at the front of a region by the answers of a limiter of any type,
+/// and returns its size in bytes. If the rules of that limiter allow the answers, this is a
+/// creation under that limiter. The errors are those of [`wasmi_region::memory::make`].
+pub fn make_as_answered<L: ResourceLimiter>(
+    ty: MemoryType,
+    region: &mut [u8],
+    answers: &mut HostAnswers,
+) -> Result<usize, MemoryError>
+    ensures made { (l : Limited (Option L)) → Allows (optional_rules L.rules)
+        (creation_of (Lent region.old) ty) answers.new l
+        → MakesMemory (optional_rules L.rules) (Lent region.old) ty l.before
+        (memories.made_in ty region.new result) (limiter_after answers.new l) }
+{
+    settlements_are_creations::<L>();
+    answers.reset();
+    memory_creation::make_under(ty, region, answers)
+}
+
+/// Makes a table of this type at the front of a region by the answers of a limiter of any type, as
+/// `make_as_answered` does a memory, and returns its size. The errors are those of
+/// [`wasmi_region::table::make`].
+pub fn make_table_as_answered<L: ResourceLimiter>(
+    ty: TableType,
+    region: &mut [u32],
+    reference: u32,
+    answers: &mut HostAnswers,
+) -> Result<usize, TableError>
+    ensures made { (l : Limited (Option L)) → Allows (optional_rules L.rules)
+        (creation_in ty (length region.old)) answers.new l
+        → MakesTableIn (optional_rules L.rules) ty (length region.old) reference l.before
+        (tables.made_in ty region.new result) (limiter_after answers.new l) }
+{
+    settlements_are_creations::<L>();
+    answers.reset();
+    table_creation::make_under(ty, region, reference, answers)
+}

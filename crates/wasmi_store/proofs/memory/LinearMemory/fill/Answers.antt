@@ -1,0 +1,4 @@
+use Rattle.wasmi_store.proofs.memory.LinearMemory.fill.Goals as goal
+
+pub returns-in-Some-clause-written : goal.returns-in-Some-clause-written
+returns-in-Some-clause-written g c = rw c.in-Some.is c.fill_metered.ensures.written
