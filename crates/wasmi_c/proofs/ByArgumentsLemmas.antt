@@ -18,12 +18,12 @@ use Rattle.wasmi_core.specs.declared.calls.Call.TheVariants.{GetFuel, Load, Stor
 use Rattle.wasmi_core.specs.declared.calls.Reply.{Reply}
 use Rattle.wasmi_c.specs.Machine.ByArguments.{RepliesInStatus, RepliesInWord, item_load, item_load_numbered, word_after}
 use Rattle.wasmi_c.specs.Machine.Calls.{MachineReplies}
-use Rattle.wasmi_c.specs.Machine.Caps.{Keeps, LimitedMachineValue}
+use Rattle.wasmi_c.specs.Machine.Caps.{Keeps, MachineValue}
 use Rattle.wasmi_c.specs.Machine.Replies.{status_of}
 use Rattle.wasmi_c.specs.Status.{no_call_status}
 
 -- a load of an item leaves the status and the value of its reply, and the machine stays
-pub load_leaves : (number index ptr offset : ℕ) (op : LoadOp) (machine : LimitedMachineValue) (word status word' : ℕ)
+pub load_leaves : (number index ptr offset : ℕ) (op : LoadOp) (machine : MachineValue) (word status word' : ℕ)
     → item_load_numbered number ≡ Some op
     → status ≡ status_of (load_reply op (ptr + offset) (live_at machine.state.memories index))
     → word' ≡ word_after (load_reply op (ptr + offset) (live_at machine.state.memories index)) word
@@ -38,7 +38,7 @@ load_leaves number index ptr offset op machine word status word' found same_stat
     )
 
 -- the fuel that is left is told, and the machine stays
-pub fuel_told : (machine : LimitedMachineValue) (word status word' : ℕ)
+pub fuel_told : (machine : MachineValue) (word status word' : ℕ)
     → status ≡ status_of (get_fuel_reply machine.state.meter)
     → word' ≡ word_after (get_fuel_reply machine.state.meter) word
     → RepliesInWord (Some GetFuel) word machine (status, word') machine
@@ -50,7 +50,7 @@ fuel_told machine word status word' same_status same_word = (
 )
 
 -- where no load of an item has the number, there is no call
-pub no_load : (number index ptr offset : ℕ) (machine : LimitedMachineValue) (word : ℕ)
+pub no_load : (number index ptr offset : ℕ) (machine : MachineValue) (word : ℕ)
     → item_load_numbered number ≡ None
     → RepliesInWord (item_load number index ptr offset) word machine (no_call_status, word) machine
 unfolding RepliesInWord
@@ -59,22 +59,22 @@ no_load number index ptr offset machine word lacking =
     (no_call_status, word) machine) (sym lacking) (refl, refl)
 
 -- a call leaves the status and the word of its reply
-pub word_left : (one : Call) (machine : LimitedMachineValue) (full : Reply) (word status word' : ℕ)
-    (machine' : LimitedMachineValue) → MachineReplies one machine full machine' → status ≡ status_of full
+pub word_left : (one : Call) (machine : MachineValue) (full : Reply) (word status word' : ℕ)
+    (machine' : MachineValue) → MachineReplies one machine full machine' → status ≡ status_of full
     → word' ≡ word_after full word → RepliesInWord (Some one) word machine (status, word') machine'
 unfolding RepliesInWord
 word_left one machine full word status word' machine' replies same_status same_word =
     (full, replies, λ i. (same_status i, same_word i))
 
 -- where there is no call, the status says so
-pub no_call_left : (called : Option Call) (machine : LimitedMachineValue) → called ≡ None
+pub no_call_left : (called : Option Call) (machine : MachineValue) → called ≡ None
     → RepliesInStatus called machine no_call_status machine
 unfolding RepliesInStatus
 no_call_left called machine is = subst (λ c. RepliesInStatus c machine no_call_status machine) (sym is) (refl, refl)
 
 -- a call that there is leaves the status of its reply
-pub status_left : (called : Option Call) (one : Call) (machine : LimitedMachineValue) (full : Reply) (status : ℕ)
-    (machine' : LimitedMachineValue) → called ≡ Some one → MachineReplies one machine full machine'
+pub status_left : (called : Option Call) (one : Call) (machine : MachineValue) (full : Reply) (status : ℕ)
+    (machine' : MachineValue) → called ≡ Some one → MachineReplies one machine full machine'
     → status ≡ status_of full → RepliesInStatus called machine status machine'
 unfolding RepliesInStatus
 status_left called one machine full status machine' is replies same =

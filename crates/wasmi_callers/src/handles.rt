@@ -2,7 +2,7 @@
 ghost use Rattle.std.specs.Prelude.{◌≡◌, Some};
 ghost use Rattle.wasmi_core.specs.declared.calls.Call.{Call};
 ghost use Rattle.wasmi_c.specs.Machine.CallStructs.{call_of};
-ghost use Rattle.wasmi_c.specs.Machine.Caps.{LimitedMachineValue};
+ghost use Rattle.wasmi_c.specs.Machine.Caps.{MachineValue};
 ghost use Rattle.wasmi_callers.specs.Handles.{RunsBoth};
 
 use wasmi_c::machine::call_struct::CallStruct;
@@ -17,7 +17,7 @@ pub fn call_twice(
     first: &CallStruct,
     second: &CallStruct,
 ) -> (ReplyStruct, ReplyStruct)
-    ensures run { (machine : LimitedMachineValue) (call call' : Call)
+    ensures run { (machine : MachineValue) (call call' : Call)
         → handle.old.machine.held ≡ Some machine
         → call_of first.now ≡ Some call → call_of second.now ≡ Some call'
         → RunsBoth call call' machine result handle.new.machine.held }

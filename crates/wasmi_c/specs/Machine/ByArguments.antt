@@ -13,7 +13,7 @@ use Rattle.wasmi_core.specs.declared.calls.Reply.TheVariants as reply
 use Rattle.wasmi_c.specs.Instruction.Accesses.{load_numbered, store_numbered}
 use Rattle.wasmi_c.specs.Instruction.Binary.{binary_numbered}
 use Rattle.wasmi_c.specs.Machine.Calls.{MachineReplies}
-use Rattle.wasmi_c.specs.Machine.Caps.{LimitedMachineValue}
+use Rattle.wasmi_c.specs.Machine.Caps.{MachineValue}
 use Rattle.wasmi_c.specs.Machine.Replies.{status_of}
 use Rattle.wasmi_c.specs.Status.{no_call_status}
 use Rattle.wasmi_c.specs.declared.instruction.binary.Binary.{Binary}
@@ -72,13 +72,13 @@ word_after (reply.Memory (memory.OutOfFuel required)) word = required
 word_after full word = word
 
 -- a machine replies to a call with a status and a word; where there is no call, the machine and the word stay
-unfoldable pub RepliesInWord : Option Call → ℕ → LimitedMachineValue → ℕ × ℕ → LimitedMachineValue → Type 0
+unfoldable pub RepliesInWord : Option Call → ℕ → MachineValue → ℕ × ℕ → MachineValue → Type 0
 RepliesInWord called word machine left machine' = MatchOption called
     ((left ≡ (no_call_status, word)) × (machine' ≡ machine))
     (λ one. (full : Reply) × MachineReplies one machine full machine' × (left ≡ (status_of full, word_after full word)))
 
 -- a machine replies to a call with a status; where there is no call, the machine stays
-unfoldable pub RepliesInStatus : Option Call → LimitedMachineValue → ℕ → LimitedMachineValue → Type 0
+unfoldable pub RepliesInStatus : Option Call → MachineValue → ℕ → MachineValue → Type 0
 RepliesInStatus called machine status machine' = MatchOption called
     ((status ≡ no_call_status) × (machine' ≡ machine))
     (λ one. (full : Reply) × MachineReplies one machine full machine' × (status ≡ status_of full))

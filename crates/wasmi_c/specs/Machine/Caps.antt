@@ -9,7 +9,7 @@ use Rattle.wasmi_core.specs.State.{State}
 use Rattle.wasmi_core.specs.Totals.{total, HoldsTotals}
 
 -- a machine, and the limiter that it asks
-pub record LimitedMachineValue : Type 0 where
+pub record MachineValue : Type 0 where
   pub state : State
   pub limiter : AnyLimiter
 
@@ -23,12 +23,12 @@ abbrev pub Keeps : State → AnyLimiter → Type 0
 Keeps state limiter = IfSome (quota_of limiter) (IsKept state)
 
 -- the machine has no more bytes and no more elements than its caps, if it has caps
-abbrev pub IsCapped : LimitedMachineValue → Type 0
+abbrev pub IsCapped : MachineValue → Type 0
 IsCapped machine =
     (kind : Kind) → IfSome (quota_of machine.limiter) (λ quota. total machine.state kind ≤ cap_of quota kind)
 
 -- the machine of a handle is within its caps, and they are those of the machine that was there before, if one was
-abbrev pub StaysWithinCaps : Option LimitedMachineValue → Option LimitedMachineValue → Type 0
+abbrev pub StaysWithinCaps : Option MachineValue → Option MachineValue → Type 0
 StaysWithinCaps held None = ⊤
 StaysWithinCaps None (Some machine') = IsCapped machine'
 StaysWithinCaps (Some machine) (Some machine') =

@@ -8,7 +8,7 @@ use Rattle.wasmi_core.specs.State.{State}
 use Rattle.wasmi_core.specs.World.{Turn, world}
 use Rattle.wasmi_core.specs.declared.calls.Call.{Call}
 use Rattle.wasmi_core.specs.declared.calls.Reply.{Reply}
-use Rattle.wasmi_c.specs.Machine.Caps.{Keeps, LimitedMachineValue}
+use Rattle.wasmi_c.specs.Machine.Caps.{Keeps, MachineValue}
 use Rattle.wasmi_c.specs.Machine.Calls.{MachineReplies}
 use Rattle.wasmi_c.specs.Machine.Lines.{MachineRuns}
 use Rattle.wasmi_c.specs.Machine.Replies.{reply_struct}
@@ -22,18 +22,18 @@ QuotasAreKept = (turns : List Turn) (s : State) (l : AnyLimiter) (s' : State) (l
 
 -- a call on a machine is a run of this call alone
 abbrev pub CallsAreRuns : Type 0
-CallsAreRuns = (call : Call) (machine : LimitedMachineValue) (reply : Reply) (machine' : LimitedMachineValue)
+CallsAreRuns = (call : Call) (machine : MachineValue) (reply : Reply) (machine' : MachineValue)
     → MachineReplies call machine reply machine' → MachineRuns (call ∷ []) machine (reply ∷ []) machine'
 
 -- a run of a machine, and a run from where it ends, are one run of all the calls, with the replies in turn
 abbrev pub MachineRunsJoin : Type 0
-MachineRunsJoin = (calls calls' : List Call) (u v w : LimitedMachineValue) (replies replies' : List Reply)
+MachineRunsJoin = (calls calls' : List Call) (u v w : MachineValue) (replies replies' : List Reply)
     → MachineRuns calls u replies v → MachineRuns calls' v replies' w
     → MachineRuns (calls ++ calls') u (replies ++ replies') w
 
 -- a machine replies to two calls with numbers, which are those of the replies of one run of both
-abbrev pub RunsBoth : Call → Call → LimitedMachineValue → ReplyStruct × ReplyStruct → Option LimitedMachineValue
+abbrev pub RunsBoth : Call → Call → MachineValue → ReplyStruct × ReplyStruct → Option MachineValue
     → Type 0
-RunsBoth call call' machine replies held' = (reply : Reply) × (reply' : Reply) × (machine' : LimitedMachineValue)
+RunsBoth call call' machine replies held' = (reply : Reply) × (reply' : Reply) × (machine' : MachineValue)
     × MachineRuns (call ∷ call' ∷ []) machine (reply ∷ reply' ∷ []) machine'
     × (replies ≡ (reply_struct reply, reply_struct reply')) × (held' ≡ Some machine')

@@ -11,7 +11,7 @@ use Rattle.wasmi_grammar.specs.Refusals.{IsFirstBadLine}
 use Rattle.wasmi_grammar.specs.declared.script.Script.{Script}
 use Rattle.wasmi_script.specs.Fronts.{FillsFront}
 use Rattle.wasmi_script.specs.Outcomes.{replies_text}
-use Rattle.wasmi_c.specs.Machine.Caps.{LimitedMachineValue}
+use Rattle.wasmi_c.specs.Machine.Caps.{MachineValue}
 use Rattle.wasmi_c.specs.Machine.Calls.{world_of}
 use Rattle.wasmi_c.specs.Machine.Replies.{only, with_number}
 use Rattle.wasmi_c.specs.Status.{bad_line_status, done_status, header_line_status, no_room_status, text_cut_status}
@@ -29,7 +29,7 @@ pub record WritesOut (text old : List ℕ) (reply : ReplyStruct) (new : List ℕ
   pub length_told : reply ≡ length_reply (length text)
 
 -- a machine replies to calls: a run of its machine under its limiter
-abbrev pub MachineRuns : List Call → LimitedMachineValue → List Reply → LimitedMachineValue → Type 0
+abbrev pub MachineRuns : List Call → MachineValue → List Reply → MachineValue → Type 0
 MachineRuns calls machine replies machine' =
     IsRunOf (optional_rules any_limiter_rules) calls (world_of machine) replies (world_of machine')
 
@@ -38,9 +38,9 @@ abbrev pub no_header : Header
 no_header = record { meter = None; limiter = None; region = None }
 
 -- a script without header lines is run on a machine, and bytes are filled with the text of the replies
-pub record RunsScript (script : Script) (machine : LimitedMachineValue) (old : List ℕ) (reply : ReplyStruct)
+pub record RunsScript (script : Script) (machine : MachineValue) (old : List ℕ) (reply : ReplyStruct)
     (new : List ℕ)
-    (machine' : LimitedMachineValue) : Type 0 where
+    (machine' : MachineValue) : Type 0 where
   pub headless : script.header ≡ no_header
   pub replies : List Reply
   pub run : MachineRuns (calls_of script) machine replies machine'
@@ -54,6 +54,6 @@ RefusesLines lines reply = ((number : ℕ) × IsFirstBadLine lines number × (re
     ⊎ (reply ≡ only no_room_status)
 
 -- lines are run on a machine as the script that they write, or they are refused, and nothing has changed
-unfoldable pub RunsLines : List ℕ → LimitedMachineValue → List ℕ → ReplyStruct → List ℕ → LimitedMachineValue → Type 0
+unfoldable pub RunsLines : List ℕ → MachineValue → List ℕ → ReplyStruct → List ℕ → MachineValue → Type 0
 RunsLines lines machine old reply new machine' = (RefusesLines lines reply × (new ≡ old) × (machine' ≡ machine))
     ⊎ ((script : Script) × WritesScript lines script × RunsScript script machine old reply new machine')

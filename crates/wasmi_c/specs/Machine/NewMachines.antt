@@ -10,7 +10,7 @@ use Rattle.wasmi_meter.specs.declared.any_limiter.AnyLimiter.TheVariants as limi
 use Rattle.wasmi_meter.specs.declared.limiter.Kind.TheVariants.{Bytes, Elements}
 use Rattle.wasmi_meter.specs.declared.quota.Quota.{Quota}
 use Rattle.wasmi_core.specs.State.{new_state}
-use Rattle.wasmi_c.specs.Machine.Caps.{LimitedMachineValue}
+use Rattle.wasmi_c.specs.Machine.Caps.{MachineValue}
 use Rattle.wasmi_c.specs.Machine.LimiterAnswers.{IsAnswer, answer_of}
 use Rattle.wasmi_c.specs.Status.{done_status, has_machine_status, no_answer_status, no_room_status}
 use Rattle.wasmi_c.specs.Types.{if_flag, meter_of}
@@ -38,26 +38,26 @@ IsNewLimiter limits (limiter.Quota quota) = IsNewQuota limits quota
 IsNewLimiter limits (limiter.Answers answers) = ⊥
 
 -- a machine with nothing on it, and with its quota if there are caps
-pub record IsNewMachine (limits : Limits) (machine : LimitedMachineValue) : Type 0 where
+pub record IsNewMachine (limits : Limits) (machine : MachineValue) : Type 0 where
   pub state : machine.state ≡ new_state (meter_with limits)
   pub limiter : IsNewLimiter limits machine.limiter
 
 -- a machine with nothing on it, and with these answers, of which none was taken
-pub record IsNewWithAnswers (limits : Limits) (answers : List LimiterAnswer) (machine : LimitedMachineValue)
+pub record IsNewWithAnswers (limits : Limits) (answers : List LimiterAnswer) (machine : MachineValue)
     : Type 0 where
   pub state : machine.state ≡ new_state (meter_with limits)
   pub limiter : machine.limiter ≡ limiter.Answers (new_answers answers)
 
 -- a machine that is so is made where there is none; where there is one, or memory is refused, nothing has changed
-abbrev pub MakesMachine : (LimitedMachineValue → Type 0) → Option LimitedMachineValue → ℕ → Option LimitedMachineValue
+abbrev pub MakesMachine : (MachineValue → Type 0) → Option MachineValue → ℕ → Option MachineValue
     → Type 0
 MakesMachine IsNew (Some machine) status held' = (status ≡ has_machine_status) × (held' ≡ Some machine)
 MakesMachine IsNew None status held' = ((status ≡ no_room_status) × (held' ≡ None))
-    ⊎ ((machine : LimitedMachineValue) × IsNew machine × (status ≡ done_status) × (held' ≡ Some machine))
+    ⊎ ((machine : MachineValue) × IsNew machine × (status ≡ done_status) × (held' ≡ Some machine))
 
 -- a machine with a list of answers is made where there is none; where there is one, a number stands for no answer, or
 -- memory is refused, nothing has changed
-abbrev pub MakesWithAnswers : Limits → List ℕ → Option LimitedMachineValue → ℕ → Option LimitedMachineValue → Type 0
+abbrev pub MakesWithAnswers : Limits → List ℕ → Option MachineValue → ℕ → Option MachineValue → Type 0
 MakesWithAnswers limits numbers (Some machine) status held' =
     (status ≡ has_machine_status) × (held' ≡ Some machine)
 MakesWithAnswers limits numbers None status held' =

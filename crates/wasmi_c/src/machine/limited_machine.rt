@@ -24,9 +24,9 @@ pub struct LimitedMachine {
 }
 
 impl Model for LimitedMachine {
-    ghost use Rattle.wasmi_c.specs.Machine.Caps.{LimitedMachineValue, Keeps};
+    ghost use Rattle.wasmi_c.specs.Machine.Caps.{MachineValue, Keeps};
 
-    ghost Value = { LimitedMachineValue };
+    ghost Value = { MachineValue };
 
     ghost view = { λ limited. record { state = limited.machine; limiter = limited.limiter } };
 

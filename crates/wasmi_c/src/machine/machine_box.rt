@@ -1,7 +1,7 @@
 //! A machine on the heap, or none.
 ghost use Rattle.std.specs.Prelude.{◌≡◌, Option, Some, None, IsSome};
 ghost use Rattle.wasmi_c.specs.Machine.MachineBox.{box_or_none_owns, held_coded};
-ghost use Rattle.wasmi_c.specs.Machine.Caps.{LimitedMachineValue};
+ghost use Rattle.wasmi_c.specs.Machine.Caps.{MachineValue};
 
 use crate::machine::box_fields::BoxFields;
 use crate::machine::limited_machine::LimitedMachine;
@@ -18,7 +18,7 @@ pub struct MachineBox {
     at: *mut u8,
     alloc: Global,
     /// The machine, if there is one.
-    pub ghost held: { Option LimitedMachineValue } by { held_coded },
+    pub ghost held: { Option MachineValue } by { held_coded },
 }
 
 impl Model for MachineBox {

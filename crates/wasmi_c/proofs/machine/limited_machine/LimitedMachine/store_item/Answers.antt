@@ -2,7 +2,7 @@ use Rattle.std.proofs.Common.{◌+◌, subst}
 use Rattle.wasmi_core.specs.declared.calls.Call.TheVariants.{Store}
 use Rattle.wasmi_ops.specs.ScalarAccessOps.{stored_bytes}
 use Rattle.wasmi_c.specs.Machine.Calls.{MachineReplies}
-use Rattle.wasmi_c.specs.Machine.Caps.{LimitedMachineValue}
+use Rattle.wasmi_c.specs.Machine.Caps.{MachineValue}
 use Rattle.wasmi_c.proofs.ByArgumentsLemmas.{kept_by_store, replies_to_store}
 use Rattle.wasmi_c.proofs.machine.limited_machine.LimitedMachine.store_item.Goals as goal
 
@@ -15,7 +15,7 @@ invariant_of-self c =
 pub returns-clause-step : goal.returns-clause-step
 returns-clause-step c =
     let limiter = c.self.inside.limiter in
-    let stored : LimitedMachineValue = record { state = c.store_item.new.self; limiter = limiter } in
+    let stored : MachineValue = record { state = c.store_item.new.self; limiter = limiter } in
     let called = Store c.args.op c.args.memory c.args.ptr c.args.offset c.args.value in
     subst (λ machine. MachineReplies called machine c.store_item.result stored) c.self.view_is
     (replies_to_store c.args.op c.args.memory c.args.ptr c.args.offset c.args.value c.self.inside.machine limiter

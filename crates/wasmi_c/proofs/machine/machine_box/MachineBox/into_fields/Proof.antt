@@ -27,7 +27,7 @@ use Rattle.std_alloc.proofs.BoxSteps.Form.{D, word, box_typed}
 use Rattle.std_alloc.proofs.BoxSteps.Steps.{box_out, box_in}
 use Rattle.wasmi_c.proofs.MachineBoxLemmas.{E, FromMachineBox as From}
 use Rattle.wasmi_c.proofs.MachineBoxLemmas.{found}
-use Rattle.wasmi_c.specs.Machine.Caps.{LimitedMachineValue}
+use Rattle.wasmi_c.specs.Machine.Caps.{MachineValue}
 use Rattle.wasmi_c.specs.contracts.machine.machine_box.MachineBox.{the_row as S}
 use Rattle.wasmi_c.specs.contracts.machine.machine_box.MachineBox.into_fields as F
 use Rattle.wasmi_c.specs.contracts.machine.machine_box.MachineBox.into_fields.Key.{name as #self}
@@ -54,7 +54,7 @@ module _ {M : Type 1} {𝓤 : Ura M} (𝓛 : Logic 𝓤) (at_mem : Memory → SP
       let v : D E = record { ptr = s.at; alloc = s.alloc; value = machine.0 } in
       let made : To.Denot = record { ptr = v.ptr; alloc = v.alloc; value = v.value } in
       split ! $ drop ! $ fsplit ! $ rewrite ! 0
-      (λ (held : Option LimitedMachineValue). ‵ (S.own_val (record { at = s.at; alloc = s.alloc; held = held }) z.0.4.0)) machine.1
+      (λ (held : Option MachineValue). ‵ (S.own_val (record { at = s.at; alloc = s.alloc; held = held }) z.0.4.0)) machine.1
       refl $
       box_out E ! v z.0.4.0
       (λ b o hv e ws fa. box_in E ! v b o v.value e refl $ use1 𝓛 (‵ (To.own_val made (word E hv b o ∷ [])))

@@ -39,7 +39,7 @@ use Rattle.std.proofs.VecSteps.Shapes.{after}
 use Rattle.std_alloc.proofs.BoxSteps.Form.{D, R, τ, word, handle}
 use Rattle.std_alloc.proofs.BoxSteps.Steps.{box_out, box_in}
 use Rattle.wasmi_c.proofs.MachineBoxLemmas.{E, found}
-use Rattle.wasmi_c.specs.Machine.Caps.{LimitedMachineValue}
+use Rattle.wasmi_c.specs.Machine.Caps.{MachineValue}
 use Rattle.wasmi_c.specs.Machine.Lending.{with_machine}
 use Rattle.wasmi_c.specs.contracts.machine.limited_machine.LimitedMachine.{the_row as Home}
 use Rattle.wasmi_c.specs.contracts.machine.machine_box.MachineBox.{the_row as S}
@@ -64,7 +64,7 @@ module _ {M : Type 1} {𝓤 : Ura M} (𝓛 : Logic 𝓤) (at_mem : Memory → SP
   abbrev Post : Val → SProp 𝓤
   Post = (walk_of 𝓛 F.ended stayed (F.clauses 𝓛 at_mem run)).post bound
 
-  module _ (machine : LimitedMachineValue) (is : h.held ≡ Some machine) where
+  module _ (machine : MachineValue) (is : h.held ≡ Some machine) where
     abbrev boxed : D E
     boxed = record { ptr = h.at; alloc = h.alloc; value = machine }
 
@@ -74,7 +74,7 @@ module _ {M : Type 1} {𝓤 : Ura M} (𝓛 : Logic 𝓤) (at_mem : Memory → SP
       Rest = fsep (fsep (token E.al h.alloc (bare (τ E)) (block_ptr b o)) (handle E h.alloc hv))
           (cell_at full_share S.mir (word E hv b o ∷ []) rb ro)
 
-      back : h.at ≡ block_ptr b o → (w : LimitedMachineValue)
+      back : h.at ≡ block_ptr b o → (w : MachineValue)
           → ent 𝓤 (sep 𝓤 (sem 𝓛 ((mem Home).own_at w b o)) (sem 𝓛 Rest))
           (sem 𝓛 ((mem S).own_at (with_machine h w) rb ro))
       unfolding part_of
@@ -85,7 +85,7 @@ module _ {M : Type 1} {𝓤 : Ura M} (𝓛 : Logic 𝓤) (at_mem : Memory → SP
           fpack ! (List Val) (λ us. fsep (cell_at full_share S.mir us rb ro) (S.own_val (with_machine h w) us))
           (word E hv b o ∷ []) $ done !
 
-    abbrev lent : ℕ → ℕ → GName → MutBor LimitedMachineValue
+    abbrev lent : ℕ → ℕ → GName → MutBor MachineValue
     lent b o δ = record { ref_ptr = (b, o); ghost_name = δ; now = machine }
 
     exits : (b o : ℕ) (δ : GName)
@@ -108,7 +108,7 @@ module _ {M : Type 1} {𝓤 : Ura M} (𝓛 : Logic 𝓤) (at_mem : Memory → SP
         (λ l. pass_all ! refl ((tt, tt), tt) $
         let En : Env 𝓤 H = env (code.function).locals l in
         opens ! tt S {h = h} rb ro (λ us. move ! (1 ∷ []) $ rewrite ! 0
-        (λ (held : Option LimitedMachineValue). ‵ (S.own_val (record { at = h.at; alloc = h.alloc; held = held }) us)) is refl $
+        (λ (held : Option MachineValue). ‵ (S.own_val (record { at = h.at; alloc = h.alloc; held = held }) us)) is refl $
         box_out E ! boxed us (λ b o hv at_b ws fa. move ! (1 ∷ 2 ∷ []) $ fjoin ! $ move ! (1 ∷ []) $ rewrite ! 2
         (λ (vs : List Val). ‵ (cell_at full_share S.mir vs rb ro)) ws refl $
         -- [the machine; the token with the handle; the box's cell; the open borrow; obs; auth]
