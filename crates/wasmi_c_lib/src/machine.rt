@@ -134,7 +134,7 @@ pub extern "C" fn wasmi_machine_consume_fuel(handle: &mut Handle, amount: u64) -
 #[unsafe(no_mangle)]
 pub extern "C" fn wasmi_machine_load(
     handle: &mut Handle,
-    number: u16,
+    op: u16,
     memory: usize,
     ptr: u64,
     offset: u64,
@@ -142,18 +142,18 @@ pub extern "C" fn wasmi_machine_load(
 ) -> u8
     ensures step { ActsOnHeld {R = ℕ × ℕ} (no_machine_status, value.old) handle.old.machine.held
         (result, value.new) handle.new.machine.held
-        (λ machine machine'. RepliesInWord (item_load number memory ptr offset) value.old machine
+        (λ machine machine'. RepliesInWord (item_load op memory ptr offset) value.old machine
         (result, value.new) machine') }
     ensures caps { StaysWithinCaps handle.old.machine.held handle.new.machine.held }
 {
-    handle.load(number, memory, ptr, offset, value)
+    handle.load(op, memory, ptr, offset, value)
 }
 
 /// Stores an item: `Handle::store`.
 #[unsafe(no_mangle)]
 pub extern "C" fn wasmi_machine_store(
     handle: &mut Handle,
-    number: u16,
+    op: u16,
     memory: usize,
     ptr: u64,
     offset: u64,
@@ -162,18 +162,18 @@ pub extern "C" fn wasmi_machine_store(
     ensures step { ActsOnHeld no_machine_status handle.old.machine.held result
         handle.new.machine.held
         (λ machine machine'. RepliesInStatus
-        (item_store number memory ptr offset value) machine result
+        (item_store op memory ptr offset value) machine result
         machine') }
     ensures caps { StaysWithinCaps handle.old.machine.held handle.new.machine.held }
 {
-    handle.store(number, memory, ptr, offset, value)
+    handle.store(op, memory, ptr, offset, value)
 }
 
 /// Executes an instruction on two vectors: `Handle::binary`.
 #[unsafe(no_mangle)]
 pub extern "C" fn wasmi_machine_binary(
     handle: &mut Handle,
-    number: u16,
+    op: u16,
     dst: u8,
     a: u8,
     b: u8,
@@ -181,10 +181,10 @@ pub extern "C" fn wasmi_machine_binary(
     ensures step { ActsOnHeld no_machine_status handle.old.machine.held result
         handle.new.machine.held
         (λ machine machine'. RepliesInStatus
-        (vector_binary number dst a b) machine result machine') }
+        (vector_binary op dst a b) machine result machine') }
     ensures caps { StaysWithinCaps handle.old.machine.held handle.new.machine.held }
 {
-    handle.binary(number, dst, a, b)
+    handle.binary(op, dst, a, b)
 }
 
 /// Grows a memory: `Handle::grow`.

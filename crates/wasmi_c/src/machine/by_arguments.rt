@@ -89,7 +89,7 @@ impl LimitedMachine {
         let Some(op) = item_store_numbered(number) else {
             return NO_CALL;
         };
-        let value = RawVal::from_bits64(value);
+        let value = RawVal { lo: value, hi: 0 };
         common_status(self.store_item(op, memory, ptr, offset, value))
     }
 

@@ -175,42 +175,42 @@ impl Handle {
     /// `value` to it. The status is `NO_MACHINE` if the handle has no machine, then `NO_CALL` if no
     /// load of an item has the number, then as `Call::Load` says. After any status but `DONE` the
     /// value stays.
-    pub fn load(&mut self, number: u16, memory: usize, ptr: u64, offset: u64, value: &mut u64) -> u8
+    pub fn load(&mut self, op: u16, memory: usize, ptr: u64, offset: u64, value: &mut u64) -> u8
         ensures step { ActsOnHeld {R = ℕ × ℕ} (no_machine_status, value.old) self.old.machine.held
             (result, value.new) self.new.machine.held
             (λ machine machine'. RepliesInWord
-            (item_load number memory ptr offset) value.old machine
+            (item_load op memory ptr offset) value.old machine
             (result, value.new) machine') }
         ensures caps { StaysWithinCaps self.old.machine.held self.new.machine.held }
     {
-        on_machine!(self, NO_MACHINE, machine => machine.load(number, memory, ptr, offset, value))
+        on_machine!(self, NO_MACHINE, machine => machine.load(op, memory, ptr, offset, value))
     }
 
     /// Stores an item to a memory at `ptr + offset`, by the store that has the number. The status
     /// is `NO_MACHINE` if the handle has no machine, then `NO_CALL` if no store of an item has the
     /// number, then as `Call::Store` says.
-    pub fn store(&mut self, number: u16, memory: usize, ptr: u64, offset: u64, value: u64) -> u8
+    pub fn store(&mut self, op: u16, memory: usize, ptr: u64, offset: u64, value: u64) -> u8
         ensures step { ActsOnHeld no_machine_status self.old.machine.held result
             self.new.machine.held
             (λ machine machine'. RepliesInStatus
-            (item_store number memory ptr offset value) machine result
+            (item_store op memory ptr offset value) machine result
             machine') }
         ensures caps { StaysWithinCaps self.old.machine.held self.new.machine.held }
     {
-        on_machine!(self, NO_MACHINE, machine => machine.store(number, memory, ptr, offset, value))
+        on_machine!(self, NO_MACHINE, machine => machine.store(op, memory, ptr, offset, value))
     }
 
     /// Sets a register to what the instruction of the number makes of the vectors in two registers.
     /// The status is `NO_MACHINE` if the handle has no machine, then `NO_CALL` if no instruction on
     /// two vectors has the number, then as `Call::Binary` says.
-    pub fn binary(&mut self, number: u16, dst: u8, a: u8, b: u8) -> u8
+    pub fn binary(&mut self, op: u16, dst: u8, a: u8, b: u8) -> u8
         ensures step { ActsOnHeld no_machine_status self.old.machine.held result
             self.new.machine.held
             (λ machine machine'. RepliesInStatus
-            (vector_binary number dst a b) machine result machine') }
+            (vector_binary op dst a b) machine result machine') }
         ensures caps { StaysWithinCaps self.old.machine.held self.new.machine.held }
     {
-        on_machine!(self, NO_MACHINE, machine => machine.binary(number, dst, a, b))
+        on_machine!(self, NO_MACHINE, machine => machine.binary(op, dst, a, b))
     }
 
     /// Grows a memory by so many pages, and sets `number` to its old size in pages, or to the fuel

@@ -54,8 +54,8 @@ module _ {M : Type 1} {𝓤 : Ura M} (𝓛 : Logic 𝓤) (at_mem : Memory → SP
       let v : D E = record { ptr = s.at; alloc = s.alloc; value = machine.0 } in
       let made : To.Denot = record { ptr = v.ptr; alloc = v.alloc; value = v.value } in
       split ! $ drop ! $ fsplit ! $ rewrite ! 0
-      (λ (held : Option MachineValue). ‵ (S.own_val (record { at = s.at; alloc = s.alloc; held = held }) z.0.4.0)) machine.1
-      refl $
+      (λ (held : Option MachineValue). ‵ (S.own_val (record { at = s.at; alloc = s.alloc; held = held }) z.0.4.0))
+      machine.1 refl $
       box_out E ! v z.0.4.0
       (λ b o hv e ws fa. box_in E ! v b o v.value e refl $ use1 𝓛 (‵ (To.own_val made (word E hv b o ∷ [])))
       (id⊢ 𝓤 _) $ move ! (1 ∷ 2 ∷ []) $ drop ! $ drop ! $

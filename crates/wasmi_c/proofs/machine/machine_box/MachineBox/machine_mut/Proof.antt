@@ -108,7 +108,8 @@ module _ {M : Type 1} {𝓤 : Ura M} (𝓛 : Logic 𝓤) (at_mem : Memory → SP
         (λ l. pass_all ! refl ((tt, tt), tt) $
         let En : Env 𝓤 H = env (code.function).locals l in
         opens ! tt S {h = h} rb ro (λ us. move ! (1 ∷ []) $ rewrite ! 0
-        (λ (held : Option MachineValue). ‵ (S.own_val (record { at = h.at; alloc = h.alloc; held = held }) us)) is refl $
+        (λ (held : Option MachineValue). ‵ (S.own_val (record { at = h.at; alloc = h.alloc; held = held }) us)) is
+        refl $
         box_out E ! boxed us (λ b o hv at_b ws fa. move ! (1 ∷ 2 ∷ []) $ fjoin ! $ move ! (1 ∷ []) $ rewrite ! 2
         (λ (vs : List Val). ‵ (cell_at full_share S.mir vs rb ro)) ws refl $
         -- [the machine; the token with the handle; the box's cell; the open borrow; obs; auth]
