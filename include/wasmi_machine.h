@@ -1,6 +1,6 @@
 /* A machine that lives from call to call, with memories, tables, element segments, globals, registers, fuel and limits,
-   for C and C++, in libwasmi_guest.a (x86-64 Linux). wasmi_core.h has the numbers of instructions, and calls on values
-   and bytes of the caller's, which are in libwasmi_core.a.
+   for C and C++, in libwasmi_core.a (x86-64 Linux). wasmi_core.h has the numbers of instructions, and calls on values
+   and bytes of the caller's.
 
    A machine makes its memories and tables in memory of its own, within two caps or as a list of answers permits, if it
    is made with either; it grows them, and writes over ranges of tables, for fuel if its meter is on. Memories, tables,

@@ -21,7 +21,7 @@ def crate_numbers(traps, source):
     types = re.search(r"pub const VAL_TYPES: .*? = \[(.*?)\n\];", source, re.S)[1]
     made |= {f"CALL_{capitals(name)}": number for number, name in enumerate(re.findall(r"Call::(\w+)\)", kinds))}
     made |= {f"TYPE_{name.upper()}": number for number, name in enumerate(re.findall(r"ValType::(\w+),", types))}
-    answers = re.findall(r"(?:\d+|_) => (?:AnswerWord|LimiterAnswer)::(\w+),", source)
+    answers = re.findall(r"(?:\d+|_) => LimiterAnswer::(\w+),", source)
     return made | {f"ANSWER_{name.upper()}": number for number, name in enumerate(answers)}
 
 

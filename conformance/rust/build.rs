@@ -20,7 +20,7 @@ fn main() {
         return;
     }
     let kit = var("RATTLE_C").expect("RATTLE_C has to name a folder");
-    let built = ["guest", "c_lib"].map(|name| format!("../../crates/wasmi_{name}/out"));
+    let built = ["../../crates/wasmi_c_lib/out".to_string()];
     let given = var("WASMI_ARCHIVES").map_or(built.into(), |folder| vec![folder]);
     for folder in given.iter().chain([&kit]) {
         println!("cargo:rustc-link-search=native={}", fs::canonicalize(folder).expect("a folder").display());
@@ -28,7 +28,7 @@ fn main() {
     for name in ["WASMI_ARCHIVES", "WASMI_LIBRARY", "RATTLE_C"] {
         println!("cargo:rerun-if-env-changed={name}");
     }
-    for library in ["wasmi_guest", "wasmi_core", "libc_c"] {
+    for library in ["wasmi_core", "libc_c"] {
         println!("cargo:rustc-link-lib=static={library}");
     }
 }

@@ -1,9 +1,15 @@
 mod BulkLemmas
+mod ByArgumentsLemmas
 mod HostLemmas
 mod InstructionLemmas
 mod LanesLemmas
+mod MachineBoxLemmas
+mod MachineCapsLemmas
+mod MachineLinesLemmas
+mod MachineRunsLemmas
 mod MeterLemmas
 mod QuotaNumbersLemmas
 mod ScriptLemmas
+mod SegmentLemmas
 mod SettlementLemmas
 mod SharedQuotaLemmas

@@ -3,6 +3,7 @@ pub mod BulkCalls
 pub mod FuelCalls
 pub mod Host
 pub mod Instruction
+pub mod Machine
 pub mod MemoryCalls
 pub mod Numbers
 pub mod Script

@@ -7,6 +7,7 @@ pub mod fuel;
 pub mod host;
 pub mod instruction;
 pub mod laws;
+pub mod machine;
 pub mod memory;
 pub mod quota;
 pub mod range;

@@ -1,3 +1,4 @@
+mod HandlesLemmas
 mod LanesLemmas
 mod LendingLemmas
 mod LentGrowthLemmas

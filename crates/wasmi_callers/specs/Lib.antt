@@ -1,3 +1,4 @@
+pub mod Handles
 pub mod Lending
 pub mod Recorder
 pub mod Runs

@@ -2,6 +2,7 @@
 //! by a function whose contract a user of the law would want.
 #![tactic(auto)]
 
+pub mod handles;
 pub mod lanes;
 pub mod lending;
 pub mod meters;

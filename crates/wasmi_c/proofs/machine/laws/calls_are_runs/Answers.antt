@@ -1,0 +1,9 @@
+use Rattle.wasmi_c.proofs.MachineRunsLemmas.{calls_run}
+use Rattle.wasmi_c.proofs.machine.laws.calls_are_runs.Goals as goal
+
+pub returns-clause-call : goal.returns-clause-call
+returns-clause-call c = calls_run
+
+pub returns-clause-join : goal.returns-clause-join
+returns-clause-join c =
+    λ calls calls' u v w replies replies'. c.runs_join.ensures.calls calls calls' _ _ _ replies replies'

@@ -1,0 +1,84 @@
+-- `into_fields` moves two fields, and what they own goes with them.
+use mathlib.Core.Path.{refl, sym, subst}
+use Rattle.std.specs.Prelude.{Option, IsSome}
+use mathlib.Core.List.{List, [], ◌∷◌, ◌++◌}
+use seplogic.Ra.Ura.{Ura}
+use mir.Val.{Val}
+use base.Logic.{SProp, ent, id⊢}
+use base.Fml.{ftrue, fsep}
+use prog.Memory.{Memory}
+use prog.Routine.{Routine}
+use prog.Wp.{WpFn, Tables}
+use types.Logic.{Logic}
+use contract.Monad.{Fun, fact}
+use contract.Running.{tables, tables_of}
+use sound.WpLaws.{WpFn-mono}
+use types.Kit.{Item, ‵, raw, ◌⊛◌, ◌$◌, ◌∵◌, !, qed, by, move, drop, use1, join, split, rewrite, fsplit, fjoin, suffices, done}
+use types.Part.{whole, sub, agg}
+use types.Run.{stop, fld, no_more, and_then, of_opd, returns, enter}
+use types.ByLocal.{alloc_all, pass_all, free_all, look_at, get, get_in, sets}
+use denote.Exit.{yes}
+use denote.Signature.{type_at}
+use denote.Steps.{heard, nothing}
+use denote.Triple.Spec.{triple_of}
+use denote.Triple.Table.{entered}
+use denote.Triple.Walked.{says, Stays, stay_dropped, walk_of, ends_at, Goes-dropped, walk_Meets}
+use Rattle.std_alloc.proofs.BoxSteps.Form.{D, word, box_typed}
+use Rattle.std_alloc.proofs.BoxSteps.Steps.{box_out, box_in}
+use Rattle.wasmi_c.proofs.MachineBoxLemmas.{E, FromMachineBox as From}
+use Rattle.wasmi_c.proofs.MachineBoxLemmas.{found}
+use Rattle.wasmi_c.specs.Machine.Caps.{MachineValue}
+use Rattle.wasmi_c.specs.contracts.machine.machine_box.MachineBox.{the_row as S}
+use Rattle.wasmi_c.specs.contracts.machine.machine_box.MachineBox.into_fields as F
+use Rattle.wasmi_c.specs.contracts.machine.machine_box.MachineBox.into_fields.Key.{name as #self}
+use Rattle.wasmi_c.proofs.machine.machine_box.MachineBox.into_fields.Statement as stated
+use Rattle.wasmi_c.proofs.machine.machine_box.MachineBox.into_fields.Code as code
+
+abbrev stayed : Stays (F.ended).signature.params (F.ended).kept
+stayed = (stay_dropped From yes, tt)
+
+module _ {M : Type 1} {𝓤 : Ura M} (𝓛 : Logic 𝓤) (at_mem : Memory → SProp 𝓤) (run : Routine → Fun 𝓤)
+    (𝓣 : Tables 𝓤 𝓛.H) where
+  open 𝓛 use {H}
+
+  walk : (z : (walk_of 𝓛 F.ended stayed (F.clauses 𝓛 at_mem run)).Ghost)
+      → ent 𝓤 ((walk_of 𝓛 F.ended stayed (F.clauses 𝓛 at_mem run)).pre z)
+      (WpFn 𝓤 H 𝓣.C 𝓣.Λ code.function (z.0.4.0 ++ []) ((walk_of 𝓛 F.ended stayed (F.clauses 𝓛 at_mem run)).post z))
+  walk z =
+      let Post = (walk_of 𝓛 F.ended stayed (F.clauses 𝓛 at_mem run)).post z in
+      let s = z.0.3.0 in
+      let To = type_at (F.signature).result tt in
+      qed 𝓛 ((‵ ftrue ⊛ ‵ (fsep (S.own_val s z.0.4.0) ftrue)) ∷ raw (fact 𝓤 (IsSome s.held)) ∷ []) ∵ move !
+      (1 ∷ []) $ heard ! (IsSome s.held) (λ some.
+      let machine = found s.held some in
+      let v : D E = record { ptr = s.at; alloc = s.alloc; value = machine.0 } in
+      let made : To.Denot = record { ptr = v.ptr; alloc = v.alloc; value = v.value } in
+      split ! $ drop ! $ fsplit ! $ rewrite ! 0
+      (λ (held : Option MachineValue). ‵ (S.own_val (record { at = s.at; alloc = s.alloc; held = held }) z.0.4.0))
+      machine.1 refl $
+      box_out E ! v z.0.4.0
+      (λ b o hv e ws fa. box_in E ! v b o v.value e refl $ use1 𝓛 (‵ (To.own_val made (word E hv b o ∷ [])))
+      (id⊢ 𝓤 _) $ move ! (1 ∷ 2 ∷ []) $ drop ! $ drop ! $
+      let w = word E hv b o in
+      let Γ : List (Item 𝓤) = ‵ (To.own_val made (w ∷ [])) ∷ [] in
+      by ! (subst (λ (us : List Val). ent 𝓤 (types.Kit.⋆ 𝓛 Γ) (WpFn 𝓤 H 𝓣.C 𝓣.Λ code.function (us ++ []) Post)) (sym ws)
+      (qed 𝓛 Γ ∵ enter ! 𝓣.C 𝓣.Λ code.function (w ∷ []) _ $ alloc_all !
+      (λ ls. pass_all ! refl (box_typed E hv b o fa, tt) $
+      sets ! (of_opd ! (get_in ! (fld ! refl (stop !)) (sub ! 0 refl (whole !)))) refl (tt, tt) $ sets !
+      (of_opd ! (get_in ! (fld ! refl (stop !)) (sub ! 1 refl (whole !)))) refl fa $
+      sets ! (of_opd ! (get ! refl)) refl (tt, tt) $
+      sets ! (agg ! (and_then ! (get ! refl) (and_then ! (get ! refl) (no_more !)))) refl
+      (box_typed E hv b o fa) $ returns ! (look_at ! 0 refl) $ free_all ! refl $
+      suffices ! _ (ends_at 𝓛 F.ended stayed (F.clauses 𝓛 at_mem run) z w made (tt, tt) (tt, tt)) $ says !
+      (sym machine.1) $
+      nothing ! $ nothing ! $ fjoin ! $ join ! $ nothing ! $ join ! $ done !)))))
+
+pub into_fields_spec : {M : Type 1} → stated.statement M
+unfolding tables_of
+into_fields_spec 𝓤 𝓛 𝓜 𝓡 wired =
+    let 𝓣 : Tables 𝓤 𝓛.H = tables_of 𝓤 𝓛.H 𝓜 (tables 𝓤 𝓛.H 𝓜 𝓡 𝓡.env) in
+    entered 𝓤 𝓛.H (triple_of 𝓛 F.signature (F.spec 𝓛 𝓜.mem 𝓡.returns)) 𝓣.C 𝓣.Λ #self code.function
+    (code.unfolded 𝓤 𝓛.H 𝓜 𝓡 wired)
+    (walk_Meets 𝓛 F.ended stayed (Goes-dropped 𝓛 0 From yes (λ κs x f. refl), tt) (F.clauses 𝓛 𝓜.mem 𝓡.returns)
+    (WpFn 𝓤 𝓛.H 𝓣.C 𝓣.Λ code.function) (WpFn-mono 𝓤 𝓛.H 𝓛.laws 𝓣 code.function)
+    (walk 𝓛 𝓜.mem 𝓡.returns 𝓣))

@@ -1,0 +1,39 @@
+-- What holds of all calls and runs of a machine.
+use Rattle.std.specs.Prelude.{◌≡◌, ◌++◌, ◌∷◌, [], List, Option, Some}
+use Rattle.wasmi_meter.specs.AnyLimiter.{any_limiter_rules, caps_of}
+use Rattle.wasmi_meter.specs.Limiter.{optional_rules}
+use Rattle.wasmi_meter.specs.declared.any_limiter.AnyLimiter.{AnyLimiter}
+use Rattle.wasmi_core.specs.Runs.{Run}
+use Rattle.wasmi_core.specs.State.{State}
+use Rattle.wasmi_core.specs.World.{Turn, world}
+use Rattle.wasmi_core.specs.declared.calls.Call.{Call}
+use Rattle.wasmi_core.specs.declared.calls.Reply.{Reply}
+use Rattle.wasmi_c.specs.Machine.Caps.{Keeps, MachineValue}
+use Rattle.wasmi_c.specs.Machine.Calls.{MachineReplies}
+use Rattle.wasmi_c.specs.Machine.Lines.{MachineRuns}
+use Rattle.wasmi_c.specs.Machine.Replies.{reply_struct}
+use Rattle.wasmi_c.specs.declared.machine.reply_struct.ReplyStruct.{ReplyStruct}
+
+-- in a run a quota goes on to hold what its machine has, within the same caps, and no limiter becomes a quota
+abbrev pub QuotasAreKept : Type 0
+QuotasAreKept = (turns : List Turn) (s : State) (l : AnyLimiter) (s' : State) (l' : AnyLimiter)
+    → Run (optional_rules any_limiter_rules) (world s (Some l)) turns (world s' (Some l')) → Keeps s l
+    → Keeps s' l' × (caps_of l' ≡ caps_of l)
+
+-- a call on a machine is a run of this call alone
+abbrev pub CallsAreRuns : Type 0
+CallsAreRuns = (call : Call) (machine : MachineValue) (reply : Reply) (machine' : MachineValue)
+    → MachineReplies call machine reply machine' → MachineRuns (call ∷ []) machine (reply ∷ []) machine'
+
+-- a run of a machine, and a run from where it ends, are one run of all the calls, with the replies in turn
+abbrev pub MachineRunsJoin : Type 0
+MachineRunsJoin = (calls calls' : List Call) (u v w : MachineValue) (replies replies' : List Reply)
+    → MachineRuns calls u replies v → MachineRuns calls' v replies' w
+    → MachineRuns (calls ++ calls') u (replies ++ replies') w
+
+-- a machine replies to two calls with numbers, which are those of the replies of one run of both
+abbrev pub RunsBoth : Call → Call → MachineValue → ReplyStruct × ReplyStruct → Option MachineValue
+    → Type 0
+RunsBoth call call' machine replies held' = (reply : Reply) × (reply' : Reply) × (machine' : MachineValue)
+    × MachineRuns (call ∷ call' ∷ []) machine (reply ∷ reply' ∷ []) machine'
+    × (replies ≡ (reply_struct reply, reply_struct reply')) × (held' ≡ Some machine')

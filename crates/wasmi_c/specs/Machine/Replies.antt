@@ -1,0 +1,106 @@
+-- Replies as structs of plain numbers.
+use Rattle.std.specs.Prelude.{ℕ, Some, None, length}
+use Rattle.wasmi_types.specs.Trap.{code_number}
+use Rattle.wasmi_types.specs.declared.value.RefType.{RefType}
+use Rattle.wasmi_types.specs.declared.value.RefType.TheVariants.{Func, Extern}
+use Rattle.wasmi_raw.specs.RawVal.{raw_of}
+use Rattle.wasmi_raw.specs.declared.raw.RawVal.{RawVal}
+use Rattle.wasmi_typed.specs.declared.typed_ref.TypedRawRef.{TypedRawRef}
+use Rattle.wasmi_meter.specs.declared.error.MemoryError.{MemoryError}
+use Rattle.wasmi_meter.specs.declared.error.MemoryError.TheVariants as memory
+use Rattle.wasmi_meter.specs.declared.error.TableError.{TableError}
+use Rattle.wasmi_meter.specs.declared.error.TableError.TheVariants as table
+use Rattle.wasmi_meter.specs.declared.fuel.FuelError.{FuelError}
+use Rattle.wasmi_meter.specs.declared.fuel.FuelError.TheVariants as fuel
+use Rattle.wasmi_core.specs.declared.calls.Reply.{Reply}
+use Rattle.wasmi_core.specs.declared.calls.Reply.TheVariants as reply
+use Rattle.wasmi_c.specs.Status.{done_status, no_element_status, no_region_status, no_room_status, no_such_status, memory_status, table_status, fuel_status, global_status, segment_status}
+use Rattle.wasmi_c.specs.declared.machine.reply_struct.ReplyStruct.{ReplyStruct}
+
+-- the raw value of a reply without a value
+abbrev pub no_value : RawVal
+no_value = raw_of 0
+
+-- a reply with a number
+abbrev pub with_number : ℕ → ℕ → ReplyStruct
+with_number status number =
+    record { value = no_value; number = number; reference = 0; ty = 0; status = status }
+
+-- a reply that has a status and nothing else
+abbrev pub only : ℕ → ReplyStruct
+only status = with_number status 0
+
+-- a reply with a value
+abbrev pub with_value : RawVal → ReplyStruct
+with_value value = record (only done_status) { value = value }
+
+-- the number of a reference type among the value types
+abbrev pub reference_number : RefType → ℕ
+reference_number Func = 5
+reference_number Extern = 6
+
+-- a reply with an element of a table
+abbrev pub with_reference : TypedRawRef → ReplyStruct
+with_reference element = record (only done_status) { reference = element.raw; ty = reference_number element.ty }
+
+-- the fuel that a refused call on a memory needs, else 0
+abbrev pub memory_fuel : MemoryError → ℕ
+memory_fuel (memory.OutOfFuel required) = required
+memory_fuel error = 0
+
+-- the fuel that a refused call on a table needs, else 0
+abbrev pub table_fuel : TableError → ℕ
+table_fuel (table.OutOfFuel required) = required
+table_fuel error = 0
+
+-- the fuel that a refused call on the meter needs, else 0
+abbrev pub meter_fuel : FuelError → ℕ
+meter_fuel (fuel.OutOfFuel required) = required
+meter_fuel error = 0
+
+-- why a call on a memory was refused
+abbrev pub memory_refusal : MemoryError → ReplyStruct
+memory_refusal error = with_number (memory_status error) (memory_fuel error)
+
+-- why a call on a table was refused
+abbrev pub table_refusal : TableError → ReplyStruct
+table_refusal error = with_number (table_status error) (table_fuel error)
+
+-- why a call on the meter was refused
+abbrev pub fuel_refusal : FuelError → ReplyStruct
+fuel_refusal error = with_number (fuel_status error) (meter_fuel error)
+
+-- the status of a reply
+abbrev pub status_of : Reply → ℕ
+status_of reply.Done = done_status
+status_of (reply.Made index) = done_status
+status_of (reply.Value value) = done_status
+status_of (reply.Number number) = done_status
+status_of (reply.Bytes bytes) = done_status
+status_of (reply.Reference (Some element)) = done_status
+status_of (reply.Reference None) = no_element_status
+status_of (reply.Memory error) = memory_status error
+status_of (reply.Table error) = table_status error
+status_of (reply.Fuel error) = fuel_status error
+status_of (reply.Global error) = global_status error
+status_of (reply.Segment error) = segment_status error
+status_of (reply.Trap code) = code_number code
+status_of reply.NoSuch = no_such_status
+status_of reply.NoRegion = no_region_status
+status_of reply.NoRoom = no_room_status
+
+-- the number of a reply: what was made, a size, fuel, how many bytes, or the fuel that a refused call needs; else 0
+abbrev pub number_of : Reply → ℕ
+number_of (reply.Made index) = index
+number_of (reply.Number number) = number
+number_of (reply.Bytes bytes) = length bytes
+number_of (reply.Memory error) = memory_fuel error
+number_of (reply.Table error) = table_fuel error
+number_of (reply.Fuel error) = meter_fuel error
+number_of full = 0
+
+-- a reply as a struct
+abbrev pub reply_struct : Reply → ReplyStruct
+reply_struct (reply.Value value) = with_value value
+reply_struct (reply.Reference (Some element)) = with_reference element
+reply_struct full = with_number (status_of full) (number_of full)

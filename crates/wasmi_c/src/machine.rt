@@ -1,0 +1,21 @@
+//! A machine that C holds by a handle, from call to call, under a quota, a list of answers or no
+//! limiter.
+//!
+//! What the calls take and give stands in `include/wasmi_machine.h`.
+
+mod box_fields;
+mod by_arguments;
+pub mod call_struct;
+mod calls;
+mod decode;
+pub mod handle;
+mod instructions;
+mod item_instructions;
+mod kind;
+pub mod laws;
+pub mod limited_machine;
+mod limiter_answers;
+pub mod limits;
+mod lines;
+pub mod machine_box;
+pub mod reply_struct;

@@ -1,0 +1,134 @@
+//! The call that numbers stand for.
+ghost use Rattle.std.specs.Prelude.{◌≡◌};
+ghost use Rattle.wasmi_c.specs.Machine.CallStructs.{call_of, global_call, memory_call, meter_call, register_call, table_call};
+
+use crate::machine::call_struct::CallStruct;
+use crate::machine::kind::{GlobalCall, Kind, MemoryCall, MeterCall, RegisterCall, TableCall};
+use crate::types::{to_u32, val_type};
+use wasmi_core::Call;
+use wasmi_typed::{GlobalType, TypedRawVal};
+
+impl CallStruct {
+    /// The call, if there is one: its kind, its instruction, its lane and its types are ones that
+    /// there are, and its numbers fit.
+    #[tactic(auto, unfolding(crate::specs::Machine::CallStructs::call_of))]
+    pub fn call(&self) -> Option<Call>
+        ensures { result ≡ call_of self.now }
+    {
+        match Kind::from_number(self.kind)? {
+            Kind::Meter(kind) => Some(self.meter_call(kind)),
+            Kind::Memory(kind) => self.memory_call(kind),
+            Kind::Table(kind) => self.table_call(kind),
+            Kind::Global(kind) => self.global_call(kind),
+            Kind::Register(kind) => self.register_call(kind),
+        }
+    }
+
+    fn meter_call(&self, kind: MeterCall) -> Call
+        ensures { result ≡ meter_call kind self.now }
+    {
+        match kind {
+            MeterCall::SetFuel => Call::SetFuel(self.count),
+            MeterCall::GetFuel => Call::GetFuel,
+        }
+    }
+
+    fn memory_call(&self, kind: MemoryCall) -> Option<Call>
+        ensures { result ≡ memory_call kind self.now }
+    {
+        match kind {
+            MemoryCall::NewMemory => Some(Call::NewMemory(self.memory_type()?)),
+            MemoryCall::GrowMemory => Some(Call::GrowMemory {
+                memory: self.index,
+                pages: self.count,
+            }),
+            MemoryCall::DropMemory => Some(Call::DropMemory(self.index)),
+            MemoryCall::Load => self.load_call(),
+            MemoryCall::Store => self.store_call(),
+            MemoryCall::LoadLane => self.load_lane_call(),
+            MemoryCall::StoreLane => self.store_lane_call(),
+        }
+    }
+
+    fn table_call(&self, kind: TableCall) -> Option<Call>
+        ensures { result ≡ table_call kind self.now }
+    {
+        let table = self.index;
+        Some(match kind {
+            TableCall::NewTable => Call::NewTable {
+                ty: self.table_type()?,
+                init: self.typed_reference()?,
+            },
+            TableCall::GrowTable => Call::GrowTable {
+                table,
+                delta: self.count,
+                init: self.typed_reference()?,
+            },
+            TableCall::DropTable => Call::DropTable(table),
+            TableCall::GetElement => Call::GetElement {
+                table,
+                index: self.to,
+            },
+            TableCall::SetElement => Call::SetElement {
+                table,
+                index: self.to,
+                value: self.typed_reference()?,
+            },
+            TableCall::InitTable => Call::InitTable {
+                table,
+                segment: self.source,
+                dst: self.to,
+                src: to_u32(self.from)?,
+                len: to_u32(self.count)?,
+            },
+            TableCall::CopyTable => Call::CopyTable {
+                dst_table: table,
+                dst: self.to,
+                src_table: self.source,
+                src: self.from,
+                len: self.count,
+            },
+            TableCall::FillTable => Call::FillTable {
+                table,
+                dst: self.to,
+                value: self.typed_reference()?,
+                len: self.count,
+            },
+            TableCall::DropItems => Call::DropItems(self.index),
+        })
+    }
+
+    fn global_call(&self, kind: GlobalCall) -> Option<Call>
+        ensures { result ≡ global_call kind self.now }
+    {
+        Some(match kind {
+            GlobalCall::NewGlobal => Call::NewGlobal {
+                value: self.value,
+                ty: GlobalType::new(val_type(self.ty)?, self.mutability()),
+            },
+            GlobalCall::SetGlobal => Call::SetGlobal {
+                global: self.index,
+                value: TypedRawVal::new(val_type(self.ty)?, self.value),
+            },
+            GlobalCall::GetGlobal => Call::GetGlobal(self.index),
+        })
+    }
+
+    fn register_call(&self, kind: RegisterCall) -> Option<Call>
+        ensures { result ≡ register_call kind self.now }
+    {
+        match kind {
+            RegisterCall::SetRegister => Some(Call::SetRegister {
+                dst: self.dst,
+                value: self.value,
+            }),
+            RegisterCall::GetRegister => Some(Call::GetRegister(self.a)),
+            RegisterCall::Unary => self.unary_call(),
+            RegisterCall::Binary => self.binary_call(),
+            RegisterCall::Ternary => self.ternary_call(),
+            RegisterCall::ExtractLane => self.extract_lane_call(),
+            RegisterCall::ReplaceLane => self.replace_lane_call(),
+            RegisterCall::Shuffle => self.shuffle_call(),
+        }
+    }
+}

@@ -1,0 +1,187 @@
+//! The calls of instructions that numbers stand for.
+ghost use Rattle.std.specs.Prelude.{◌≡◌};
+ghost use Rattle.wasmi_c.specs.Machine.Instructions.{binary_as, binary_call, extract_lane_call, load_as, load_call, load_lane_call, replace_lane_call, shuffle_call, store_as, store_call, store_lane_call, ternary_call, unary_as, unary_call};
+
+use crate::instruction::binary::{Binary, binary_numbered};
+use crate::instruction::lanes::{extraction, lane_load, lane_store, replacement};
+use crate::instruction::load::{Load, load_numbered};
+use crate::instruction::shuffle::lanes_of;
+use crate::instruction::store::{Store, store_numbered};
+use crate::instruction::ternary::ternary_numbered;
+use crate::instruction::unary::{Unary, unary_numbered};
+use crate::machine::call_struct::CallStruct;
+use crate::types::to_u32;
+use wasmi_core::Call;
+
+impl CallStruct {
+    /// A load of an item or of a vector.
+    pub fn load_call(&self) -> Option<Call>
+        ensures { result ≡ load_call self.now }
+    {
+        Some(self.load_as(load_numbered(self.op)?))
+    }
+
+    fn load_as(&self, load: Load) -> Call
+        ensures { result ≡ load_as self.now load }
+    {
+        let (memory, ptr, offset) = (self.index, self.ptr, self.offset);
+        match load {
+            Load::Scalar(op) => Call::Load {
+                op,
+                memory,
+                ptr,
+                offset,
+            },
+            Load::Vector(op) => Call::VectorLoad {
+                op,
+                dst: self.dst,
+                memory,
+                ptr,
+                offset,
+            },
+        }
+    }
+
+    /// A store of an item or of a vector.
+    pub fn store_call(&self) -> Option<Call>
+        ensures { result ≡ store_call self.now }
+    {
+        Some(self.store_as(store_numbered(self.op)?))
+    }
+
+    fn store_as(&self, store: Store) -> Call
+        ensures { result ≡ store_as self.now store }
+    {
+        let (memory, ptr, offset) = (self.index, self.ptr, self.offset);
+        match store {
+            Store::Scalar(op) => Call::Store {
+                op,
+                memory,
+                ptr,
+                offset,
+                value: self.value,
+            },
+            Store::V128Store => Call::VectorStore {
+                a: self.a,
+                memory,
+                ptr,
+                offset,
+            },
+        }
+    }
+
+    /// An instruction of one register: one that makes a vector of an item, one on a vector, or a
+    /// test.
+    pub fn unary_call(&self) -> Option<Call>
+        ensures { result ≡ unary_call self.now }
+    {
+        self.unary_as(unary_numbered(self.op)?)
+    }
+
+    fn unary_as(&self, unary: Unary) -> Option<Call>
+        ensures { result ≡ unary_as self.now unary }
+    {
+        let (dst, a) = (self.dst, self.a);
+        match unary {
+            Unary::Scalar(_) => None,
+            Unary::Make(op) => Some(Call::Make { op, dst, a }),
+            Unary::Vector(op) => Some(Call::Unary { op, dst, a }),
+            Unary::Test(op) => Some(Call::Test { op, a }),
+        }
+    }
+
+    /// An instruction of two registers, or a shift by an amount.
+    pub fn binary_call(&self) -> Option<Call>
+        ensures { result ≡ binary_call self.now }
+    {
+        self.binary_as(binary_numbered(self.op)?)
+    }
+
+    fn binary_as(&self, binary: Binary) -> Option<Call>
+        ensures { result ≡ binary_as self.now binary }
+    {
+        let (dst, a, b) = (self.dst, self.a, self.b);
+        match binary {
+            Binary::Scalar(_) => None,
+            Binary::Vector(op) => Some(Call::Binary { op, dst, a, b }),
+            Binary::Shift(op) => {
+                let amount = to_u32(self.count)?;
+                Some(Call::Shift { op, dst, a, amount })
+            }
+        }
+    }
+
+    /// A load of a lane.
+    pub fn load_lane_call(&self) -> Option<Call>
+        ensures { result ≡ load_lane_call self.now }
+    {
+        Some(Call::LoadLane {
+            op: lane_load(self.op, self.lane).ok()?,
+            dst: self.dst,
+            a: self.a,
+            memory: self.index,
+            ptr: self.ptr,
+            offset: self.offset,
+        })
+    }
+
+    /// A store of a lane.
+    pub fn store_lane_call(&self) -> Option<Call>
+        ensures { result ≡ store_lane_call self.now }
+    {
+        Some(Call::StoreLane {
+            op: lane_store(self.op, self.lane).ok()?,
+            a: self.a,
+            memory: self.index,
+            ptr: self.ptr,
+            offset: self.offset,
+        })
+    }
+
+    /// An instruction of three registers.
+    pub fn ternary_call(&self) -> Option<Call>
+        ensures { result ≡ ternary_call self.now }
+    {
+        Some(Call::Ternary {
+            op: ternary_numbered(self.op)?,
+            dst: self.dst,
+            a: self.a,
+            b: self.b,
+            c: self.c,
+        })
+    }
+
+    /// An extraction of a lane.
+    pub fn extract_lane_call(&self) -> Option<Call>
+        ensures { result ≡ extract_lane_call self.now }
+    {
+        Some(Call::Extract {
+            op: extraction(self.op, self.lane).ok()?,
+            a: self.a,
+        })
+    }
+
+    /// A replacement of a lane.
+    pub fn replace_lane_call(&self) -> Option<Call>
+        ensures { result ≡ replace_lane_call self.now }
+    {
+        Some(Call::Replace {
+            op: replacement(self.op, self.lane).ok()?,
+            dst: self.dst,
+            a: self.a,
+            item: self.b,
+        })
+    }
+
+    /// A shuffle of the bytes of two registers.
+    pub fn shuffle_call(&self) -> Option<Call>
+        ensures { result ≡ shuffle_call self.now }
+    {
+        Some(Call::Shuffle {
+            dst: self.dst,
+            a: self.a,
+            b: self.b,
+            lanes: lanes_of(self.lanes)?,
+        })
+    }
+}

@@ -1,0 +1,26 @@
+//! What holds of all calls and lines by a handle. Each function does nothing: it states a law as
+//! its contract.
+ghost use Rattle.wasmi_c.specs.Machine.Laws.{CallsAreRuns, MachineRunsJoin, QuotasAreKept};
+
+use wasmi_core::laws;
+use wasmi_meter::{AnyLimiter, Quota};
+
+/// A quota that holds what its machine has before a run does so after it, and has the same caps. A
+/// limiter of another kind keeps its kind.
+pub fn quotas_are_kept()
+    ensures { QuotasAreKept }
+{
+    laws::kinds_stay();
+    laws::totals_are_held::<Quota>();
+    laws::quotas_stay_within();
+}
+
+/// A call on a machine that is held by a handle is a run of this call alone, and two runs in a row
+/// are one. So calls and lines by a handle, one after the other, are one run of its machine, of
+/// which the laws of `wasmi_core` hold. Fuel that is taken between two calls ends a run.
+pub fn calls_are_runs()
+    ensures call { CallsAreRuns }
+    ensures join { MachineRunsJoin }
+{
+    laws::runs_join::<AnyLimiter>();
+}

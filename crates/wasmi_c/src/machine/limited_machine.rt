@@ -1,0 +1,202 @@
+//! A machine with the limiter that it asks.
+ghost use Rattle.std.specs.Prelude.{◌≡◌, IfOk};
+ghost use Rattle.wasmi_meter.specs.AnyLimiter.{caps_of};
+ghost use Rattle.wasmi_core.specs.declared.calls.Call.TheVariants.{NewSegment, Write};
+
+use crate::machine::call_struct::CallStruct;
+use crate::machine::laws;
+use crate::machine::limits::{Limits, Totals};
+use crate::machine::reply_struct::ReplyStruct;
+use crate::status::{DONE, NO_CALL, NO_ROOM, NO_SUCH};
+use crate::types::reference_type;
+use std::alloc::{AllocError, Global};
+use std::marker::Model;
+use wasmi_core::{Call, Machine, Reply};
+use wasmi_meter::{AnswerList, AnyLimiter, LimiterAnswer};
+use wasmi_raw::RawRef;
+
+/// A machine with the limiter that it asks. A quota holds what the machine has, so the machine is
+/// within the caps at any time.
+#[derive(Drop)]
+pub struct LimitedMachine {
+    pub(crate) machine: Machine<'static>,
+    pub(crate) limiter: AnyLimiter,
+}
+
+impl Model for LimitedMachine {
+    ghost use Rattle.wasmi_c.specs.Machine.Caps.{MachineValue, Keeps};
+
+    ghost Value = { MachineValue };
+
+    ghost view = { λ limited. record { state = limited.machine; limiter = limited.limiter } };
+
+    ghost invariant = { λ limited. Keeps limited.machine limited.limiter };
+}
+
+impl LimitedMachine {
+    ghost use Rattle.wasmi_c.specs.Machine.Calls.{MachineReplies, ReadsOut, RepliesInStruct, RepliesToCopy, RepliesToSegment, RepliesToStruct, TakesFuel, totals_of};
+    ghost use Rattle.wasmi_c.specs.Machine.Caps.{IsCapped};
+    ghost use Rattle.wasmi_c.specs.Machine.NewMachines.{IsNewMachine, IsNewWithAnswers};
+
+    /// A machine with nothing on it, and with its quota if there are caps. It takes no memory.
+    pub fn new(alloc: Global, limits: &Limits) -> LimitedMachine
+        ensures { IsNewMachine limits.now result }
+    {
+        LimitedMachine {
+            machine: Machine::new(alloc, limits.fuel()),
+            limiter: limits.limiter(),
+        }
+    }
+
+    /// A machine with nothing on it, and with a list of answers, of which none was taken. Its
+    /// limits have the meter, and their caps aren't read. It takes no memory.
+    pub fn with_answers(
+        alloc: Global,
+        limits: &Limits,
+        answers: Vec<LimiterAnswer>,
+    ) -> LimitedMachine
+        ensures { IsNewWithAnswers limits.now answers.items result }
+    {
+        LimitedMachine {
+            machine: Machine::new(alloc, limits.fuel()),
+            limiter: AnyLimiter::Answers(AnswerList::new(answers)),
+        }
+    }
+
+    /// Does nothing: its contract says that the machine is within its caps.
+    pub fn show_within(&self)
+        ensures { IsCapped self.now }
+    {
+        let _ = &self.limiter;
+    }
+
+    /// Replies to one call.
+    #[inline(always)]
+    pub fn reply(&mut self, call: &Call) -> Reply
+        ensures step { MachineReplies call.now self.old result self.new }
+        ensures caps { caps_of self.new.limiter ≡ caps_of self.old.limiter }
+    {
+        laws::quotas_are_kept();
+        self.machine.step_lending(call, &mut self.limiter)
+    }
+
+    /// Replies to one call, with the reply as a struct.
+    fn reply_in_struct(&mut self, call: &Call) -> ReplyStruct
+        ensures step { RepliesInStruct call.now self.old result self.new }
+        ensures caps { caps_of self.new.limiter ≡ caps_of self.old.limiter }
+    {
+        // A reply that is kept in a variable is copied, which takes longer than what it tells.
+        match self.reply(call) {
+            Reply::Done => ReplyStruct::only(DONE),
+            Reply::Value(value) => ReplyStruct::with_value(value),
+            Reply::Number(number) => ReplyStruct::with_number(DONE, number),
+            Reply::Memory(error) => ReplyStruct::from_memory_error(error),
+            other => ReplyStruct::from_reply(&other),
+        }
+    }
+
+    /// Replies to the call that numbers stand for, if there is one.
+    pub fn reply_to_struct(&mut self, numbers: &CallStruct) -> ReplyStruct
+        ensures step { RepliesToStruct numbers.now self.old result self.new }
+        ensures caps { caps_of self.new.limiter ≡ caps_of self.old.limiter }
+    {
+        match &numbers.call() {
+            Some(call) => self.reply_in_struct(call),
+            None => ReplyStruct::only(NO_CALL),
+        }
+    }
+
+    /// Copies the bytes of a memory from an offset on to the caller's.
+    pub fn read(&self, memory: usize, offset: usize, bytes: &mut [u8]) -> ReplyStruct
+        ensures { ReadsOut memory offset self.now bytes.old result bytes.new }
+    {
+        let Some(memory) = self.machine.memory(memory) else {
+            return ReplyStruct::only(NO_SUCH);
+        };
+        match memory.read(offset, bytes) {
+            Ok(()) => ReplyStruct::only(DONE),
+            Err(error) => ReplyStruct::from_memory_error(error),
+        }
+    }
+
+    /// Writes a copy of the caller's bytes over those of a memory from an offset on.
+    pub fn write(
+        &mut self,
+        alloc: Global,
+        memory: usize,
+        offset: usize,
+        bytes: &[u8],
+    ) -> ReplyStruct
+        ensures step { RepliesToCopy (Write memory offset) bytes.now self.old result self.new }
+        ensures caps { caps_of self.new.limiter ≡ caps_of self.old.limiter }
+    {
+        let Ok(bytes) = Vec::from_slice(alloc, bytes) else {
+            return ReplyStruct::only(NO_ROOM);
+        };
+        self.reply_in_struct(&Call::Write {
+            memory,
+            offset,
+            bytes,
+        })
+    }
+
+    /// Makes an element segment of a copy of the caller's references, if the number is one of a
+    /// reference type.
+    pub fn new_segment(&mut self, alloc: Global, ty: u8, items: &[u32]) -> ReplyStruct
+        ensures step { RepliesToSegment ty items.now self.old result self.new }
+        ensures caps { caps_of self.new.limiter ≡ caps_of self.old.limiter }
+    {
+        let Some(ty) = reference_type(ty) else {
+            return ReplyStruct::only(NO_CALL);
+        };
+        let Ok(items) = references(alloc, items) else {
+            return ReplyStruct::only(NO_ROOM);
+        };
+        self.reply_in_struct(&Call::NewSegment { ty, items })
+    }
+
+    /// How many bytes and elements the machine has. A quota holds these numbers; without one they
+    /// are added up.
+    pub fn totals(&self) -> Totals
+        ensures { result ≡ totals_of self.now }
+    {
+        match &self.limiter {
+            AnyLimiter::Quota(quota) => {
+                Totals::from_amounts(
+                    DONE,
+                    u128::from(quota.held_bytes()),
+                    u128::from(quota.held_elements()),
+                )
+            }
+            _ => {
+                Totals::from_amounts(
+                    DONE,
+                    self.machine.total_bytes(),
+                    self.machine.total_elements(),
+                )
+            }
+        }
+    }
+
+    /// Takes fuel that isn't a call's.
+    pub fn consume_fuel(&mut self, amount: u64) -> ReplyStruct
+        ensures step { TakesFuel amount self.old result self.new }
+        ensures caps { caps_of self.new.limiter ≡ caps_of self.old.limiter }
+    {
+        match self.machine.consume_fuel(amount) {
+            Ok(left) => ReplyStruct::with_number(DONE, left),
+            Err(error) => ReplyStruct::from_fuel_error(&error),
+        }
+    }
+}
+
+/// A copy of the references.
+fn references(alloc: Global, items: &[u32]) -> Result<Vec<RawRef>, AllocError>
+    ensures { IfOk result (λ copy. copy.items ≡ items.now) }
+{
+    let mut copy = Vec::with_capacity(alloc, items.len())?;
+    for item in items {
+        copy.push_reserved(RawRef::from(*item));
+    }
+    Ok(copy)
+}

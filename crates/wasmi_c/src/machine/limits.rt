@@ -1,0 +1,80 @@
+//! What a machine is made with, and what it has.
+ghost use Rattle.std.specs.Prelude.{◌≡◌};
+ghost use Rattle.wasmi_c.specs.Machine.Calls.{totals_in};
+ghost use Rattle.wasmi_c.specs.Machine.NewMachines.{IsNewLimiter, meter_with};
+
+use crate::status::DONE;
+use crate::types::{if_flag, meter};
+use wasmi_meter::{AnyLimiter, CustomFuelCosts, Fuel, Quota};
+use wasmi_raw::{RawVal, V128};
+
+/// What a machine is made with: its caps, if it has any, and its meter with what work costs.
+#[repr(C)]
+#[derive(Clone, Copy)]
+pub struct Limits {
+    /// The most bytes that its memories may have together.
+    pub bytes: u64,
+    /// The most elements that its tables may have together.
+    pub elements: u64,
+    /// How many bytes are copied for one fuel; 0 makes each copy cost the greatest `u64`.
+    pub bytes_copied_per_fuel: u32,
+    /// The fuel for translating one byte, which no call takes.
+    pub fuel_per_bytes_translated: u32,
+    /// The fuel for validating one byte, which no call takes.
+    pub fuel_per_bytes_validated: u32,
+    /// Whether the meter is on: 0 is no. One that is on has no fuel at first.
+    pub is_metered: u8,
+    /// Whether there are no caps: 0 is no. Where there are none, nothing is asked before a growth.
+    pub is_unlimited: u8,
+}
+
+impl Limits {
+    /// The meter.
+    pub fn fuel(&self) -> Fuel
+        ensures { result ≡ meter_with self.now }
+    {
+        let costs = CustomFuelCosts {
+            bytes_copied_per_fuel: self.bytes_copied_per_fuel,
+            fuel_per_bytes_translated: self.fuel_per_bytes_translated,
+            fuel_per_bytes_validated: self.fuel_per_bytes_validated,
+        };
+        meter(if_flag(self.is_metered, 0), costs)
+    }
+
+    /// The quota of the caps, if there are caps.
+    pub fn limiter(&self) -> AnyLimiter
+        ensures { IsNewLimiter self.now result }
+    {
+        if self.is_unlimited == 0 {
+            AnyLimiter::Quota(Quota::new(self.bytes, self.elements))
+        } else {
+            AnyLimiter::Unlimited
+        }
+    }
+}
+
+/// How many bytes the memories of a machine have together, and how many elements its tables;
+/// dropped ones count at their last size.
+#[repr(C)]
+#[derive(Clone, Copy)]
+pub struct Totals {
+    /// The bytes, as a number of 128 bits.
+    pub bytes: RawVal,
+    /// The elements, as a number of 128 bits.
+    pub elements: RawVal,
+    /// 0, or that there is no machine.
+    pub status: u8,
+}
+
+impl Totals {
+    /// So many bytes and elements.
+    pub fn from_amounts(status: u8, bytes: u128, elements: u128) -> Totals
+        ensures { result ≡ totals_in status bytes elements }
+    {
+        Totals {
+            bytes: RawVal::from(V128::from(bytes)),
+            elements: RawVal::from(V128::from(elements)),
+            status,
+        }
+    }
+}

@@ -1,0 +1,233 @@
+//! A machine by a handle.
+ghost use Rattle.std.specs.Prelude.{◌≡◌, ℕ, List, None, Some};
+ghost use Rattle.wasmi_core.specs.declared.calls.Call.TheVariants.{GetFuel, GrowMemory, Write};
+ghost use Rattle.wasmi_c.specs.Machine.ByArguments.{RepliesInStatus, RepliesInWord, item_load, item_store, vector_binary};
+ghost use Rattle.wasmi_c.specs.Machine.Calls.{ActsOnHeld, ReadsOut, RepliesToCopy, RepliesToSegment, RepliesToStruct, TakesFuel, no_totals, totals_of};
+ghost use Rattle.wasmi_c.specs.Machine.Caps.{StaysWithinCaps};
+ghost use Rattle.wasmi_c.specs.Machine.Lines.{RunsLines};
+ghost use Rattle.wasmi_c.specs.Machine.NewMachines.{IsNewMachine, MakesMachine, MakesWithAnswers};
+ghost use Rattle.wasmi_c.specs.Machine.Replies.{only};
+ghost use Rattle.wasmi_c.specs.Status.{no_machine_status};
+ghost use Rattle.wasmi_c.specs.declared.machine.reply_struct.ReplyStruct.{ReplyStruct};
+
+use std::alloc::Global;
+use wasmi_c::machine::call_struct::CallStruct;
+use wasmi_c::machine::handle::Handle;
+use wasmi_c::machine::limits::{Limits, Totals};
+use wasmi_c::machine::reply_struct::ReplyStruct;
+
+/// Makes a machine with nothing on it: `Handle::new_machine`.
+#[unsafe(no_mangle)]
+pub extern "C" fn wasmi_machine_new(alloc: Global, handle: &mut Handle, limits: &Limits) -> u8
+    ensures { MakesMachine (IsNewMachine limits.now) handle.old.machine.held result
+        handle.new.machine.held }
+{
+    handle.new_machine(alloc, limits)
+}
+
+/// Makes a machine whose limiter answers from a list: `Handle::new_with_answers`.
+#[unsafe(no_mangle)]
+pub extern "C" fn wasmi_machine_new_with_answers(
+    alloc: Global,
+    handle: &mut Handle,
+    limits: &Limits,
+    answers: &[u8],
+) -> u8
+    ensures { MakesWithAnswers limits.now answers.now handle.old.machine.held result
+        handle.new.machine.held }
+{
+    handle.new_with_answers(alloc, limits, answers)
+}
+
+/// Ends the machine of a handle, if there is one: `Handle::drop_machine`.
+#[unsafe(no_mangle)]
+pub extern "C" fn wasmi_machine_drop(alloc: Global, handle: &mut Handle)
+    ensures { handle.new.machine.held ≡ None }
+{
+    handle.drop_machine(alloc);
+}
+
+/// Replies to a call: `Handle::call`.
+#[unsafe(no_mangle)]
+pub extern "C" fn wasmi_machine_call(handle: &mut Handle, call: &CallStruct) -> ReplyStruct
+    ensures step { ActsOnHeld (only no_machine_status) handle.old.machine.held
+        result handle.new.machine.held
+        (λ machine machine'. RepliesToStruct call.now machine result machine') }
+    ensures caps { StaysWithinCaps handle.old.machine.held handle.new.machine.held }
+{
+    handle.call(call)
+}
+
+/// Copies bytes of a memory to the caller's: `Handle::read`.
+#[unsafe(no_mangle)]
+pub extern "C" fn wasmi_machine_read(
+    handle: &mut Handle,
+    memory: usize,
+    offset: usize,
+    bytes: &mut [u8],
+) -> ReplyStruct
+    ensures step { ActsOnHeld {R = ReplyStruct × List ℕ} (only no_machine_status, bytes.old)
+        handle.old.machine.held (result, bytes.new) handle.new.machine.held
+        (λ machine machine'. (machine' ≡ machine)
+        × ReadsOut memory offset machine bytes.old result bytes.new) }
+    ensures caps { StaysWithinCaps handle.old.machine.held handle.new.machine.held }
+{
+    handle.read(memory, offset, bytes)
+}
+
+/// Writes bytes of the caller's to a memory: `Handle::write`.
+#[unsafe(no_mangle)]
+pub extern "C" fn wasmi_machine_write(
+    alloc: Global,
+    handle: &mut Handle,
+    memory: usize,
+    offset: usize,
+    bytes: &[u8],
+) -> ReplyStruct
+    ensures step { ActsOnHeld (only no_machine_status) handle.old.machine.held
+        result handle.new.machine.held
+        (λ machine machine'. RepliesToCopy
+        (Write memory offset) bytes.now machine result machine') }
+    ensures caps { StaysWithinCaps handle.old.machine.held handle.new.machine.held }
+{
+    handle.write(alloc, memory, offset, bytes)
+}
+
+/// Makes an element segment of the caller's references: `Handle::new_segment`.
+#[unsafe(no_mangle)]
+pub extern "C" fn wasmi_machine_new_segment(
+    alloc: Global,
+    handle: &mut Handle,
+    ty: u8,
+    items: &[u32],
+) -> ReplyStruct
+    ensures step { ActsOnHeld (only no_machine_status) handle.old.machine.held
+        result handle.new.machine.held
+        (λ machine machine'. RepliesToSegment ty items.now machine result machine') }
+    ensures caps { StaysWithinCaps handle.old.machine.held handle.new.machine.held }
+{
+    handle.new_segment(alloc, ty, items)
+}
+
+/// Gives how many bytes and elements the machine has: `Handle::totals`.
+#[unsafe(no_mangle)]
+pub extern "C" fn wasmi_machine_totals(handle: &mut Handle) -> Totals
+    ensures step { ActsOnHeld no_totals handle.old.machine.held result handle.new.machine.held
+        (λ machine machine'. (machine' ≡ machine) × (result ≡ totals_of machine)) }
+    ensures caps { StaysWithinCaps handle.old.machine.held handle.new.machine.held }
+{
+    handle.totals()
+}
+
+/// Takes fuel that isn't a call's: `Handle::consume_fuel`.
+#[unsafe(no_mangle)]
+pub extern "C" fn wasmi_machine_consume_fuel(handle: &mut Handle, amount: u64) -> ReplyStruct
+    ensures step { ActsOnHeld (only no_machine_status) handle.old.machine.held
+        result handle.new.machine.held
+        (λ machine machine'. TakesFuel amount machine result machine') }
+    ensures caps { StaysWithinCaps handle.old.machine.held handle.new.machine.held }
+{
+    handle.consume_fuel(amount)
+}
+
+/// Loads an item: `Handle::load`.
+#[unsafe(no_mangle)]
+pub extern "C" fn wasmi_machine_load(
+    handle: &mut Handle,
+    op: u16,
+    memory: usize,
+    ptr: u64,
+    offset: u64,
+    value: &mut u64,
+) -> u8
+    ensures step { ActsOnHeld {R = ℕ × ℕ} (no_machine_status, value.old) handle.old.machine.held
+        (result, value.new) handle.new.machine.held
+        (λ machine machine'. RepliesInWord (item_load op memory ptr offset) value.old machine
+        (result, value.new) machine') }
+    ensures caps { StaysWithinCaps handle.old.machine.held handle.new.machine.held }
+{
+    handle.load(op, memory, ptr, offset, value)
+}
+
+/// Stores an item: `Handle::store`.
+#[unsafe(no_mangle)]
+pub extern "C" fn wasmi_machine_store(
+    handle: &mut Handle,
+    op: u16,
+    memory: usize,
+    ptr: u64,
+    offset: u64,
+    value: u64,
+) -> u8
+    ensures step { ActsOnHeld no_machine_status handle.old.machine.held result
+        handle.new.machine.held
+        (λ machine machine'. RepliesInStatus
+        (item_store op memory ptr offset value) machine result
+        machine') }
+    ensures caps { StaysWithinCaps handle.old.machine.held handle.new.machine.held }
+{
+    handle.store(op, memory, ptr, offset, value)
+}
+
+/// Executes an instruction on two vectors: `Handle::binary`.
+#[unsafe(no_mangle)]
+pub extern "C" fn wasmi_machine_binary(
+    handle: &mut Handle,
+    op: u16,
+    dst: u8,
+    a: u8,
+    b: u8,
+) -> u8
+    ensures step { ActsOnHeld no_machine_status handle.old.machine.held result
+        handle.new.machine.held
+        (λ machine machine'. RepliesInStatus
+        (vector_binary op dst a b) machine result machine') }
+    ensures caps { StaysWithinCaps handle.old.machine.held handle.new.machine.held }
+{
+    handle.binary(op, dst, a, b)
+}
+
+/// Grows a memory: `Handle::grow`.
+#[unsafe(no_mangle)]
+pub extern "C" fn wasmi_machine_grow(
+    handle: &mut Handle,
+    memory: usize,
+    pages: u64,
+    number: &mut u64,
+) -> u8
+    ensures step { ActsOnHeld {R = ℕ × ℕ} (no_machine_status, number.old) handle.old.machine.held
+        (result, number.new) handle.new.machine.held
+        (λ machine machine'. RepliesInWord (Some (GrowMemory memory pages)) number.old machine
+        (result, number.new) machine') }
+    ensures caps { StaysWithinCaps handle.old.machine.held handle.new.machine.held }
+{
+    handle.grow(memory, pages, number)
+}
+
+/// Gives the fuel that is left: `Handle::fuel_left`.
+#[unsafe(no_mangle)]
+pub extern "C" fn wasmi_machine_fuel_left(handle: &mut Handle, left: &mut u64) -> u8
+    ensures step { ActsOnHeld {R = ℕ × ℕ} (no_machine_status, left.old) handle.old.machine.held
+        (result, left.new) handle.new.machine.held
+        (λ machine machine'. RepliesInWord (Some GetFuel) left.old machine
+        (result, left.new) machine') }
+    ensures caps { StaysWithinCaps handle.old.machine.held handle.new.machine.held }
+{
+    handle.fuel_left(left)
+}
+
+/// Runs lines of calls: `Handle::run_lines`.
+#[unsafe(no_mangle)]
+pub extern "C" fn wasmi_machine_run_lines(
+    alloc: Global,
+    handle: &mut Handle,
+    lines: &[u8],
+    text: &mut [u8],
+) -> ReplyStruct
+    ensures step { ActsOnHeld {R = ReplyStruct × List ℕ} (only no_machine_status, text.old)
+        handle.old.machine.held (result, text.new) handle.new.machine.held
+        (λ machine machine'. RunsLines lines.now machine text.old result text.new machine') }
+    ensures caps { StaysWithinCaps handle.old.machine.held handle.new.machine.held }
+{
+    handle.run_lines(alloc, lines, text)
+}

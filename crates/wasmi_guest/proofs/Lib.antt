@@ -1,8 +1,0 @@
-mod CapsLemmas
-mod DirectLemmas
-mod GuestBoxLemmas
-mod GuestsLemmas
-mod LanesLemmas
-mod LawsLemmas
-mod LinesLemmas
-mod SegmentLemmas
