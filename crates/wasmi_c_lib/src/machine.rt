@@ -171,13 +171,7 @@ pub extern "C" fn wasmi_machine_store(
 
 /// Executes an instruction on two vectors: `Handle::binary`.
 #[unsafe(no_mangle)]
-pub extern "C" fn wasmi_machine_binary(
-    handle: &mut Handle,
-    op: u16,
-    dst: u8,
-    a: u8,
-    b: u8,
-) -> u8
+pub extern "C" fn wasmi_machine_binary(handle: &mut Handle, op: u16, dst: u8, a: u8, b: u8) -> u8
     ensures step { ActsOnHeld no_machine_status handle.old.machine.held result
         handle.new.machine.held
         (λ machine machine'. RepliesInStatus
