@@ -2,6 +2,8 @@
 
    State: there is none. Instructions work on values and bytes of the caller's, and a script is run as a whole
    (wasmi_script_run). A machine with memories, fuel and limits that lives across calls is in wasmi_machine.h.
+   wasmi_instructions.h has a function for each scalar instruction, load and store, which takes less time than a call
+   by its number.
 
    Pointers: value and needed must not be NULL. An array is a pointer and a number of elements, of at most PTRDIFF_MAX
    bytes; the pointer may be NULL only if that number is 0. What a call writes must not overlap with anything else
@@ -22,11 +24,12 @@
 extern "C" {
 #endif
 
-/* The version of this header, wasmi_machine.h and wasmi_memory.h: MAJOR counts what breaks a program, and MINOR what is
-   new, such as a call or a status. 1.0.0 had this header without a version, and 1.1.0 came with the other two. */
-#define WASMI_CORE_VERSION "1.1.0"
+/* The version of this header and the others beside it: MAJOR counts what breaks a program, and MINOR what is new, such
+   as a call or a status. 1.0.0 had this header without a version, 1.1.0 came with wasmi_machine.h and wasmi_memory.h,
+   and 1.2.0 with wasmi_instructions.h. */
+#define WASMI_CORE_VERSION "1.2.0"
 #define WASMI_CORE_VERSION_MAJOR 1
-#define WASMI_CORE_VERSION_MINOR 1
+#define WASMI_CORE_VERSION_MINOR 2
 #define WASMI_CORE_VERSION_PATCH 0
 
 /* A value: an item of up to 64 bits in lo, or bits 0 to 63 and bits 64 to 127 of a vector. An instruction on 32 bits

@@ -149,6 +149,27 @@ uint8_t wasm_i64_store32(uint8_t *memory, size_t memory_len, uint64_t ptr, uint6
 uint8_t wasm_store32(uint8_t *memory, size_t memory_len, uint64_t ptr, uint64_t offset, uint32_t value);
 uint8_t wasm_store64(uint8_t *memory, size_t memory_len, uint64_t ptr, uint64_t offset, uint64_t value);
 
+/* These functions, by the shape in which wasmi_core.h has the numbers of their instructions. */
+#define WASM_UNARY_FUNCTIONS(X) \
+    X(i32_clz) X(i32_ctz) X(i32_popcnt) X(i32_eqz) X(i64_clz) X(i64_ctz) X(i64_popcnt) X(i64_eqz) X(i32_wrap_i64) \
+    X(i64_extend_i32_s) X(i64_extend_i32_u) X(i32_extend8_s) X(i32_extend16_s) X(i64_extend8_s) X(i64_extend16_s) \
+    X(i64_extend32_s)
+#define WASM_BINARY_FUNCTIONS(X) \
+    X(i32_add) X(i32_sub) X(i32_mul) X(i32_bitand) X(i32_bitor) X(i32_bitxor) X(i32_shl) X(i32_shr_s) X(i32_shr_u) \
+    X(i32_rotl) X(i32_rotr) X(i32_div_s) X(i32_div_u) X(i32_rem_s) X(i32_rem_u) X(i32_eq) X(i32_ne) X(i32_lt_s) \
+    X(i32_lt_u) X(i32_le_s) X(i32_le_u) X(i32_gt_s) X(i32_gt_u) X(i32_ge_s) X(i32_ge_u) X(i64_add) X(i64_sub) \
+    X(i64_mul) X(i64_bitand) X(i64_bitor) X(i64_bitxor) X(i64_shl) X(i64_shr_s) X(i64_shr_u) X(i64_rotl) \
+    X(i64_rotr) X(i64_div_s) X(i64_div_u) X(i64_rem_s) X(i64_rem_u) X(i64_eq) X(i64_ne) X(i64_lt_s) X(i64_lt_u) \
+    X(i64_le_s) X(i64_le_u) X(i64_gt_s) X(i64_gt_u) X(i64_ge_s) X(i64_ge_u) X(i64_add128) X(i64_sub128) \
+    X(i64_mul_wide_s) X(i64_mul_wide_u)
+#define WASM_LOAD_FUNCTIONS(X) \
+    X(i32_load8_s) X(i32_load8_u) X(i32_load16_s) X(i32_load16_u) X(i64_load8_s) X(i64_load8_u) X(i64_load16_s) \
+    X(i64_load16_u) X(i64_load32_s) X(i64_load32_u) X(load_u32) X(load_u64) X(v128_load) X(v128_load8x8_s) \
+    X(v128_load8x8_u) X(v128_load16x4_s) X(v128_load16x4_u) X(v128_load32x2_s) X(v128_load32x2_u) \
+    X(v128_load8_splat) X(v128_load16_splat) X(v128_load32_splat) X(v128_load64_splat) X(v128_load32_zero) \
+    X(v128_load64_zero)
+#define WASM_STORE_FUNCTIONS(X) \
+    X(i32_store8) X(i32_store16) X(i64_store8) X(i64_store16) X(i64_store32) X(store32) X(store64)
 /* The table of tools/header ends. */
 
 #ifdef __cplusplus

@@ -3,6 +3,7 @@ C, each with the equation of the function of its name in the library, and in inc
 import pathlib
 import re
 import sys
+import textwrap
 
 import instructions
 from importlib.machinery import SourceFileLoader
@@ -28,6 +29,7 @@ MODULES = {
     "vector_loads": ("The loads of vectors by name", ("VECTOR_LOADS",), "wasmi_vector_access/src/simd/*.rt", "wasmi_vector_access", "simd"),
     "stores": ("The stores by name", ("STORES",), "wasmi_access/src/wasm.rt", "wasmi_access", "wasm"),
 }
+SHAPES = {"UNARY": ("SCALAR_UNARIES",), "BINARY": ("SCALAR_BINARIES",), "LOAD": ("LOADS", "VECTOR_LOADS"), "STORE": ("STORES",)}
 # The words of clauses that the functions of the library don't have, and where they stand.
 OWN = {
     "Leaves": "Rattle.wasmi_c.specs.Instruction.Calls", "or_trap": "Rattle.wasmi_c.specs.Instruction.Calls",
@@ -151,6 +153,11 @@ def prototypes():
         for it in exported(key):
             lines += [line + "\n" for line in broken(it.prototype())]
         lines.append("\n")
+    lines.append("/* These functions, by the shape in which wasmi_core.h has the numbers of their instructions. */\n")
+    names = instructions.lists_of_names()
+    for shape, lists in SHAPES.items():
+        words = [f"X({name})" for it in lists for name in names[it]]
+        lines.append(f"#define WASM_{shape}_FUNCTIONS(X) \\\n" + " \\\n".join(textwrap.wrap(" ".join(words), 114, initial_indent="    ", subsequent_indent="    ")) + "\n")
     return "".join(lines)
 
 

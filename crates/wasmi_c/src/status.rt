@@ -1,5 +1,5 @@
-//! The statuses that calls return, besides the numbers of trap codes. The contracts have the numbers
-//! of `specs/Status.antt`, C those of the headers.
+//! The statuses that calls return, besides the numbers of trap codes. The contracts have the
+//! numbers of `specs/Status.antt`, C those of the headers.
 ghost use Rattle.std.specs.Prelude.{◌≡◌};
 ghost use Rattle.wasmi_c.specs.Status.{fuel_status, global_status, memory_status, segment_status, table_status};
 
@@ -9,8 +9,8 @@ use wasmi_typed::GlobalError;
 
 /// The call was done.
 pub const DONE: u8 = 0;
-/// The text is longer than the caller's bytes; nothing is written to them. The smaller statuses of a
-/// script's run are those of the program.
+/// The text is longer than the caller's bytes; nothing is written to them. The smaller statuses of
+/// a script's run are those of the program.
 pub const TEXT_TOO_SHORT: u8 = 5;
 /// The handle has no machine.
 pub const NO_MACHINE: u8 = 16;

@@ -67,10 +67,10 @@ pub fn memory_type(
     ensures value { result ≡ memory_type_of (settings_of minimum maximum is_64 page_size_log2) }
     ensures valid { MatchOption result
         ((ty : MemoryTypeValue)
-            → named_type (settings_of minimum maximum is_64 page_size_log2) ≡ Some ty
-            → IsValid ty → ⊥)
+        → named_type (settings_of minimum maximum is_64 page_size_log2) ≡ Some ty
+        → IsValid ty → ⊥)
         (λ ty. (named_type (settings_of minimum maximum is_64 page_size_log2) ≡ Some ty)
-            × IsValid ty) }
+        × IsValid ty) }
 {
     let mut builder = MemoryType::builder();
     builder
@@ -82,12 +82,7 @@ pub fn memory_type(
 }
 
 /// The type of a table, if there is such a type. The limits are in elements.
-pub fn table_type(
-    element: u8,
-    minimum: u64,
-    maximum: Option<u64>,
-    is_64: u8,
-) -> Option<TableType>
+pub fn table_type(element: u8, minimum: u64, maximum: Option<u64>, is_64: u8) -> Option<TableType>
     ensures { result ≡ table_type_of element minimum maximum is_64 }
 {
     let element = reference_type(element)?;

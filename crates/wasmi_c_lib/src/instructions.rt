@@ -204,7 +204,10 @@ pub extern "C" fn wasmi_load_lane(
     ensures { Leaves (load_lane_result number lane memory.now (ptr + offset) a)
         value.old value.new result }
 {
-    leave(lanes::load_lane_result(number, lane, memory, ptr, offset, a), value)
+    leave(
+        lanes::load_lane_result(number, lane, memory, ptr, offset, a),
+        value,
+    )
 }
 
 /// Stores a lane of a vector at `ptr + offset`. Returns 0; 255 if no store of a lane has the

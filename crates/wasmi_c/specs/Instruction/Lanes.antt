@@ -25,19 +25,19 @@ op_on_lane on kinds number lane = do
   ok_or (on kind lane) NoLane
 
 -- the extraction that has a number, on the lane of an index
-unfoldable pub extraction_of : ℕ → ℕ → Result ExtractOp Refusal
+abbrev pub extraction_of : ℕ → ℕ → Result ExtractOp Refusal
 extraction_of number lane = op_on_lane extract_op EXTRACTIONS number lane
 
 -- the replacement that has a number, on the lane of an index
-unfoldable pub replacement_of : ℕ → ℕ → Result ReplaceOp Refusal
+abbrev pub replacement_of : ℕ → ℕ → Result ReplaceOp Refusal
 replacement_of number lane = op_on_lane replace_op REPLACEMENTS number lane
 
 -- the load of a lane that has a number, on the lane of an index
-unfoldable pub lane_load_of : ℕ → ℕ → Result LoadLaneOp Refusal
+abbrev pub lane_load_of : ℕ → ℕ → Result LoadLaneOp Refusal
 lane_load_of number lane = op_on_lane load_lane_op LANE_LOADS number lane
 
 -- the store of a lane that has a number, on the lane of an index
-unfoldable pub lane_store_of : ℕ → ℕ → Result StoreLaneOp Refusal
+abbrev pub lane_store_of : ℕ → ℕ → Result StoreLaneOp Refusal
 lane_store_of number lane = op_on_lane store_lane_op LANE_STORES number lane
 
 -- the value that an extraction gives

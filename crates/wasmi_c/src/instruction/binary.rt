@@ -74,18 +74,20 @@ pub fn binary_result(number: u16, a: RawVal, b: RawVal) -> Result<RawVal, Refusa
     ensures { result ≡ binary_result number a b }
 {
     let op = binary_numbered(number).ok_or(Refusal::Unknown)?;
-    or_trap(op.apply(a, b))
+    or_trap(apply_by_op(op, a, b))
+}
+
+// Each instruction has code of its own, so that its result stays in registers.
+fn apply_by_op(op: Binary, a: RawVal, b: RawVal) -> Result<RawVal, TrapCode>
+    ensures { result ≡ binary_value op a b }
+{
+    binary_numbers!(op_once! op Binary apply(a, b))
 }
 
 /// Writes what the instruction of a number gives for each two elements of two arrays, or its trap,
 /// and returns 0; 255 if there is none; or 254 if the arrays differ in length. After 254 and 255
 /// nothing is written.
-pub fn binary_each(
-    number: u16,
-    a: &[RawVal],
-    b: &[RawVal],
-    results: &mut [InstructionResult],
-) -> u8
+pub fn binary_each(number: u16, a: &[RawVal], b: &[RawVal], results: &mut [InstructionResult]) -> u8
     ensures { Leaves (binary_results number a.now b.now (length results.old))
         results.old results.new result }
 {

@@ -13,7 +13,7 @@ use wasmi_ops::{
 use wasmi_raw::RawVal;
 
 /// The extraction that has a number, at the lane of an index.
-#[tactic(auto, unfolding(crate::specs::Instruction::Lanes::extraction_of))]
+#[tactic(auto, unfolding(crate::specs::Instruction::Calls::op_numbered))]
 pub fn extraction(number: u16, lane: u8) -> Result<ExtractOp, Refusal>
     ensures { result ≡ extraction_of number lane }
 {
@@ -22,7 +22,7 @@ pub fn extraction(number: u16, lane: u8) -> Result<ExtractOp, Refusal>
 }
 
 /// The replacement that has a number, at the lane of an index.
-#[tactic(auto, unfolding(crate::specs::Instruction::Lanes::replacement_of))]
+#[tactic(auto, unfolding(crate::specs::Instruction::Calls::op_numbered))]
 pub fn replacement(number: u16, lane: u8) -> Result<ReplaceOp, Refusal>
     ensures { result ≡ replacement_of number lane }
 {
@@ -31,7 +31,7 @@ pub fn replacement(number: u16, lane: u8) -> Result<ReplaceOp, Refusal>
 }
 
 /// The load of a lane that has a number, at the lane of an index.
-#[tactic(auto, unfolding(crate::specs::Instruction::Lanes::lane_load_of))]
+#[tactic(auto, unfolding(crate::specs::Instruction::Calls::op_numbered))]
 pub fn lane_load(number: u16, lane: u8) -> Result<LoadLaneOp, Refusal>
     ensures { result ≡ lane_load_of number lane }
 {
@@ -40,7 +40,7 @@ pub fn lane_load(number: u16, lane: u8) -> Result<LoadLaneOp, Refusal>
 }
 
 /// The store of a lane that has a number, at the lane of an index.
-#[tactic(auto, unfolding(crate::specs::Instruction::Lanes::lane_store_of))]
+#[tactic(auto, unfolding(crate::specs::Instruction::Calls::op_numbered))]
 pub fn lane_store(number: u16, lane: u8) -> Result<StoreLaneOp, Refusal>
     ensures { result ≡ lane_store_of number lane }
 {

@@ -66,13 +66,20 @@ pub fn load_numbered(number: u16) -> Option<Load>
     numbered(&LOAD_INSTRUCTIONS, number)
 }
 
-/// What the load of a number gives from `ptr + offset`. The refusals are `Unknown` and the trap past
-/// the end.
+/// What the load of a number gives from `ptr + offset`. The refusals are `Unknown` and the trap
+/// past the end.
 pub fn load_result(number: u16, memory: &[u8], ptr: u64, offset: u64) -> Result<RawVal, Refusal>
     ensures { result ≡ load_result number memory.now (ptr + offset) }
 {
     let op = load_numbered(number).ok_or(Refusal::Unknown)?;
-    or_trap(op.load(memory, ptr, offset))
+    or_trap(load_by_op(op, memory, ptr, offset))
+}
+
+// Each load has code of its own, so that its result stays in registers.
+fn load_by_op(op: Load, memory: &[u8], ptr: u64, offset: u64) -> Result<RawVal, TrapCode>
+    ensures { result ≡ loaded_value op memory.now (ptr + offset) }
+{
+    load_numbers!(op_once! op Load load(memory, ptr, offset))
 }
 
 /// Writes what the load of a number gives from each pointer of an array, plus the offset, or its

@@ -9,7 +9,10 @@ macro_rules! numbered {
 
 /// A call of a method on an instruction that is known in each arm, so that the arm has its code.
 macro_rules! op_once {
-    ([$op:ident $shape:ident $method:ident $operands:tt] $($part:ident $kind:ident { $($variant:ident,)* })*) => {
+    (
+        [$op:ident $shape:ident $method:ident $operands:tt]
+        $($part:ident $kind:ident { $($variant:ident,)* })*
+    ) => {
         match $op {
             $($($shape::$part($kind::$variant) => {
                 $shape::$part($kind::$variant).$method $operands

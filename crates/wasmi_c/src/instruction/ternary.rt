@@ -17,6 +17,7 @@ fn apply(op: TernaryOp, a: RawVal, b: RawVal, c: RawVal) -> RawVal
 }
 
 /// The instruction that has a number, if there is one.
+#[tactic(auto, unfolding(crate::specs::Instruction::Calls::op_numbered))]
 pub fn ternary_numbered(number: u16) -> Option<TernaryOp>
     ensures { result ≡ op_numbered TERNARIES number }
 {
@@ -32,8 +33,8 @@ pub fn ternary_result(number: u16, a: RawVal, b: RawVal, c: RawVal) -> Result<Ra
 }
 
 /// Writes what the instruction of a number gives for each three elements of three arrays, and
-/// returns 0; 255 if there is none; or 254 if the arrays differ in length. After 254 and 255 nothing
-/// is written.
+/// returns 0; 255 if there is none; or 254 if the arrays differ in length. After 254 and 255
+/// nothing is written.
 pub fn ternary_each(
     number: u16,
     a: &[RawVal],

@@ -67,7 +67,14 @@ pub fn unary_result(number: u16, a: RawVal) -> Result<RawVal, Refusal>
     ensures { result ≡ unary_result number a }
 {
     let op = unary_numbered(number).ok_or(Refusal::Unknown)?;
-    Ok(op.apply(a))
+    Ok(apply_by_op(op, a))
+}
+
+// Each instruction has code of its own, so that its result stays in registers.
+fn apply_by_op(op: Unary, a: RawVal) -> RawVal
+    ensures { result ≡ unary_value op a }
+{
+    unary_numbers!(op_once! op Unary apply(a))
 }
 
 /// Writes what the instruction of a number gives for each element of an array, and returns 0; 255

@@ -1,2 +1,0 @@
-mod CallsLemmas
-mod ScriptsLemmas

@@ -1,9 +1,0 @@
-use Rattle.std.proofs.Common.{◌≡◌, ℕ, ◌<◌, get_or}
-use Rattle.wasmi_ffi.specs.Lanes.{replaced_value}
-use Rattle.wasmi_raw.specs.declared.raw.RawVal.{RawVal}
-use Rattle.wasmi_ffi.proofs.lanes.replace_each.Given as goal
-
-abbrev pub invariant-loop-i : goal.invariant-loop-i
-invariant-loop-i l =
-    (k : ℕ) (x y z : RawVal) → k < l.i
-    → get_or l.values k z ≡ replaced_value l.fn.op (get_or l.a k x) (get_or l.items k y)

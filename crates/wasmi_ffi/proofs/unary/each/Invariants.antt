@@ -1,9 +1,0 @@
-use Rattle.std.proofs.Common.{◌≡◌, ℕ, ◌<◌, get_or}
-use Rattle.wasmi_ffi.specs.Unary.{unary_value}
-use Rattle.wasmi_raw.specs.declared.raw.RawVal.{RawVal}
-use Rattle.wasmi_ffi.proofs.unary.each.Given as goal
-
-abbrev pub invariant-loop-i : goal.invariant-loop-i
-invariant-loop-i l =
-    (k : ℕ) (x y : RawVal) → k < l.i
-    → get_or l.values k y ≡ unary_value l.op (get_or l.a k x)

@@ -1,0 +1,234 @@
+/* Compares each function of wasmi_instructions.h with the instruction of its name by number, on some operands, which
+   make each trap. At the end it prints how many were compared. */
+#include "wasmi_instructions.h"
+#include <stdio.h>
+#include <string.h>
+
+/* Operands, and addresses inside a memory of 32 bytes, at its end, past it, and past 2^32 and 2^64. */
+static const wasmi_words OPERANDS[] = {
+    {0, 0}, {1, 2}, {5, UINT64_MAX}, {0x80000000, 1}, {0xffffffff, 0}, {0x8000000000000000, 7}, {UINT64_MAX, 3},
+    {0x26a391d7fe968f77, 0x8074514c7cb73161}, {0xdf80c7f57be56be3, 0xc6ef0106b80e0c01},
+};
+static const uint64_t PTRS[] = {0, 2, 5, 13, 21, 25, 27, 28, 29, (uint64_t)1 << 32, UINT64_MAX};
+enum { OPERAND_COUNT = sizeof OPERANDS / sizeof OPERANDS[0], PTR_COUNT = sizeof PTRS / sizeof PTRS[0], LEN = 32 };
+
+typedef void (*any)(void);
+
+/* A function by its name, and what calls one of its type on two values, or at an address of a memory. */
+struct by_name {
+    const char *name;
+    any function;
+    wasmi_result (*call)(any function, wasmi_words a, wasmi_words b);
+    wasmi_result (*access)(any function, uint8_t *memory, uint64_t ptr, wasmi_words value);
+};
+
+static wasmi_result done(uint64_t lo, uint64_t hi) {
+    return (wasmi_result){{lo, hi}, WASMI_DONE};
+}
+
+/* Of each type a function that calls it. U is the unsigned type of a result's width. */
+#define UNARY(id, R, U, T) \
+    static wasmi_result id(any function, wasmi_words a, wasmi_words b) { \
+        (void)b; \
+        return done((U)((R(*)(T))function)((T)a.lo), 0); \
+    }
+#define BINARY(id, R, U, T) \
+    static wasmi_result id(any function, wasmi_words a, wasmi_words b) { \
+        return done((U)((R(*)(T, T))function)((T)a.lo, (T)b.lo), 0); \
+    }
+#define TRAPPING(id, T, U) \
+    static wasmi_result id(any function, wasmi_words a, wasmi_words b) { \
+        T value = 0; \
+        uint8_t status = ((uint8_t(*)(T, T, T *))function)((T)a.lo, (T)b.lo, &value); \
+        return (wasmi_result){{(U)value, 0}, status}; \
+    }
+#define LOAD(id, T, U) \
+    static wasmi_result id(any function, uint8_t *memory, uint64_t ptr, wasmi_words unused) { \
+        T value = 0; \
+        uint8_t status = ((uint8_t(*)(const uint8_t *, size_t, uint64_t, uint64_t, T *))function)(memory, LEN, ptr, 3, &value); \
+        (void)unused; \
+        return (wasmi_result){{(U)value, 0}, status}; \
+    }
+#define STORE(id, T) \
+    static wasmi_result id(any function, uint8_t *memory, uint64_t ptr, wasmi_words value) { \
+        uint8_t status = ((uint8_t(*)(uint8_t *, size_t, uint64_t, uint64_t, T))function)(memory, LEN, ptr, 3, (T)value.lo); \
+        return (wasmi_result){{0, 0}, status}; \
+    }
+UNARY(i32_of_i32, int32_t, uint32_t, int32_t)
+UNARY(i64_of_i64, int64_t, uint64_t, int64_t)
+UNARY(i32_of_i64, int32_t, uint32_t, int64_t)
+UNARY(i64_of_i32, int64_t, uint64_t, int32_t)
+UNARY(u64_of_u32, uint64_t, uint64_t, uint32_t)
+UNARY(bool_of_i32, bool, uint32_t, int32_t)
+UNARY(bool_of_i64, bool, uint32_t, int64_t)
+BINARY(i32_of_two, int32_t, uint32_t, int32_t)
+BINARY(u32_of_two, uint32_t, uint32_t, uint32_t)
+BINARY(i64_of_two, int64_t, uint64_t, int64_t)
+BINARY(u64_of_two, uint64_t, uint64_t, uint64_t)
+BINARY(bool_of_two_i32, bool, uint32_t, int32_t)
+BINARY(bool_of_two_u32, bool, uint32_t, uint32_t)
+BINARY(bool_of_two_i64, bool, uint32_t, int64_t)
+BINARY(bool_of_two_u64, bool, uint32_t, uint64_t)
+TRAPPING(trapping_i32, int32_t, uint32_t)
+TRAPPING(trapping_u32, uint32_t, uint32_t)
+TRAPPING(trapping_i64, int64_t, uint64_t)
+TRAPPING(trapping_u64, uint64_t, uint64_t)
+LOAD(load_i32, int32_t, uint32_t)
+LOAD(load_u32, uint32_t, uint32_t)
+LOAD(load_i64, int64_t, uint64_t)
+LOAD(load_u64, uint64_t, uint64_t)
+STORE(store_i32, int32_t)
+STORE(store_u32, uint32_t)
+STORE(store_i64, int64_t)
+STORE(store_u64, uint64_t)
+
+static wasmi_result wide(any function, wasmi_words a, wasmi_words b) {
+    int64_t lo = 0, hi = 0;
+    ((void (*)(int64_t, int64_t, int64_t *, int64_t *))function)((int64_t)a.lo, (int64_t)b.lo, &lo, &hi);
+    return done((uint64_t)lo, (uint64_t)hi);
+}
+
+static wasmi_result wide_of_four(any function, wasmi_words a, wasmi_words b) {
+    int64_t lo = 0, hi = 0;
+    ((void (*)(int64_t, int64_t, int64_t, int64_t, int64_t *, int64_t *))function)((int64_t)a.lo, (int64_t)a.hi,
+                                                                                  (int64_t)b.lo, (int64_t)b.hi, &lo, &hi);
+    return done((uint64_t)lo, (uint64_t)hi);
+}
+
+static wasmi_result load_vector(any function, uint8_t *memory, uint64_t ptr, wasmi_words unused) {
+    wasmi_result given = {{0, 0}, 0};
+    (void)unused;
+    given.status = ((uint8_t(*)(const uint8_t *, size_t, uint64_t, uint64_t, wasmi_words *))function)(memory, LEN, ptr, 3, &given.value);
+    return given;
+}
+
+static wasmi_result store_vector(any function, uint8_t *memory, uint64_t ptr, wasmi_words value) {
+    uint8_t status = ((uint8_t(*)(uint8_t *, size_t, uint64_t, uint64_t, wasmi_words))function)(memory, LEN, ptr, 3, value);
+    return (wasmi_result){{0, 0}, status};
+}
+
+#define LOAD_TYPE(T) uint8_t (*)(const uint8_t *, size_t, uint64_t, uint64_t, T *)
+#define STORE_TYPE(T) uint8_t (*)(uint8_t *, size_t, uint64_t, uint64_t, T)
+#define CALL_OF(f) \
+    _Generic(f, int32_t (*)(int32_t): i32_of_i32, int64_t (*)(int64_t): i64_of_i64, int32_t (*)(int64_t): i32_of_i64, \
+        int64_t (*)(int32_t): i64_of_i32, uint64_t (*)(uint32_t): u64_of_u32, bool (*)(int32_t): bool_of_i32, \
+        bool (*)(int64_t): bool_of_i64, int32_t (*)(int32_t, int32_t): i32_of_two, \
+        uint32_t (*)(uint32_t, uint32_t): u32_of_two, int64_t (*)(int64_t, int64_t): i64_of_two, \
+        uint64_t (*)(uint64_t, uint64_t): u64_of_two, bool (*)(int32_t, int32_t): bool_of_two_i32, \
+        bool (*)(uint32_t, uint32_t): bool_of_two_u32, bool (*)(int64_t, int64_t): bool_of_two_i64, \
+        bool (*)(uint64_t, uint64_t): bool_of_two_u64, uint8_t (*)(int32_t, int32_t, int32_t *): trapping_i32, \
+        uint8_t (*)(uint32_t, uint32_t, uint32_t *): trapping_u32, uint8_t (*)(int64_t, int64_t, int64_t *): trapping_i64, \
+        uint8_t (*)(uint64_t, uint64_t, uint64_t *): trapping_u64, \
+        void (*)(int64_t, int64_t, int64_t *, int64_t *): wide, \
+        void (*)(int64_t, int64_t, int64_t, int64_t, int64_t *, int64_t *): wide_of_four)
+#define ACCESS_OF(f) \
+    _Generic(f, LOAD_TYPE(int32_t): load_i32, LOAD_TYPE(uint32_t): load_u32, LOAD_TYPE(int64_t): load_i64, \
+        LOAD_TYPE(uint64_t): load_u64, LOAD_TYPE(wasmi_words): load_vector, STORE_TYPE(int32_t): store_i32, \
+        STORE_TYPE(uint32_t): store_u32, STORE_TYPE(int64_t): store_i64, STORE_TYPE(uint64_t): store_u64, \
+        STORE_TYPE(wasmi_words): store_vector)
+#define CALLED(name) {#name, (any)wasm_##name, CALL_OF(&wasm_##name), NULL},
+#define ACCESSED(name) {#name, (any)wasm_##name, NULL, ACCESS_OF(&wasm_##name)},
+static const struct by_name UNARIES[] = {WASM_UNARY_FUNCTIONS(CALLED)};
+static const struct by_name BINARIES[] = {WASM_BINARY_FUNCTIONS(CALLED)};
+static const struct by_name LOADS[] = {WASM_LOAD_FUNCTIONS(ACCESSED)};
+static const struct by_name STORES[] = {WASM_STORE_FUNCTIONS(ACCESSED) ACCESSED(v128_store)};
+#define COUNT(list) (sizeof list / sizeof list[0])
+
+#define NAME(number, name) [number] = #name,
+static const char *const UNARY_NAMES[] = {WASMI_UNARY_NAMES(NAME) NULL};
+static const char *const BINARY_NAMES[] = {WASMI_BINARY_NAMES(NAME) NULL};
+static const char *const LOAD_NAMES[] = {WASMI_LOAD_NAMES(NAME) NULL};
+static const char *const STORE_NAMES[] = {WASMI_STORE_NAMES(NAME) NULL};
+
+static int compared = 0, differing = 0;
+
+static void compare(const char *name, int agrees) {
+    compared++;
+    if (!agrees) {
+        differing++;
+        printf("%s differs\n", name);
+    }
+}
+
+/* The number of a name; one that no instruction has if there is none. */
+static uint16_t number_of(const char *name, const char *const *names) {
+    for (uint16_t number = 0; names[number] != NULL; number++) {
+        if (strcmp(name, names[number]) == 0) {
+            return number;
+        }
+    }
+    return UINT16_MAX;
+}
+
+static int is_same(wasmi_result one, wasmi_result other) {
+    int is_same_value = one.value.lo == other.value.lo && one.value.hi == other.value.hi;
+    return one.status == other.status && (one.status != WASMI_DONE || is_same_value);
+}
+
+static void compare_calls(void) {
+    for (size_t f = 0; f < COUNT(UNARIES) + COUNT(BINARIES); f++) {
+        int is_unary = f < COUNT(UNARIES), agrees = 1;
+        const struct by_name *it = is_unary ? &UNARIES[f] : &BINARIES[f - COUNT(UNARIES)];
+        uint16_t number = number_of(it->name, is_unary ? UNARY_NAMES : BINARY_NAMES);
+        for (int i = 0; i < OPERAND_COUNT * OPERAND_COUNT; i++) {
+            wasmi_words a = OPERANDS[i / OPERAND_COUNT], b = OPERANDS[i % OPERAND_COUNT];
+            wasmi_result wanted = {{0, 0}, 0};
+            wanted.status = is_unary ? wasmi_unary(number, a, &wanted.value) : wasmi_binary(number, a, b, &wanted.value);
+            agrees &= is_same(it->call(it->function, a, b), wanted);
+        }
+        compare(it->name, agrees);
+    }
+}
+
+/* The function by name and the call by number begin with the same bytes, and leave the same. */
+static void compare_accesses(void) {
+    for (size_t f = 0; f < COUNT(LOADS) + COUNT(STORES); f++) {
+        int is_load = f < COUNT(LOADS), agrees = 1;
+        const struct by_name *it = is_load ? &LOADS[f] : &STORES[f - COUNT(LOADS)];
+        uint16_t number = number_of(it->name, is_load ? LOAD_NAMES : STORE_NAMES);
+        for (int i = 0; i < PTR_COUNT; i++) {
+            uint8_t memory[LEN], other[LEN];
+            for (int k = 0; k < LEN; k++) {
+                memory[k] = other[k] = (uint8_t)(k * 37 + 129);
+            }
+            wasmi_words value = OPERANDS[OPERAND_COUNT - 1];
+            wasmi_result wanted = {{0, 0}, 0};
+            wanted.status = is_load ? wasmi_load(number, other, LEN, PTRS[i], 3, &wanted.value)
+                                    : wasmi_store(number, other, LEN, PTRS[i], 3, value);
+            agrees &= is_same(it->access(it->function, memory, PTRS[i], value), wanted);
+            agrees &= memcmp(memory, other, LEN) == 0;
+        }
+        compare(it->name, agrees);
+    }
+}
+
+/* The shuffle, by the bytes of its vectors; an index of 32 is refused, and nothing is written. */
+static void compare_shuffles(void) {
+    wasmi_words a = OPERANDS[OPERAND_COUNT - 2], b = OPERANDS[OPERAND_COUNT - 1], value = {5, 6};
+    for (int shift = 0; shift <= 16; shift++) {
+        uint8_t lanes[17] = {0}, bytes[32];
+        memcpy(bytes, &a, 16);
+        memcpy(bytes + 16, &b, 16);
+        for (int i = 0; i < 16; i++) {
+            lanes[i] = (uint8_t)(shift + 15 - i);
+        }
+        uint8_t status = wasm_i8x16_shuffle(a, b, lanes, &value);
+        int agrees = status == WASMI_DONE;
+        for (int i = 0; i < 16; i++) {
+            agrees &= ((const uint8_t *)&value)[i] == bytes[lanes[i]];
+        }
+        compare("i8x16_shuffle", agrees);
+        wasmi_words kept = value;
+        lanes[shift % 16] = 32;
+        agrees = wasm_i8x16_shuffle(b, a, lanes, &value) == WASMI_NO_LANE;
+        compare("i8x16_shuffle of no lane", agrees && value.lo == kept.lo && value.hi == kept.hi);
+    }
+}
+
+int main(void) {
+    compare_calls();
+    compare_accesses();
+    compare_shuffles();
+    printf("%d compared, %d differ\n", compared, differing);
+    return differing != 0;
+}
