@@ -39,13 +39,13 @@ module _ (write : TableValue → TableWrite) (ty : TableTypeValue) (xs : List �
         rw (is, elements, left) (0, record { ends = ends; meter = meter_after_nothing (Some m) })
 
     -- a write within its lists, by whether it can be paid
-    by_payment : (elements : List ℕ) (payable : Bool)
-        → (w.written ≡ Some elements) × (covers (Some m) (write_due w s) ≡ payable)
+    by_payment : (elements : List ℕ) → w.written ≡ Some elements → (payable : Bool)
+        → covers (Some m) (write_due w s) ≡ payable
         → MatchBool payable
         ((result ≡ Ok tt)
         × (metered xs' (Some m') ≡ metered elements (Some (meter_after m (write_due w s)))))
         ((result ≡ Err (OutOfFuel (write_due w s))) × (metered xs' (Some m') ≡ metered xs (Some m))) → Written
-    by_payment elements true (within, paid) (done, after) =
+    by_payment elements within true paid (done, after) =
         let written : xs' ≡ elements = ap (λ s. s.value) after in
         let meters : Some m' ≡ Some (meter_after m (write_due w s)) = ap (λ s. s.meter) after in
         let left : m' ≡ meter_after m (write_due w s) = cc in
@@ -53,7 +53,7 @@ module _ (write : TableValue → TableWrite) (ty : TableTypeValue) (xs : List �
           write_due w s,
           record { ends = rw (same, within, paid) (refl, refl, refl); meter = refl },
         )
-    by_payment elements false (within, unpaid) short =
+    by_payment elements within false unpaid short =
         refused (OutOfFuel (write_due w s)) (rw (same, within, unpaid) (refl, refl, refl)) short
 
     -- a write, by whether its ranges lie within their lists
@@ -61,7 +61,7 @@ module _ (write : TableValue → TableWrite) (ty : TableTypeValue) (xs : List �
         → WritesElements written w.outside w.paid (metered xs (Some m)) result (metered xs' (Some m')) → Written
     by_range None outside short = refused w.outside (rw (same, outside) (refl, refl, refl)) short
     by_range (Some elements) within ends =
-        by_payment elements (covers (Some m) (write_due w s)) (within, refl) ends
+        by_payment elements within (covers (Some m) (write_due w s)) refl ends
 
     -- a write over elements is one over the table that has them
     pub writes_elements : WritesElements w.written w.outside w.paid (metered xs (Some m)) result
