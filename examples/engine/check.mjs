@@ -164,6 +164,7 @@ const host = () => ({
 
 // Operands by the type that a function takes: V8 takes an i64 as a BigInt only.
 function called(f, words) {
+  if (words.length !== (of.params.get(f) ?? []).length) throw new TypeError(`takes ${of.params.get(f)?.length} arguments`);
   const numbers = words.map((word) => BigInt(word.replace('-0x', '0x')) * (word.startsWith('-0x') ? -1n : 1n));
   const types = of.params.get(f) ?? [];
   return f(...numbers.map((value, i) => types[i] === I64 ? BigInt.asIntN(64, value) : types[i] === I32 ? Number(BigInt.asIntN(32, value)) : null));

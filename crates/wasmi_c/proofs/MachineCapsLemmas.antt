@@ -11,7 +11,7 @@ use Rattle.wasmi_meter.specs.declared.any_limiter.AnyLimiter.{AnyLimiter}
 use Rattle.wasmi_meter.specs.declared.any_limiter.AnyLimiter.TheVariants as limiter
 use Rattle.wasmi_meter.specs.declared.limiter.Kind.TheVariants.{Bytes, Elements}
 use Rattle.wasmi_meter.specs.declared.quota.Quota.{Quota}
-use Rattle.wasmi_core.specs.Kinds.{RelatesByKind, RunsKeepKind}
+use Rattle.wasmi_core.specs.LimiterKinds.{RelatesByKind, RunsKeepKind}
 use Rattle.wasmi_core.specs.Laws.{HoldsTotalsAlways, QuotasStayWithin}
 use Rattle.wasmi_core.specs.Runs.{IsRunOf, Run}
 use Rattle.wasmi_core.specs.State.{State}

@@ -7,7 +7,7 @@ ghost use Rattle.wasmi_c.specs.Instruction.Ternary.{ternary_result, ternary_resu
 ghost use Rattle.wasmi_c.specs.Instruction.Accesses.{load_result, load_results, store_result};
 ghost use Rattle.wasmi_c.specs.Instruction.Lanes.{extract_result, extract_results, load_lane_result, replace_result, replace_results, store_lane_result};
 
-use wasmi_c::instruction::result::{InstructionResult, leave};
+use wasmi_c::instruction::result::InstructionResult;
 use wasmi_c::instruction::{binary, lanes, load, store, ternary, unary};
 use wasmi_raw::RawVal;
 
@@ -17,7 +17,7 @@ use wasmi_raw::RawVal;
 pub extern "C" fn wasmi_unary(number: u16, a: RawVal, value: &mut RawVal) -> u8
     ensures { Leaves (unary_result number a) value.old value.new result }
 {
-    leave(unary::unary_result(number, a), value)
+    unary::unary_by_number(number, a, value)
 }
 
 /// As `wasmi_unary` on each element of an array. Returns 254 if the arrays differ in length, which
@@ -35,7 +35,7 @@ pub extern "C" fn wasmi_unary_each(number: u16, a: &[RawVal], values: &mut [RawV
 pub extern "C" fn wasmi_binary(number: u16, a: RawVal, b: RawVal, value: &mut RawVal) -> u8
     ensures { Leaves (binary_result number a b) value.old value.new result }
 {
-    leave(binary::binary_result(number, a, b), value)
+    binary::binary_by_number(number, a, b, value)
 }
 
 /// As `wasmi_binary` on each two elements of two arrays; each result has its own trap. Returns 0;
@@ -66,7 +66,7 @@ pub extern "C" fn wasmi_ternary(
 ) -> u8
     ensures { Leaves (ternary_result number a b c) value.old value.new result }
 {
-    leave(ternary::ternary_result(number, a, b, c), value)
+    ternary::ternary_by_number(number, a, b, c, value)
 }
 
 /// As `wasmi_ternary` on each three elements of three arrays. Returns 254 if the arrays differ in
@@ -97,7 +97,7 @@ pub extern "C" fn wasmi_load(
 ) -> u8
     ensures { Leaves (load_result number memory.now (ptr + offset)) value.old value.new result }
 {
-    leave(load::load_result(number, memory, ptr, offset), value)
+    load::load_by_number(number, memory, ptr, offset, value)
 }
 
 /// As `wasmi_load` from each pointer of an array, plus the offset; each result has its own trap.
@@ -139,7 +139,7 @@ pub extern "C" fn wasmi_store(
 pub extern "C" fn wasmi_extract_lane(number: u16, lane: u8, a: RawVal, value: &mut RawVal) -> u8
     ensures { Leaves (extract_result number lane a) value.old value.new result }
 {
-    leave(lanes::extract_result(number, lane, a), value)
+    lanes::extract_by_number(number, lane, a, value)
 }
 
 /// As `wasmi_extract_lane` on each vector of an array. Returns 254 if the arrays differ in length,
@@ -169,7 +169,7 @@ pub extern "C" fn wasmi_replace_lane(
 ) -> u8
     ensures { Leaves (replace_result number lane a item) value.old value.new result }
 {
-    leave(lanes::replace_result(number, lane, a, item), value)
+    lanes::replace_by_number(number, lane, a, item, value)
 }
 
 /// As `wasmi_replace_lane` on each two elements of two arrays. Returns 254 if the arrays differ in
@@ -204,10 +204,7 @@ pub extern "C" fn wasmi_load_lane(
     ensures { Leaves (load_lane_result number lane memory.now (ptr + offset) a)
         value.old value.new result }
 {
-    leave(
-        lanes::load_lane_result(number, lane, memory, ptr, offset, a),
-        value,
-    )
+    lanes::load_lane(number, lane, memory, ptr, offset, a, value)
 }
 
 /// Stores a lane of a vector at `ptr + offset`. Returns 0; 255 if no store of a lane has the

@@ -6,7 +6,7 @@ ghost use Rattle.wasmi_c.specs.Instruction.Accesses.{memory_after};
 ghost use Rattle.wasmi_c.specs.Instruction.Calls.{Leaves};
 ghost use Rattle.wasmi_c.specs.Instruction.Shuffle.{shuffle_result};
 
-use wasmi_c::instruction::result::{leave, status_of};
+use wasmi_c::instruction::result::status_of;
 use wasmi_c::instruction::shuffle;
 use wasmi_raw::RawVal;
 use wasmi_vector_access::simd;
@@ -22,7 +22,7 @@ pub extern "C" fn wasm_i8x16_shuffle(
 ) -> u8
     ensures { Leaves (shuffle_result a b lanes.now) value.old value.new result }
 {
-    leave(shuffle::shuffle_result(a, b, *lanes), value)
+    shuffle::shuffle(a, b, *lanes, value)
 }
 
 /// `v128.store`: the 128 bits of the value. Returns 0, or the number of the trap; then nothing is

@@ -17,7 +17,7 @@ pub mod Writing
 pub mod Determinism
 pub mod LentMemory
 pub mod Laws
-pub mod Kinds
+pub mod LimiterKinds
 pub mod Types
 pub use Rattle.wasmi_types.specs.Bytes
 pub use Rattle.wasmi_types.specs.Access

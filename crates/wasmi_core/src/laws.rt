@@ -6,7 +6,7 @@ ghost use Rattle.wasmi_meter.specs.Limiter.{optional_rules, unlimited_rules};
 ghost use Rattle.wasmi_meter.specs.declared.limiter.NoLimits.{NoLimits};
 ghost use Rattle.wasmi_meter.specs.Quota.{quota_rules};
 ghost use Rattle.wasmi_core.specs.Determinism.{IsDeterministic, AcceptsNotices};
-ghost use Rattle.wasmi_core.specs.Kinds.{RepliesKeepKind, RunsKeepKind, RunsOfCallsKeepKind};
+ghost use Rattle.wasmi_core.specs.LimiterKinds.{RepliesKeepKind, RunsKeepKind, RunsOfCallsKeepKind};
 ghost use Rattle.wasmi_core.specs.Validity.{IsValid};
 ghost use Rattle.wasmi_core.specs.Laws.{RunsJoin, RunsOfCallsJoin, RefusalsKeepContents, RefusalsInRunsKeepContents, RefusedRunsKeepContents, GrowsAsPermitted, RunsGrowAsPermitted, RepliesPermit, RunsKeepValidity, ChargesAreSpent, QuotasStayWithin, FuelBalances, FuelBoundsWriting, HoldsTotalsAlways, LentRunsAreOwned, LentCreationsAreOwned, LentGrowthsSucceed, RunsAreOne, RepliesTell, RepliesAreOne};
 

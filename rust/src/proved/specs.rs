@@ -207,12 +207,12 @@ pub mod machine {
     pub mod Exchange {}
     #[doc = include_str!("specs/machine/FuelEffects.md")]
     pub mod FuelEffects {}
-    #[doc = include_str!("specs/machine/Kinds.md")]
-    pub mod Kinds {}
     #[doc = include_str!("specs/machine/Laws.md")]
     pub mod Laws {}
     #[doc = include_str!("specs/machine/LentMemory.md")]
     pub mod LentMemory {}
+    #[doc = include_str!("specs/machine/LimiterKinds.md")]
+    pub mod LimiterKinds {}
     #[doc = include_str!("specs/machine/MemoryEffects.md")]
     pub mod MemoryEffects {}
     #[doc = include_str!("specs/machine/Permission.md")]

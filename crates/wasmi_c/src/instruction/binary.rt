@@ -6,7 +6,7 @@ ghost use Rattle.wasmi_c.specs.Instruction.Binary.{binary_numbered, binary_outco
 use crate::instruction::list::numbered;
 use crate::instruction::numbers::{BINARY_INSTRUCTIONS, binary_numbers};
 use crate::instruction::refusal::Refusal;
-use crate::instruction::result::{InstructionResult, or_trap, result_of};
+use crate::instruction::result::{InstructionResult, leave, result_of};
 use crate::instruction::rows::op_once;
 use crate::status::DONE;
 use wasmi_ops::{BinaryOp, ScalarBinaryOp, ShiftOp};
@@ -69,19 +69,15 @@ pub fn binary_numbered(number: u16) -> Option<Binary>
     numbered(&BINARY_INSTRUCTIONS, number)
 }
 
-/// What the instruction of a number gives. The refusals are `Unknown` and the instruction's trap.
-pub fn binary_result(number: u16, a: RawVal, b: RawVal) -> Result<RawVal, Refusal>
-    ensures { result ≡ binary_result number a b }
+/// Writes what the instruction of a number gives, and returns 0; 255 if there is none; or the
+/// number of its trap. After any status except 0 nothing is written.
+pub fn binary_by_number(number: u16, a: RawVal, b: RawVal, value: &mut RawVal) -> u8
+    ensures { Leaves (binary_result number a b) value.old value.new result }
 {
-    let op = binary_numbered(number).ok_or(Refusal::Unknown)?;
-    or_trap(apply_by_op(op, a, b))
-}
-
-// Each instruction has code of its own, so that its result stays in registers.
-fn apply_by_op(op: Binary, a: RawVal, b: RawVal) -> Result<RawVal, TrapCode>
-    ensures { result ≡ binary_value op a b }
-{
-    binary_numbers!(op_once! op Binary apply(a, b))
+    match binary_numbered(number) {
+        Some(op) => leave(op.apply(a, b), value),
+        None => Refusal::Unknown.into(),
+    }
 }
 
 /// Writes what the instruction of a number gives for each two elements of two arrays, or its trap,

@@ -61,13 +61,18 @@ fn replaced(op: &ReplaceOp, a: RawVal, item: RawVal) -> RawVal
     op.apply(a.into(), item).into()
 }
 
-/// The lane of a vector that the extraction of a number takes. The refusals are `Unknown`, then
-/// `NoLane`.
-pub fn extract_result(number: u16, lane: u8, a: RawVal) -> Result<RawVal, Refusal>
-    ensures { result ≡ extract_result number lane a }
+/// Writes the lane of a vector, and returns 0; 255 if no extraction has the number; or 253 if no
+/// lane has the index. After 253 and 255 nothing is written.
+pub fn extract_by_number(number: u16, lane: u8, a: RawVal, value: &mut RawVal) -> u8
+    ensures { Leaves (extract_result number lane a) value.old value.new result }
 {
-    let op = extraction(number, lane)?;
-    Ok(extracted(&op, a))
+    match extraction(number, lane) {
+        Ok(op) => {
+            *value = extracted(&op, a);
+            DONE
+        }
+        Err(refusal) => refusal.into(),
+    }
 }
 
 /// Writes the lane of each vector of an array, and returns 0; 255 if no extraction has the number;
@@ -97,13 +102,18 @@ fn extract_each_by_op(op: &ExtractOp, a: &[RawVal], values: &mut [RawVal]) -> u8
     DONE
 }
 
-/// A vector with a lane replaced by an item, by the replacement of a number. The refusals are
-/// `Unknown`, then `NoLane`.
-pub fn replace_result(number: u16, lane: u8, a: RawVal, item: RawVal) -> Result<RawVal, Refusal>
-    ensures { result ≡ replace_result number lane a item }
+/// Writes a vector with a lane replaced by an item, and returns 0; 255 if no replacement has the
+/// number; or 253 if no lane has the index. After 253 and 255 nothing is written.
+pub fn replace_by_number(number: u16, lane: u8, a: RawVal, item: RawVal, value: &mut RawVal) -> u8
+    ensures { Leaves (replace_result number lane a item) value.old value.new result }
 {
-    let op = replacement(number, lane)?;
-    Ok(replaced(&op, a, item))
+    match replacement(number, lane) {
+        Ok(op) => {
+            *value = replaced(&op, a, item);
+            DONE
+        }
+        Err(refusal) => refusal.into(),
+    }
 }
 
 /// Writes each vector of an array with a lane replaced by the item at its index, and returns 0; 255
@@ -139,22 +149,30 @@ fn replace_each_by_op(op: &ReplaceOp, a: &[RawVal], items: &[RawVal], values: &m
     DONE
 }
 
-/// A vector with a lane loaded from `ptr + offset`, by the load of a number. The refusals are
-/// `Unknown`, then `NoLane`, then the trap past the end.
-pub fn load_lane_result(
+/// Writes a vector with a lane loaded from `ptr + offset`. Returns 0; 255 if no load of a lane has
+/// the number; 253 if no lane has the index; or the number of the trap past the end. After any
+/// status except 0 nothing is written.
+pub fn load_lane(
     number: u16,
     lane: u8,
     memory: &[u8],
     ptr: u64,
     offset: u64,
     a: RawVal,
-) -> Result<RawVal, Refusal>
-    ensures { result ≡ load_lane_result number lane memory.now (ptr + offset) a }
+    value: &mut RawVal,
+) -> u8
+    ensures { Leaves (load_lane_result number lane memory.now (ptr + offset) a)
+        value.old value.new result }
 {
-    let op = lane_load(number, lane)?;
-    match op.load(memory, ptr, offset, a.into()) {
-        Ok(vector) => Ok(vector.into()),
-        Err(trap) => Err(Refusal::Trap(trap)),
+    match lane_load(number, lane) {
+        Ok(op) => match op.load(memory, ptr, offset, a.into()) {
+            Ok(vector) => {
+                *value = vector.into();
+                DONE
+            }
+            Err(trap) => u8::from(trap),
+        },
+        Err(refusal) => refusal.into(),
     }
 }
 

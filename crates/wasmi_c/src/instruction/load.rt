@@ -6,7 +6,7 @@ ghost use Rattle.wasmi_c.specs.Instruction.Accesses.{load_numbered, load_outcome
 use crate::instruction::list::numbered;
 use crate::instruction::numbers::{LOAD_INSTRUCTIONS, load_numbers};
 use crate::instruction::refusal::Refusal;
-use crate::instruction::result::{InstructionResult, or_trap, result_of};
+use crate::instruction::result::{InstructionResult, leave, result_of};
 use crate::instruction::rows::op_once;
 use crate::status::DONE;
 use wasmi_ops::{LoadOp, VectorLoadOp};
@@ -66,20 +66,15 @@ pub fn load_numbered(number: u16) -> Option<Load>
     numbered(&LOAD_INSTRUCTIONS, number)
 }
 
-/// What the load of a number gives from `ptr + offset`. The refusals are `Unknown` and the trap
-/// past the end.
-pub fn load_result(number: u16, memory: &[u8], ptr: u64, offset: u64) -> Result<RawVal, Refusal>
-    ensures { result ≡ load_result number memory.now (ptr + offset) }
+/// Writes what the load of a number gives from `ptr + offset`, and returns 0; 255 if there is none;
+/// or the number of the trap past the end. After any status except 0 nothing is written.
+pub fn load_by_number(number: u16, memory: &[u8], ptr: u64, offset: u64, value: &mut RawVal) -> u8
+    ensures { Leaves (load_result number memory.now (ptr + offset)) value.old value.new result }
 {
-    let op = load_numbered(number).ok_or(Refusal::Unknown)?;
-    or_trap(load_by_op(op, memory, ptr, offset))
-}
-
-// Each load has code of its own, so that its result stays in registers.
-fn load_by_op(op: Load, memory: &[u8], ptr: u64, offset: u64) -> Result<RawVal, TrapCode>
-    ensures { result ≡ loaded_value op memory.now (ptr + offset) }
-{
-    load_numbers!(op_once! op Load load(memory, ptr, offset))
+    match load_numbered(number) {
+        Some(op) => leave(op.load(memory, ptr, offset), value),
+        None => Refusal::Unknown.into(),
+    }
 }
 
 /// Writes what the load of a number gives from each pointer of an array, plus the offset, or its

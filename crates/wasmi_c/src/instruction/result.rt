@@ -7,7 +7,6 @@ ghost use Rattle.wasmi_c.specs.Status.{done_status};
 ghost use Rattle.wasmi_c.specs.Instruction.Calls.{Leaves, or_trap};
 ghost use Rattle.wasmi_c.specs.Instruction.Results.{result_of};
 
-use crate::instruction::refusal::Refusal;
 use crate::status::DONE;
 use wasmi_raw::{RawVal, V128};
 use wasmi_types::TrapCode;
@@ -38,19 +37,9 @@ pub fn result_of(given: Result<RawVal, TrapCode>) -> InstructionResult
     }
 }
 
-/// What an instruction gives, with its trap as a refusal.
-pub fn or_trap<T>(given: Result<T, TrapCode>) -> Result<T, Refusal>
-    ensures { result ≡ or_trap given }
-{
-    match given {
-        Ok(value) => Ok(value),
-        Err(trap) => Err(Refusal::Trap(trap)),
-    }
-}
-
-/// Writes the value that a call gives, or nothing if it is refused, and returns the status.
-pub fn leave(given: Result<RawVal, Refusal>, value: &mut RawVal) -> u8
-    ensures { Leaves given value.old value.new result }
+/// Writes the value that an instruction gives, or nothing if it traps, and returns the status.
+pub fn leave(given: Result<RawVal, TrapCode>, value: &mut RawVal) -> u8
+    ensures { Leaves (or_trap given) value.old value.new result }
 {
     match given {
         Ok(new) => {
@@ -59,7 +48,7 @@ pub fn leave(given: Result<RawVal, Refusal>, value: &mut RawVal) -> u8
             value.hi = new.hi;
             DONE
         }
-        Err(refusal) => refusal.into(),
+        Err(trap) => u8::from(trap),
     }
 }
 

@@ -1,8 +1,10 @@
 //! The shuffle of the bytes of two vectors.
 ghost use Rattle.std.specs.Prelude.{◌≡◌};
+ghost use Rattle.wasmi_c.specs.Instruction.Calls.{Leaves};
 ghost use Rattle.wasmi_c.specs.Instruction.Shuffle.{lanes_of, shuffle_result};
 
 use crate::instruction::refusal::Refusal;
+use crate::status::DONE;
 use wasmi_lanes::ImmLaneIdx32;
 use wasmi_lanewise::simd;
 use wasmi_raw::RawVal;
@@ -14,11 +16,16 @@ pub fn lanes_of(indices: [u8; 16]) -> Option<[ImmLaneIdx32; 16]>
     indices.try_map(|index| ImmLaneIdx32::try_from(index)).ok()
 }
 
-/// The bytes of two vectors that have these indices: those of `a` are 0 to 15, those of `b` 16 to
-/// 31. The only refusal is `NoLane`.
-pub fn shuffle_result(a: RawVal, b: RawVal, indices: [u8; 16]) -> Result<RawVal, Refusal>
-    ensures { result ≡ shuffle_result a b indices }
+/// Writes the bytes of two vectors that have these indices: those of `a` are 0 to 15, those of `b`
+/// 16 to 31. Returns 0, or 253 if no lane has an index; then nothing is written.
+pub fn shuffle(a: RawVal, b: RawVal, indices: [u8; 16], value: &mut RawVal) -> u8
+    ensures { Leaves (shuffle_result a b indices) value.old value.new result }
 {
-    let lanes = lanes_of(indices).ok_or(Refusal::NoLane)?;
-    Ok(simd::i8x16_shuffle(a.into(), b.into(), lanes).into())
+    match lanes_of(indices) {
+        Some(lanes) => {
+            *value = simd::i8x16_shuffle(a.into(), b.into(), lanes).into();
+            DONE
+        }
+        None => Refusal::NoLane.into(),
+    }
 }

@@ -24,12 +24,18 @@ pub fn ternary_numbered(number: u16) -> Option<TernaryOp>
     op_numbered(&TERNARIES, number)
 }
 
-/// What the instruction of a number gives. The only refusal is `Unknown`.
-pub fn ternary_result(number: u16, a: RawVal, b: RawVal, c: RawVal) -> Result<RawVal, Refusal>
-    ensures { result ≡ ternary_result number a b c }
+/// Writes what the instruction of a number gives, and returns 0, or 255 if there is none; then
+/// nothing is written.
+pub fn ternary_by_number(number: u16, a: RawVal, b: RawVal, c: RawVal, value: &mut RawVal) -> u8
+    ensures { Leaves (ternary_result number a b c) value.old value.new result }
 {
-    let op = ternary_numbered(number).ok_or(Refusal::Unknown)?;
-    Ok(apply(op, a, b, c))
+    match ternary_numbered(number) {
+        Some(op) => {
+            *value = apply(op, a, b, c);
+            DONE
+        }
+        None => Refusal::Unknown.into(),
+    }
 }
 
 /// Writes what the instruction of a number gives for each three elements of three arrays, and

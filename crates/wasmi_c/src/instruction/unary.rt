@@ -62,19 +62,18 @@ pub fn unary_numbered(number: u16) -> Option<Unary>
     numbered(&UNARY_INSTRUCTIONS, number)
 }
 
-/// What the instruction of a number gives. The only refusal is `Unknown`.
-pub fn unary_result(number: u16, a: RawVal) -> Result<RawVal, Refusal>
-    ensures { result ≡ unary_result number a }
+/// Writes what the instruction of a number gives, and returns 0, or 255 if there is none; then
+/// nothing is written.
+pub fn unary_by_number(number: u16, a: RawVal, value: &mut RawVal) -> u8
+    ensures { Leaves (unary_result number a) value.old value.new result }
 {
-    let op = unary_numbered(number).ok_or(Refusal::Unknown)?;
-    Ok(apply_by_op(op, a))
-}
-
-// Each instruction has code of its own, so that its result stays in registers.
-fn apply_by_op(op: Unary, a: RawVal) -> RawVal
-    ensures { result ≡ unary_value op a }
-{
-    unary_numbers!(op_once! op Unary apply(a))
+    match unary_numbered(number) {
+        Some(op) => {
+            *value = op.apply(a);
+            DONE
+        }
+        None => Refusal::Unknown.into(),
+    }
 }
 
 /// Writes what the instruction of a number gives for each element of an array, and returns 0; 255

@@ -70,8 +70,10 @@ fn guests(folder: &str) -> Vec<Vec<u8>> {
         .collect();
     files.sort();
     let read = |it: &PathBuf| std::fs::read(it).unwrap_or_else(|error| stop(&format!("{}: {error}", it.display())));
-    // What a guest prints would stand between the replies.
-    let guests: Vec<_> = files.iter().map(read).filter(|it| !it.windows(6).any(|it| it == b"print_")).collect();
+    // What a guest prints would stand between the replies; relaxed instructions (0xfd, 0x100 and more) leave a choice once it is damaged.
+    let has = |it: &[u8], part: &[u8]| it.windows(part.len()).any(|it| it == part);
+    let is_left_out = |it: &Vec<u8>| has(it, b"print_") || has(it, b"\xfd\x80\x02");
+    let guests: Vec<_> = files.iter().map(read).filter(|it| !is_left_out(it)).collect();
     if guests.is_empty() {
         stop(&format!("{folder} has no .wasm file"));
     }
@@ -124,13 +126,15 @@ fn difference(case: &Case, one: &Replies, other: &Replies, is_with_v8: bool) -> 
 }
 
 /// Whether both accept a module, or both refuse it, or one of them lacks what the other has: V8 several memories and wide arithmetic,
-/// the engine floats, exceptions and tail calls.
+/// the engine floats, exceptions, tail calls and shared memories.
 fn is_accepted_alike(reply: &str, of_v8: &str) -> bool {
     let is_accepted = ["ok:", "trap:", "unlinkable:"].iter().any(|it| reply.starts_with(it));
     let has = |text: &str, words: &[&str]| words.iter().any(|it| text.contains(it));
     match (is_accepted, of_v8.starts_with("ok:")) {
         (true, false) => has(of_v8, &["memory count", "invalid numeric opcode: 0xfc1"]),
-        (false, true) => has(reply, &["unsupported:", "instruction is unknown", "section is unknown", "ended:"]),
+        (false, true) => {
+            has(reply, &["unsupported:", "instruction is unknown", "section is unknown", "flags of limits", "ended:"])
+        }
         _ => true,
     }
 }

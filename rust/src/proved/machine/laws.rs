@@ -157,9 +157,9 @@ pub fn quotas_stay_within() {}
 /// ensures calls: [RunsOfCallsKeepKind]
 /// ensures reply: [RepliesKeepKind]</code></pre>
 ///
-/// [RunsKeepKind]: crate::specs::machine::Kinds#RunsKeepKind "a run under such a limiter is one by the rules of its kind"
-/// [RunsOfCallsKeepKind]: crate::specs::machine::Kinds#RunsOfCallsKeepKind "a run of calls with these replies under such a limiter is one by the rules of its kind"
-/// [RepliesKeepKind]: crate::specs::machine::Kinds#RepliesKeepKind "a reply to a call under such a limiter is one by the rules of its kind"
+/// [RunsKeepKind]: crate::specs::machine::LimiterKinds#RunsKeepKind "a run under such a limiter is one by the rules of its kind"
+/// [RunsOfCallsKeepKind]: crate::specs::machine::LimiterKinds#RunsOfCallsKeepKind "a run of calls with these replies under such a limiter is one by the rules of its kind"
+/// [RepliesKeepKind]: crate::specs::machine::LimiterKinds#RepliesKeepKind "a reply to a call under such a limiter is one by the rules of its kind"
 #[inline]
 pub fn kinds_stay() {}
 

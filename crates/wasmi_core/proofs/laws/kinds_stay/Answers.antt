@@ -1,4 +1,4 @@
-use Rattle.wasmi_core.proofs.KindsLemmas as kinds
+use Rattle.wasmi_core.proofs.LimiterKindsLemmas as kinds
 use Rattle.wasmi_core.proofs.laws.kinds_stay.Goals as goal
 
 pub returns : goal.returns

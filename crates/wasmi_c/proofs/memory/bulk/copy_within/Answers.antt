@@ -12,7 +12,8 @@ returns c =
       c.in-Some.ensures,
       record {
         result = c.copy_within-written.result;
-        writes = rw (c.store_left.ensures, kept c.args.meter.now c.copy_within-written.new.fuel charged.0 charged.1) written;
+        writes = rw (c.store_left.ensures, kept c.args.meter.now c.copy_within-written.new.fuel charged.0 charged.1)
+            written;
         rest = c.copy_within-written.ensures.rest;
         kept = rw c.store_left.ensures (keeps c.args.meter.now c.copy_within-written.new.fuel charged.0 charged.1);
         status_is = c.leave_write.ensures.status;

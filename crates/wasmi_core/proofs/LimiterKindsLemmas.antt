@@ -13,7 +13,7 @@ use Rattle.wasmi_meter.specs.Limiter.{Question, Answer, Failure, NoticeAnswer, R
 use Rattle.wasmi_meter.specs.Quota.{quota_rules}
 use Rattle.wasmi_store.specs.Memory as memory
 use Rattle.wasmi_store.specs.Table as table
-use Rattle.wasmi_core.specs.Kinds.{RelatesByKind, RepliesKeepKind, RunsKeepKind, RunsOfCallsKeepKind}
+use Rattle.wasmi_core.specs.LimiterKinds.{RelatesByKind, RepliesKeepKind, RunsKeepKind, RunsOfCallsKeepKind}
 use Rattle.wasmi_core.specs.Runs.{IsRunOf, Run}
 use Rattle.wasmi_core.specs.State.{State}
 use Rattle.wasmi_core.specs.Steps.{Answers, Step}
