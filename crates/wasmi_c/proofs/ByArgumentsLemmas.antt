@@ -1,6 +1,8 @@
 -- Calls with plain arguments.
 use Rattle.std.proofs.Common.{◌≡◌, ◌∙◌, ◌+◌, ℕ, List, Option, Some, None, ap, refl, sum, sym, subst}
-use Rattle.std.specs.Option.{option_map}
+use Rattle.std.proofs.lemmas.Option.{same_Some}
+use Rattle.std.specs.Option.{option_and_then, option_map}
+use Rattle.std.specs.Prelude.{IfSome, MatchOption}
 use Rattle.wasmi_meter.specs.declared.any_limiter.AnyLimiter.{AnyLimiter}
 use Rattle.wasmi_meter.specs.declared.any_limiter.AnyLimiter.TheVariants as limiter
 use Rattle.wasmi_meter.specs.declared.limiter.Kind.TheVariants.{Elements}
@@ -16,10 +18,19 @@ use Rattle.wasmi_core.specs.Totals.{total}
 use Rattle.wasmi_core.specs.declared.calls.Call.{Call}
 use Rattle.wasmi_core.specs.declared.calls.Call.TheVariants.{GetFuel, Load, Store}
 use Rattle.wasmi_core.specs.declared.calls.Reply.{Reply}
-use Rattle.wasmi_c.specs.Machine.ByArguments.{RepliesInStatus, RepliesInWord, item_load, item_load_numbered, word_after}
-use Rattle.wasmi_c.specs.Machine.Calls.{MachineReplies}
+use Rattle.wasmi_c.specs.Instruction.Accesses.{load_numbered}
+use Rattle.wasmi_c.specs.Machine.ByArguments.{RepliesInStatus, RepliesInWord, item_load, item_load_in, item_load_numbered, word_after}
+use Rattle.wasmi_c.specs.Machine.CallStructs.{call_as, call_of, kind_of}
+use Rattle.wasmi_c.specs.Machine.Instructions.{load_as}
+use Rattle.wasmi_c.specs.declared.instruction.load.Load as loads
+use Rattle.wasmi_c.specs.declared.instruction.load.Load.TheVariants as item
+use Rattle.wasmi_c.specs.declared.machine.call_struct.CallStruct.{CallStruct}
+use Rattle.wasmi_c.specs.declared.machine.kind.Kind.TheVariants.{Memory}
+use Rattle.wasmi_c.specs.declared.machine.kind.MemoryCall.TheVariants as kinds
+use Rattle.wasmi_c.specs.declared.machine.reply_struct.ReplyStruct.{ReplyStruct}
+use Rattle.wasmi_c.specs.Machine.Calls.{MachineReplies, RepliesInStruct, RepliesToStruct}
 use Rattle.wasmi_c.specs.Machine.Caps.{Keeps, MachineValue}
-use Rattle.wasmi_c.specs.Machine.Replies.{status_of}
+use Rattle.wasmi_c.specs.Machine.Replies.{only, reply_struct, status_of}
 use Rattle.wasmi_c.specs.Status.{no_call_status}
 
 -- a load of an item leaves the status and the value of its reply, and the machine stays
@@ -112,3 +123,38 @@ kept_by_store s (limiter.Quota quota) index a stored full s' stores rest kept = 
   within = kept.within;
 }
 kept_by_store s (limiter.Answers list) index a stored full s' stores rest kept = tt
+
+-- numbers of the kind of loads, with the number of a load of an item, stand for that load
+pub load_is : (numbers : CallStruct) (op : LoadOp) → kind_of numbers.kind ≡ Some (Memory kinds.Load)
+    → item_load_numbered numbers.op ≡ Some op
+    → call_of numbers ≡ Some (Load op numbers.index numbers.ptr numbers.offset)
+unfolding call_of
+load_is numbers op kind_is op_is =
+    ap (option_and_then (λ kind. call_as kind numbers)) kind_is
+    ∙ ap (option_map (load_as numbers)) (found (load_numbered numbers.op) op op_is)
+  where
+    found : (load : Option loads.Load) (op : LoadOp) → option_and_then item_load_in load ≡ Some op
+        → load ≡ Some (item.Scalar op)
+    found None op is = absurd cc
+    found (Some (item.Vector other)) op is = absurd cc
+    found (Some (item.Scalar other)) op is = ap (λ o. Some (item.Scalar o)) (same_Some other op is)
+
+-- whatever load of an item was found by the number of such numbers, they stand for it
+pub loads_are : (numbers : CallStruct) (found : Option LoadOp) → kind_of numbers.kind ≡ Some (Memory kinds.Load)
+    → found ≡ item_load_numbered numbers.op
+    → IfSome found (λ op. call_of numbers ≡ Some (Load op numbers.index numbers.ptr numbers.offset))
+loads_are numbers None kind_is is = tt
+loads_are numbers (Some op) kind_is is = load_is numbers op kind_is (sym is)
+
+-- a load of an item that numbers stand for leaves the struct of its reply, and the machine stays
+pub struct_loaded : (numbers : CallStruct) (op : LoadOp) (machine : MachineValue) (reply : ReplyStruct)
+    → call_of numbers ≡ Some (Load op numbers.index numbers.ptr numbers.offset)
+    → reply ≡ reply_struct (load_reply op (numbers.ptr + numbers.offset) (live_at machine.state.memories numbers.index))
+    → RepliesToStruct numbers machine reply machine
+struct_loaded numbers op machine reply is same =
+    subst (λ called. MatchOption called ((reply ≡ only no_call_status) × (machine ≡ machine))
+    (λ call. RepliesInStruct call machine reply machine)) (sym is) (
+      load_reply op (numbers.ptr + numbers.offset) (live_at machine.state.memories numbers.index),
+      (0, 0, record { free = (refl, refl); effect = refl; after = refl }),
+      same,
+    )

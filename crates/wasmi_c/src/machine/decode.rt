@@ -1,11 +1,14 @@
 //! The call that numbers stand for.
-ghost use Rattle.std.specs.Prelude.{◌≡◌};
+ghost use Rattle.std.specs.Prelude.{◌≡◌, IfSome, Some};
+ghost use Rattle.wasmi_core.specs.declared.calls.Call.TheVariants.{Load};
 ghost use Rattle.wasmi_c.specs.Machine.CallStructs.{call_of, global_call, memory_call, meter_call, register_call, table_call};
 
 use crate::machine::call_struct::CallStruct;
+use crate::machine::item_instructions::item_load_numbered;
 use crate::machine::kind::{GlobalCall, Kind, MemoryCall, MeterCall, RegisterCall, TableCall};
 use crate::types::{to_u32, val_type};
 use wasmi_core::Call;
+use wasmi_ops::LoadOp;
 use wasmi_typed::{GlobalType, TypedRawVal};
 
 impl CallStruct {
@@ -21,6 +24,18 @@ impl CallStruct {
             Kind::Table(kind) => self.table_call(kind),
             Kind::Global(kind) => self.global_call(kind),
             Kind::Register(kind) => self.register_call(kind),
+        }
+    }
+
+    /// The load of an item, if the numbers stand for one.
+    #[inline(always)]
+    pub fn item_load(&self) -> Option<LoadOp>
+        ensures { IfSome result (λ op. call_of self.now
+            ≡ Some (Load op self.now.index self.now.ptr self.now.offset)) }
+    {
+        match Kind::from_number(self.kind) {
+            Some(Kind::Memory(MemoryCall::Load)) => item_load_numbered(self.op),
+            _ => None,
         }
     }
 

@@ -1,6 +1,8 @@
 //! A machine with the limiter that it asks.
-ghost use Rattle.std.specs.Prelude.{◌≡◌, IfOk};
+ghost use Rattle.std.specs.Prelude.{◌≡◌, ◌+◌, IfOk};
 ghost use Rattle.wasmi_meter.specs.AnyLimiter.{caps_of};
+ghost use Rattle.wasmi_core.specs.MemoryEffects.{load_reply};
+ghost use Rattle.wasmi_core.specs.State.{live_at};
 ghost use Rattle.wasmi_core.specs.declared.calls.Call.TheVariants.{NewSegment, Write};
 
 use crate::machine::call_struct::CallStruct;
@@ -13,6 +15,7 @@ use std::alloc::{AllocError, Global};
 use std::marker::Model;
 use wasmi_core::{Call, Machine, Reply};
 use wasmi_meter::{AnswerList, AnyLimiter, LimiterAnswer};
+use wasmi_ops::LoadOp;
 use wasmi_raw::RawRef;
 
 /// A machine with the limiter that it asks. A quota holds what the machine has, so the machine is
@@ -37,6 +40,7 @@ impl LimitedMachine {
     ghost use Rattle.wasmi_c.specs.Machine.Calls.{MachineReplies, ReadsOut, RepliesInStruct, RepliesToCopy, RepliesToSegment, RepliesToStruct, TakesFuel, totals_of};
     ghost use Rattle.wasmi_c.specs.Machine.Caps.{IsCapped};
     ghost use Rattle.wasmi_c.specs.Machine.NewMachines.{IsNewMachine, IsNewWithAnswers};
+    ghost use Rattle.wasmi_c.specs.Machine.Replies.{reply_struct};
 
     /// A machine with nothing on it, and with its quota if there are caps. It takes no memory.
     pub fn new(alloc: Global, limits: &Limits) -> LimitedMachine
@@ -97,6 +101,33 @@ impl LimitedMachine {
 
     /// Replies to the call that numbers stand for, if there is one.
     pub fn reply_to_struct(&mut self, numbers: &CallStruct) -> ReplyStruct
+        ensures step { RepliesToStruct numbers.now self.old result self.new }
+        ensures caps { caps_of self.new.limiter ≡ caps_of self.old.limiter }
+    {
+        // A load reads its own fields alone: to make a `Call` of all takes longer than the load.
+        match numbers.item_load() {
+            Some(op) => self.load_to_struct(op, numbers.index, numbers.ptr, numbers.offset),
+            None => self.reply_to_decoded(numbers),
+        }
+    }
+
+    /// Loads an item, and replies with a struct.
+    #[inline(always)]
+    fn load_to_struct(&self, op: LoadOp, memory: usize, ptr: u64, offset: u64) -> ReplyStruct
+        ensures { result ≡ reply_struct
+            (load_reply op (ptr + offset) (live_at self.now.state.memories memory)) }
+    {
+        let Some(memory) = self.machine.memory(memory) else {
+            return ReplyStruct::only(NO_SUCH);
+        };
+        match op.load(memory.data(), ptr, offset) {
+            Ok(raw) => ReplyStruct::with_value(raw),
+            Err(trap) => ReplyStruct::only(u8::from(trap)),
+        }
+    }
+
+    /// Replies to the call that numbers stand for, if there is one, after it is made.
+    fn reply_to_decoded(&mut self, numbers: &CallStruct) -> ReplyStruct
         ensures step { RepliesToStruct numbers.now self.old result self.new }
         ensures caps { caps_of self.new.limiter ≡ caps_of self.old.limiter }
     {
