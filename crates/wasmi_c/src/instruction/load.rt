@@ -72,9 +72,16 @@ pub fn load_by_number(number: u16, memory: &[u8], ptr: u64, offset: u64, value: 
     ensures { Leaves (load_result number memory.now (ptr + offset)) value.old value.new result }
 {
     match load_numbered(number) {
-        Some(op) => leave(op.load(memory, ptr, offset), value),
+        Some(op) => leave(load_by_op(op, memory, ptr, offset), value),
         None => Refusal::Unknown.into(),
     }
+}
+
+// Each load has code of its own, so that its result stays in registers.
+fn load_by_op(op: Load, memory: &[u8], ptr: u64, offset: u64) -> Result<RawVal, TrapCode>
+    ensures { result ≡ loaded_value op memory.now (ptr + offset) }
+{
+    load_numbers!(op_once! op Load load(memory, ptr, offset))
 }
 
 /// Writes what the load of a number gives from each pointer of an array, plus the offset, or its
