@@ -3,10 +3,13 @@
 //! The headers of `include/` declare them.
 #![tactic(auto)]
 
+mod fuel;
 mod instructions;
 mod loads;
+mod memory;
 mod scalar;
 mod script;
 mod stores;
+mod table;
 mod vector_loads;
 mod vectors;
