@@ -86,6 +86,7 @@ impl Handle {
 
     /// Replies to a call. Where the handle has no machine, the status is `NO_MACHINE`; then, where
     /// the numbers stand for no call, it is `NO_CALL`, and nothing has changed.
+    #[inline(always)]
     pub fn call(&mut self, call: &CallStruct) -> ReplyStruct
         ensures step { ActsOnHeld (only no_machine_status) self.old.machine.held
             result self.new.machine.held

@@ -85,6 +85,7 @@ impl LimitedMachine {
     }
 
     /// Replies to one call, with the reply as a struct.
+    #[inline(never)]
     fn reply_in_struct(&mut self, call: &Call) -> ReplyStruct
         ensures step { RepliesInStruct call.now self.old result self.new }
         ensures caps { caps_of self.new.limiter ≡ caps_of self.old.limiter }
@@ -100,6 +101,7 @@ impl LimitedMachine {
     }
 
     /// Replies to the call that numbers stand for, if there is one.
+    #[inline(always)]
     pub fn reply_to_struct(&mut self, numbers: &CallStruct) -> ReplyStruct
         ensures step { RepliesToStruct numbers.now self.old result self.new }
         ensures caps { caps_of self.new.limiter ≡ caps_of self.old.limiter }
@@ -127,6 +129,7 @@ impl LimitedMachine {
     }
 
     /// Replies to the call that numbers stand for, if there is one, after it is made.
+    #[inline(always)]
     fn reply_to_decoded(&mut self, numbers: &CallStruct) -> ReplyStruct
         ensures step { RepliesToStruct numbers.now self.old result self.new }
         ensures caps { caps_of self.new.limiter ≡ caps_of self.old.limiter }
