@@ -15,9 +15,7 @@ use wasmi_meter::growth::{charge, permission, tell};
 use wasmi_meter::{Fuel, ResourceLimiter, ResourceLimiterRef, TableError};
 use wasmi_raw::RawRef;
 use wasmi_store::TableType;
-use wasmi_store::elements::{
-    copy_elements, copy_elements_within, fill_elements, init_elements,
-};
+use wasmi_store::elements::{copy_elements, copy_elements_within, fill_elements, init_elements};
 use wasmi_store::growth::TABLE_DENIED as DENIED;
 use wasmi_store::range::{fill_range, write_range};
 

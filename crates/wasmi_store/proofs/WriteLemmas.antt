@@ -50,8 +50,8 @@ module _ (write : TableValue → TableWrite) (ty : TableTypeValue) (xs : List �
         let meters : Some m' ≡ Some (meter_after m (write_due w s)) = ap (λ s. s.meter) after in
         let left : m' ≡ meter_after m (write_due w s) = cc in
         rw (done, written, left) (
-        write_due w s,
-        record { ends = rw (same, within, paid) (refl, refl, refl); meter = refl }
+          write_due w s,
+          record { ends = rw (same, within, paid) (refl, refl, refl); meter = refl },
         )
     by_payment elements false (within, unpaid) short =
         refused (OutOfFuel (write_due w s)) (rw (same, within, unpaid) (refl, refl, refl)) short

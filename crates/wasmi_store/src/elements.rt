@@ -104,5 +104,13 @@ pub fn init_elements<T: Copy>(
     if len == 0 && lies_within(items, src, 0) && lies_within(elements, dst, 0) {
         return Ok(());
     }
-    copy_elements(elements, dst, items, src, len, TableError::InitOutOfBounds, fuel)
+    copy_elements(
+        elements,
+        dst,
+        items,
+        src,
+        len,
+        TableError::InitOutOfBounds,
+        fuel,
+    )
 }

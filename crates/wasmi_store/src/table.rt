@@ -374,7 +374,15 @@ impl Table {
         self.ty.ensure_element_type_matches(src_table.ty.element())?;
         let items = src_table.elements.as_slice();
         let outside = TableError::CopyOutOfBounds;
-        copy_elements(self.elements.as_mut_slice(), dst, items, src, len, outside, fuel)
+        copy_elements(
+            self.elements.as_mut_slice(),
+            dst,
+            items,
+            src,
+            len,
+            outside,
+            fuel,
+        )
     }
 
     /// Copies `len` elements from `src` on over those from `dst` on. If the ranges overlap, the old
