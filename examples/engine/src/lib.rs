@@ -19,8 +19,7 @@
 #![forbid(unsafe_code)]
 #![warn(missing_docs)]
 
-// The feature `crate` says which library the engine stands on. Bulk instructions on memories, which the Rust crate lacks,
-// are in the folder of its package.
+// The feature `crate` says which library the engine stands on.
 #[cfg(feature = "crate")]
 pub use wasmi_core as library;
 #[cfg(not(feature = "crate"))]

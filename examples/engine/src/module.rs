@@ -11,13 +11,9 @@ use std::collections::{BTreeMap, HashMap};
 /// What a module imports or exports, by its number in the module.
 #[derive(Clone, Copy, Debug, PartialEq, Eq)]
 pub(crate) enum Extern {
-    /// A function.
     Function(u32),
-    /// A table.
     Table(u32),
-    /// A memory.
     Memory(u32),
-    /// A global variable.
     Global(u32),
 }
 
