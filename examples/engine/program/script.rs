@@ -5,7 +5,7 @@
 //! | `module FILE` | `ok:`; the module is instantiated, and the one before is dropped |
 //! | `invoke FUNCTION ARGS..` | `ok: V..`, the results |
 //! | `get GLOBAL` | `ok: V` |
-//! | `digest` | `ok:` and the line of `Instance::digest` |
+//! | `digest` | `ok:` and the line that `digest.rs` makes |
 //! | `fuel N` | `ok:`; from now on fuel is charged, and so much is there |
 //! | `left` | `ok: N`, the fuel that is left |
 //! | `lenient` | `ok:`; from now on a module may have functions with floats, which stop when they are called |
@@ -14,6 +14,7 @@
 //! Other replies than `ok:` are `malformed:`, `invalid:`, `unsupported:` (floats, or beyond a limit), `unlinkable:`,
 //! `trap:`, and `error:` for a line that makes no sense; after one of them the module is the one before.
 
+use crate::digest::digest;
 use crate::values;
 use engine::library::{Fuel, FuelCostsProvider};
 use engine::{Caps, Failure, Instance, Module, Refusal, RefusalKind, Stopped, Store};
@@ -58,7 +59,7 @@ impl Script {
                     self.instance()?.global(&name(rest)?).ok_or("error: there is no exported global of this name")?;
                 Ok(format!("ok: {}", values::print(value)))
             }
-            "digest" => Ok(format!("ok: {}", self.instance()?.digest())),
+            "digest" => Ok(format!("ok: {}", digest(self.instance()?))),
             "fuel" => {
                 let fuel = rest.parse().or(Err("error: fuel is a number"))?;
                 self.store.fuel = Fuel::new(true, FuelCostsProvider::default());

@@ -32,18 +32,6 @@ pub(crate) enum HostFunction {
     PrintBytes,
 }
 
-impl HostFunction {
-    fn named(name: &str) -> Option<(HostFunction, &'static [ValType])> {
-        Some(match name {
-            "print" => (Self::Print, &[]),
-            "print_i32" => (Self::PrintI32, &[ValType::I32]),
-            "print_i64" => (Self::PrintI64, &[ValType::I64]),
-            "print_bytes" => (Self::PrintBytes, &[ValType::I32, ValType::I32]),
-            _ => return None,
-        })
-    }
-}
-
 /// What the host has for an import.
 pub(crate) enum Provided {
     Function(HostFunction),
@@ -56,58 +44,64 @@ pub(crate) enum Provided {
 pub(crate) fn provide(module: &Module, import: &Import, caps: &mut Caps) -> Result<Provided, Failure> {
     let is_ours = matches!(import.module.as_str(), "host" | "spectest");
     let name = if is_ours { import.name.as_str() } else { "" };
-    let provided = match import.item {
-        Extern::Function(function) => HostFunction::named(name).map(|(host, params)| {
-            let ty = module.type_of(function);
-            (ty.params() == params && ty.results().is_empty()).then_some(Provided::Function(host))
-        }),
-        Extern::Memory(memory) => match name {
-            "memory" => Some(provide_memory(module.memories[memory as usize], caps)?),
-            _ => None,
-        },
-        Extern::Table(table) => {
-            let ours = match name {
-                "table" => Some(TableType::new(RefType::Func, 10, Some(20))),
-                "table64" => Some(TableType::new64(RefType::Func, 10, Some(20))),
-                _ => None,
-            };
-            ours.map(|ours| provide_table(ours, &module.tables[table as usize].0, caps)).transpose()?
-        }
-        Extern::Global(global) => provided_global(name).map(|ours| {
-            let is_right = ours.ty() == module.globals[global as usize].0;
-            is_right.then_some(Provided::Global(ours))
-        }),
-    };
     let refuse = |what: &str| Failure::Unlinkable(format!("{}.{}: {what}", import.module, import.name));
-    provided.ok_or_else(|| refuse("the host has no such item"))?.ok_or_else(|| refuse("the item has another type"))
-}
-
-fn provide_memory(wanted: MemoryType, caps: &mut Caps) -> Result<Option<Provided>, Failure> {
-    let mut builder = MemoryType::builder();
-    builder.min(1).max(Some(2));
-    let ours = builder.build().map_err(of_memory)?;
-    if !ours.is_subtype_of(&wanted) {
-        return Ok(None);
+    let missing = || refuse("the host has no such item");
+    let check = |is_right: bool| if is_right { Ok(()) } else { Err(refuse("the item has another type")) };
+    match import.item {
+        Extern::Function(function) => {
+            let (params, ours) = function_named(name).ok_or_else(missing)?;
+            let ty = module.type_of(function);
+            check(ty.params() == params && ty.results().is_empty())?;
+            Ok(Provided::Function(ours))
+        }
+        Extern::Memory(memory) => {
+            let mut builder = MemoryType::builder();
+            builder.min(1).max(Some(2));
+            let ours = builder.build().ok().filter(|_| name == "memory").ok_or_else(missing)?;
+            check(ours.is_subtype_of(&module.memories[memory as usize]))?;
+            Ok(Provided::Memory(Memory::new(ours, &mut caps.lent()).map_err(of_memory)?))
+        }
+        Extern::Table(table) => {
+            let ours = table_named(name).ok_or_else(missing)?;
+            check(ours.is_subtype_of(&module.tables[table as usize].0))?;
+            let null = TypedRawRef::null(RefType::Func);
+            Ok(Provided::Table(Table::new(ours, null, &mut caps.lent()).map_err(of_table)?))
+        }
+        Extern::Global(global) => {
+            let ours = global_named(name).ok_or_else(missing)?;
+            check(ours.ty() == module.globals[global as usize].0)?;
+            Ok(Provided::Global(ours))
+        }
     }
-    Ok(Some(Provided::Memory(Memory::new(ours, &mut caps.lent()).map_err(of_memory)?)))
 }
 
-fn provide_table(ours: TableType, wanted: &TableType, caps: &mut Caps) -> Result<Option<Provided>, Failure> {
-    if !ours.is_subtype_of(wanted) {
-        return Ok(None);
-    }
-    let null = TypedRawRef::null(RefType::Func);
-    Ok(Some(Provided::Table(Table::new(ours, null, &mut caps.lent()).map_err(of_table)?)))
-}
-
-fn provided_global(name: &str) -> Option<Global> {
-    let (value, ty, mutability) = match name {
-        "global_i32" => (RawVal::from(666_i32), ValType::I32, Mutability::Const),
-        "global_i64" => (RawVal::from(666_i64), ValType::I64, Mutability::Const),
-        "counter" => (RawVal::from(0_i64), ValType::I64, Mutability::Var),
+/// A function, with the types of its parameters. None has a result.
+fn function_named(name: &str) -> Option<(&'static [ValType], HostFunction)> {
+    Some(match name {
+        "print" => (&[], HostFunction::Print),
+        "print_i32" => (&[ValType::I32], HostFunction::PrintI32),
+        "print_i64" => (&[ValType::I64], HostFunction::PrintI64),
+        "print_bytes" => (&[ValType::I32, ValType::I32], HostFunction::PrintBytes),
         _ => return None,
-    };
-    Some(Global::new(value, GlobalType::new(ty, mutability)))
+    })
+}
+
+fn table_named(name: &str) -> Option<TableType> {
+    match name {
+        "table" => Some(TableType::new(RefType::Func, 10, Some(20))),
+        "table64" => Some(TableType::new64(RefType::Func, 10, Some(20))),
+        _ => None,
+    }
+}
+
+fn global_named(name: &str) -> Option<Global> {
+    let global = |value, ty, mutability| Some(Global::new(value, GlobalType::new(ty, mutability)));
+    match name {
+        "global_i32" => global(RawVal::from(666_i32), ValType::I32, Mutability::Const),
+        "global_i64" => global(RawVal::from(666_i64), ValType::I64, Mutability::Const),
+        "counter" => global(RawVal::from(0_i64), ValType::I64, Mutability::Var),
+        _ => None,
+    }
 }
 
 /// Why a guest stops that called what the engine has no code for, or that printed where nothing can be written.

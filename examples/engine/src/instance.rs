@@ -1,12 +1,12 @@
 //! Instances: made from a module, called, and read. WebAssembly core specification, 4.5.
 
-#[allow(unused_imports, reason = "a library may have these methods itself")]
+#[cfg(feature = "crate")]
 use crate::bulk::Bulk;
 use crate::execute::{self, Exit};
 use crate::host::{self, HostFunction, Provided};
 use crate::library::{
     ElementSegment, Global, Memory, MemoryError, RawVal, Table, TableError, Trap, TrapCode, TypedRawRef, TypedRawVal,
-    V128, ValType,
+    ValType,
 };
 use crate::module::{Extern, Mode, Module};
 use crate::store::{self, Frame, Store};
@@ -169,27 +169,15 @@ impl Instance {
         &self.module
     }
 
+    /// All memories, tables and globals, those that are imported first.
+    pub fn contents(&self) -> (&[Memory], &[Table], &[Global]) {
+        (&self.memories, &self.tables, &self.globals)
+    }
+
     /// Drops the instance, and gives back what its memories and tables took of the store's caps.
     pub fn release(self, store: &mut Store) {
         store.caps.bytes += self.memories.iter().map(Memory::data_size).sum::<usize>();
         store.caps.elements += self.tables.iter().map(|it| it.size() as usize).sum::<usize>();
-    }
-
-    /// One line that tells contents apart: of each memory its pages, of each table its elements, of the globals their
-    /// number, and of each of these the FNV-1a of 64 bits of its bytes. An element has 4 bytes, 0 or the number of its
-    /// function and 1; a global has 16. The least byte comes first.
-    pub fn digest(&self) -> String {
-        let mut words = vec![];
-        for memory in &self.memories {
-            words.push(format!("memory {} {:016x}", memory.size(), fnv(memory.data().iter().copied())));
-        }
-        for table in &self.tables {
-            let elements = (0..table.size()).map(|i| table.get(i).map_or(0, |it| u32::from(it.raw())));
-            words.push(format!("table {} {:016x}", table.size(), fnv(elements.flat_map(u32::to_le_bytes))));
-        }
-        let globals = self.globals.iter().map(|it| V128::from(canonical(it.get())).as_u128());
-        words.push(format!("globals {} {:016x}", self.globals.len(), fnv(globals.flat_map(u128::to_le_bytes))));
-        words.join(" ")
     }
 }
 
@@ -202,26 +190,19 @@ fn canonical(value: TypedRawVal) -> RawVal {
     }
 }
 
-fn fnv(bytes: impl Iterator<Item = u8>) -> u64 {
-    bytes.fold(0xcbf2_9ce4_8422_2325, |hash, byte| (hash ^ u64::from(byte)).wrapping_mul(0x100_0000_01b3))
+/// How the error of a memory or a table stops a guest.
+macro_rules! traps {
+    ($name:ident, $error:ident, $out_of_bounds:ident) => {
+        #[cold]
+        pub(crate) fn $name(error: $error) -> TrapCode {
+            match error {
+                $error::OutOfFuel { .. } => TrapCode::OutOfFuel,
+                $error::ResourceLimiterDeniedAllocation => TrapCode::GrowthOperationLimited,
+                $error::OutOfSystemMemory => TrapCode::OutOfSystemMemory,
+                _ => TrapCode::$out_of_bounds,
+            }
+        }
+    };
 }
-
-#[cold]
-pub(crate) fn of_memory(error: MemoryError) -> TrapCode {
-    match error {
-        MemoryError::OutOfFuel { .. } => TrapCode::OutOfFuel,
-        MemoryError::ResourceLimiterDeniedAllocation => TrapCode::GrowthOperationLimited,
-        MemoryError::OutOfSystemMemory => TrapCode::OutOfSystemMemory,
-        _ => TrapCode::MemoryOutOfBounds,
-    }
-}
-
-#[cold]
-pub(crate) fn of_table(error: TableError) -> TrapCode {
-    match error {
-        TableError::OutOfFuel { .. } => TrapCode::OutOfFuel,
-        TableError::ResourceLimiterDeniedAllocation => TrapCode::GrowthOperationLimited,
-        TableError::OutOfSystemMemory => TrapCode::OutOfSystemMemory,
-        _ => TrapCode::TableOutOfBounds,
-    }
-}
+traps!(of_memory, MemoryError, MemoryOutOfBounds);
+traps!(of_table, TableError, TableOutOfBounds);

@@ -14,18 +14,19 @@
 //! | `host` | what a module may import |
 //! | `instance` | instances, calls |
 //! | `execute` | the loop |
-//! | `bulk` | fills and copies of memories, for a library that lacks them |
 //!
 //! The program stands in `program/`.
 #![forbid(unsafe_code)]
 #![warn(missing_docs)]
 
-// These lines say which library the engine stands on; nothing else in `src` does.
+// The feature `crate` says which library the engine stands on.
 #[cfg(feature = "crate")]
 pub use wasmi_core as library;
 #[cfg(not(feature = "crate"))]
 pub use wasmi_core_proved as library;
 
+#[cfg(feature = "crate")]
+#[path = "../crate/bulk.rs"]
 mod bulk;
 mod execute;
 mod host;

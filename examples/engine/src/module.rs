@@ -11,13 +11,9 @@ use std::collections::{BTreeMap, HashMap};
 /// What a module imports or exports, by its number in the module.
 #[derive(Clone, Copy, Debug, PartialEq, Eq)]
 pub(crate) enum Extern {
-    /// A function.
     Function(u32),
-    /// A table.
     Table(u32),
-    /// A memory.
     Memory(u32),
-    /// A global variable.
     Global(u32),
 }
 
@@ -189,10 +185,7 @@ impl Module {
                 self.functions.extend(types);
             }
             4 => drop(reader.list(|it| self.table(it))?),
-            5 => {
-                let types = reader.list(Reader::memory_type)?;
-                self.memories.extend(types);
-            }
+            5 => self.memories.extend(reader.list(Reader::memory_type)?),
             6 => drop(reader.list(|it| self.global(it))?),
             7 => drop(reader.list(|it| self.export(it))?),
             8 => self.section_of_start(reader)?,
@@ -230,31 +223,29 @@ impl Module {
     fn import(&mut self, reader: &mut Reader) -> Read<Import> {
         let (module, name) = (reader.name()?.into(), reader.name()?.into());
         let begin = *reader;
-        let count = match reader.byte()? {
+        let (count, kind): (_, fn(u32) -> Extern) = match reader.byte()? {
             0 => {
                 let ty = self.known(reader, self.types.len(), "a type is unknown")?;
                 self.functions.push(ty);
                 self.code.push(Function::of_host(self.imported.functions as u32, &self.types[ty as usize]));
-                &mut self.imported.functions
+                (&mut self.imported.functions, Extern::Function)
             }
             1 => {
                 self.tables.push((reader.table_type()?, Constant::Value(RawVal::default())));
-                &mut self.imported.tables
+                (&mut self.imported.tables, Extern::Table)
             }
             2 => {
                 self.memories.push(reader.memory_type()?);
-                &mut self.imported.memories
+                (&mut self.imported.memories, Extern::Memory)
             }
             3 => {
                 self.globals.push((reader.global_type()?, Constant::Value(RawVal::default())));
-                &mut self.imported.globals
+                (&mut self.imported.globals, Extern::Global)
             }
             _ => return Err(begin.malformed("an import is of an unknown kind")),
         };
-        let number = *count as u32;
         *count += 1;
-        let kinds = [Extern::Function, Extern::Table, Extern::Memory, Extern::Global];
-        Ok(Import { module, name, item: kinds[usize::from(begin.peek().unwrap_or(0))](number) })
+        Ok(Import { module, name, item: kind(*count as u32 - 1) })
     }
 
     fn table(&mut self, reader: &mut Reader) -> Read<()> {

@@ -18,6 +18,7 @@ use crate::reader::{Read, Reader, Refusal, RefusalKind, ensure};
 use std::collections::HashMap;
 
 /// The code of a function, and what its frame begins with.
+#[derive(Default)]
 pub(crate) struct Function {
     pub params: usize,
     /// How many slots after the parameters begin as zero.
@@ -35,7 +36,7 @@ impl Function {
     pub fn of_host(host: u32, ty: &FuncType) -> Function {
         let (params, results) = (usize::from(ty.len_params()), usize::from(ty.len_results()));
         let code = vec![Op::of(Code::fuel, 1), Op::of(Code::host, host), Op::of(Code::ret, results as u32)];
-        Function { params, zeros: 0, constants: vec![], slots: params.max(results), code, shuffles: vec![] }
+        Function { params, slots: params.max(results), code, ..Function::default() }
     }
 }
 
@@ -88,13 +89,15 @@ struct Translator<'m, 'b> {
     /// How many operands lie in each local, and in all of them.
     uses: Vec<u32>,
     lent: u32,
-    constants: Vec<RawVal>,
+    /// The number of each constant.
     numbers: HashMap<u128, u16>,
     stack: Vec<Operand>,
+    /// How many operands there were at most.
     height: usize,
     blocks: Vec<Block<'m>>,
     code: Vec<Op>,
-    shuffles: Vec<[ImmLaneIdx32; 16]>,
+    /// The rest of the result.
+    made: Function,
     /// The last instruction, if it has written the operand on the top and nothing jumps between.
     last: Option<usize>,
     /// The instruction that charges for the present piece of code.
@@ -113,13 +116,12 @@ pub(crate) fn function(module: &Module, number: u32, mut reader: Reader) -> Read
         uses: vec![0; locals.len()],
         locals,
         lent: 0,
-        constants: vec![],
         numbers: HashMap::new(),
         stack: vec![],
         height: 0,
         blocks: vec![],
         code: vec![Op::of(Code::fuel, 1)],
-        shuffles: vec![],
+        made: Function { params: usize::from(ty.len_params()), ..Function::default() },
         last: None,
         fuel: Some(0),
     };
@@ -129,7 +131,7 @@ pub(crate) fn function(module: &Module, number: u32, mut reader: Reader) -> Read
         it.instruction()?;
     }
     ensure(it.reader.is_empty(), it.reader.malformed("the body of a function is longer than its code"))?;
-    Ok(it.finish(ty))
+    Ok(it.finish(ty.len_results().into()))
 }
 
 /// The types of the parameters and of the locals.
@@ -150,15 +152,8 @@ fn locals(ty: &FuncType, reader: &mut Reader) -> Read<Vec<ValType>> {
 
 /// A type as a list of one.
 fn one(ty: ValType) -> &'static [ValType] {
-    match ty {
-        I32 => &[I32],
-        I64 => &[I64],
-        F32 => &[F32],
-        F64 => &[F64],
-        V128 => &[V128],
-        FuncRef => &[FuncRef],
-        ExternRef => &[ExternRef],
-    }
+    const TYPES: [ValType; 7] = [I32, I64, F32, F64, V128, FuncRef, ExternRef];
+    TYPES.iter().find(|it| **it == ty).map_or(&[], std::slice::from_ref)
 }
 
 /// The fuel for writing so many slots at once.
@@ -168,27 +163,20 @@ fn price(slots: usize) -> u32 {
 
 impl<'m> Translator<'m, '_> {
     /// Gives constants and operands their slots.
-    fn finish(mut self, ty: &FuncType) -> Function {
-        let (locals, constants) = (self.locals.len() as u16, self.constants.len() as u16);
+    fn finish(mut self, results: usize) -> Function {
+        let Function { params, constants, .. } = &self.made;
+        let (locals, constants) = (self.locals.len(), constants.len());
         let moved = |slot: u16| match slot {
-            _ if slot >= CONSTANTS => locals + (slot - CONSTANTS),
-            _ if slot >= locals => slot + constants,
+            _ if slot >= CONSTANTS => locals as u16 + (slot - CONSTANTS),
+            _ if usize::from(slot) >= locals => slot + constants as u16,
             _ => slot,
         };
         for op in &mut self.code {
             (op.d, op.a, op.b, op.c) = (moved(op.d), moved(op.a), moved(op.b), moved(op.c));
         }
-        let params = usize::from(ty.len_params());
-        let begun = self.locals.len() + self.constants.len();
-        self.code[0].imm += price(begun - params);
-        Function {
-            params,
-            zeros: self.locals.len() - params,
-            constants: self.constants,
-            slots: (begun + self.height).max(ty.len_results().into()),
-            code: self.code,
-            shuffles: self.shuffles,
-        }
+        self.code[0].imm += price(locals + constants - params);
+        let slots = (locals + constants + self.height).max(results);
+        Function { zeros: locals - params, slots, code: self.code, ..self.made }
     }
 
     fn invalid(&self, what: &'static str) -> Refusal {
@@ -253,16 +241,17 @@ impl<'m> Translator<'m, '_> {
     }
 
     /// An operand of any type, and its slot.
-    fn pop_any(&mut self) -> Read<(Option<ValType>, u16)> {
+    fn pop_any(&mut self) -> Read<(Operand, u16)> {
         let (height, is_open) = (self.block().height, self.block().is_open);
         if self.stack.len() == height {
-            return ensure(is_open, self.invalid("an operand is missing")).map(|()| (None, 0));
+            let missing = Operand { ty: None, place: Place::Own };
+            return ensure(is_open, self.invalid("an operand is missing")).map(|()| (missing, 0));
         }
         let operand = self.stack[self.stack.len() - 1];
         let slot = self.slot(operand, self.stack.len() - 1);
         self.forget(operand.place);
         self.stack.pop();
-        Ok((operand.ty, slot))
+        Ok((operand, slot))
     }
 
     fn forget(&mut self, place: Place) {
@@ -276,35 +265,27 @@ impl<'m> Translator<'m, '_> {
         self.pop_typed(wanted).map(|(_, slot)| slot)
     }
 
-    fn pop_typed(&mut self, wanted: ValType) -> Read<(Option<ValType>, u16)> {
-        let (ty, slot) = self.pop_any()?;
-        ensure(ty.is_none_or(|ty| ty == wanted), self.invalid("an operand has another type")).map(|()| (ty, slot))
+    fn pop_typed(&mut self, wanted: ValType) -> Read<(Operand, u16)> {
+        let (it, slot) = self.pop_any()?;
+        ensure(it.ty.is_none_or(|ty| ty == wanted), self.invalid("an operand has another type")).map(|()| (it, slot))
     }
 
     fn pop_all(&mut self, types: &[ValType]) -> Read<()> {
         types.iter().rev().try_for_each(|ty| self.pop(*ty).map(drop))
     }
 
-    /// Checks the last operands, which stay.
-    fn check(&mut self, types: &[ValType]) -> Read<()> {
-        if self.block().is_open {
-            self.pop_all(types)?;
-            return self.push_all(types);
-        }
-        let count = self.stack.len() - self.block().height;
-        ensure(types.len() <= count, self.invalid("an operand is missing"))?;
-        let mut last = self.stack[self.stack.len() - types.len()..].iter().zip(types);
-        let are_right = last.all(|(operand, ty)| operand.ty.is_none_or(|it| it == *ty));
-        ensure(are_right, self.invalid("an operand has another type"))
+    /// Checks the last operands, which stay. An unknown type stays unknown, since it may meet another label of a table.
+    fn check_label(&mut self, types: &[ValType]) -> Read<()> {
+        let kept = types.iter().rev().map(|ty| self.pop_typed(*ty)).collect::<Read<Vec<_>>>()?;
+        kept.into_iter().rev().try_for_each(|(it, _)| self.push_at(it.ty, it.place).map(drop))
     }
 
-    /// The same for one label of several, of which an operand of an unknown type may meet all.
-    fn check_label(&mut self, types: &[ValType]) -> Read<()> {
-        if !self.block().is_open {
-            return self.check(types);
-        }
-        let kept = types.iter().rev().map(|ty| self.pop_typed(*ty)).collect::<Read<Vec<_>>>()?;
-        kept.into_iter().rev().try_for_each(|(ty, _)| self.push_at(ty, Place::Own).map(drop))
+    /// The same, after which the types are known.
+    fn check(&mut self, types: &[ValType]) -> Read<()> {
+        self.check_label(types)?;
+        let first = self.stack.len() - types.len();
+        self.stack[first..].iter_mut().zip(types).for_each(|(operand, ty)| operand.ty = Some(*ty));
+        Ok(())
     }
 
     /// An instruction with a result.
@@ -328,24 +309,22 @@ impl<'m> Translator<'m, '_> {
     }
 
     fn finish_plain(&mut self, op: Op, result: Option<ValType>) -> Read<()> {
-        match result {
-            Some(_) => self.result(op, result),
-            None => {
-                self.emit(op);
-                Ok(())
-            }
+        if result.is_some() {
+            return self.result(op, result);
         }
+        self.emit(op);
+        Ok(())
     }
 
     /// The slot of a constant.
     fn constant_slot(&mut self, bits: u128) -> Read<u16> {
-        let next = self.constants.len() as u16;
+        let next = self.made.constants.len() as u16;
         let number = *self.numbers.entry(bits).or_insert(next);
         if number == next {
             let refusal = self.reader.unsupported("a function has too many constants");
-            ensure(self.constants.len() < limits::CONSTANTS, refusal)?;
+            ensure(usize::from(next) < limits::CONSTANTS, refusal)?;
             let low = bits as u64;
-            self.constants.push(if bits > low.into() { library::V128::from(bits).into() } else { low.into() });
+            self.made.constants.push(if bits > low.into() { library::V128::from(bits).into() } else { low.into() });
         }
         Ok(number)
     }
@@ -402,16 +381,8 @@ impl<'m> Translator<'m, '_> {
     fn open(&mut self, kind: Kind, (params, results): (&'m [ValType], &'m [ValType])) -> Read<()> {
         let is_dead = self.blocks.last().is_some_and(|it| it.is_dead);
         let height = self.stack.len() - params.len();
-        self.blocks.push(Block {
-            kind,
-            params,
-            results,
-            height,
-            is_dead,
-            was_dead: is_dead,
-            is_open: false,
-            exits: vec![],
-        });
+        let (was_dead, is_open, exits) = (is_dead, false, vec![]);
+        self.blocks.push(Block { kind, params, results, height, is_dead, was_dead, is_open, exits });
         let refusal = self.reader.unsupported("a function has too many blocks in each other");
         ensure(self.blocks.len() <= limits::BLOCKS, refusal)
     }
@@ -619,8 +590,7 @@ impl<'m> Translator<'m, '_> {
             0x1a => self.pop_any().map(drop),
             0x1b | 0x1c => self.select(opcode),
             0x20..=0x24 => self.variable(opcode),
-            0x25 | 0x26 | 0xfc00e..=0xfc011 => self.of_tables(opcode),
-            0x3f | 0x40 | 0xfc00a | 0xfc00b => self.of_memories(opcode),
+            0x25 | 0x26 | 0x3f | 0x40 | 0xfc00a | 0xfc00b | 0xfc00e..=0xfc011 => self.of_elements(opcode),
             0xfc008 | 0xfc009 | 0xfc00c | 0xfc00d => self.of_segments(opcode),
             0x41 => self.reader.i32().and_then(|value| self.constant(I32, value.cast_unsigned())),
             0x42 => self.reader.i64().and_then(|value| self.constant(I64, value.cast_unsigned())),
@@ -678,8 +648,8 @@ impl<'m> Translator<'m, '_> {
         let given = if opcode == 0x1c { self.reader.list(Reader::val_type)? } else { vec![] };
         ensure(opcode == 0x1b || given.len() == 1, self.invalid("a select has another number of types than one"))?;
         let (c, (right, b), (left, a)) = (self.pop(I32)?, self.pop_any()?, self.pop_any()?);
-        let ty = given.first().copied().or(left).or(right);
-        let are_same = [left, right].iter().all(|it| it.is_none() || *it == ty);
+        let ty = given.first().copied().or(left.ty).or(right.ty);
+        let are_same = [left, right].iter().all(|it| it.ty.is_none() || it.ty == ty);
         ensure(are_same, self.invalid("a select has operands of two types"))?;
         let is_named = !given.is_empty() || ty.is_none_or(|it| !it.is_ref());
         ensure(is_named, self.invalid("a select of references doesn't name their type"))?;
@@ -728,8 +698,8 @@ impl<'m> Translator<'m, '_> {
             return self.constant(ty.into(), u32::from(RawRef::null()));
         }
         if opcode == 0xd1 {
-            let (ty, a) = self.pop_any()?;
-            ensure(ty.is_none_or(|it| it.is_ref()), self.invalid("an operand isn't a reference"))?;
+            let (operand, a) = self.pop_any()?;
+            ensure(operand.ty.is_none_or(|it| it.is_ref()), self.invalid("an operand isn't a reference"))?;
             return self.result(Op { a, ..Op::new(Code::is_null) }, Some(I32));
         }
         let function = self.reader.u32()?;
@@ -753,35 +723,29 @@ impl<'m> Translator<'m, '_> {
         Ok((number, ty.index_ty().ty()))
     }
 
-    fn of_tables(&mut self, opcode: u32) -> Read<()> {
-        let (imm, index, element) = self.table()?;
+    /// Instructions on a table, or on a memory: as if its elements were numbers of 32 bits.
+    fn of_elements(&mut self, opcode: u32) -> Read<()> {
+        let is_memory = matches!(opcode, 0x3f | 0x40 | 0xfc00a | 0xfc00b);
+        let named = |it: &mut Self| match is_memory {
+            true => it.memory(true).map(|(number, address)| (number, address, I32)),
+            false => it.table(),
+        };
+        let (imm, index, element) = named(self)?;
         match opcode {
             0x25 => self.plain(Op::of(Code::table_get, imm), &[index], Some(element)),
             0x26 => self.plain(Op::of(Code::table_set, imm), &[index, element], None),
+            0x3f => self.plain(Op::of(Code::memory_size, imm), &[], Some(index)),
+            0x40 => self.plain(Op::of(Code::memory_grow, imm), &[index], Some(index)),
+            0xfc00b => self.plain(Op::of(Code::memory_fill, imm), &[index, element, index], None),
             0xfc00f => self.plain(Op::of(Code::table_grow, imm), &[element, index], Some(index)),
             0xfc010 => self.plain(Op::of(Code::table_size, imm), &[], Some(index)),
             0xfc011 => self.plain(Op::of(Code::table_fill, imm), &[index, element, index], None),
             _ => {
-                let (from, index_of_source, ty) = self.table()?;
+                let (from, index_of_source, ty) = named(self)?;
                 ensure(ty == element, self.invalid("two tables have different types"))?;
                 let count = if index == I64 { index_of_source } else { I32 };
-                let op = Op { lane: from as u16, ..Op::of(Code::table_copy, imm) };
-                self.plain(op, &[index, index_of_source, count], None)
-            }
-        }
-    }
-
-    fn of_memories(&mut self, opcode: u32) -> Read<()> {
-        let (imm, address) = self.memory(true)?;
-        match opcode {
-            0x3f => self.plain(Op::of(Code::memory_size, imm), &[], Some(address)),
-            0x40 => self.plain(Op::of(Code::memory_grow, imm), &[address], Some(address)),
-            0xfc00b => self.plain(Op::of(Code::memory_fill, imm), &[address, I32, address], None),
-            _ => {
-                let (from, address_of_source) = self.memory(true)?;
-                let count = if address == I64 { address_of_source } else { I32 };
-                let op = Op { lane: from as u16, ..Op::of(Code::memory_copy, imm) };
-                self.plain(op, &[address, address_of_source, count], None)
+                let code = if is_memory { Code::memory_copy } else { Code::table_copy };
+                self.plain(Op { lane: from as u16, ..Op::of(code, imm) }, &[index, index_of_source, count], None)
             }
         }
     }
@@ -828,8 +792,8 @@ impl<'m> Translator<'m, '_> {
     fn shuffle(&mut self) -> Read<()> {
         let lanes = self.reader.take(16)?;
         let indices: Vec<_> = lanes.iter().filter_map(|lane| ImmLaneIdx32::try_from(*lane).ok()).collect();
-        self.shuffles.push(indices.try_into().or(Err(self.invalid("there is no such lane")))?);
-        self.plain(Op::of(Code::shuffle, self.shuffles.len() as u32 - 1), &[V128, V128], Some(V128))
+        self.made.shuffles.push(indices.try_into().or(Err(self.invalid("there is no such lane")))?);
+        self.plain(Op::of(Code::shuffle, self.made.shuffles.len() as u32 - 1), &[V128, V128], Some(V128))
     }
 
     fn of_the_library(&mut self, op: Op, form: Form) -> Read<()> {

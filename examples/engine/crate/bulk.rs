@@ -1,12 +1,11 @@
-//! Bulk instructions on memories for a library that has none: bounds first, then fuel, as tables have it.
+//! Bulk instructions on memories, of which the Rust crate has none: bounds first, then fuel, as tables have it.
 //!
 //! WebAssembly core specification, 4.4.7 (memory instructions).
 
 use crate::library::{Fuel, FuelError, Memory, MemoryError};
 use std::ops::Range;
 
-/// Fills, copies and initializes memories, by methods that hide behind those of a library that has them. An error leaves the memory and the fuel as they were.
-#[allow(dead_code, reason = "a library may have these methods itself")]
+/// Fills, copies and initializes memories. An error leaves the memory and the fuel as they were.
 pub(crate) trait Bulk {
     /// Writes one byte to each of `len` places.
     fn fill(&mut self, dst: u64, value: u8, len: u64, fuel: Option<&mut Fuel>) -> Result<(), MemoryError>;

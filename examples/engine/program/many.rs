@@ -1,0 +1,107 @@
+//! Measures many instances of a module: made, run and dropped one after another and all at once, under one limiter, and
+//! a store with an instance on each of four threads.
+//!
+//! usage: `cargo run --release --example many -- FILE FUNCTION ARGUMENT COUNT`. Times are those of the processor, as
+//! Linux counts them; the bytes are those of the machine's memory that the process has more while all instances are there.
+
+use engine::library::{Fuel, FuelCostsProvider, TypedRawVal};
+use engine::{Caps, Instance, Module, Store};
+use std::error::Error;
+use std::sync::Arc;
+use std::time::Duration;
+use std::{env, fs, thread};
+
+type Outcome<T> = Result<T, Box<dyn Error + Send + Sync>>;
+
+/// A module, and a call of it.
+#[derive(Clone)]
+struct Guest {
+    module: Arc<Module>,
+    function: String,
+    argument: i32,
+}
+
+impl Guest {
+    fn instance(&self, store: &mut Store) -> Outcome<Instance> {
+        Instance::new(&self.module, store).map_err(|it| it.to_string().into())
+    }
+
+    fn run(&self, instance: &mut Instance, store: &mut Store) -> Outcome<()> {
+        let args = [TypedRawVal::from(self.argument)];
+        instance.call(store, &self.function, &args).map(drop).map_err(|it| it.to_string().into())
+    }
+}
+
+fn store() -> Outcome<Store> {
+    let mut fuel = Fuel::new(true, FuelCostsProvider::default());
+    fuel.set_fuel(u64::MAX).map_err(|it| it.to_string())?;
+    Ok(Store::new(fuel, Caps { bytes: 1 << 34, elements: 1 << 30 }))
+}
+
+fn one_after_another(guest: &Guest, count: u32) -> Outcome<Duration> {
+    let (mut store, begun) = (store()?, processor_time()?);
+    for _ in 0..count {
+        let mut instance = guest.instance(&mut store)?;
+        guest.run(&mut instance, &mut store)?;
+        instance.release(&mut store);
+    }
+    Ok((processor_time()? - begun) / count)
+}
+
+/// The times of making, running and dropping an instance, and its bytes.
+fn all_at_once(guest: &Guest, count: u32) -> Outcome<([Duration; 3], u64)> {
+    let mut store = store()?;
+    let (before, begun) = (resident()?, processor_time()?);
+    let mut instances = (0..count).map(|_| guest.instance(&mut store)).collect::<Outcome<Vec<_>>>()?;
+    let made = processor_time()?;
+    instances.iter_mut().try_for_each(|it| guest.run(it, &mut store))?;
+    let (run, bytes) = (processor_time()?, resident()?.saturating_sub(before));
+    instances.into_iter().for_each(|it| it.release(&mut store));
+    let times = [made - begun, run - made, processor_time()? - run];
+    Ok((times.map(|it| it / count), bytes / u64::from(count)))
+}
+
+/// Calls an instance so often on each of so many threads. The time is the longest one of a thread.
+fn on_threads(guest: &Guest, threads: u32, count: u32) -> Outcome<Duration> {
+    let run = move |guest: Guest| -> Outcome<Duration> {
+        let mut store = store()?;
+        let mut instance = guest.instance(&mut store)?;
+        let begun = processor_time()?;
+        (0..count).try_for_each(|_| guest.run(&mut instance, &mut store))?;
+        Ok((processor_time()? - begun) / count)
+    };
+    let running: Vec<_> = (0..threads).map(|_| guest.clone()).map(|it| thread::spawn(move || run(it))).collect();
+    let times = running.into_iter().map(|it| it.join().or(Err("a thread panicked"))?).collect::<Outcome<Vec<_>>>()?;
+    Ok(times.into_iter().max().unwrap_or_default())
+}
+
+/// The processor time of this thread.
+fn processor_time() -> Outcome<Duration> {
+    // The system brings its count up to date when the thread lets others run.
+    thread::yield_now();
+    let line = fs::read_to_string("/proc/thread-self/schedstat")?;
+    Ok(Duration::from_nanos(line.split(' ').next().unwrap_or("").parse()?))
+}
+
+/// The bytes of the machine's memory that the process has.
+fn resident() -> Outcome<u64> {
+    let status = fs::read_to_string("/proc/self/status")?;
+    let line = status.lines().find_map(|it| it.strip_prefix("VmRSS:")).ok_or("the system doesn't tell its memory")?;
+    Ok(line.trim().trim_end_matches(" kB").parse::<u64>()? * 1024)
+}
+
+fn main() -> Outcome<()> {
+    let words: Vec<String> = env::args().skip(1).collect();
+    let [file, function, argument, count] = &words[..] else {
+        return Err("usage: many FILE FUNCTION ARGUMENT COUNT".into());
+    };
+    let module = Arc::new(Module::new(&fs::read(file)?)?);
+    let guest = Guest { module, function: function.clone(), argument: argument.parse()? };
+    let count: u32 = count.parse()?;
+    println!("one after another: {:?} each", one_after_another(&guest, count)?);
+    let ([made, run, dropped], bytes) = all_at_once(&guest, count)?;
+    println!("all at once: {made:?} made, {run:?} run, {dropped:?} dropped, {bytes} bytes each");
+    println!("a thread: {:?} a call", on_threads(&guest, 1, count)?);
+    println!("four threads: {:?} a call", on_threads(&guest, 4, count)?);
+    Ok(())
+}
