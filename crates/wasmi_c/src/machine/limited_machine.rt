@@ -142,7 +142,10 @@ impl LimitedMachine {
         ensures caps { caps_of self.new.limiter ≡ caps_of self.old.limiter }
     {
         let CallStruct {
-            index, ptr, offset, ..
+            index,
+            ptr,
+            offset,
+            ..
         } = *numbers;
         ReplyStruct::from_common(self.store_item(op, index, ptr, offset, numbers.value))
     }
