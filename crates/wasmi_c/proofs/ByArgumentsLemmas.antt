@@ -9,6 +9,7 @@ use Rattle.wasmi_meter.specs.declared.limiter.Kind.TheVariants.{Elements}
 use Rattle.wasmi_ops.specs.ScalarAccessOps.{stored_bytes}
 use Rattle.wasmi_ops.specs.declared.scalar.access.LoadOp.{LoadOp}
 use Rattle.wasmi_ops.specs.declared.scalar.access.StoreOp.{StoreOp}
+use Rattle.wasmi_ops.specs.declared.vector.binary.BinaryOp.{BinaryOp}
 use Rattle.wasmi_raw.specs.declared.raw.RawVal.{RawVal}
 use Rattle.wasmi_core.proofs.MemoryEffectsLemmas.{vector_store_kept}
 use Rattle.wasmi_core.specs.FuelEffects.{get_fuel_reply}
@@ -16,17 +17,23 @@ use Rattle.wasmi_core.specs.MemoryEffects.{StoresMemoryAt, load_reply}
 use Rattle.wasmi_core.specs.State.{State, live_at, with_memories}
 use Rattle.wasmi_core.specs.Totals.{total}
 use Rattle.wasmi_core.specs.declared.calls.Call.{Call}
-use Rattle.wasmi_core.specs.declared.calls.Call.TheVariants.{GetFuel, Load, Store}
+use Rattle.wasmi_core.specs.declared.calls.Call.TheVariants.{Binary, GetFuel, Load, Store}
 use Rattle.wasmi_core.specs.declared.calls.Reply.{Reply}
-use Rattle.wasmi_c.specs.Instruction.Accesses.{load_numbered}
-use Rattle.wasmi_c.specs.Machine.ByArguments.{RepliesInStatus, RepliesInWord, item_load, item_load_in, item_load_numbered, word_after}
+use Rattle.wasmi_c.specs.Instruction.Accesses.{load_numbered, store_numbered}
+use Rattle.wasmi_c.specs.Instruction.Binary.{binary_numbered}
+use Rattle.wasmi_c.specs.Machine.ByArguments.{RepliesInStatus, RepliesInWord, item_load, item_load_in, item_load_numbered, item_store_in, item_store_numbered, vector_binary_in, vector_binary_numbered, word_after}
 use Rattle.wasmi_c.specs.Machine.CallStructs.{call_as, call_of, kind_of}
-use Rattle.wasmi_c.specs.Machine.Instructions.{load_as}
+use Rattle.wasmi_c.specs.Machine.Instructions.{binary_as, load_as, store_as}
+use Rattle.wasmi_c.specs.declared.instruction.binary.Binary as binaries
+use Rattle.wasmi_c.specs.declared.instruction.binary.Binary.TheVariants as two
 use Rattle.wasmi_c.specs.declared.instruction.load.Load as loads
 use Rattle.wasmi_c.specs.declared.instruction.load.Load.TheVariants as item
+use Rattle.wasmi_c.specs.declared.instruction.store.Store as stores
+use Rattle.wasmi_c.specs.declared.instruction.store.Store.TheVariants as stored
 use Rattle.wasmi_c.specs.declared.machine.call_struct.CallStruct.{CallStruct}
-use Rattle.wasmi_c.specs.declared.machine.kind.Kind.TheVariants.{Memory}
+use Rattle.wasmi_c.specs.declared.machine.kind.Kind.TheVariants.{Memory, Register}
 use Rattle.wasmi_c.specs.declared.machine.kind.MemoryCall.TheVariants as kinds
+use Rattle.wasmi_c.specs.declared.machine.kind.RegisterCall.TheVariants as registers
 use Rattle.wasmi_c.specs.declared.machine.reply_struct.ReplyStruct.{ReplyStruct}
 use Rattle.wasmi_c.specs.Machine.Calls.{MachineReplies, RepliesInStruct, RepliesToStruct}
 use Rattle.wasmi_c.specs.Machine.Caps.{Keeps, MachineValue}
@@ -145,6 +152,52 @@ pub loads_are : (numbers : CallStruct) (found : Option LoadOp) → kind_of numbe
     → IfSome found (λ op. call_of numbers ≡ Some (Load op numbers.index numbers.ptr numbers.offset))
 loads_are numbers None kind_is is = tt
 loads_are numbers (Some op) kind_is is = load_is numbers op kind_is (sym is)
+
+-- numbers of the kind of stores, with the number of a store of an item, stand for that store
+pub store_is : (numbers : CallStruct) (op : StoreOp) → kind_of numbers.kind ≡ Some (Memory kinds.Store)
+    → item_store_numbered numbers.op ≡ Some op
+    → call_of numbers ≡ Some (Store op numbers.index numbers.ptr numbers.offset numbers.value)
+unfolding call_of
+store_is numbers op kind_is op_is =
+    ap (option_and_then (λ kind. call_as kind numbers)) kind_is
+    ∙ ap (option_map (store_as numbers)) (found (store_numbered numbers.op) op op_is)
+  where
+    found : (store : Option stores.Store) (op : StoreOp) → option_and_then item_store_in store ≡ Some op
+        → store ≡ Some (stored.Scalar op)
+    found None op is = absurd cc
+    found (Some stored.V128Store) op is = absurd cc
+    found (Some (stored.Scalar other)) op is = ap (λ o. Some (stored.Scalar o)) (same_Some other op is)
+
+-- whatever store of an item was found by the number of such numbers, they stand for it
+pub stores_are : (numbers : CallStruct) (found : Option StoreOp)
+    → kind_of numbers.kind ≡ Some (Memory kinds.Store) → found ≡ item_store_numbered numbers.op
+    → IfSome found (λ op. call_of numbers
+    ≡ Some (Store op numbers.index numbers.ptr numbers.offset numbers.value))
+stores_are numbers None kind_is is = tt
+stores_are numbers (Some op) kind_is is = store_is numbers op kind_is (sym is)
+
+-- numbers of the kind of two registers, with the number of an instruction of two vectors, stand for that instruction
+pub binary_is : (numbers : CallStruct) (op : BinaryOp) → kind_of numbers.kind ≡ Some (Register registers.Binary)
+    → vector_binary_numbered numbers.op ≡ Some op
+    → call_of numbers ≡ Some (Binary op numbers.dst numbers.a numbers.b)
+unfolding call_of
+binary_is numbers op kind_is op_is =
+    ap (option_and_then (λ kind. call_as kind numbers)) kind_is
+    ∙ ap (option_and_then (binary_as numbers)) (found (binary_numbered numbers.op) op op_is)
+  where
+    found : (binary : Option binaries.Binary) (op : BinaryOp) → option_and_then vector_binary_in binary ≡ Some op
+        → binary ≡ Some (two.Vector op)
+    found None op is = absurd cc
+    found (Some (two.Scalar other)) op is = absurd cc
+    found (Some (two.Shift other)) op is = absurd cc
+    found (Some (two.Vector other)) op is = ap (λ o. Some (two.Vector o)) (same_Some other op is)
+
+-- whatever instruction of two vectors was found by the number of such numbers, they stand for it
+pub binaries_are : (numbers : CallStruct) (found : Option BinaryOp)
+    → kind_of numbers.kind ≡ Some (Register registers.Binary) → found ≡ vector_binary_numbered numbers.op
+    → IfSome found (λ op. call_of numbers ≡ Some (Binary op numbers.dst numbers.a numbers.b))
+binaries_are numbers None kind_is is = tt
+binaries_are numbers (Some op) kind_is is = binary_is numbers op kind_is (sym is)
 
 -- a load of an item that numbers stand for leaves the struct of its reply, and the machine stays
 pub struct_loaded : (numbers : CallStruct) (op : LoadOp) (machine : MachineValue) (reply : ReplyStruct)

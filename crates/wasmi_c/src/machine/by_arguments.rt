@@ -95,7 +95,7 @@ impl LimitedMachine {
 
     /// Stores an item, which asks no limiter.
     #[inline(always)]
-    fn store_item(
+    pub(super) fn store_item(
         &mut self,
         op: StoreOp,
         memory: usize,

@@ -1,20 +1,21 @@
 //! The call that numbers stand for.
 ghost use Rattle.std.specs.Prelude.{◌≡◌, IfSome, Some};
-ghost use Rattle.wasmi_core.specs.declared.calls.Call.TheVariants.{Load};
+ghost use Rattle.wasmi_core.specs.declared.calls.Call.TheVariants.{Binary, Load, Store};
 ghost use Rattle.wasmi_c.specs.Machine.CallStructs.{call_of, global_call, memory_call, meter_call, register_call, table_call};
 
 use crate::machine::call_struct::CallStruct;
-use crate::machine::item_instructions::item_load_numbered;
+use crate::machine::item_instructions::{
+    item_load_numbered, item_store_numbered, vector_binary_numbered,
+};
 use crate::machine::kind::{GlobalCall, Kind, MemoryCall, MeterCall, RegisterCall, TableCall};
 use crate::types::{to_u32, val_type};
 use wasmi_core::Call;
-use wasmi_ops::LoadOp;
+use wasmi_ops::{BinaryOp, LoadOp, StoreOp};
 use wasmi_typed::{GlobalType, TypedRawVal};
 
 impl CallStruct {
     /// The call, if there is one: its kind, its instruction, its lane and its types are ones that
     /// there are, and its numbers fit.
-    #[inline(never)]
     #[tactic(auto, unfolding(crate::specs::Machine::CallStructs::call_of))]
     pub fn call(&self) -> Option<Call>
         ensures { result ≡ call_of self.now }
@@ -36,6 +37,30 @@ impl CallStruct {
     {
         match Kind::from_number(self.kind) {
             Some(Kind::Memory(MemoryCall::Load)) => item_load_numbered(self.op),
+            _ => None,
+        }
+    }
+
+    /// The store of an item, if the numbers stand for one.
+    #[inline(always)]
+    pub fn item_store(&self) -> Option<StoreOp>
+        ensures { IfSome result (λ op. call_of self.now
+            ≡ Some (Store op self.now.index self.now.ptr self.now.offset self.now.value)) }
+    {
+        match Kind::from_number(self.kind) {
+            Some(Kind::Memory(MemoryCall::Store)) => item_store_numbered(self.op),
+            _ => None,
+        }
+    }
+
+    /// The instruction of two vectors, if the numbers stand for one.
+    #[inline(always)]
+    pub fn vector_binary(&self) -> Option<BinaryOp>
+        ensures { IfSome result (λ op. call_of self.now
+            ≡ Some (Binary op self.now.dst self.now.a self.now.b)) }
+    {
+        match Kind::from_number(self.kind) {
+            Some(Kind::Register(RegisterCall::Binary)) => vector_binary_numbered(self.op),
             _ => None,
         }
     }

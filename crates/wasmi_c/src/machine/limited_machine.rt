@@ -3,7 +3,7 @@ ghost use Rattle.std.specs.Prelude.{◌≡◌, ◌+◌, IfOk};
 ghost use Rattle.wasmi_meter.specs.AnyLimiter.{caps_of};
 ghost use Rattle.wasmi_core.specs.MemoryEffects.{load_reply};
 ghost use Rattle.wasmi_core.specs.State.{live_at};
-ghost use Rattle.wasmi_core.specs.declared.calls.Call.TheVariants.{NewSegment, Write};
+ghost use Rattle.wasmi_core.specs.declared.calls.Call.TheVariants.{Binary, NewSegment, Store, Write};
 
 use crate::machine::call_struct::CallStruct;
 use crate::machine::laws;
@@ -15,7 +15,7 @@ use std::alloc::{AllocError, Global};
 use std::marker::Model;
 use wasmi_core::{Call, Machine, Reply};
 use wasmi_meter::{AnswerList, AnyLimiter, LimiterAnswer};
-use wasmi_ops::LoadOp;
+use wasmi_ops::{BinaryOp, LoadOp, StoreOp};
 use wasmi_raw::RawRef;
 
 /// A machine with the limiter that it asks. A quota holds what the machine has, so the machine is
@@ -85,7 +85,6 @@ impl LimitedMachine {
     }
 
     /// Replies to one call, with the reply as a struct.
-    #[inline(never)]
     fn reply_in_struct(&mut self, call: &Call) -> ReplyStruct
         ensures step { RepliesInStruct call.now self.old result self.new }
         ensures caps { caps_of self.new.limiter ≡ caps_of self.old.limiter }
@@ -106,11 +105,17 @@ impl LimitedMachine {
         ensures step { RepliesToStruct numbers.now self.old result self.new }
         ensures caps { caps_of self.new.limiter ≡ caps_of self.old.limiter }
     {
-        // A load reads its own fields alone: to make a `Call` of all takes longer than the load.
-        match numbers.item_load() {
-            Some(op) => self.load_to_struct(op, numbers.index, numbers.ptr, numbers.offset),
-            None => self.reply_to_decoded(numbers),
+        // These read their own fields alone: to make a `Call` of all takes longer than the call.
+        if let Some(op) = numbers.item_load() {
+            return self.load_to_struct(op, numbers.index, numbers.ptr, numbers.offset);
         }
+        if let Some(op) = numbers.item_store() {
+            return self.store_to_struct(op, numbers);
+        }
+        if let Some(op) = numbers.vector_binary() {
+            return self.binary_to_struct(op, numbers.dst, numbers.a, numbers.b);
+        }
+        self.reply_to_decoded(numbers)
     }
 
     /// Loads an item, and replies with a struct.
@@ -128,6 +133,31 @@ impl LimitedMachine {
         }
     }
 
+    /// Stores an item by the fields of a store, and replies with a struct.
+    #[inline(always)]
+    fn store_to_struct(&mut self, op: StoreOp, numbers: &CallStruct) -> ReplyStruct
+        ensures step { RepliesInStruct (Store op numbers.now.index numbers.now.ptr
+            numbers.now.offset numbers.now.value) self.old result self.new }
+        ensures caps { caps_of self.new.limiter ≡ caps_of self.old.limiter }
+    {
+        ReplyStruct::from_common(self.store_item(
+            op,
+            numbers.index,
+            numbers.ptr,
+            numbers.offset,
+            numbers.value,
+        ))
+    }
+
+    /// Executes an instruction of two vectors, and replies with a struct.
+    #[inline(always)]
+    fn binary_to_struct(&mut self, op: BinaryOp, dst: u8, a: u8, b: u8) -> ReplyStruct
+        ensures step { RepliesInStruct (Binary op dst a b) self.old result self.new }
+        ensures caps { caps_of self.new.limiter ≡ caps_of self.old.limiter }
+    {
+        ReplyStruct::from_common(self.reply(&Call::Binary { op, dst, a, b }))
+    }
+
     /// Replies to the call that numbers stand for, if there is one, after it is made.
     #[inline(always)]
     fn reply_to_decoded(&mut self, numbers: &CallStruct) -> ReplyStruct
@@ -135,7 +165,7 @@ impl LimitedMachine {
         ensures caps { caps_of self.new.limiter ≡ caps_of self.old.limiter }
     {
         match &numbers.call() {
-            Some(call) => self.reply_in_struct(call),
+            Some(call) => self.reply_in_struct(call).by_fields(),
             None => ReplyStruct::only(NO_CALL),
         }
     }

@@ -84,6 +84,42 @@ impl ReplyStruct {
         ReplyStruct::with_number(fuel_status(error), meter_fuel(error))
     }
 
+    /// The same reply, copied a field at a time. A copy of the whole may be made in pieces that
+    /// overlap, and the processor then waits for the first to be stored.
+    #[inline(always)]
+    pub fn by_fields(self) -> ReplyStruct
+        ensures { result ≡ self }
+    {
+        let ReplyStruct {
+            value,
+            number,
+            reference,
+            ty,
+            status,
+        } = self;
+        ReplyStruct {
+            value,
+            number,
+            reference,
+            ty,
+            status,
+        }
+    }
+
+    /// The reply as numbers. The replies of stores and of instructions are looked at first, and
+    /// are a status alone, since a reply that is kept in a variable is copied.
+    #[inline(always)]
+    pub fn from_common(reply: Reply) -> ReplyStruct
+        ensures { result ≡ reply_struct reply }
+    {
+        match reply {
+            Reply::Done => ReplyStruct::only(DONE),
+            Reply::NoSuch => ReplyStruct::only(NO_SUCH),
+            Reply::Trap(trap) => ReplyStruct::only(u8::from(trap)),
+            other => ReplyStruct::from_reply(&other),
+        }
+    }
+
     /// The reply as numbers.
     pub fn from_reply(reply: &Reply) -> ReplyStruct
         ensures { result ≡ reply_struct reply.now }
