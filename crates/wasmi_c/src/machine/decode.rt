@@ -16,7 +16,6 @@ use wasmi_typed::{GlobalType, TypedRawVal};
 impl CallStruct {
     /// The call, if there is one: its kind, its instruction, its lane and its types are ones that
     /// there are, and its numbers fit.
-    #[inline(never)]
     #[tactic(auto, unfolding(crate::specs::Machine::CallStructs::call_of))]
     pub fn call(&self) -> Option<Call>
         ensures { result ≡ call_of self.now }

@@ -85,7 +85,6 @@ impl LimitedMachine {
     }
 
     /// Replies to one call, with the reply as a struct.
-    #[inline(never)]
     fn reply_in_struct(&mut self, call: &Call) -> ReplyStruct
         ensures step { RepliesInStruct call.now self.old result self.new }
         ensures caps { caps_of self.new.limiter ≡ caps_of self.old.limiter }
@@ -141,13 +140,13 @@ impl LimitedMachine {
             numbers.now.offset numbers.now.value) self.old result self.new }
         ensures caps { caps_of self.new.limiter ≡ caps_of self.old.limiter }
     {
-        let CallStruct {
-            index,
-            ptr,
-            offset,
-            ..
-        } = *numbers;
-        ReplyStruct::from_common(self.store_item(op, index, ptr, offset, numbers.value))
+        ReplyStruct::from_common(self.store_item(
+            op,
+            numbers.index,
+            numbers.ptr,
+            numbers.offset,
+            numbers.value,
+        ))
     }
 
     /// Executes an instruction of two vectors, and replies with a struct.
