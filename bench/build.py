@@ -104,7 +104,7 @@ def flags_of_libraries(libraries):
 def main(crate, folder, form=None):
     write_program(crate, f"{folder}/program")
     if form:
-        build_program(f"{folder}/program", ["-Ctarget-cpu=x86-64-v2"], ["--features", "rust"])
+        build_program(f"{folder}/program", ["-Ctarget-cpu=x86-64-v2", "-Cllvm-args=-align-loops=64"], ["--features", "rust"])
     else:
         build_libraries(f"{folder}/repository")
         build_program(f"{folder}/program", flags_of_libraries(f"{folder}/repository"))
