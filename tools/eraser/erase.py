@@ -21,7 +21,7 @@ What it changes beside leaving things out:
 | a label, an import or a parameter that only contracts use | nothing, nothing, `let _ = ..` |
 | `-> X` for `X<'a>` | `-> X<'_>` |
 | `laws.rt`, and functions that laws alone call | under `cfg(any(doc, test))` |
-| a crate | a module of `crate::proved` |
+| a crate | a module of `crate::proved`, which tools/rust makes one file |
 | `std::` | `core::` or `alloc::`, except in the crates that need `std::io` |
 | a text of the table `TEXTS` | its other form |
 
@@ -53,8 +53,6 @@ class Known:
         texts = {path: path.read_text() for _, path in self.files}
         self.macros = {name for text in texts.values() for name in re.findall(r"macro_rules!\s+(\w+)", text)}
         self.borrowing = {name for text in texts.values() for name in re.findall(r"\bstruct (\w+)<'", text)}
-        self.omitted = {path for crate, path in self.files if crate in tests
-                        and set(re.findall(r"\b(wasmi_\w+)::", texts[path])) - set(self.crates)}
         self.mentions, self.ghostly, self.told = collections.defaultdict(set), set(), collections.Counter()
         for crate, path in self.files:
             self.read(crate, path, texts[path])
@@ -178,16 +176,13 @@ def erase(source, out, name, library, of_std, tests, examples, words):
     specs, found = Specs(source, library, kit), set()
     for crate, path in known.files:
         place = place_of(crate, path.relative_to(source / crate / "src"), known)
-        if place is None or path in known.omitted:
+        if place is None:
             continue
         try:
             own = of_users | {crate: "crate"} if crate in examples else prefix
             text = File(path, crate, known, own, specs, found).rust()
         except (Unknown, StopIteration, KeyError, IndexError) as error:
             raise Unknown(f"{path}: {type(error).__name__} {error}") from error
-        for other in known.omitted:
-            if other.parent == path.with_suffix(""):
-                text = re.sub(rf"^mod {other.stem};\n", "", text, flags=re.M)
         if crate in examples:
             text = text.replace("crate::rattle", f"{name}::rattle")
         elif crate in library and crate not in of_std:

@@ -1,4 +1,4 @@
-//! Tests of the program: scripts and what they print, and lists of answers.
+//! Tests of the program: scripts and what they print.
 #![tactic(auto)]
 
 #[cfg(test)]

@@ -40,7 +40,6 @@ macro_rules! metered {
 
 mod accesses;
 mod bad_lines;
-mod comparison;
 mod counts;
 mod outcomes;
 mod printing;
