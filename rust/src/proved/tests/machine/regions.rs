@@ -1,59 +1,93 @@
-//! What the lender of a machine's spare region finds in it after the loan; `wasmi_script_tests` has
-//! scripts on regions.
-use super::{MemoryCall, StaticCall, StaticReply, Step, runs_to, same};
-use crate::proved::machine::{Fuel, FuelCostsProvider, Machine, MemoryError};
+//! What the lender of a machine's spare region finds in it after the loan, and what a caller knows
+//! of a memory after it wrote through a loan.
+
+use super::{memory_type, runs_to, same};
+use crate::proved::machine::{
+    Call, Fuel, FuelCostsProvider, Machine, Memory, MemoryError, NoLimits, Reply,
+    ResourceLimiterRef,
+};
+use crate::rattle::Vec;
 
 /// Runs calls on a machine with a region of ten bytes of 7, and compares the replies, and what the
 /// lender finds then.
-fn finds(steps: &[Step], expected: [u8; 10]) {
+fn finds(calls: &[Call], replies: &[Reply], expected: [u8; 10]) {
     let mut region = [7; 10];
     let fuel = Fuel::new(false, FuelCostsProvider::default());
     let mut machine = Machine::with_region(fuel, &mut region);
-    runs_to(&mut machine, steps);
+    runs_to(&mut machine, calls, replies);
     drop(machine);
     same("the lender's bytes", region, expected);
 }
 
-static LENT: [Step; 3] = [
-    (StaticCall::NewLentBytes(2), StaticReply::Made(0)),
-    (
-        StaticCall::Memory(0, MemoryCall::Grow(5)),
-        StaticReply::Number(2),
-    ),
-    (
-        StaticCall::Memory(0, MemoryCall::Write(1, &[1, 2])),
-        StaticReply::Done,
-    ),
-];
-
 #[test]
 fn the_lender_finds_the_memory() {
-    finds(&LENT, [0, 1, 2, 0, 0, 0, 0, 7, 7, 7]);
+    let calls = [
+        Call::NewLentMemory(memory_type(2, 0)),
+        Call::GrowMemory {
+            memory: 0,
+            pages: 5,
+        },
+        Call::Write {
+            memory: 0,
+            offset: 1,
+            bytes: Vec::of([1, 2]).expect("there is room"),
+        },
+    ];
+    let replies = [Reply::Made(0), Reply::Number(2), Reply::Done];
+    finds(&calls, &replies, [0, 1, 2, 0, 0, 0, 0, 7, 7, 7]);
 }
-
-static TOO_SHORT: [Step; 2] = [
-    (
-        StaticCall::NewLentBytes(11),
-        StaticReply::Memory(MemoryError::InvalidStaticBufferSize),
-    ),
-    (StaticCall::NewLentBytes(0), StaticReply::NoRegion),
-];
 
 #[test]
 fn a_refused_creation_spends_the_region() {
-    finds(&TOO_SHORT, [7; 10]);
+    let calls = [
+        Call::NewLentMemory(memory_type(11, 0)),
+        Call::NewLentMemory(memory_type(0, 0)),
+    ];
+    let replies = [
+        Reply::Memory(MemoryError::InvalidStaticBufferSize),
+        Reply::NoRegion,
+    ];
+    finds(&calls, &replies, [7; 10]);
 }
-
-static DROPPED: [Step; 3] = [
-    (StaticCall::NewLentBytes(2), StaticReply::Made(0)),
-    (
-        StaticCall::Memory(0, MemoryCall::Write(0, &[1, 2])),
-        StaticReply::Done,
-    ),
-    (StaticCall::Memory(0, MemoryCall::Drop), StaticReply::Done),
-];
 
 #[test]
 fn a_dropped_memory_leaves_its_bytes() {
-    finds(&DROPPED, [1, 2, 7, 7, 7, 7, 7, 7, 7, 7]);
+    let calls = [
+        Call::NewLentMemory(memory_type(2, 0)),
+        Call::Write {
+            memory: 0,
+            offset: 0,
+            bytes: Vec::of([1, 2]).expect("there is room"),
+        },
+        Call::DropMemory(0),
+    ];
+    let replies = [Reply::Made(0), Reply::Done, Reply::Done];
+    finds(&calls, &replies, [1, 2, 7, 7, 7, 7, 7, 7, 7, 7]);
+}
+
+/// A caller that writes through what a memory lends, and knows the memory afterwards.
+///
+/// # Contract
+///
+/// ```text
+/// ensures bytes: 0 < length memory.old.bytes
+///     → memory.new.bytes ≡ slice_set memory.old.bytes 0 7
+/// ensures same_type: memory.new.ty ≡ memory.old.ty
+/// ensures room: memory.new.room ≡ memory.old.room
+/// ```
+fn put_first(memory: &mut Memory) {
+    let data = memory.data_mut();
+    if 0 < data.len() {
+        data[0] = 7;
+    }
+}
+
+#[test]
+fn writes_through_a_loan() {
+    let mut limiter = ResourceLimiterRef::<NoLimits>::default();
+    let ty = memory_type(3, 0);
+    let mut memory = Memory::new(ty, &mut limiter).expect("three bytes");
+    put_first(&mut memory);
+    same("the bytes", memory.data(), [7, 0, 0].as_slice());
+    drop(memory);
 }

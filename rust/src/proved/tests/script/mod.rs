@@ -38,20 +38,9 @@ macro_rules! metered {
     };
 }
 
-mod accesses;
 mod bad_lines;
-mod counts;
-mod outcomes;
-mod printing;
-mod reading;
-mod refusing;
-mod regions;
+mod replies;
 mod streams;
-mod tables;
-mod tenants;
-mod values;
-mod vectors;
-mod writing;
 
 use crate::proved::script::{Status, replay};
 use std::fmt::Debug;

@@ -1,9 +1,9 @@
-//! References to limiters, and what a lender knows of its limiter afterwards.
+//! Quotas, references to limiters, and what a lender knows of its limiter afterwards.
 
-use super::recorder::{COMPLAINT, Failure, Recorder, memory_question, table_question};
+use super::recorder::{Recorder, memory_question, same_record};
 use super::same;
 use crate::proved::meter::{
-    LimiterError, MemoryError, NoLimits, ResourceLimiter, ResourceLimiterRef, TableError,
+    LimiterError, MemoryError, NoLimits, Quota, ResourceLimiter, ResourceLimiterRef,
 };
 
 /// Lends its limiter for one question, and knows what became of it.
@@ -41,63 +41,29 @@ fn ask_through<L: ResourceLimiter>(lent: &mut ResourceLimiterRef<L>) -> Result<b
 }
 
 #[test]
-fn a_lender_finds_what_became_of_its_limiter() {
-    let mut recorder = Recorder::new(Ok(true), Err(COMPLAINT));
-    let mut lent = ResourceLimiterRef::from(&mut recorder);
-    let memory_answer = lent.memory_growing(1, 5, None);
-    if let Some(limiter) = lent.as_resource_limiter() {
-        limiter.answer = Ok(false);
-    }
-    let table_answer = lent.table_growing(3, 10, Some(9));
-    let memory_notice_answer = lent.memory_grow_failed(&MemoryError::OutOfSystemMemory);
-    if let Some(limiter) = lent.as_resource_limiter() {
-        let last = (limiter.question, limiter.notice);
-        let notice = Some(Failure::Memory(MemoryError::OutOfSystemMemory));
-        let expected = (table_question(3, 10, Some(9)), notice);
-        same("the last question and notice", last, expected);
-        limiter.question = None;
-    }
-    let table_notice_answer = lent.table_grow_failed(&TableError::GrowOutOfBounds);
-    let Some(limiter) = lent.into_resource_limiter() else {
-        unreachable!()
-    };
-    limiter.answer = Ok(true);
-    let last = (recorder.question, recorder.notice);
-    let notice = Some(Failure::Table(TableError::GrowOutOfBounds));
-    same("no question, and the notice", last, (None, notice));
-    let answers = [memory_answer, table_answer, ask_once(&mut recorder)];
-    let expected = [Ok(true), Ok(false), Ok(true)];
-    same("5 bytes, 10 elements, once more", answers, expected);
-    let answers = [memory_notice_answer, table_notice_answer];
-    same("the notices", answers, [Err(COMPLAINT); 2]);
-    let last = (recorder.question, recorder.questions, recorder.notices);
-    let expected = (memory_question(0, 5, None), 3, 2);
-    same("a question, and the numbers", last, expected);
-}
-
-/// Asks the four questions of a reference that leads to no limiter, or to one without limits.
-fn permits_all(lent: &mut ResourceLimiterRef<NoLimits>) {
-    let answers = [
-        lent.memory_growing(0, usize::MAX, None),
-        lent.table_growing(0, usize::MAX, None),
-    ];
-    same("bytes, elements", answers, [Ok(true); 2]);
-    let answers = [
-        lent.memory_grow_failed(&MemoryError::OutOfSystemMemory),
-        lent.table_grow_failed(&TableError::OutOfSystemMemory),
-    ];
-    same("notices of a memory, a table", answers, [Ok(()); 2]);
+fn a_lender_knows_its_limiter() {
+    let mut recorder = Recorder::new(Ok(true), Ok(()));
+    same("5 bytes", ask_once(&mut recorder), Ok(true));
+    same_record("5 bytes", &recorder, memory_question(0, 5, None), None);
+    let mut nobody = ResourceLimiterRef::<NoLimits>::default();
+    same("nobody", ask_through(&mut nobody), Ok(true));
 }
 
 #[test]
-fn without_limits_all_is_permitted() {
-    let mut none = ResourceLimiterRef::<NoLimits>::default();
-    let mut limits = NoLimits;
-    let numbers = [limits.instances(), limits.tables(), limits.memories()];
-    same("numbers", numbers, [usize::MAX; 3]);
-    let asked = ask_through(&mut none);
-    let is_none = none.as_resource_limiter().is_none();
-    same("asking none", (asked, is_none), (Ok(true), true));
-    permits_all(&mut none);
-    permits_all(&mut ResourceLimiterRef::from(&mut limits));
+fn a_quota_gives_back_once() {
+    let error = MemoryError::OutOfSystemMemory;
+    let mut quota = Quota::new(10, 3);
+    let growths = [
+        quota.memory_growing(0, 5, None),
+        quota.memory_growing(5, 11, Some(20)),
+    ];
+    same("5 of 10 bytes, 6 of 5", growths, [Ok(true), Ok(false)]);
+    let at_first = quota.held_bytes();
+    let notices = [
+        quota.memory_grow_failed(&error),
+        quota.memory_grow_failed(&error),
+    ];
+    same("notices", notices, [Ok(()); 2]);
+    let bytes = [at_first, quota.held_bytes()];
+    same("held, and given back once", bytes, [5, 0]);
 }

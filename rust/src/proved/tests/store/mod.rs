@@ -1,46 +1,10 @@
-//! What the tests share: comparisons, types of memories, and references and tables of them.
-/// A row in which the limiter gives another answer to the question of a row, and is obeyed.
-macro_rules! denied {
-    ($row:ident, $what:literal, $answer:expr, $base:ident) => {
-        $row {
-            what: $what,
-            answer: $answer,
-            outcome: Err(DENIED),
-            ..$base
-        }
-    };
-}
-
-/// A row in which the limiter accepts the notice of a row by an error.
-macro_rules! complained {
-    ($row:ident, $what:literal, $base:ident) => {
-        $row {
-            what: concat!($what, ", and the limiter accepts with an error"),
-            notice_answer: Err(COMPLAINT),
-            outcome: Err(DENIED),
-            ..$base
-        }
-    };
-}
-
+//! What the tests share: comparisons, types, meters, and memories and tables.
 mod buffers;
-mod bulk;
-mod creations;
-mod errors;
 mod fuel;
-mod growths;
-mod lending;
 mod limiters;
 mod memories;
-mod memory_types;
-mod quota;
 mod recorder;
-mod regions;
 mod segments;
-mod subtypes;
-mod table_creations;
-mod table_growths;
-mod table_types;
 mod tables;
 
 use crate::proved::meter::{
@@ -48,10 +12,10 @@ use crate::proved::meter::{
     ResourceLimiterRef,
 };
 use crate::proved::raw::RawRef;
-use crate::proved::store::{ElementSegment, Memory, MemoryType, Table, TableType};
+use crate::proved::store::{Memory, MemoryType, Table, TableType};
 use crate::proved::typed::TypedRawRef;
 use crate::proved::types::RefType;
-use std::fmt::{Debug, Display};
+use std::fmt::Debug;
 
 /// Compares an answer with the expected one; `what` says in the message of which call.
 fn same<T: PartialEq + Debug>(what: &str, answer: T, expected: T) {
@@ -59,12 +23,6 @@ fn same<T: PartialEq + Debug>(what: &str, answer: T, expected: T) {
         answer == expected,
         "{what}: {answer:?} in place of {expected:?}"
     );
-}
-
-/// Compares what a value prints.
-fn same_text<T: Display>(value: &T, expected: &str) {
-    let printed = crate::rattle::text(format_args!("{value}")).expect("memory for a text");
-    same("a text", printed.as_str(), expected);
 }
 
 /// Builds a type of memories, which may be invalid.
@@ -83,24 +41,9 @@ fn build_type(
     builder.build()
 }
 
-/// A type of memories.
-fn memory_type(
-    minimum: u64,
-    maximum: Option<u64>,
-    page_size_log2: u8,
-    memory64: bool,
-) -> MemoryType {
-    build_type(minimum, maximum, page_size_log2, memory64).expect("a valid type")
-}
-
 /// Pages of 64 KiB under 32-bit addresses.
 fn page_type(minimum: u64, maximum: Option<u64>) -> MemoryType {
-    memory_type(minimum, maximum, 16, false)
-}
-
-/// Pages of 64 KiB under 64-bit addresses.
-fn wide_type(minimum: u64, maximum: Option<u64>) -> MemoryType {
-    memory_type(minimum, maximum, 16, true)
+    build_type(minimum, maximum, 16, false).expect("a valid type")
 }
 
 /// A meter with so much fuel, of which one is taken for 64 copied bytes.
@@ -183,11 +126,6 @@ fn five_functions() -> Table {
     table
 }
 
-/// An element segment of three items.
-fn segment_of(ty: RefType, items: [RawRef; 3]) -> ElementSegment {
-    ElementSegment::new(ty, items).expect("a segment")
-}
-
 /// Compares the first five elements of a table of functions.
 fn same_elements(what: &str, table: &Table, expected: [u32; 5]) {
     for index in 0..5u32 {
@@ -196,3 +134,56 @@ fn same_elements(what: &str, table: &Table, expected: [u32; 5]) {
         same(what, element, Some(func(bits)));
     }
 }
+
+/// Two types by their minimum and maximum, and whether the first is a subtype of the second.
+struct Subtype {
+    what: &'static str,
+    own: (u32, Option<u32>),
+    other: (u32, Option<u32>),
+    expected: bool,
+}
+
+static SUBTYPES: [Subtype; 7] = [
+    Subtype {
+        what: "the same maximum",
+        own: (0, Some(1)),
+        other: (0, Some(1)),
+        expected: true,
+    },
+    Subtype {
+        what: "a smaller maximum",
+        own: (0, Some(1)),
+        other: (0, Some(2)),
+        expected: true,
+    },
+    Subtype {
+        what: "a greater maximum",
+        own: (0, Some(2)),
+        other: (0, Some(1)),
+        expected: false,
+    },
+    Subtype {
+        what: "a greater minimum",
+        own: (2, None),
+        other: (1, None),
+        expected: true,
+    },
+    Subtype {
+        what: "the same minimum",
+        own: (0, None),
+        other: (0, None),
+        expected: true,
+    },
+    Subtype {
+        what: "a maximum where the other has none",
+        own: (0, Some(1)),
+        other: (0, None),
+        expected: true,
+    },
+    Subtype {
+        what: "no maximum where the other has one",
+        own: (0, None),
+        other: (0, Some(1)),
+        expected: false,
+    },
+];

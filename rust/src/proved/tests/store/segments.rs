@@ -1,5 +1,5 @@
 //! Element segments, and the iterators that they are read of.
-use super::{func, same, segment_of};
+use super::same;
 use crate::proved::raw::RawRef;
 use crate::proved::store::ElementSegment;
 use crate::proved::types::RefType;
@@ -34,19 +34,4 @@ fn ends_at_the_first_none() {
     let answer = (items.calls, again.size(), again.ty());
     let expected = (3, 1, RefType::Extern);
     same("the calls, the second's size and type", answer, expected);
-}
-
-#[test]
-fn drops_its_items_and_keeps_its_type() {
-    let items = [func(1).raw(), func(2).raw(), func(3).raw()];
-    let mut segment = segment_of(RefType::Func, items);
-    let shared = segment.as_ref();
-    let kept = (shared.ty(), shared.size());
-    same("the items", shared.items(), items.as_slice());
-    segment.drop_items();
-    let kinds = [kept, (segment.ty(), segment.size())];
-    let expected = [(RefType::Func, 3), (RefType::Func, 0)];
-    same("the type and size, before and after", kinds, expected);
-    let empty: [RawRef; 0] = [];
-    same("no items", segment.items(), empty.as_slice());
 }
