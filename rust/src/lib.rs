@@ -149,6 +149,8 @@ pub mod simd;
 #[path = "proved/specs.rs"]
 pub mod specs;
 mod table;
+#[cfg(all(test, feature = "std", feature = "simd", feature = "memory64"))]
+mod tests;
 mod trap;
 pub mod wasm;
 

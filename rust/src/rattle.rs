@@ -69,15 +69,10 @@ mod texts {
     use std::string::String;
 
     pub trait TextExt {
-        fn try_push_str(&mut self, text: &str) -> Result<(), AllocError>;
         fn try_of(text: &str) -> Result<String, AllocError>;
     }
 
     impl TextExt for String {
-        fn try_push_str(&mut self, text: &str) -> Result<(), AllocError> {
-            self.push_str(text);
-            Ok(())
-        }
         fn try_of(text: &str) -> Result<String, AllocError> {
             Ok(String::from(text))
         }
@@ -100,9 +95,3 @@ mod texts {
 }
 #[cfg(all(test, feature = "std", feature = "memory64"))]
 pub(crate) use texts::{StrExt, TextExt, text};
-
-/// What a test ends with.
-#[cfg(all(test, feature = "std", feature = "memory64"))]
-pub(crate) mod test {
-    pub type Fail = std::boxed::Box<dyn core::error::Error>;
-}

@@ -27,8 +27,8 @@ EDITS = [
     ("meter/error.rs", "    fn try_from(error: FuelError)", "    pub(crate) fn of_fuel(error: FuelError)", 1),
     ("typed/typed_ref.rs", "impl TryFrom<TypedRawVal> for TypedRawRef {\n    type Error = NotAReference;\n", "impl TypedRawRef {\n", 1),
     ("typed/typed_ref.rs", "    fn try_from(typed: TypedRawVal)", "    pub(crate) fn of_value(typed: TypedRawVal)", 1),
-    ("tests/store/errors.rs", "TableError::try_from(", "TableError::of_fuel(", 2),
-    ("tests/value/references.rs", "TypedRawRef::try_from(", "TypedRawRef::of_value(", 3),
+    ("tests/store/fuel.rs", "TableError::try_from(", "TableError::of_fuel(", 2),
+    ("tests/value/values.rs", "TypedRawRef::try_from(", "TypedRawRef::of_value(", 1),
     # Rust knows the size of each type.
     ("meter/fuel.rs", "/// # Contract\n///\n/// <span></span><pre><code>SIZE = 1</code></pre>\nimpl ValueSize for u8 {\n    const SIZE: u64 = 1;",
      "/// The size in memory. Proved are the 1 of a byte and the 4 of a reference.\n"

@@ -2,7 +2,6 @@
 
 use std::fmt::Debug;
 use std::process::Abort;
-use wasmi_types::TrapCode;
 
 /// Compares the answers of some calls, which have one type, with what they have to be.
 macro_rules! answers {
@@ -11,11 +10,8 @@ macro_rules! answers {
     };
 }
 
-mod access;
-mod lanes;
-mod lanewise;
 mod scalar;
-mod simd;
+mod vectors;
 
 /// Compares an answer with what it has to be. The comparison is proved here once, and not in each
 /// test.
@@ -37,43 +33,4 @@ where
     for (row, call) in calls.iter().enumerate() {
         same(rt, call, answers.get(row), expected.get(row));
     }
-}
-
-/// What an access past the end of a memory returns.
-const REFUSED: TrapCode = TrapCode::MemoryOutOfBounds;
-
-/// What the memories of stores hold before them.
-const SEVENS: [u8; 16] = [7; 16];
-
-/// Compares what loads returned, two that fit and five past the end.
-fn check_loads<T>(rt: &impl Abort, what: &str, answers: [Result<T, TrapCode>; 7], value: T)
-where
-    T: PartialEq + Debug + Drop + Copy,
-{
-    let (fits, past) = (Ok(value), Err(REFUSED));
-    same(
-        rt,
-        what,
-        answers,
-        [fits, fits, past, past, past, past, past],
-    );
-}
-
-/// What a store left of the bytes that were refused, of those stored, and of those stored at an
-/// address.
-type Left = [[u8; 16]; 3];
-
-/// Compares what stores to 16 bytes 7 returned, five past the end and two that fit, and what they
-/// left.
-fn check_stores(
-    rt: &impl Abort,
-    what: &str,
-    answers: [Result<(), TrapCode>; 7],
-    left: Left,
-    stored: [u8; 16],
-) {
-    let (past, fits) = (Err(REFUSED), Ok(()));
-    let expected = [past, past, past, past, past, fits, fits];
-    same(rt, what, answers, expected);
-    same(rt, what, left, [SEVENS, stored, stored]);
 }

@@ -38,20 +38,9 @@ macro_rules! metered {
     };
 }
 
-mod accesses;
 mod bad_lines;
-mod counts;
-mod outcomes;
-mod printing;
-mod reading;
-mod refusing;
-mod regions;
+mod replies;
 mod streams;
-mod tables;
-mod tenants;
-mod values;
-mod vectors;
-mod writing;
 
 use std::alloc::Global;
 use std::fmt::Debug;

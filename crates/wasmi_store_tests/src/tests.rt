@@ -1,57 +1,21 @@
-//! What the tests share: comparisons, types of memories, and references and tables of them.
-/// A row in which the limiter gives another answer to the question of a row, and is obeyed.
-macro_rules! denied {
-    ($row:ident, $what:literal, $answer:expr, $base:ident) => {
-        $row {
-            what: $what,
-            answer: $answer,
-            outcome: Err(DENIED),
-            ..$base
-        }
-    };
-}
-
-/// A row in which the limiter accepts the notice of a row by an error.
-macro_rules! complained {
-    ($row:ident, $what:literal, $base:ident) => {
-        $row {
-            what: concat!($what, ", and the limiter accepts with an error"),
-            notice_answer: Err(COMPLAINT),
-            outcome: Err(DENIED),
-            ..$base
-        }
-    };
-}
-
+//! What the tests share: comparisons, types, meters, and memories and tables.
 mod buffers;
-mod bulk;
-mod creations;
-mod errors;
 mod fuel;
-mod growths;
-mod lending;
 mod limiters;
 mod memories;
-mod memory_types;
-mod quota;
 mod recorder;
-mod regions;
 mod segments;
-mod subtypes;
-mod table_creations;
-mod table_growths;
-mod table_types;
 mod tables;
 
 use std::alloc::Global;
-use std::fmt::{Debug, Display};
+use std::fmt::Debug;
 use std::process::Abort;
 use wasmi_meter::{
     CustomFuelCosts, Fuel, FuelCostsProvider, MemoryError, NoLimits, ResourceLimiter,
     ResourceLimiterRef,
 };
 use wasmi_raw::RawRef;
-use wasmi_store::{ElementSegment, Memory, MemoryType, Table, TableType};
+use wasmi_store::{Memory, MemoryType, Table, TableType};
 use wasmi_typed::TypedRawRef;
 use wasmi_types::RefType;
 
@@ -61,12 +25,6 @@ fn same<T: PartialEq + Debug + Drop>(rt: &impl Abort, what: &str, answer: T, exp
         answer == expected,
         "{what}: {answer:?} in place of {expected:?}"
     );
-}
-
-/// Compares what a value prints.
-fn same_text<T: Display>(rt: &impl Abort, alloc: Global, value: &T, expected: &str) {
-    let printed = format!(in alloc; "{value}").expect(rt, "memory for a text");
-    same(rt, "a text", printed.as_str(), expected);
 }
 
 /// Builds a type of memories, which may be invalid.
@@ -85,25 +43,9 @@ fn build_type(
     builder.build()
 }
 
-/// A type of memories.
-fn memory_type(
-    rt: &impl Abort,
-    minimum: u64,
-    maximum: Option<u64>,
-    page_size_log2: u8,
-    memory64: bool,
-) -> MemoryType {
-    build_type(minimum, maximum, page_size_log2, memory64).expect(rt, "a valid type")
-}
-
 /// Pages of 64 KiB under 32-bit addresses.
 fn page_type(rt: &impl Abort, minimum: u64, maximum: Option<u64>) -> MemoryType {
-    memory_type(rt, minimum, maximum, 16, false)
-}
-
-/// Pages of 64 KiB under 64-bit addresses.
-fn wide_type(rt: &impl Abort, minimum: u64, maximum: Option<u64>) -> MemoryType {
-    memory_type(rt, minimum, maximum, 16, true)
+    build_type(minimum, maximum, 16, false).expect(rt, "a valid type")
 }
 
 /// A meter with so much fuel, of which one is taken for 64 copied bytes.
@@ -188,11 +130,6 @@ fn five_functions(rt: &impl Abort, alloc: Global) -> Table {
     table
 }
 
-/// An element segment of three items.
-fn segment_of(rt: &impl Abort, alloc: Global, ty: RefType, items: [RawRef; 3]) -> ElementSegment {
-    ElementSegment::new(alloc, ty, items).expect(rt, "a segment")
-}
-
 /// Compares the first five elements of a table of functions.
 fn same_elements(rt: &impl Abort, what: &str, table: &Table, expected: [u32; 5]) {
     for index in 0..5u32 {
@@ -201,3 +138,56 @@ fn same_elements(rt: &impl Abort, what: &str, table: &Table, expected: [u32; 5])
         same(rt, what, element, Some(func(bits)));
     }
 }
+
+/// Two types by their minimum and maximum, and whether the first is a subtype of the second.
+struct Subtype {
+    what: &'static str,
+    own: (u32, Option<u32>),
+    other: (u32, Option<u32>),
+    expected: bool,
+}
+
+static SUBTYPES: [Subtype; 7] = [
+    Subtype {
+        what: "the same maximum",
+        own: (0, Some(1)),
+        other: (0, Some(1)),
+        expected: true,
+    },
+    Subtype {
+        what: "a smaller maximum",
+        own: (0, Some(1)),
+        other: (0, Some(2)),
+        expected: true,
+    },
+    Subtype {
+        what: "a greater maximum",
+        own: (0, Some(2)),
+        other: (0, Some(1)),
+        expected: false,
+    },
+    Subtype {
+        what: "a greater minimum",
+        own: (2, None),
+        other: (1, None),
+        expected: true,
+    },
+    Subtype {
+        what: "the same minimum",
+        own: (0, None),
+        other: (0, None),
+        expected: true,
+    },
+    Subtype {
+        what: "a maximum where the other has none",
+        own: (0, Some(1)),
+        other: (0, None),
+        expected: true,
+    },
+    Subtype {
+        what: "no maximum where the other has one",
+        own: (0, None),
+        other: (0, Some(1)),
+        expected: false,
+    },
+];

@@ -1,12 +1,8 @@
 //! What the tests share: comparisons, of values and of their texts.
 
 mod function_types;
-mod globals;
-mod raw_values;
-mod references;
 mod traps;
-mod typed_values;
-mod value_types;
+mod values;
 
 use std::alloc::Global;
 use std::fmt::{Debug, Display};

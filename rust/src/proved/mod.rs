@@ -20,7 +20,7 @@ pub mod scalar;
 pub mod script;
 pub mod store;
 #[cfg(all(test, feature = "std", feature = "memory64"))]
-mod tests;
+pub(crate) mod tests;
 pub mod typed;
 pub mod types;
 pub mod vector_access;

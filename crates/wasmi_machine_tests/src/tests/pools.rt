@@ -1,58 +1,22 @@
-//! Pools of tenants, by their calls; `wasmi_script_tests` has scripts of tenants.
-use super::{MemoryCall, StaticCall, StaticReply, Step, runs_to, same, split, unmetered};
+//! Pools of tenants; `wasmi_script_tests` has scripts of tenants.
+use super::{memory_type, runs_to, same, unmetered};
 use wasmi_budget::{AddError, Pool};
-
-static PAGE: [Step; 1] = [(StaticCall::NewPages(1, None), StaticReply::Made(0))];
-
-#[test]
-fn ample_memory_pool_runs(rt: HostRuntime) {
-    let (calls, expected) = split(&rt, &PAGE).expect(&rt, "there is room");
-    let mut pool = Pool::new(rt.alloc(), 65536, 0);
-    let tenant = pool.add(unmetered(rt.alloc())).ok();
-    same(&rt, "the tenant", tenant, Some(0));
-    let replies = pool.run(0, &calls);
-    same(&rt, "the replies", replies, Ok(expected));
-    same(&rt, "the bytes", pool.held_bytes(0), Some(65536));
-}
-
-#[test]
-fn a_pool_takes_many_machines(rt: HostRuntime) {
-    let (calls, expected) = split(&rt, &PAGE).expect(&rt, "there is room");
-    let mut pool = Pool::new(rt.alloc(), 65536, 0);
-    for index in 0..1024 {
-        let tenant = pool.add(unmetered(rt.alloc())).ok();
-        same(&rt, "the tenant", tenant, Some(index));
-    }
-    same(&rt, "the tenants", pool.len(), 1024);
-    let replies = pool.run(1023, &calls);
-    same(&rt, "the replies", replies, Ok(expected));
-    same(
-        &rt,
-        "the last one's bytes",
-        pool.held_bytes(1023),
-        Some(65536),
-    );
-    same(&rt, "no bytes more", pool.held_bytes(1024), None);
-}
-
-static DROPPED: [Step; 2] = [
-    (StaticCall::NewPages(1, None), StaticReply::Made(0)),
-    (StaticCall::Memory(0, MemoryCall::Drop), StaticReply::Done),
-];
+use wasmi_core::{Call, Reply};
 
 #[test]
 fn a_machine_that_dropped_a_memory_comes_back(rt: HostRuntime) {
     let mut used = unmetered(rt.alloc());
-    runs_to(&rt, &mut used, &DROPPED);
+    let calls = [
+        Call::NewMemory(memory_type(&rt, 1, 16)),
+        Call::DropMemory(0),
+    ];
+    runs_to(&rt, &mut used, &calls, &[Reply::Made(0), Reply::Done]);
     let mut pool = Pool::new(rt.alloc(), 131072, 0);
-    let refusal = pool
-        .add(used)
-        .err()
-        .map(|(error, back)| (error, back.total_bytes()));
-    same(
-        &rt,
-        "the refusal",
-        refusal,
-        Some((AddError::NotEmpty, 65536)),
-    );
+    match pool.add(used) {
+        Ok(index) => same(&rt, "an index", Some(index), None),
+        Err((error, back)) => {
+            same(&rt, "the refusal", error, AddError::NotEmpty);
+            same(&rt, "its bytes", back.total_bytes(), 65536);
+        }
+    }
 }

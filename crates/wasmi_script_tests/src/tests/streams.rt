@@ -1,74 +1,53 @@
-//! A reader and a writer that can be slow and can fail.
-
+//! A reader and a writer that can fail, and how a replay over them ends.
+use super::{METERED, prints, same, same_text};
 use std::alloc::Global;
 use std::io;
 use std::io::{ErrorKind, Read, Write};
+use wasmi_script::{Status, replay};
 
-// A reader of these bytes, at most so many a turn. After so many good turns each turn fails with
-// this error.
+// A reader of these bytes, at most forty a turn, which fails after so many good turns.
 #[derive(Drop)]
 pub struct Source<'a> {
     bytes: &'a [u8],
-    pub at_once: usize,
-    pub good_turns: usize,
-    pub error: ErrorKind,
-    pub turns: usize,
+    good_turns: usize,
 }
 
 impl<'a> Source<'a> {
     pub(super) fn of(bytes: &'a [u8]) -> Self {
         Source {
             bytes,
-            at_once: usize::MAX,
             good_turns: usize::MAX,
-            error: ErrorKind::Interrupted,
-            turns: 0,
         }
     }
 }
 
 impl Read for Source<'_> {
     fn read(&mut self, buf: &mut [u8]) -> io::Result<usize> {
-        if self.turns >= self.good_turns {
-            return Err(io::Error::from(self.error));
+        if self.good_turns == 0 {
+            return Err(io::Error::from(ErrorKind::Interrupted));
         }
-        self.turns += 1;
-        let count = self.bytes.len().min(buf.len()).min(self.at_once);
+        self.good_turns -= 1;
+        let count = self.bytes.len().min(buf.len()).min(40);
         buf[..count].copy_from_slice(&self.bytes[..count]);
         self.bytes = &self.bytes[count..];
         Ok(count)
     }
 }
 
-// What a writer does in the turns after its good ones.
-#[derive(Clone, Copy)]
-pub enum After {
-    Fails(ErrorKind),
-    TakesNothing,
-}
-
-// A writer that keeps what it takes, at most so many bytes a turn.
+// A writer that keeps so many bytes, and then fails or takes nothing.
 #[derive(Drop)]
 pub struct Target {
     bytes: Vec<u8>,
-    pub at_once: usize,
-    pub good_turns: usize,
-    pub after: After,
-    pub flush_fails: bool,
-    pub turns: usize,
-    pub is_flushed: bool,
+    room: usize,
+    fails: bool,
 }
 
 impl Target {
     pub(super) fn new(alloc: Global) -> Target {
         Target {
             bytes: Vec::new(alloc),
-            at_once: usize::MAX,
-            good_turns: usize::MAX,
-            after: After::Fails(ErrorKind::Interrupted),
-            flush_fails: false,
-            turns: 0,
-            is_flushed: false,
+            room: usize::MAX,
+            fails: true,
         }
     }
 
@@ -79,24 +58,41 @@ impl Target {
 
 impl Write for Target {
     fn write(&mut self, buf: &[u8]) -> io::Result<usize> {
-        if self.turns >= self.good_turns {
-            return match self.after {
-                After::Fails(error) => Err(io::Error::from(error)),
-                After::TakesNothing => Ok(0),
-            };
+        if self.room == 0 && self.fails {
+            return Err(io::Error::from(ErrorKind::Interrupted));
         }
-        self.turns += 1;
-        let count = buf.len().min(self.at_once);
+        let count = buf.len().min(self.room);
+        self.room -= count;
         self.bytes.extend_from_slice(&buf[..count])?;
-        self.is_flushed = false;
         Ok(count)
     }
 
     fn flush(&mut self) -> io::Result<()> {
-        if self.flush_fails {
-            return Err(io::Error::from(ErrorKind::BrokenPipe));
-        }
-        self.is_flushed = true;
         Ok(())
+    }
+}
+
+#[test]
+fn an_error_of_a_reader_is_a_fault(rt: HostRuntime) {
+    for good_turns in [0, 1] {
+        let mut reader = Source::of(METERED.text.as_bytes());
+        reader.good_turns = good_turns;
+        prints(&rt, rt.alloc(), &mut reader, "read fault\n", Status::Fault);
+    }
+}
+
+#[test]
+fn an_error_of_a_writer_is_a_fault(rt: HostRuntime) {
+    for room in 0..METERED.printed.len() {
+        for fails in [true, false] {
+            let mut reader = Source::of(METERED.text.as_bytes());
+            let mut writer = Target::new(rt.alloc());
+            writer.room = room;
+            writer.fails = fails;
+            let ended = replay(rt.alloc(), &mut reader, &mut writer);
+            same(&rt, "how it ends", ended, Status::Fault);
+            let sent = &METERED.printed.as_bytes()[..room];
+            same_text(&rt, writer.text(), sent);
+        }
     }
 }

@@ -1,4 +1,4 @@
-//! Buffers of bytes.
+//! Buffers of bytes, and what the lender of a region finds in it after the loan.
 use super::same;
 use wasmi_meter::MemoryError;
 use wasmi_store::ByteBuffer;
@@ -35,4 +35,50 @@ fn out_of_memory_works(rt: HostRuntime) {
     let answers = [from_no_byte, buffer.grow(usize::MAX)];
     same(&rt, "from no byte, from one", answers, [refused; 2]);
     same(&rt, "one byte", buffer.data(), [0].as_slice());
+}
+
+#[test]
+fn test_growing_static(rt: HostRuntime) {
+    let mut region = [7; 10];
+    let mut buffer = ByteBuffer::new_static(&mut region, 5).expect(&rt, "a buffer");
+    same(&rt, "five", buffer.data(), [0; 5].as_slice());
+    buffer.grow(8).expect(&rt, "eight");
+    same(&rt, "eight", buffer.data(), [0; 8].as_slice());
+    buffer.grow(10).expect(&rt, "ten");
+    same(&rt, "ten", buffer.data(), [0; 10].as_slice());
+}
+
+#[test]
+fn test_static_buffer_overflow(rt: HostRuntime) {
+    let mut region = [7; 5];
+    let mut buffer = ByteBuffer::new_static(&mut region, 5).expect(&rt, "a buffer");
+    same(
+        &rt,
+        "ten of five",
+        buffer.grow(10),
+        Err(MemoryError::InvalidStaticBufferSize),
+    );
+    same(&rt, "five", buffer.data(), [0; 5].as_slice());
+}
+
+#[test]
+fn test_static_buffer_initialization(rt: HostRuntime) {
+    let mut region = [7; 10];
+    let mut buffer = ByteBuffer::new_static(&mut region, 5).expect(&rt, "a buffer");
+    same(&rt, "length", buffer.len(), 5);
+    buffer.data_mut()[0] = 1;
+    drop(buffer);
+    let found = [1, 0, 0, 0, 0, 7, 7, 7, 7, 7];
+    same(&rt, "the lender's bytes", region, found);
+}
+
+#[test]
+fn only_a_shorter_region_has_no_room(rt: HostRuntime) {
+    let mut region = [7; 10];
+    let lent = ByteBuffer::new_static(&mut region, 5).expect(&rt, "a buffer");
+    let owned = ByteBuffer::new(rt.alloc(), 5).expect(&rt, "a buffer");
+    for size in [0, 5, 10, 11, usize::MAX] {
+        let rooms = (size, lent.has_room(size), owned.has_room(size));
+        same(&rt, "room", rooms, (size, size <= 10, true));
+    }
 }

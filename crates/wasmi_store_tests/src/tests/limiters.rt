@@ -1,14 +1,13 @@
-//! References to limiters, and what a lender knows of its limiter afterwards.
+//! Quotas, references to limiters, and what a lender knows of its limiter afterwards.
 ghost use Rattle.std.specs.Prelude.{None};
 ghost use Rattle.wasmi_meter.specs.Limiter.{optional_rules};
 ghost use Rattle.wasmi_meter.specs.LimiterRef.{lent_limiter, KeepsLoan};
 ghost use Rattle.wasmi_meter.specs.declared.limiter.Kind.TheVariants.{Bytes};
 
-use super::recorder::{COMPLAINT, Failure, Recorder, memory_question, table_question};
+use super::recorder::{Recorder, memory_question, same_record};
 use super::same;
-use std::process::Abort;
 use wasmi_meter::{
-    LimiterError, MemoryError, NoLimits, ResourceLimiter, ResourceLimiterRef, TableError,
+    LimiterError, MemoryError, NoLimits, Quota, ResourceLimiter, ResourceLimiterRef,
 };
 
 /// Lends its limiter for one question, and knows what became of it.
@@ -38,63 +37,29 @@ fn ask_through<L: ResourceLimiter>(lent: &mut ResourceLimiterRef<L>) -> Result<b
 }
 
 #[test]
-fn a_lender_finds_what_became_of_its_limiter(rt: HostRuntime) {
-    let mut recorder = Recorder::new(Ok(true), Err(COMPLAINT));
-    let mut lent = ResourceLimiterRef::from(&mut recorder);
-    let memory_answer = lent.memory_growing(1, 5, None);
-    if let Some(limiter) = lent.as_resource_limiter() {
-        limiter.answer = Ok(false);
-    }
-    let table_answer = lent.table_growing(3, 10, Some(9));
-    let memory_notice_answer = lent.memory_grow_failed(&MemoryError::OutOfSystemMemory);
-    if let Some(limiter) = lent.as_resource_limiter() {
-        let last = (limiter.question, limiter.notice);
-        let notice = Some(Failure::Memory(MemoryError::OutOfSystemMemory));
-        let expected = (table_question(3, 10, Some(9)), notice);
-        same(&rt, "the last question and notice", last, expected);
-        limiter.question = None;
-    }
-    let table_notice_answer = lent.table_grow_failed(&TableError::GrowOutOfBounds);
-    let Some(limiter) = lent.into_resource_limiter() else {
-        unreachable!()
-    };
-    limiter.answer = Ok(true);
-    let last = (recorder.question, recorder.notice);
-    let notice = Some(Failure::Table(TableError::GrowOutOfBounds));
-    same(&rt, "no question, and the notice", last, (None, notice));
-    let answers = [memory_answer, table_answer, ask_once(&mut recorder)];
-    let expected = [Ok(true), Ok(false), Ok(true)];
-    same(&rt, "5 bytes, 10 elements, once more", answers, expected);
-    let answers = [memory_notice_answer, table_notice_answer];
-    same(&rt, "the notices", answers, [Err(COMPLAINT); 2]);
-    let last = (recorder.question, recorder.questions, recorder.notices);
-    let expected = (memory_question(0, 5, None), 3, 2);
-    same(&rt, "a question, and the numbers", last, expected);
-}
-
-/// Asks the four questions of a reference that leads to no limiter, or to one without limits.
-fn permits_all(rt: &impl Abort, lent: &mut ResourceLimiterRef<NoLimits>) {
-    let answers = [
-        lent.memory_growing(0, usize::MAX, None),
-        lent.table_growing(0, usize::MAX, None),
-    ];
-    same(rt, "bytes, elements", answers, [Ok(true); 2]);
-    let answers = [
-        lent.memory_grow_failed(&MemoryError::OutOfSystemMemory),
-        lent.table_grow_failed(&TableError::OutOfSystemMemory),
-    ];
-    same(rt, "notices of a memory, a table", answers, [Ok(()); 2]);
+fn a_lender_knows_its_limiter(rt: HostRuntime) {
+    let mut recorder = Recorder::new(Ok(true), Ok(()));
+    same(&rt, "5 bytes", ask_once(&mut recorder), Ok(true));
+    same_record(&rt, "5 bytes", &recorder, memory_question(0, 5, None), None);
+    let mut nobody = ResourceLimiterRef::<NoLimits>::default();
+    same(&rt, "nobody", ask_through(&mut nobody), Ok(true));
 }
 
 #[test]
-fn without_limits_all_is_permitted(rt: HostRuntime) {
-    let mut none = ResourceLimiterRef::<NoLimits>::default();
-    let mut limits = NoLimits;
-    let numbers = [limits.instances(), limits.tables(), limits.memories()];
-    same(&rt, "numbers", numbers, [usize::MAX; 3]);
-    let asked = ask_through(&mut none);
-    let is_none = none.as_resource_limiter().is_none();
-    same(&rt, "asking none", (asked, is_none), (Ok(true), true));
-    permits_all(&rt, &mut none);
-    permits_all(&rt, &mut ResourceLimiterRef::from(&mut limits));
+fn a_quota_gives_back_once(rt: HostRuntime) {
+    let error = MemoryError::OutOfSystemMemory;
+    let mut quota = Quota::new(10, 3);
+    let growths = [
+        quota.memory_growing(0, 5, None),
+        quota.memory_growing(5, 11, Some(20)),
+    ];
+    same(&rt, "5 of 10 bytes, 6 of 5", growths, [Ok(true), Ok(false)]);
+    let at_first = quota.held_bytes();
+    let notices = [
+        quota.memory_grow_failed(&error),
+        quota.memory_grow_failed(&error),
+    ];
+    same(&rt, "notices", notices, [Ok(()); 2]);
+    let bytes = [at_first, quota.held_bytes()];
+    same(&rt, "held, and given back once", bytes, [5, 0]);
 }

@@ -1,9 +1,13 @@
-//! Linear memories: growths up to the maximum, and reads and writes up to the end.
-use super::recorder::{Recorder, memory_question, same_record};
-use super::{ample_memory, grow, metered, new_memory, page_type, same, wide_type};
+//! Linear memories: their types, and how they are made, grow, are read and are written.
+use super::recorder::{COMPLAINT, Failure, Recorder, memory_question, same_record};
+use super::{
+    SUBTYPES, ample_memory, build_type, grow, lent_memory, metered, new_memory, page_type, same,
+};
 use std::alloc::Global;
 use std::process::Abort;
-use wasmi_meter::{MemoryError, NoLimits, Quota, ResourceLimiter};
+use wasmi_meter::{LimiterError, MemoryError, NoLimits, Quota, ResourceLimiter};
+
+const DENIED: MemoryError = MemoryError::ResourceLimiterDeniedAllocation;
 
 const OUT_OF_BOUNDS: MemoryError = MemoryError::OutOfBoundsGrowth;
 
@@ -12,31 +16,28 @@ const OUT_OF_FUEL: MemoryError = MemoryError::OutOfFuel {
 };
 
 #[test]
-fn ample_memory_grows(rt: HostRuntime) {
-    let mut memory = ample_memory(&rt, rt.alloc(), page_type(&rt, 1, Some(2)));
-    let mut meter = metered(1024);
-    let grown = grow(&mut memory, 1, Some(&mut meter), &mut NoLimits);
-    let sizes = (grown, meter.get_fuel(), memory.size(), memory.data_size());
-    let expected = (Ok(1), Ok(0), 2, 131072);
-    same(&rt, "the old size, fuel, pages, bytes", sizes, expected);
-    let types = (memory.ty(), memory.dynamic_ty());
-    let expected = (page_type(&rt, 1, Some(2)), page_type(&rt, 2, Some(2)));
-    same(&rt, "the first type and the present one", types, expected);
-    let mut read = [0; 3];
-    let answers = [
-        memory.write(131070, &[1, 2]),
-        memory.read(131070, &mut read),
-        memory.read(131069, &mut read),
-    ];
-    let expected = [Ok(()), Err(MemoryError::OutOfBoundsAccess), Ok(())];
-    same(&rt, "a write, past the end, to it", answers, expected);
-    same(&rt, "the last bytes", read, [0, 1, 2]);
+fn subtyping_works(rt: HostRuntime) {
+    for row in &SUBTYPES {
+        let (own, other) = (row.own, row.other);
+        let own = page_type(&rt, u64::from(own.0), own.1.map(u64::from));
+        let other = page_type(&rt, u64::from(other.0), other.1.map(u64::from));
+        same(&rt, row.what, own.is_subtype_of(&other), row.expected);
+    }
 }
 
 #[test]
-fn growth_to_all_addresses_is_out_of_bounds(rt: HostRuntime) {
+fn all_addresses_are_too_many(rt: HostRuntime) {
+    let types = [
+        build_type(65536, None, 16, false).is_ok(),
+        build_type(65537, None, 16, false).is_ok(),
+    ];
+    same(&rt, "all pages, one more", types, [true, false]);
     let mut recorder = Recorder::new(Ok(true), Ok(()));
-    let ty = wide_type(&rt, 0, Some(1 << 48));
+    let wide = build_type(1 << 48, None, 16, true).expect(&rt, "a type");
+    let made = new_memory(rt.alloc(), wide, &mut recorder).err();
+    let overflow = Some(MemoryError::MinimumSizeOverflow);
+    same(&rt, "a minimum of all addresses", made, overflow);
+    let ty = build_type(0, Some(1 << 48), 16, true).expect(&rt, "a type");
     let mut memory = new_memory(rt.alloc(), ty, &mut recorder).expect(&rt, "a memory");
     let grown = grow(&mut memory, 1 << 48, None, &mut recorder);
     same(&rt, "all addresses", grown, Err(OUT_OF_BOUNDS));
@@ -108,4 +109,77 @@ fn growth_above_the_maximum_asks_no_limiter(rt: HostRuntime) {
     let mut quota = Quota::new(131072, 0);
     grow_above_the_maximum(&rt, rt.alloc(), &mut quota);
     same(&rt, "held", quota.held_bytes(), 131072);
+}
+
+#[test]
+fn a_limiter_refuses_creations(rt: HostRuntime) {
+    for answer in [Ok(false), Err(COMPLAINT)] {
+        let mut recorder = Recorder::new(answer, Ok(()));
+        let made = new_memory(rt.alloc(), page_type(&rt, 1, None), &mut recorder);
+        same(&rt, "a creation", made.err(), Some(DENIED));
+    }
+}
+
+/// A limiter's answers to the question and to the notice of a growth without enough fuel, and how
+/// the growth ends.
+static REFUSALS: [(
+    Result<bool, LimiterError>,
+    Result<(), LimiterError>,
+    MemoryError,
+); 3] = [
+    (Ok(false), Ok(()), OUT_OF_BOUNDS),
+    (Err(COMPLAINT), Ok(()), DENIED),
+    (Ok(true), Err(COMPLAINT), DENIED),
+];
+
+#[test]
+fn a_limiter_refuses_growths(rt: HostRuntime) {
+    for &(answer, notice_answer, error) in &REFUSALS {
+        let mut memory = ample_memory(&rt, rt.alloc(), page_type(&rt, 1, Some(2)));
+        let mut meter = metered(1000);
+        let mut recorder = Recorder::new(answer, notice_answer);
+        let grown = grow(&mut memory, 1, Some(&mut meter), &mut recorder);
+        let ended = (grown, meter.get_fuel(), recorder.notices);
+        let notices = u32::from(answer == Ok(true));
+        same(&rt, "a growth", ended, (Err(error), Ok(1000), notices));
+    }
+}
+
+#[test]
+fn the_greatest_address_is_past_the_end(rt: HostRuntime) {
+    let mut memory = ample_memory(&rt, rt.alloc(), page_type(&rt, 1, None));
+    let answers = [
+        memory.read(usize::MAX, &mut [0]),
+        memory.write(usize::MAX, &[0]),
+    ];
+    let refused = Err(MemoryError::OutOfBoundsAccess);
+    same(&rt, "a read, a write", answers, [refused; 2]);
+}
+
+#[test]
+fn a_region_of_one_page_holds_one(rt: HostRuntime) {
+    let mut region = [7; 65536];
+    let ty = page_type(&rt, 0, Some(2));
+    let mut memory = lent_memory(ty, &mut NoLimits, &mut region).expect(&rt, "a memory");
+    let mut meter = metered(2048);
+    let first = grow(&mut memory, 1, Some(&mut meter), &mut NoLimits);
+    same(&rt, "a page", (first, meter.get_fuel()), (Ok(0), Ok(1024)));
+    same(&rt, "bytes", memory.data(), [0; 65536].as_slice());
+    let mut recorder = Recorder::new(Ok(true), Ok(()));
+    let second = grow(&mut memory, 1, Some(&mut meter), &mut recorder);
+    let too_short = MemoryError::InvalidStaticBufferSize;
+    let ended = (second, meter.get_fuel());
+    same(&rt, "one more", ended, (Err(too_short), Ok(1024)));
+    let question = memory_question(65536, 131072, Some(131072));
+    let notice = Some(Failure::Memory(too_short));
+    same_record(&rt, "one more", &recorder, question, notice);
+}
+
+#[test]
+fn a_short_region_is_left_as_it_was(rt: HostRuntime) {
+    let mut region = [7; 4];
+    let ty = build_type(5, None, 0, false).expect(&rt, "a type");
+    let made = lent_memory(ty, &mut NoLimits, &mut region).err();
+    let expected = (Some(MemoryError::InvalidStaticBufferSize), [7; 4]);
+    same(&rt, "the error, the bytes", (made, region), expected);
 }

@@ -1,6 +1,5 @@
 //! Element segments, and the iterators that they are read of.
-use super::{func, same, segment_of};
-use std::process::Abort;
+use super::same;
 use wasmi_raw::RawRef;
 use wasmi_store::ElementSegment;
 use wasmi_types::RefType;
@@ -41,19 +40,4 @@ fn ends_at_the_first_none(rt: HostRuntime) {
         answer,
         expected,
     );
-}
-
-#[test]
-fn drops_its_items_and_keeps_its_type(rt: HostRuntime) {
-    let items = [func(1).raw(), func(2).raw(), func(3).raw()];
-    let mut segment = segment_of(&rt, rt.alloc(), RefType::Func, items);
-    let shared = segment.as_ref();
-    let kept = (shared.ty(), shared.size());
-    same(&rt, "the items", shared.items(), items.as_slice());
-    segment.drop_items();
-    let kinds = [kept, (segment.ty(), segment.size())];
-    let expected = [(RefType::Func, 3), (RefType::Func, 0)];
-    same(&rt, "the type and size, before and after", kinds, expected);
-    let empty: [RawRef; 0] = [];
-    same(&rt, "no items", segment.items(), empty.as_slice());
 }

@@ -1,533 +1,166 @@
-//! Reading and writing the elements of tables.
-use super::{five_functions, func, metered, metered_at, same, same_elements, segment_of};
-use std::alloc::Global;
-use std::process::Abort;
-use wasmi_meter::{Fuel, TableError};
+//! Tables: their types, and how they grow, are filled, copied and initialized.
+use super::recorder::{COMPLAINT, Failure, Recorder, same_record, table_question};
+use super::{
+    SUBTYPES, external, five_functions, func, metered, metered_at, same, same_elements, table_of,
+};
+use wasmi_meter::{Fuel, LimiterError, ResourceLimiterRef, TableError};
 use wasmi_raw::RawRef;
-use wasmi_store::Table;
-use wasmi_typed::TypedRawRef;
+use wasmi_store::{ElementSegment, Table, TableType};
 use wasmi_types::RefType;
 
-const MISMATCH: Result<(), TableError> = Err(TableError::ElementTypeMismatch);
-
-/// What is written over a part of a table.
-#[derive(Clone, Copy)]
-enum Write {
-    /// A part of the table itself.
-    Within {
-        to: u64,
-        from: u64,
-        len: u64,
-    },
-    /// A part of another table, of the functions 1 to 5.
-    Copy {
-        to: u64,
-        from: u64,
-        len: u64,
-    },
-    /// A part of an element segment of this type, 6 to 8.
-    Init {
-        ty: RefType,
-        to: u64,
-        from: u32,
-        len: u32,
-    },
-    /// A reference of this type, 8.
-    Fill {
-        ty: RefType,
-        to: u64,
-        len: u64,
-    },
-    /// A reference without a type.
-    Raw {
-        bits: u32,
-        to: u64,
-        len: u64,
-    },
-    /// One reference of this type.
-    Set {
-        ty: RefType,
-        bits: u32,
-        to: u64,
-    },
-    /// One null reference without a type.
-    SetNull {
-        to: u64,
-    },
-}
-
-/// A write on a table that the steps before it left, with a meter or without: how it ends, and the
-/// fuel and the elements then.
-#[derive(Clone, Copy)]
-struct Step {
-    what: &'static str,
-    write: Write,
-    metered: bool,
-    outcome: Result<(), TableError>,
-    left: u64,
-    elements: [u32; 5],
-}
-
-/// Initializes a part of a table from a segment of three items.
-fn initialize(
-    rt: &impl Abort,
-    alloc: Global,
-    table: &mut Table,
-    ty: RefType,
-    places: (u64, u32, u32),
-    fuel: Option<&mut Fuel>,
-) -> Result<(), TableError> {
-    let (to, from, len) = places;
-    let items = [func(6).raw(), func(7).raw(), func(8).raw()];
-    let segment = segment_of(rt, alloc, ty, items);
-    table.init(segment.as_ref(), to, from, len, fuel)
-}
-
-fn reference(ty: RefType, bits: u32) -> TypedRawRef {
-    TypedRawRef::new(RawRef::from(bits), ty)
-}
-
-/// Writes over a part of a table.
-fn perform(
-    rt: &impl Abort,
-    alloc: Global,
-    table: &mut Table,
-    write: Write,
-    fuel: Option<&mut Fuel>,
-) -> Result<(), TableError> {
-    match write {
-        Write::Within { to, from, len } => table.copy_within(to, from, len, fuel),
-        Write::Copy { to, from, len } => {
-            Table::copy(table, to, &five_functions(rt, alloc), from, len, fuel)
+/// A type of tables of functions. A maximum below the minimum is left out.
+fn func_type(limits: (u32, Option<u32>)) -> TableType {
+    match limits {
+        (minimum, Some(maximum)) if minimum <= maximum => {
+            TableType::new(RefType::Func, minimum, Some(maximum))
         }
-        Write::Init { ty, to, from, len } => {
-            initialize(rt, alloc, table, ty, (to, from, len), fuel)
-        }
-        Write::Fill { ty, to, len } => table.fill(to, reference(ty, 8), len, fuel),
-        Write::Raw { bits, to, len } => table.fill_raw(to, RawRef::from(bits), len, fuel),
-        Write::Set { ty, bits, to } => table.set(to, reference(ty, bits)),
-        Write::SetNull { to } => table.set_raw(to, RawRef::null()),
+        (minimum, _) => TableType::new(RefType::Func, minimum, None),
     }
 }
 
-/// Writes step by step on a table of the functions 1 to 5, and compares after each step.
-fn compare_steps(rt: &impl Abort, alloc: Global, mut meter: Fuel, steps: &[Step]) {
-    let mut table = five_functions(rt, alloc);
-    for step in steps {
-        let fuel = if step.metered { Some(&mut meter) } else { None };
-        let outcome = perform(rt, alloc, &mut table, step.write, fuel);
-        let answer = (outcome, meter.get_fuel());
-        same(rt, step.what, answer, (step.outcome, Ok(step.left)));
-        same_elements(rt, step.what, &table, step.elements);
+#[test]
+fn subtyping_works(rt: HostRuntime) {
+    for row in &SUBTYPES {
+        let own = func_type(row.own);
+        let other = func_type(row.other);
+        same(&rt, row.what, own.is_subtype_of(&other), row.expected);
     }
+    let functions = TableType::new(RefType::Func, 0, Some(1));
+    let externals = TableType::new(RefType::Extern, 0, Some(1));
+    let answer = functions.is_subtype_of(&externals);
+    same(&rt, "another type", answer, false);
 }
 
-const SET: Step = Step {
-    what: "set",
-    write: Write::Set {
-        ty: RefType::Func,
-        bits: 9,
-        to: 4,
-    },
-    metered: true,
-    outcome: Ok(()),
-    left: 0,
-    elements: [1, 2, 3, 4, 9],
-};
+/// Grows a table by null references under a limiter.
+fn grow_raw(
+    table: &mut Table,
+    delta: u64,
+    fuel: Option<&mut Fuel>,
+    limiter: &mut Recorder,
+) -> Result<u64, TableError> {
+    let mut limiter = ResourceLimiterRef::from(limiter);
+    table.grow_raw(delta, RawRef::null(), fuel, &mut limiter)
+}
 
-const SET_TO_NULL: Step = Step {
-    what: "set raw",
-    write: Write::SetNull { to: 0 },
-    elements: [0, 2, 3, 4, 9],
-    ..SET
-};
+const OUT_OF_BOUNDS: TableError = TableError::GrowOutOfBounds;
 
-static SETS: [Step; 5] = [
-    SET,
-    Step {
-        what: "another type",
-        write: Write::Set {
-            ty: RefType::Extern,
-            bits: 1,
-            to: 9,
-        },
-        outcome: MISMATCH,
-        ..SET
-    },
-    Step {
-        what: "past the end",
-        write: Write::Set {
-            ty: RefType::Func,
-            bits: 1,
-            to: 5,
-        },
-        outcome: Err(TableError::SetOutOfBounds),
-        ..SET
-    },
-    SET_TO_NULL,
-    Step {
-        what: "far past the end",
-        write: Write::SetNull { to: u64::MAX },
-        outcome: Err(TableError::SetOutOfBounds),
-        ..SET_TO_NULL
-    },
+#[test]
+fn a_growth_above_the_maximum_is_asked_for(rt: HostRuntime) {
+    let ty = TableType::new(RefType::Func, 1, Some(2));
+    let mut table = table_of(&rt, rt.alloc(), ty, func(1));
+    let mut meter = metered(7);
+    let mut recorder = Recorder::new(Ok(true), Ok(()));
+    let grown = grow_raw(&mut table, 2, Some(&mut meter), &mut recorder);
+    let ended = (grown, meter.get_fuel());
+    same(&rt, "by 2", ended, (Err(OUT_OF_BOUNDS), Ok(7)));
+    let question = table_question(1, 3, Some(2));
+    let notice = Some(Failure::Table(OUT_OF_BOUNDS));
+    same_record(&rt, "by 2", &recorder, question, notice);
+}
+
+#[test]
+fn tests_the_type_also_for_no_element(rt: HostRuntime) {
+    let ty = TableType::new(RefType::Func, 1, Some(2));
+    let mut table = table_of(&rt, rt.alloc(), ty, func(1));
+    let mut recorder = Recorder::new(Ok(true), Ok(()));
+    let mut limiter = ResourceLimiterRef::from(&mut recorder);
+    let mismatch = Err(TableError::ElementTypeMismatch);
+    let answers = [
+        table.grow(0, external(0), None, &mut limiter),
+        table.grow(0, func(0), None, &mut limiter),
+        table.grow_raw(0, external(0).raw(), None, &mut limiter),
+    ];
+    let expected = [mismatch, Ok(1), Ok(1)];
+    same(&rt, "another, the same, no type", answers, expected);
+    same_record(&rt, "nobody is asked", &recorder, None, None);
+}
+
+#[test]
+fn stays_below_the_number_of_indices(rt: HostRuntime) {
+    let ty = TableType::new(RefType::Func, 1, None);
+    let mut table = table_of(&rt, rt.alloc(), ty, func(1));
+    let mut recorder = Recorder::new(Ok(false), Ok(()));
+    let first = grow_raw(&mut table, 4294967295, None, &mut recorder);
+    same_record(&rt, "as many as indices", &recorder, None, None);
+    let second = grow_raw(&mut table, 4294967294, None, &mut recorder);
+    let question = table_question(1, 4294967295, None);
+    same_record(&rt, "one less", &recorder, question, None);
+    let answers = [first, second];
+    same(
+        &rt,
+        "as many as indices, one less",
+        answers,
+        [Err(OUT_OF_BOUNDS); 2],
+    );
+}
+
+/// A limiter's answer, and how the growth of a table ends.
+static REFUSALS: [(Result<bool, LimiterError>, TableError); 2] = [
+    (Ok(false), OUT_OF_BOUNDS),
+    (Err(COMPLAINT), TableError::ResourceLimiterDeniedAllocation),
 ];
 
 #[test]
-fn gets_and_sets(rt: HostRuntime) {
-    let table = five_functions(&rt, rt.alloc());
-    let past_the_end = [table.get(5), table.get(u64::MAX)];
-    same(&rt, "past the end", past_the_end, [None; 2]);
-    compare_steps(&rt, rt.alloc(), metered_at(1, 0), &SETS);
+fn a_limiter_refuses_growths(rt: HostRuntime) {
+    let ty = TableType::new(RefType::Func, 1, None);
+    let mut table = table_of(&rt, rt.alloc(), ty, func(1));
+    for &(answer, error) in &REFUSALS {
+        let mut recorder = Recorder::new(answer, Ok(()));
+        let grown = grow_raw(&mut table, 1, None, &mut recorder);
+        same(&rt, "a growth", grown, Err(error));
+    }
 }
 
-const COPIED: Step = Step {
-    what: "up",
-    write: Write::Within {
-        to: 1,
-        from: 0,
-        len: 3,
-    },
-    metered: false,
-    outcome: Ok(()),
-    left: 0,
-    elements: [1, 1, 2, 3, 5],
-};
-
-/// Copies without a meter, each on a table of its own.
-static COPIES_WITHIN: [Step; 3] = [
-    COPIED,
-    Step {
-        what: "down",
-        write: Write::Within {
-            to: 0,
-            from: 2,
-            len: 3,
-        },
-        elements: [3, 4, 5, 4, 5],
-        ..COPIED
-    },
-    Step {
-        what: "in place",
-        write: Write::Within {
-            to: 0,
-            from: 0,
-            len: 5,
-        },
-        elements: [1, 2, 3, 4, 5],
-        ..COPIED
-    },
+/// Copies within a table of the functions 1 to 5: to, from, how many, and the elements then.
+static COPIES: [((u64, u64, u64), [u32; 5]); 2] = [
+    ((1, 0, 3), [1, 1, 2, 3, 5]),
+    ((0, 2, 3), [3, 4, 5, 4, 5]),
 ];
 
 #[test]
 fn copies_within(rt: HostRuntime) {
-    for step in &COPIES_WITHIN {
-        compare_steps(&rt, rt.alloc(), metered_at(1, 0), &[*step]);
+    for &((to, from, len), elements) in &COPIES {
+        let mut table = five_functions(&rt, rt.alloc());
+        same(
+            &rt,
+            "a copy",
+            table.copy_within(to, from, len, None),
+            Ok(()),
+        );
+        same_elements(&rt, "a copy", &table, elements);
     }
 }
 
-const REFUSED: Step = Step {
-    what: "a fill",
-    write: Write::Raw {
-        bits: 9,
-        to: 4,
-        len: 2,
-    },
-    metered: true,
-    outcome: Err(TableError::FillOutOfBounds),
-    left: 100,
-    elements: [1, 2, 3, 4, 5],
-};
-
-static FILLS_PAST_THE_TABLE: [Step; 3] = [
-    REFUSED,
-    Step {
-        what: "a fill from the greatest number",
-        write: Write::Raw {
-            bits: 9,
-            to: u64::MAX,
-            len: 1,
-        },
-        ..REFUSED
-    },
-    Step {
-        what: "a fill of the greatest number",
-        write: Write::Raw {
-            bits: 9,
-            to: 1,
-            len: u64::MAX,
-        },
-        ..REFUSED
-    },
-];
-
 #[test]
-fn refuses_a_fill_past_the_table(rt: HostRuntime) {
-    compare_steps(&rt, rt.alloc(), metered_at(1, 100), &FILLS_PAST_THE_TABLE);
+fn refuses_what_is_past_the_table(rt: HostRuntime) {
+    let mut table = five_functions(&rt, rt.alloc());
+    let mut meter = metered_at(1, 100);
+    for (to, from, len) in [(u64::MAX, 0, 1), (0, 0, u64::MAX)] {
+        let copied = table.copy_within(to, from, len, Some(&mut meter));
+        same(&rt, "a copy", copied, Err(TableError::CopyOutOfBounds));
+    }
+    for (to, len) in [(4, 2), (u64::MAX, 1)] {
+        let filled = table.fill_raw(to, RawRef::from(9), len, Some(&mut meter));
+        same(&rt, "a fill", filled, Err(TableError::FillOutOfBounds));
+    }
+    same(&rt, "nothing is charged", meter.get_fuel(), Ok(100));
+    same_elements(&rt, "unchanged", &table, [1, 2, 3, 4, 5]);
 }
-
-const PAST_THE_COPY: Step = Step {
-    outcome: Err(TableError::CopyOutOfBounds),
-    ..REFUSED
-};
-
-static COPIES_PAST_THE_TABLE: [Step; 5] = [
-    Step {
-        what: "to the greatest number",
-        write: Write::Within {
-            to: u64::MAX,
-            from: 0,
-            len: 1,
-        },
-        ..PAST_THE_COPY
-    },
-    Step {
-        what: "from the greatest number",
-        write: Write::Within {
-            to: 0,
-            from: u64::MAX,
-            len: 1,
-        },
-        ..PAST_THE_COPY
-    },
-    Step {
-        what: "the greatest number",
-        write: Write::Within {
-            to: 0,
-            from: 0,
-            len: u64::MAX,
-        },
-        ..PAST_THE_COPY
-    },
-    Step {
-        what: "to past the end",
-        write: Write::Within {
-            to: 3,
-            from: 0,
-            len: 3,
-        },
-        ..PAST_THE_COPY
-    },
-    Step {
-        what: "from past the end",
-        write: Write::Within {
-            to: 0,
-            from: 3,
-            len: 3,
-        },
-        ..PAST_THE_COPY
-    },
-];
-
-#[test]
-fn refuses_a_copy_past_the_table(rt: HostRuntime) {
-    compare_steps(&rt, rt.alloc(), metered_at(1, 100), &COPIES_PAST_THE_TABLE);
-}
-
-const EIGHT_BYTES: Step = Step {
-    what: "two",
-    write: Write::Copy {
-        to: 3,
-        from: 0,
-        len: 2,
-    },
-    metered: true,
-    outcome: Ok(()),
-    left: 12,
-    elements: [1, 2, 3, 1, 2],
-};
-
-static COPIES: [Step; 4] = [
-    EIGHT_BYTES,
-    Step {
-        what: "past the table",
-        write: Write::Copy {
-            to: 4,
-            from: 0,
-            len: 2,
-        },
-        outcome: Err(TableError::CopyOutOfBounds),
-        ..EIGHT_BYTES
-    },
-    Step {
-        what: "past the source",
-        write: Write::Copy {
-            to: 0,
-            from: 4,
-            len: 2,
-        },
-        outcome: Err(TableError::CopyOutOfBounds),
-        ..EIGHT_BYTES
-    },
-    Step {
-        what: "want of fuel",
-        write: Write::Copy {
-            to: 0,
-            from: 0,
-            len: 4,
-        },
-        outcome: Err(TableError::OutOfFuel { required_fuel: 16 }),
-        ..EIGHT_BYTES
-    },
-];
-
-#[test]
-fn copies_from_another_table(rt: HostRuntime) {
-    compare_steps(&rt, rt.alloc(), metered_at(1, 20), &COPIES);
-}
-
-const FILLED: Step = Step {
-    what: "two",
-    write: Write::Fill {
-        ty: RefType::Func,
-        to: 1,
-        len: 2,
-    },
-    metered: true,
-    outcome: Ok(()),
-    left: 0,
-    elements: [1, 8, 8, 4, 5],
-};
-
-static FILLS: [Step; 3] = [
-    FILLED,
-    Step {
-        what: "another type",
-        write: Write::Fill {
-            ty: RefType::Extern,
-            to: 9,
-            len: 1,
-        },
-        metered: false,
-        outcome: MISMATCH,
-        ..FILLED
-    },
-    Step {
-        what: "none, at the end",
-        write: Write::Fill {
-            ty: RefType::Func,
-            to: 5,
-            len: 0,
-        },
-        metered: false,
-        ..FILLED
-    },
-];
-
-#[test]
-fn fills(rt: HostRuntime) {
-    compare_steps(&rt, rt.alloc(), metered_at(4, 2), &FILLS);
-}
-
-const INITIALIZED: Step = Step {
-    what: "two",
-    write: Write::Init {
-        ty: RefType::Func,
-        to: 3,
-        from: 1,
-        len: 2,
-    },
-    metered: true,
-    outcome: Ok(()),
-    left: 10,
-    elements: [1, 2, 3, 7, 8],
-};
-
-static INITIALIZATIONS: [Step; 4] = [
-    INITIALIZED,
-    Step {
-        what: "past the table",
-        write: Write::Init {
-            ty: RefType::Func,
-            to: 4,
-            from: 0,
-            len: 2,
-        },
-        outcome: Err(TableError::InitOutOfBounds),
-        ..INITIALIZED
-    },
-    Step {
-        what: "past the segment",
-        write: Write::Init {
-            ty: RefType::Func,
-            to: 0,
-            from: 2,
-            len: 2,
-        },
-        outcome: Err(TableError::InitOutOfBounds),
-        ..INITIALIZED
-    },
-    Step {
-        what: "another type",
-        write: Write::Init {
-            ty: RefType::Extern,
-            to: 9,
-            from: 0,
-            len: 1,
-        },
-        outcome: MISMATCH,
-        ..INITIALIZED
-    },
-];
-
-#[test]
-fn initializes_from_a_segment(rt: HostRuntime) {
-    compare_steps(&rt, rt.alloc(), metered(10), &INITIALIZATIONS);
-}
-
-const FREE: Step = Step {
-    what: "an initialization is free",
-    write: Write::Init {
-        ty: RefType::Func,
-        to: 5,
-        from: 3,
-        len: 0,
-    },
-    metered: true,
-    outcome: Ok(()),
-    left: 10,
-    elements: [1, 2, 3, 4, 5],
-};
-
-const DEAREST: Step = Step {
-    outcome: Err(TableError::OutOfFuel {
-        required_fuel: u64::MAX,
-    }),
-    ..FREE
-};
-
-static OF_NO_ELEMENT: [Step; 4] = [
-    FREE,
-    Step {
-        what: "a copy within",
-        write: Write::Within {
-            to: 5,
-            from: 0,
-            len: 0,
-        },
-        ..DEAREST
-    },
-    Step {
-        what: "a fill",
-        write: Write::Raw {
-            bits: 0,
-            to: 5,
-            len: 0,
-        },
-        ..DEAREST
-    },
-    Step {
-        what: "a copy",
-        write: Write::Copy {
-            to: 0,
-            from: 0,
-            len: 0,
-        },
-        ..DEAREST
-    },
-];
 
 #[test]
 fn charges_for_no_element(rt: HostRuntime) {
-    compare_steps(&rt, rt.alloc(), metered_at(0, 10), &OF_NO_ELEMENT);
+    let mut table = five_functions(&rt, rt.alloc());
+    let mut meter = metered_at(0, 10);
+    let segment = ElementSegment::new(rt.alloc(), RefType::Func, [RawRef::null()]);
+    let segment = segment.expect(&rt, "a segment");
+    let answers = [
+        table.init(segment.as_ref(), 5, 1, 0, Some(&mut meter)),
+        table.copy_within(5, 0, 0, Some(&mut meter)),
+    ];
+    let out_of_fuel = TableError::OutOfFuel {
+        required_fuel: u64::MAX,
+    };
+    let expected = [Ok(()), Err(out_of_fuel)];
+    same(&rt, "an initialization, a copy", answers, expected);
+    same(&rt, "the fuel", meter.get_fuel(), Ok(10));
 }

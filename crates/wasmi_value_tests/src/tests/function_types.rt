@@ -1,6 +1,6 @@
 //! Function types: how they are made, copied, compared and hashed, and what is refused.
 
-use super::{same, same_text};
+use super::same;
 use FuncTypeError::{TooManyFunctionParams, TooManyFunctionResults};
 use ValType::{ExternRef, F32, F64, I32, I64, V128};
 use std::alloc::Global;
@@ -147,75 +147,36 @@ fn read(alloc: Global, ends: (usize, usize)) -> (Result<FuncType, FuncTypeError>
 
 const ENDLESS: usize = usize::MAX;
 
-/// For the parameters and the results, the read that gives `None` and the number of reads.
-/// Then the refusal.
-static READS: [((usize, usize), (usize, usize), Option<FuncTypeError>); 7] = [
-    ((0, 0), (1, 1), None),
-    ((2, 3), (3, 4), None),
-    ((1_000, 1_000), (1_001, 1_001), None),
-    ((ENDLESS, 0), (1_001, 0), Some(TooManyFunctionParams)),
-    ((1_001, 1_001), (1_001, 0), Some(TooManyFunctionParams)),
+/// The reads that give `None`, how often each source is read, and the types that are taken.
+static READS: [((usize, usize), (usize, usize), Result<Lists, FuncTypeError>); 10] = [
+    ((0, 0), (1, 1), Ok((&[], &[]))),
+    ((0, 1), (1, 2), Ok((&[], &[I32]))),
+    ((2, 0), (3, 1), Ok((&[I32, I32], &[]))),
+    ((2, 3), (3, 4), Ok((&[I32, I32], &[I32, I32, I32]))),
+    ((12, 11), (13, 12), Ok((&[I32; 12], &[I32; 11]))),
+    (
+        (1_000, 1_000),
+        (1_001, 1_001),
+        Ok((&[I32; 1_000], &[I32; 1_000])),
+    ),
+    ((ENDLESS, 0), (1_001, 0), Err(TooManyFunctionParams)),
+    ((1_001, 1_001), (1_001, 0), Err(TooManyFunctionParams)),
     (
         (1_000, ENDLESS),
         (1_001, 1_001),
-        Some(TooManyFunctionResults),
+        Err(TooManyFunctionResults),
     ),
-    ((0, 1_001), (1, 1_001), Some(TooManyFunctionResults)),
+    ((0, 1_001), (1, 1_001), Err(TooManyFunctionResults)),
 ];
 
 #[test]
 fn reads_until_the_first_none(rt: HostRuntime) {
-    for &(ends, expected, refusal) in &READS {
+    for &(ends, expected, taken) in &READS {
         let (made, reads) = read(rt.alloc(), ends);
-        let (counts, error) = match made {
-            Ok(ty) => (
-                (usize::from(ty.len_params()), usize::from(ty.len_results())),
-                None,
-            ),
-            Err(error) => (ends, Some(error)),
+        let lists = match &made {
+            Ok(ty) => Ok(ty.params_results()),
+            Err(error) => Err(*error),
         };
-        let answer = (reads, counts, error);
-        same(
-            &rt,
-            "reads, counts, refusal",
-            answer,
-            (expected, ends, refusal),
-        );
-    }
-}
-
-/// The reads that give `None`, and the types that are taken.
-static TAKEN: [((usize, usize), Lists); 4] = [
-    ((0, 1), (&[], &[I32])),
-    ((2, 0), (&[I32, I32], &[])),
-    ((2, 3), (&[I32, I32], &[I32, I32, I32])),
-    ((12, 11), (&[I32; 12], &[I32; 11])),
-];
-
-#[test]
-fn types_after_the_first_none_are_not_taken(rt: HostRuntime) {
-    for &(ends, taken) in &TAKEN {
-        let (made, _) = read(rt.alloc(), ends);
-        let ty = made.expect(&rt, "a function type");
-        same(&rt, "types that are taken", ty.params_results(), taken);
-    }
-}
-
-static REFUSALS: [(FuncTypeError, &str); 3] = [
-    (
-        FuncTypeError::TooManyFunctionParams,
-        "encountered a function with too many parameters",
-    ),
-    (
-        FuncTypeError::TooManyFunctionResults,
-        "encountered a function with too many results",
-    ),
-    (FuncTypeError::OutOfMemory, "out of memory"),
-];
-
-#[test]
-fn refusals_have_their_texts(rt: HostRuntime) {
-    for (error, text) in &REFUSALS {
-        same_text(&rt, rt.alloc(), error, text);
+        same(&rt, "reads, types", (reads, lists), (expected, taken));
     }
 }

@@ -4,5 +4,5 @@ mod machine;
 mod script;
 mod store;
 #[allow(dead_code)]
-mod uses;
+pub(crate) mod uses;
 mod value;

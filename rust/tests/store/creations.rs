@@ -1,0 +1,148 @@
+//! Every way in which the creation of a memory can end, and what the creations of memories and
+//! tables share.
+use super::recorder::{COMPLAINT, Failure, Question, Recorder, same_record};
+use super::{memory_type, new_memory};
+use wasmi_core_proved::machine::{
+    Kind, LimiterError, Memory, MemoryError, RawRef, RefType, ResourceLimiterRef, Table, TableType,
+    TypedRawRef,
+};
+
+/// What is made or grows: a memory of pages of 64 KiB, or a table of functions with 64-bit indices.
+#[derive(Clone, Copy)]
+pub enum Subject {
+    /// Under 32-bit addresses.
+    Memory32,
+    /// Under 64-bit addresses.
+    Memory64,
+    /// Made of references of this type.
+    Table(RefType),
+}
+
+/// A creation under a limiter with this answer and this notice_answer: how it ends, and what the
+/// limiter was asked and told.
+#[derive(Clone, Copy)]
+pub struct Creation {
+    pub what: &'static str,
+    pub subject: Subject,
+    pub minimum: u64,
+    pub maximum: Option<u64>,
+    pub answer: Result<bool, LimiterError>,
+    pub notice_answer: Result<(), LimiterError>,
+    pub outcome: Result<u64, Failure>,
+    pub question: Option<Question>,
+    pub notice: Option<Failure>,
+}
+
+/// The size of what was made.
+pub fn memory_size(made: Result<Memory, MemoryError>) -> Result<u64, Failure> {
+    match made {
+        Ok(memory) => Ok(memory.size()),
+        Err(error) => Err(Failure::Memory(error)),
+    }
+}
+
+/// Makes a table without a maximum, and tells its size.
+fn make_table(minimum: u64, element: RefType, recorder: &mut Recorder) -> Result<u64, Failure> {
+    let ty = TableType::new64(RefType::Func, minimum, None);
+    let init = TypedRawRef::new(RawRef::from(7), element);
+    match Table::new(ty, init, &mut ResourceLimiterRef::from(recorder)) {
+        Ok(table) => Ok(table.size()),
+        Err(error) => Err(Failure::Table(error)),
+    }
+}
+
+/// Makes a memory, and tells its size.
+fn make_memory(row: &Creation, memory64: bool, recorder: &mut Recorder) -> Result<u64, Failure> {
+    let ty = memory_type(row.minimum, row.maximum, 16, memory64);
+    memory_size(new_memory(ty, recorder))
+}
+
+/// Makes what a row says, and compares.
+fn compare_creation(row: &Creation) {
+    let mut recorder = Recorder::new(row.answer, row.notice_answer);
+    let outcome = match row.subject {
+        Subject::Memory32 => make_memory(row, false, &mut recorder),
+        Subject::Memory64 => make_memory(row, true, &mut recorder),
+        Subject::Table(element) => make_table(row.minimum, element, &mut recorder),
+    };
+    assert_eq!(outcome, row.outcome, "{}", row.what);
+    same_record(row.what, &recorder, row.question, row.notice);
+}
+
+/// Makes what each row says, and compares.
+pub fn compare_creations(rows: &[Creation]) {
+    for row in rows {
+        compare_creation(row);
+    }
+}
+
+const DENIED: Failure = Failure::Memory(MemoryError::ResourceLimiterDeniedAllocation);
+
+const PERMITTED: Creation = Creation {
+    what: "a page",
+    minimum: 1,
+    maximum: Some(2),
+    subject: Subject::Memory32,
+    answer: Ok(true),
+    notice_answer: Ok(()),
+    outcome: Ok(1),
+    question: Some(Question {
+        kind: Kind::Bytes,
+        current: 0,
+        desired: 65536,
+        maximum: Some(131072),
+    }),
+    notice: None,
+};
+
+const WANTING: Creation = Creation {
+    what: "want of memory",
+    minimum: 1 << 47,
+    maximum: None,
+    subject: Subject::Memory64,
+    outcome: Err(Failure::Memory(MemoryError::OutOfSystemMemory)),
+    question: Some(Question {
+        kind: Kind::Bytes,
+        current: 0,
+        desired: 1 << 63,
+        maximum: None,
+    }),
+    notice: Some(Failure::Memory(MemoryError::OutOfSystemMemory)),
+    ..PERMITTED
+};
+
+static CREATIONS: [Creation; 7] = [
+    PERMITTED,
+    denied! { Creation, "the limiter says no", Ok(false), PERMITTED },
+    denied! { Creation, "the limiter answers an error", Err(COMPLAINT), PERMITTED },
+    Creation {
+        what: "a maximum of all bytes",
+        minimum: 0,
+        maximum: Some(1 << 48),
+        subject: Subject::Memory64,
+        outcome: Ok(0),
+        question: Some(Question {
+            kind: Kind::Bytes,
+            current: 0,
+            desired: 0,
+            maximum: Some(usize::MAX),
+        }),
+        ..PERMITTED
+    },
+    Creation {
+        what: "a minimum of all bytes",
+        minimum: 1 << 48,
+        maximum: None,
+        subject: Subject::Memory64,
+        outcome: Err(Failure::Memory(MemoryError::MinimumSizeOverflow)),
+        question: None,
+        ..PERMITTED
+    },
+    WANTING,
+    complained! { Creation, "want of memory", WANTING },
+];
+
+#[test]
+fn records_creations() {
+    compare_creations(&CREATIONS);
+}

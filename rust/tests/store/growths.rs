@@ -1,0 +1,202 @@
+//! Every way in which the growth of a memory can end, and what the growths of memories and tables
+//! share.
+use super::creations::Subject;
+use super::recorder::{COMPLAINT, Failure, Question, Recorder, same_record};
+use super::{ample_memory, func, grow, memory_type, metered, table_of};
+use wasmi_core_proved::machine::{
+    Fuel, Kind, LimiterError, MemoryError, RefType, ResourceLimiterRef, Table, TableType,
+};
+
+/// A growth of a memory of one page or of a table of one function, with so much fuel, under a
+/// limiter with this answer and this notice_answer: how it ends, what the limiter was asked and
+/// told, and the fuel that is left.
+#[derive(Clone, Copy)]
+pub struct Growth {
+    pub what: &'static str,
+    pub subject: Subject,
+    pub maximum: Option<u64>,
+    pub delta: u64,
+    pub fuel: u64,
+    pub answer: Result<bool, LimiterError>,
+    pub notice_answer: Result<(), LimiterError>,
+    pub outcome: Result<u64, Failure>,
+    pub question: Option<Question>,
+    pub notice: Option<Failure>,
+    pub left: u64,
+}
+
+/// What a growth ended with, and the size then.
+type Grown = (Result<u64, Failure>, u64);
+
+/// What the growth of a memory ended with.
+pub fn memory_outcome(grown: Result<u64, MemoryError>) -> Result<u64, Failure> {
+    match grown {
+        Ok(size) => Ok(size),
+        Err(error) => Err(Failure::Memory(error)),
+    }
+}
+
+/// Makes a memory of one page, and grows it.
+fn grow_memory(row: &Growth, memory64: bool, meter: &mut Fuel, recorder: &mut Recorder) -> Grown {
+    let ty = memory_type(1, row.maximum, 16, memory64);
+    let mut memory = ample_memory(ty);
+    let grown = grow(&mut memory, row.delta, Some(meter), recorder);
+    (memory_outcome(grown), memory.size())
+}
+
+/// A type of tables of functions with 64-bit indices.
+fn table_type(maximum: Option<u64>) -> TableType {
+    match maximum {
+        Some(maximum) if maximum >= 1 => TableType::new64(RefType::Func, 1, Some(maximum)),
+        _ => TableType::new64(RefType::Func, 1, None),
+    }
+}
+
+/// Grows a table by null references under a limiter.
+pub fn grow_raw(
+    table: &mut Table,
+    delta: u64,
+    fuel: Option<&mut Fuel>,
+    limiter: &mut Recorder,
+) -> Result<u64, Failure> {
+    let mut limiter = ResourceLimiterRef::from(limiter);
+    match table.grow_raw(delta, func(0).raw(), fuel, &mut limiter) {
+        Ok(size) => Ok(size),
+        Err(error) => Err(Failure::Table(error)),
+    }
+}
+
+/// Makes a table of one function, and grows it by null references.
+fn grow_table(row: &Growth, meter: &mut Fuel, recorder: &mut Recorder) -> Grown {
+    let mut table = table_of(table_type(row.maximum), func(1));
+    let outcome = grow_raw(&mut table, row.delta, Some(meter), recorder);
+    assert_eq!(table.get(0), Some(func(1)), "{}", row.what);
+    (outcome, table.size())
+}
+
+/// Makes and grows what a row says, and compares.
+fn compare_growth(row: &Growth) {
+    let mut meter = metered(row.fuel);
+    let mut recorder = Recorder::new(row.answer, row.notice_answer);
+    let (outcome, size) = match row.subject {
+        Subject::Memory32 => grow_memory(row, false, &mut meter, &mut recorder),
+        Subject::Memory64 => grow_memory(row, true, &mut meter, &mut recorder),
+        Subject::Table(_) => grow_table(row, &mut meter, &mut recorder),
+    };
+    let added = if row.outcome.is_ok() { row.delta } else { 0 };
+    let answer = (outcome, meter.get_fuel(), Some(size));
+    let expected = (row.outcome, Ok(row.left), 1u64.checked_add(added));
+    assert_eq!(answer, expected, "{}", row.what);
+    same_record(row.what, &recorder, row.question, row.notice);
+}
+
+/// Makes and grows what each row says, and compares.
+pub fn compare_growths(rows: &[Growth]) {
+    for row in rows {
+        compare_growth(row);
+    }
+}
+
+const DENIED: Failure = Failure::Memory(MemoryError::ResourceLimiterDeniedAllocation);
+
+const OUT_OF_FUEL: Failure = Failure::Memory(MemoryError::OutOfFuel {
+    required_fuel: 1024,
+});
+
+const PERMITTED: Growth = Growth {
+    what: "by a page",
+    maximum: Some(2),
+    subject: Subject::Memory32,
+    delta: 1,
+    fuel: 1024,
+    answer: Ok(true),
+    notice_answer: Ok(()),
+    outcome: Ok(1),
+    question: Some(Question {
+        kind: Kind::Bytes,
+        current: 65536,
+        desired: 131072,
+        maximum: Some(131072),
+    }),
+    notice: None,
+    left: 0,
+};
+
+const ABOVE_THE_MAXIMUM: Growth = Growth {
+    what: "above the maximum",
+    delta: 2,
+    outcome: Err(Failure::Memory(MemoryError::OutOfBoundsGrowth)),
+    question: None,
+    left: 1024,
+    ..PERMITTED
+};
+
+const WANT_OF_FUEL: Growth = Growth {
+    what: "want of fuel",
+    fuel: 1000,
+    outcome: Err(OUT_OF_FUEL),
+    notice: Some(OUT_OF_FUEL),
+    left: 1000,
+    ..PERMITTED
+};
+
+const WANT_OF_MEMORY: Growth = Growth {
+    what: "want of memory",
+    maximum: None,
+    subject: Subject::Memory64,
+    delta: (1 << 47) - 1,
+    fuel: u64::MAX,
+    outcome: Err(Failure::Memory(MemoryError::OutOfSystemMemory)),
+    question: Some(Question {
+        kind: Kind::Bytes,
+        current: 65536,
+        desired: 1 << 63,
+        maximum: None,
+    }),
+    notice: Some(Failure::Memory(MemoryError::OutOfSystemMemory)),
+    left: u64::MAX - ((1 << 57) - 1024),
+    ..PERMITTED
+};
+
+static GROWTHS: [Growth; 10] = [
+    Growth {
+        what: "by no page",
+        delta: 0,
+        fuel: 1000,
+        question: None,
+        left: 1000,
+        ..PERMITTED
+    },
+    PERMITTED,
+    ABOVE_THE_MAXIMUM,
+    Growth {
+        what: "above all numbers of pages",
+        maximum: None,
+        subject: Subject::Memory64,
+        delta: u64::MAX,
+        ..ABOVE_THE_MAXIMUM
+    },
+    Growth {
+        what: "the limiter says no",
+        answer: Ok(false),
+        outcome: Err(Failure::Memory(MemoryError::OutOfBoundsGrowth)),
+        left: 1024,
+        ..PERMITTED
+    },
+    Growth {
+        what: "the limiter answers an error",
+        answer: Err(COMPLAINT),
+        outcome: Err(DENIED),
+        left: 1024,
+        ..PERMITTED
+    },
+    WANT_OF_FUEL,
+    complained! { Growth, "want of fuel", WANT_OF_FUEL },
+    WANT_OF_MEMORY,
+    complained! { Growth, "want of memory", WANT_OF_MEMORY },
+];
+
+#[test]
+fn records_growths() {
+    compare_growths(&GROWTHS);
+}
