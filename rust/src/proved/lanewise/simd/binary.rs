@@ -3,7 +3,7 @@
 use crate::proved::lanes::{
     I8x16, I16x8, U8x16, U16x8, U32x4, clamped_i8, clamped_i16, on_vectors,
 };
-use crate::proved::lanewise::simd::{order, q15, words};
+use crate::proved::lanewise::simd::{order, q15, saturation, words};
 use crate::proved::raw::V128;
 
 /// The sums of the lanes, modulo 2 to the power 8.
@@ -199,7 +199,7 @@ pub fn i8x16_add_sat_s(lhs: V128, rhs: V128) -> V128 {
 /// [w8]: crate::specs::library#w8 "the widths of integers in bits"
 #[inline]
 pub fn i8x16_add_sat_u(lhs: V128, rhs: V128) -> V128 {
-    on_vectors::binary::<U8x16, _>(lhs, rhs, |x, y| x.saturating_add(y))
+    saturation::sums_u::<u8>(lhs, rhs)
 }
 
 /// The sums of the lanes, read signed and clamped to the signed range of 16 bits.
@@ -225,7 +225,7 @@ pub fn i16x8_add_sat_s(lhs: V128, rhs: V128) -> V128 {
 /// [w16]: crate::specs::library#w16 "the widths of integers in bits"
 #[inline]
 pub fn i16x8_add_sat_u(lhs: V128, rhs: V128) -> V128 {
-    on_vectors::binary::<U16x8, _>(lhs, rhs, |x, y| x.saturating_add(y))
+    saturation::sums_u::<u16>(lhs, rhs)
 }
 
 /// The differences of the lanes, read signed and clamped to the signed range of 8 bits.
@@ -251,7 +251,7 @@ pub fn i8x16_sub_sat_s(lhs: V128, rhs: V128) -> V128 {
 /// [w8]: crate::specs::library#w8 "the widths of integers in bits"
 #[inline]
 pub fn i8x16_sub_sat_u(lhs: V128, rhs: V128) -> V128 {
-    on_vectors::binary::<U8x16, _>(lhs, rhs, |x, y| x.saturating_sub(y))
+    saturation::differences_u::<u8>(lhs, rhs)
 }
 
 /// The differences of the lanes, read signed and clamped to the signed range of 16 bits.
@@ -277,7 +277,7 @@ pub fn i16x8_sub_sat_s(lhs: V128, rhs: V128) -> V128 {
 /// [w16]: crate::specs::library#w16 "the widths of integers in bits"
 #[inline]
 pub fn i16x8_sub_sat_u(lhs: V128, rhs: V128) -> V128 {
-    on_vectors::binary::<U16x8, _>(lhs, rhs, |x, y| x.saturating_sub(y))
+    saturation::differences_u::<u16>(lhs, rhs)
 }
 
 /// The products of the lanes as q15 numbers (signed, over 2 to the power 15), rounded and clamped
