@@ -4,5 +4,6 @@ pub mod MarkLemmas
 pub mod MeanLemmas
 pub mod OrderLemmas
 pub mod RoundingLemmas
+pub mod SaturationLemmas
 pub mod WordLemmas
 pub mod LaneWordLemmas

@@ -1,6 +1,6 @@
 -- The order of lanes, and what is chosen by it. Numbers of w bits, moved by half of their range, stand in the order of
 -- the signed numbers with their bits.
-use Rattle.std.proofs.Common.{ℕ, ℤ, suc, ◌+◌, ◌-◌, ◌*◌, ◌%◌, ◌^◌, ◌<◌, ◌≤◌, ◌≡◌, min, max, Bool, true, false, not, cond, if◌then◌else◌, ltb, leb, refl, sym, ap, ap₂, ◌∙◌, arith, inl, inr, pos, negsuc, unsigned_abs}
+use Rattle.std.proofs.Common.{ℕ, ℤ, suc, ◌+◌, ◌-◌, ◌%◌, ◌^◌, ◌<◌, ◌≤◌, ◌≡◌, min, max, Bool, true, false, not, cond, if◌then◌else◌, ltb, leb, refl, sym, ap, ap₂, ◌∙◌, arith, inl, inr, pos, negsuc, unsigned_abs}
 use Rattle.std.specs.Int.{int_min, int_max, int_rem_euclid}
 use Rattle.std.specs.Int.RustNames.{int_lt, int_le}
 use Rattle.std.proofs.Math.Nat.{mod-eq_of_lt, add-mod_right}

@@ -10,6 +10,7 @@ mod comparison;
 mod lane_access;
 mod order;
 mod q15;
+mod saturation;
 mod shuffle;
 mod unary;
 mod words;

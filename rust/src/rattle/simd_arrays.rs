@@ -178,6 +178,24 @@ impl<const N: usize> Mask<N> {
     }
 }
 
+macro_rules! saturating {
+    ($($lane:ident $n:literal)*) => { $(impl Simd<$lane, $n> {
+        /// The sums, at most the greatest number.
+        #[inline(always)]
+        pub fn saturating_add(self, other: Self) -> Self {
+            Simd(self.zip(other, $lane::saturating_add))
+        }
+
+        /// The differences, at least 0.
+        #[inline(always)]
+        pub fn saturating_sub(self, other: Self) -> Self {
+            Simd(self.zip(other, $lane::saturating_sub))
+        }
+    })* };
+}
+
+saturating!(u8 16 u16 8);
+
 impl Simd<u8, 16> {
     /// The lanes at the indices, 0 where an index is past the end.
     #[inline(always)]

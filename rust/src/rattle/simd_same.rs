@@ -29,6 +29,8 @@ macro_rules! results {
         let (x, y, n) = (u8x16::from_array($x), u8x16::from_array($y), $n);
         let mut all: Vec<[u8; 16]> = vec![(x + y).to_array(), (x - y).to_array(), (x & y).to_array(), (x ^ y).to_array()];
         all.push(x.simd_min(y).to_array());
+        all.push(x.saturating_add(y).to_array());
+        all.push(x.saturating_sub(y).to_array());
         all.push(x.simd_eq(y).select(x, y).to_array());
         all.push(x.simd_lt(y).select(x, y).to_array());
         all.push(x.swizzle_dyn_within::<16>(y & u8x16::splat(0x8f)).to_array());
@@ -60,6 +62,8 @@ macro_rules! results {
         all.push(x.extract::<0, 8>().cast::<u16>().to_le_bytes().to_array());
         all.push(x.extract::<8, 8>().cast::<u16>().to_le_bytes().to_array());
         let (a, b) = (u16x8::from_le_bytes(x), u16x8::from_le_bytes(y));
+        all.push(a.saturating_add(b).to_le_bytes().to_array());
+        all.push(a.saturating_sub(b).to_le_bytes().to_array());
         all.push(a.extract::<0, 4>().cast::<u32>().to_le_bytes().to_array());
         all.push(a.extract::<4, 4>().cast::<u32>().to_le_bytes().to_array());
         all.push((((a.cast::<u32>() ^ u32x8::splat(0x8000)) - u32x8::splat(0x8000)) * b.cast::<u32>() >> u32x8::splat(16)).cast::<u16>().to_le_bytes().to_array());

@@ -23,7 +23,8 @@ macro_rules! instructions {
 instructions! {
     _mm_add_epi8(a, b); _mm_add_epi16(a, b); _mm_add_epi32(a, b); _mm_add_epi64(a, b);
     _mm_sub_epi8(a, b); _mm_sub_epi16(a, b); _mm_sub_epi32(a, b); _mm_sub_epi64(a, b);
-    _mm_mullo_epi16(a, b); _mm_mul_epu32(a, b); _mm_min_epu8(a, b); _mm_packs_epi32(a, b);
+    _mm_mullo_epi16(a, b); _mm_min_epu8(a, b); _mm_packs_epi32(a, b);
+    _mm_adds_epu8(a, b); _mm_adds_epu16(a, b); _mm_subs_epu8(a, b); _mm_subs_epu16(a, b);
     _mm_and_si128(a, b); _mm_or_si128(a, b); _mm_xor_si128(a, b); _mm_andnot_si128(a, b);
     _mm_cmpeq_epi8(a, b); _mm_cmpeq_epi16(a, b); _mm_cmpeq_epi32(a, b);
     _mm_cmplt_epi8(a, b); _mm_cmplt_epi16(a, b); _mm_cmplt_epi32(a, b);
@@ -248,6 +249,28 @@ compared! {
     u32x4 _mm_cmpeq_epi32 _mm_cmplt_epi32 same(0x8000_0000_8000_0000);
 }
 
+/// Lanes whose sums and differences end where their range ends.
+macro_rules! saturating {
+    ($($name:ident $add:ident $sub:ident;)*) => { $(impl $name {
+        /// The sums, at most the greatest number.
+        #[inline(always)]
+        pub fn saturating_add(self, other: Self) -> Self {
+            Self($add(self.0, other.0))
+        }
+
+        /// The differences, at least 0.
+        #[inline(always)]
+        pub fn saturating_sub(self, other: Self) -> Self {
+            Self($sub(self.0, other.0))
+        }
+    })* };
+}
+
+saturating! {
+    u8x16 _mm_adds_epu8 _mm_subs_epu8;
+    u16x8 _mm_adds_epu16 _mm_subs_epu16;
+}
+
 impl u64x2 {
     /// Which lanes are equal.
     #[inline(always)]
@@ -276,12 +299,15 @@ impl u8x16 {
         return Self(_mm_shuffle_epi8(self.0, indices.0));
         #[cfg(not(target_feature = "ssse3"))]
         {
+            // Words are put together from bytes, without a branch for each index.
             let table = self.to_array();
-            Self::from_array(
-                indices
-                    .to_array()
-                    .map(|i| if i < 16 { table[usize::from(i)] } else { 0 }),
-            )
+            let inside = Self(_mm_and_si128(indices.0, same(0x0f0f_0f0f_0f0f_0f0f))).to_array();
+            let word = |start: usize| {
+                let bytes = &inside[start..start + 8];
+                bytes.iter().rev().fold(0, |word, i| word << 8 | u64::from(table[usize::from(*i)]))
+            };
+            let picked = of_words(word(0), word(8));
+            Self(_mm_andnot_si128(_mm_cmplt_epi8(indices.0, same(0)), picked))
         }
     }
 }
@@ -301,16 +327,8 @@ impl Mul for u32x4 {
         #[cfg(target_feature = "sse4.1")]
         return Self(_mm_mullo_epi32(self.0, other.0));
         #[cfg(not(target_feature = "sse4.1"))]
-        {
-            let even = _mm_mul_epu32(self.0, other.0);
-            let odd = _mm_mul_epu32(
-                _mm_srl_epi64(self.0, of_words(32, 0)),
-                _mm_srl_epi64(other.0, of_words(32, 0)),
-            );
-            // The low halves of the four products, in the order of their lanes.
-            let (a, b) = (_mm_unpacklo_epi32(even, odd), _mm_unpackhi_epi32(even, odd));
-            Self(_mm_unpacklo_epi64(a, b))
-        }
+        // By lanes, since LLVM then knows a product of two numbers of 16 bits.
+        self.zip(other, u32::wrapping_mul)
     }
 }
 

@@ -4,7 +4,7 @@ ghost use Rattle.std.specs.Prelude.{◌≡◌, ◌*◌, ◌%◌, ◌^◌, ◌+�
 ghost use Rattle.wasmi_types.specs.Wrapping.{w8, w16, w32, w64};
 ghost use Rattle.wasmi_lanewise.specs.VectorTable as vector;
 
-use crate::simd::{order, q15, words};
+use crate::simd::{order, q15, saturation, words};
 use wasmi_lanes::{I8x16, I16x8, U8x16, U16x8, U32x4, clamped_i8, clamped_i16, on_vectors};
 use wasmi_raw::V128;
 
@@ -116,7 +116,7 @@ pub fn i8x16_add_sat_s(lhs: V128, rhs: V128) -> V128
 pub fn i8x16_add_sat_u(lhs: V128, rhs: V128) -> V128
     ensures { result ≡ vector.add_sat_u w8 lhs rhs }
 {
-    on_vectors::binary::<U8x16, _>(lhs, rhs, |x, y| x.saturating_add(y))
+    saturation::sums_u::<u8>(lhs, rhs)
 }
 
 /// The sums of the lanes, read signed and clamped to the signed range of 16 bits.
@@ -130,7 +130,7 @@ pub fn i16x8_add_sat_s(lhs: V128, rhs: V128) -> V128
 pub fn i16x8_add_sat_u(lhs: V128, rhs: V128) -> V128
     ensures { result ≡ vector.add_sat_u w16 lhs rhs }
 {
-    on_vectors::binary::<U16x8, _>(lhs, rhs, |x, y| x.saturating_add(y))
+    saturation::sums_u::<u16>(lhs, rhs)
 }
 
 /// The differences of the lanes, read signed and clamped to the signed range of 8 bits.
@@ -144,7 +144,7 @@ pub fn i8x16_sub_sat_s(lhs: V128, rhs: V128) -> V128
 pub fn i8x16_sub_sat_u(lhs: V128, rhs: V128) -> V128
     ensures { result ≡ vector.sub_sat_u w8 lhs rhs }
 {
-    on_vectors::binary::<U8x16, _>(lhs, rhs, |x, y| x.saturating_sub(y))
+    saturation::differences_u::<u8>(lhs, rhs)
 }
 
 /// The differences of the lanes, read signed and clamped to the signed range of 16 bits.
@@ -158,7 +158,7 @@ pub fn i16x8_sub_sat_s(lhs: V128, rhs: V128) -> V128
 pub fn i16x8_sub_sat_u(lhs: V128, rhs: V128) -> V128
     ensures { result ≡ vector.sub_sat_u w16 lhs rhs }
 {
-    on_vectors::binary::<U16x8, _>(lhs, rhs, |x, y| x.saturating_sub(y))
+    saturation::differences_u::<u16>(lhs, rhs)
 }
 
 /// The products of the lanes as q15 numbers (signed, over 2 to the power 15), rounded and clamped
