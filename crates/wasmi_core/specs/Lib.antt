@@ -35,9 +35,7 @@ pub use Rattle.wasmi_raw.specs.RawVal
 pub use Rattle.wasmi_raw.specs.Vector as RawVector
 pub use Rattle.wasmi_typed.specs.ShiftAmount
 pub use Rattle.wasmi_typed.specs.Global
-pub use Rattle.wasmi_typed.specs.GlobalError
 pub use Rattle.wasmi_typed.specs.TypedRef
-pub use Rattle.wasmi_typed.specs.NotAReference
 pub use Rattle.wasmi_access.specs.LoadStore
 pub use Rattle.wasmi_scalar.specs.Numerics
 pub use Rattle.wasmi_scalar.specs.Wide

@@ -6,7 +6,7 @@ ghost use Rattle.wasmi_script.specs.Fronts.{AddsToFront};
 ghost use Rattle.wasmi_script.specs.Texts.{head_text, kind_text};
 ghost use Rattle.wasmi_script.specs.Wording.{wording_text};
 ghost use Rattle.wasmi_store.specs.SegmentError.{segment_error_text};
-ghost use Rattle.wasmi_typed.specs.GlobalError.{global_error_text};
+ghost use Rattle.wasmi_typed.specs.Global.{global_error_text};
 ghost use Rattle.wasmi_operands.specs.TypeWords.{reference_word};
 
 use crate::front::{put, put_optional};

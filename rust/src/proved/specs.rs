@@ -49,12 +49,8 @@ pub mod raw {
 pub mod typed {
     #[doc = include_str!("specs/typed/Global.md")]
     pub mod Global {}
-    #[doc = include_str!("specs/typed/GlobalError.md")]
-    pub mod GlobalError {}
     #[doc = include_str!("specs/typed/Lending.md")]
     pub mod Lending {}
-    #[doc = include_str!("specs/typed/NotAReference.md")]
-    pub mod NotAReference {}
     #[doc = include_str!("specs/typed/ShiftAmount.md")]
     pub mod ShiftAmount {}
     #[doc = include_str!("specs/typed/TypedRef.md")]

@@ -22,7 +22,7 @@ pub enum GlobalError {
 /// <span></span><pre><code>output = λ error. [Some] ([global_error_text] error)</code></pre>
 ///
 /// [Some]: crate::specs::library#Some "the value x, of an \`Option\`"
-/// [global_error_text]: crate::specs::typed::GlobalError#global_error_text "the text of an error of a global variable"
+/// [global_error_text]: crate::specs::typed::Global#global_error_text "the text of an error of a global variable"
 impl fmt::Display for GlobalError {
     #[inline]
     fn fmt(&self, f: &mut fmt::Formatter<'_>) -> fmt::Result {

@@ -86,7 +86,7 @@ pub struct NotAReference;
 /// <span></span><pre><code>output = λ \_. [Some] [not_a_reference_text]</code></pre>
 ///
 /// [Some]: crate::specs::library#Some "the value x, of an \`Option\`"
-/// [not_a_reference_text]: crate::specs::typed::NotAReference#not_a_reference_text "the text of the error where a value is no reference"
+/// [not_a_reference_text]: crate::specs::typed::TypedRef#not_a_reference_text "the text of the error where a value is no reference"
 impl fmt::Display for NotAReference {
     #[inline]
     fn fmt(&self, f: &mut fmt::Formatter<'_>) -> fmt::Result {
