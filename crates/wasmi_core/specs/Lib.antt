@@ -67,7 +67,6 @@ pub use Rattle.wasmi_meter.specs.Quota
 pub use Rattle.wasmi_meter.specs.AnswerList
 pub use Rattle.wasmi_meter.specs.AnyLimiter
 pub use Rattle.wasmi_meter.specs.Texts
-pub use Rattle.wasmi_meter.specs.Errors
 pub use Rattle.wasmi_store.specs.Limits
 pub use Rattle.wasmi_store.specs.Growth
 pub use Rattle.wasmi_store.specs.Buffer

@@ -143,12 +143,8 @@ pub mod meter {
     pub mod CappedProofs {}
     #[doc = include_str!("specs/meter/Costs.md")]
     pub mod Costs {}
-    #[doc = include_str!("specs/meter/Errors.md")]
-    pub mod Errors {}
     #[doc = include_str!("specs/meter/Holdings.md")]
     pub mod Holdings {}
-    #[doc = include_str!("specs/meter/Lending.md")]
-    pub mod Lending {}
     #[doc = include_str!("specs/meter/Limiter.md")]
     pub mod Limiter {}
     #[doc = include_str!("specs/meter/LimiterRef.md")]

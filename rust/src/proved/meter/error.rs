@@ -188,7 +188,7 @@ impl From<LimiterError> for TableError {
 ///
 /// <span></span><pre><code>try_from_gives = [IsOfFuel]</code></pre>
 ///
-/// [IsOfFuel]: crate::specs::meter::Errors#IsOfFuel "too little fuel is an error of a table; that a meter is off is none, and is handed back"
+/// [IsOfFuel]: crate::specs::meter::Meter#IsOfFuel "too little fuel is an error of a table; that a meter is off is none, and is handed back"
 impl TableError {
     // The error of a meter that is off is handed back. Upstream panics there.
     #[inline]

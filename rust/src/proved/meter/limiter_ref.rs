@@ -134,6 +134,31 @@ impl<R> LimiterRef<R> {
         limiter
     }
 
+    /// Ends the loan of a limiter that is there, as `into_resource_limiter` does.
+    ///
+    /// Own: functions that borrow a limiter for one call end its loan by it.
+    ///
+    /// # Panics
+    ///
+    /// Panics if the reference lends no limiter.
+    ///
+    /// # Contract
+    ///
+    /// <span></span><pre><code>requires lent: [IsSome] ([loan] self)
+    /// ensures value: [loan] self ≡ [Some] result</code></pre>
+    ///
+    /// [IsSome]: crate::specs::library#IsSome "there is a value"
+    /// [loan]: crate::specs::meter::LimiterRef#loan "what is lent, if anything"
+    /// [Some]: crate::specs::library#Some "the value x, of an \`Option\`"
+    #[inline]
+    pub fn into_limiter(self) -> R {
+        assert!(self.limiter.is_some(), "the reference lends no limiter");
+        match self.into_resource_limiter() {
+            Some(limiter) => limiter,
+            None => unreachable!(),
+        }
+    }
+
     /// The limiter, if there is one.
     ///
     /// # Contract
@@ -143,7 +168,7 @@ impl<R> LimiterRef<R> {
     /// ensures value: [option_copied_mut] result ≡ [shown_of] [R.Lender].shown ([loan] self.old)</code></pre>
     ///
     /// [sem]: crate::specs::library#sem "the fixed form of a clause on a loan"
-    /// [LendsLimiter]: crate::specs::meter::Lending#LendsLimiter "r lends the limiter out of s, and s ends with the last value that was written through it"
+    /// [LendsLimiter]: crate::specs::meter::LimiterRef#LendsLimiter "r lends the limiter out of s, and s ends with the last value that was written through it"
     /// [R.row]: crate::specs::library#row "a type, in a clause on a loan"
     /// [R.Lent]: trait@Lender#contract
     /// [R.Lender]: trait@Lender#contract

@@ -1,10 +1,9 @@
 //! A limiter with a cap on the bytes of memories and one on the elements of tables.
 
 use crate::proved::meter::amounts::Amounts;
-use crate::proved::meter::error::LimiterError;
+use crate::proved::meter::capped::CappedLimiter;
 use crate::proved::meter::holdings::Holdings;
-use crate::proved::meter::limiter::{Kind, LimiterByKind};
-use crate::proved::meter::reserving::Reserving;
+use crate::proved::meter::limiter::Kind;
 
 /// A limiter that permits what stays within two caps, and denies the rest. It counts each
 /// difference that it permitted. At a notice it takes back the last one if that is of the same
@@ -120,61 +119,26 @@ impl Quota {
     pub fn held_elements(&self) -> u64 {
         self.holdings.held().elements
     }
+}
 
-    /// Takes `difference` more of a kind, if what is held of it stays within the cap.
-    ///
-    /// # Contract
-    ///
-    /// <span></span><pre><code>ensures: [TakesMore] [capped_quota] self.old kind difference result self.new</code></pre>
-    ///
-    /// [TakesMore]: crate::specs::meter::Capped#TakesMore "so many more of a kind are taken, or not, and all but the holdings stays"
-    /// [capped_quota]: crate::specs::meter::Quota#capped_quota "quotas as limiters with caps"
+/// # Contract
+///
+/// <span></span><pre><code>capped = [capped_quota]</code></pre>
+///
+/// [capped_quota]: crate::specs::meter::Quota#capped_quota "quotas as limiters with caps"
+impl CappedLimiter for Quota {
+    #[inline]
+    fn holdings(&self) -> Holdings {
+        self.holdings
+    }
+
     #[inline]
     fn take(&mut self, kind: Kind, difference: u64) -> bool {
         self.holdings.take(kind, difference, 0, self.caps.of(kind))
     }
-}
-
-/// # Contract
-///
-/// <span></span><pre><code>kind_rules = [quota_rules]</code></pre>
-///
-/// [quota_rules]: crate::specs::meter::Quota#quota_rules "the rules of a quota"
-impl LimiterByKind for Quota {
-    #[inline]
-    fn growing(
-        &mut self,
-        kind: Kind,
-        current: usize,
-        desired: usize,
-    ) -> Result<bool, LimiterError> {
-        assert!(
-            current <= desired,
-            "the desired size is below the current one"
-        );
-        Ok(self.take(kind, (desired - current) as u64))
-    }
 
     #[inline]
-    fn grow_failed(&mut self, kind: Kind) -> Result<(), LimiterError> {
+    fn give_back(&mut self, kind: Kind) {
         self.holdings.give_back(kind);
-        Ok(())
-    }
-}
-
-/// # Contract
-///
-/// <span></span><pre><code>holdings = [holdings]</code></pre>
-///
-/// [holdings]: crate::specs::meter::Quota#holdings "what a quota holds"
-impl Reserving for Quota {
-    #[inline]
-    fn held_bytes(&self) -> u64 {
-        self.holdings.held().bytes
-    }
-
-    #[inline]
-    fn held_elements(&self) -> u64 {
-        self.holdings.held().elements
     }
 }
