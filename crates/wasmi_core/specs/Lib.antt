@@ -74,7 +74,6 @@ pub use Rattle.wasmi_store.specs.MemoryType
 pub use Rattle.wasmi_store.specs.Memory
 pub use Rattle.wasmi_store.specs.TableType
 pub use Rattle.wasmi_store.specs.Segment
-pub use Rattle.wasmi_store.specs.SegmentError
 pub use Rattle.wasmi_store.specs.Table
 pub use Rattle.wasmi_meter.specs.declared.limiter.Kind.TheVariants as Kinds
 pub use Rattle.wasmi_meter.specs.declared.error.MemoryError.TheVariants as MemoryErrors

@@ -5,7 +5,7 @@ use Rattle.wasmi_types.specs.Trap.{code_message}
 use Rattle.wasmi_meter.specs.Texts.{fuel_error_text, memory_error_text, table_error_text}
 use Rattle.wasmi_typed.specs.Global.{global_error_text}
 use Rattle.wasmi_typed.specs.declared.typed_ref.TypedRawRef.{TypedRawRef}
-use Rattle.wasmi_store.specs.SegmentError.{segment_error_text}
+use Rattle.wasmi_store.specs.Segment.{segment_error_text}
 use Rattle.wasmi_core.specs.declared.calls.Call.{Call}
 use Rattle.wasmi_core.specs.declared.calls.Call.TheVariants.{NewMemory, NewLentMemory, NewTable, NewSegment, NewGlobal}
 use Rattle.wasmi_core.specs.declared.calls.Reply.{Reply}

@@ -167,8 +167,6 @@ pub mod store {
     pub mod Front {}
     #[doc = include_str!("specs/store/Growth.md")]
     pub mod Growth {}
-    #[doc = include_str!("specs/store/Lending.md")]
-    pub mod Lending {}
     #[doc = include_str!("specs/store/Limits.md")]
     pub mod Limits {}
     #[doc = include_str!("specs/store/Memory.md")]
@@ -177,8 +175,6 @@ pub mod store {
     pub mod MemoryType {}
     #[doc = include_str!("specs/store/Segment.md")]
     pub mod Segment {}
-    #[doc = include_str!("specs/store/SegmentError.md")]
-    pub mod SegmentError {}
     #[doc = include_str!("specs/store/Storage.md")]
     pub mod Storage {}
     #[doc = include_str!("specs/store/Table.md")]

@@ -9,7 +9,7 @@ use crate::proved::meter::{Fuel, MemoryError, ResourceLimiter, ResourceLimiterRe
 use crate::proved::store::bulk::{copy_bytes, copy_bytes_within, fill_bytes};
 use crate::proved::store::growth::{MEMORY_DENIED as DENIED, decide_growth, permitted_minimum};
 use crate::proved::store::optional_meter::with_meter;
-use crate::proved::store::range::{read_bytes, write_range};
+use crate::proved::store::range::{read_bytes, write_bytes};
 pub use buffer::{Buffer, ByteBuffer};
 pub use region::Region;
 pub use ty::{MemoryType, MemoryTypeBuilder};
@@ -129,9 +129,7 @@ impl<'r> LinearMemory<&'r mut [u8]> {
     ) -> Result<Memory<'r>, MemoryError> {
         let mut lent = ResourceLimiterRef::from(limiter);
         let made = Memory::new(ty, &mut lent);
-        let Some(_limiter) = lent.into_resource_limiter() else {
-            unreachable!()
-        };
+        let _limiter = lent.into_limiter();
         made
     }
 
@@ -156,9 +154,7 @@ impl<'r> LinearMemory<&'r mut [u8]> {
     ) -> Result<Memory<'r>, MemoryError> {
         let mut lent = ResourceLimiterRef::from(limiter);
         let made = Memory::new_static(ty, &mut lent, region);
-        let Some(_limiter) = lent.into_resource_limiter() else {
-            unreachable!()
-        };
+        let _limiter = lent.into_limiter();
         made
     }
 }
@@ -374,9 +370,7 @@ impl<R: Region> LinearMemory<R> {
     ) -> Result<u64, MemoryError> {
         let mut lent = ResourceLimiterRef::from(limiter);
         let grown = self.grow_metered(additional, fuel, &mut lent);
-        let Some(_limiter) = lent.into_resource_limiter() else {
-            unreachable!()
-        };
+        let _limiter = lent.into_limiter();
         grown
     }
 
@@ -414,12 +408,7 @@ impl<R: Region> LinearMemory<R> {
     /// [`OutOfBoundsAccess`]: crate::proved::meter::MemoryError::OutOfBoundsAccess
     #[inline]
     pub fn write(&mut self, offset: usize, buffer: &[u8]) -> Result<(), MemoryError> {
-        let size = self.buffer.len();
-        if size < offset || size - offset < buffer.len() {
-            return Err(MemoryError::OutOfBoundsAccess);
-        }
-        write_range(self.buffer.data_mut(), offset, buffer);
-        Ok(())
+        write_bytes(self.buffer.data_mut(), offset, buffer)
     }
 
     /// Fills `len` bytes from `dst` on with a value.

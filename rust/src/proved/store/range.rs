@@ -39,11 +39,39 @@ pub fn lies_within<T>(items: &[T], index: u64, len: u64) -> bool {
 /// [`OutOfBoundsAccess`]: crate::proved::meter::MemoryError::OutOfBoundsAccess
 #[inline]
 pub fn read_bytes(bytes: &[u8], offset: usize, buffer: &mut [u8]) -> Result<(), MemoryError> {
-    if bytes.len() < offset || bytes.len() - offset < buffer.len() {
+    if !lies_within(bytes, offset as u64, buffer.len() as u64) {
         return Err(MemoryError::OutOfBoundsAccess);
     }
     let end = offset + buffer.len();
     buffer.copy_from_slice(&bytes[offset..end]);
+    Ok(())
+}
+
+/// Writes bytes over those from an offset on. The error is [`OutOfBoundsAccess`] if they would end
+/// past the bytes; then nothing is written.
+///
+/// # Contract
+///
+/// <span></span><pre><code>ensures ok: [OnOk] result ([overwrite] bytes.old offset buffer.now ≡ [Some] bytes.new)
+/// ensures err: [IfErr] result
+/// &#32;&#32;&#32;&#32;(λ error. (error ≡ [MemoryError.OutOfBoundsAccess])
+/// &#32;&#32;&#32;&#32;× ([overwrite] bytes.old offset buffer.now ≡ [None]) × (bytes.new ≡ bytes.old))
+/// ensures len: [length] bytes.new ≡ [length] bytes.old</code></pre>
+///
+/// [OnOk]: crate::specs::library#OnOk "P, if r is a value"
+/// [overwrite]: crate::specs::types::Access#overwrite "xs with ys at a, or none where the list ends before them"
+/// [Some]: crate::specs::library#Some "the value x, of an \`Option\`"
+/// [IfErr]: crate::specs::library#IfErr "P of the error, if r is an error"
+/// [MemoryError.OutOfBoundsAccess]: crate::proved::meter::MemoryError::OutOfBoundsAccess
+/// [None]: crate::specs::library#None "no value, of an \`Option\`"
+/// [length]: crate::specs::library#length "the number of elements of a list"
+/// [`OutOfBoundsAccess`]: crate::proved::meter::MemoryError::OutOfBoundsAccess
+#[inline]
+pub fn write_bytes(bytes: &mut [u8], offset: usize, buffer: &[u8]) -> Result<(), MemoryError> {
+    if !lies_within(bytes, offset as u64, buffer.len() as u64) {
+        return Err(MemoryError::OutOfBoundsAccess);
+    }
+    write_range(bytes, offset, buffer);
     Ok(())
 }
 

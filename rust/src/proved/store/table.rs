@@ -98,9 +98,7 @@ impl Table {
     ) -> Result<Self, TableError> {
         let mut lent = ResourceLimiterRef::from(limiter);
         let made = Table::new(ty, init, &mut lent);
-        let Some(_limiter) = lent.into_resource_limiter() else {
-            unreachable!()
-        };
+        let _limiter = lent.into_limiter();
         made
     }
 
@@ -244,9 +242,7 @@ impl Table {
     ) -> Result<u64, TableError> {
         let mut lent = ResourceLimiterRef::from(limiter);
         let grown = self.grow_metered(delta, init, fuel, &mut lent);
-        let Some(_limiter) = lent.into_resource_limiter() else {
-            unreachable!()
-        };
+        let _limiter = lent.into_limiter();
         grown
     }
 
@@ -363,9 +359,7 @@ impl Table {
     ) -> Result<u64, TableError> {
         let mut lent = ResourceLimiterRef::from(limiter);
         let grown = self.grow_raw_metered(delta, init, fuel, &mut lent);
-        let Some(_limiter) = lent.into_resource_limiter() else {
-            unreachable!()
-        };
+        let _limiter = lent.into_limiter();
         grown
     }
 

@@ -53,7 +53,7 @@ pub trait Region: sealed::Sealed {
 /// <span></span><pre><code>bytes = λ r. r.now
 /// refilled = [region_refilled]</code></pre>
 ///
-/// [region_refilled]: crate::specs::store::Lending#region_refilled "the reference to a region whose front was written over"
+/// [region_refilled]: crate::specs::store::Front#region_refilled "the reference to a region whose front was written over"
 impl<'r> Region for &'r mut [u8] {
     #[inline]
     fn whole(&self) -> &[u8] {

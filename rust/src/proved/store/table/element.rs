@@ -21,7 +21,7 @@ pub enum SegmentError {
 /// <span></span><pre><code>output = λ error. [Some] ([segment_error_text] error)</code></pre>
 ///
 /// [Some]: crate::specs::library#Some "the value x, of an \`Option\`"
-/// [segment_error_text]: crate::specs::store::SegmentError#segment_error_text "the text of an error of an element segment"
+/// [segment_error_text]: crate::specs::store::Segment#segment_error_text "the text of an error of an element segment"
 impl fmt::Display for SegmentError {
     #[inline]
     fn fmt(&self, f: &mut fmt::Formatter<'_>) -> fmt::Result {
