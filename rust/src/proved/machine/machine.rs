@@ -197,7 +197,7 @@ impl<'r> Machine<'r> {
         offset: u64,
         value: RawVal,
     ) -> Reply {
-        self.store.store_item(op, memory, ptr, offset, value)
+        self.store.memories.store(op, memory, ptr, offset, value)
     }
 
     /// The table of an index, if there is one that wasn't dropped.

@@ -5,6 +5,7 @@ use crate::proved::machine::slots::Slots;
 use crate::proved::meter::{Fuel, MemoryError, ResourceLimiter, ResourceLimiterRef};
 use crate::proved::ops::{LoadOp, StoreLaneOp, StoreOp};
 use crate::proved::raw::{RawVal, V128};
+use crate::proved::store::range::lies_within;
 use crate::proved::store::{Memory, MemoryType};
 use crate::proved::types::TrapCode;
 use crate::proved::vector_access::simd::v128_store;
@@ -281,7 +282,7 @@ fn stored(answer: Result<(), TrapCode>) -> Reply {
 /// [at]: crate::specs::types::Access#at "the items a to a + n - 1, or none where the list ends before them"
 #[inline(always)]
 fn read_bytes(memory: &[u8], offset: usize, len: usize) -> Reply {
-    if memory.len() < offset || memory.len() - offset < len {
+    if !lies_within(memory, offset as u64, len as u64) {
         return Reply::Memory(MemoryError::OutOfBoundsAccess);
     }
     match memory[offset..][..len].try_to_vec() {

@@ -94,9 +94,7 @@ impl<'r> Machine<'r> {
     ) -> Reply {
         let mut lent = ResourceLimiterRef::from(limiter);
         let reply = self.grow_memory(memory, pages, &mut lent);
-        let Some(_limiter) = lent.into_resource_limiter() else {
-            unreachable!()
-        };
+        let _limiter = lent.into_limiter();
         reply
     }
 
@@ -121,9 +119,7 @@ impl<'r> Machine<'r> {
     pub fn step_lending<L: ResourceLimiter>(&mut self, call: &Call, limiter: &mut L) -> Reply {
         let mut lent = ResourceLimiterRef::from(limiter);
         let reply = self.step(call, &mut lent);
-        let Some(_limiter) = lent.into_resource_limiter() else {
-            unreachable!()
-        };
+        let _limiter = lent.into_limiter();
         reply
     }
 }
@@ -193,9 +189,7 @@ pub fn run_lending<L: ResourceLimiter>(
 ) -> Result<Vec<Reply>, AllocError> {
     let mut lent = ResourceLimiterRef::from(limiter);
     let replies = run(machine, calls, &mut lent);
-    let Some(_limiter) = lent.into_resource_limiter() else {
-        unreachable!()
-    };
+    let _limiter = lent.into_limiter();
     replies
 }
 

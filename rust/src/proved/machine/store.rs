@@ -8,8 +8,6 @@ use crate::proved::machine::values::{
     create_global, create_segment, drop_items, get_global, set_global, value_at,
 };
 use crate::proved::meter::{Fuel, ResourceLimiter, ResourceLimiterRef};
-use crate::proved::ops::StoreOp;
-use crate::proved::raw::RawVal;
 use crate::proved::store::{ElementSegment, ElementSegmentRef, Memory, Table};
 use crate::proved::typed::Global;
 use crate::rattle::Vec;
@@ -69,30 +67,8 @@ impl<'r> Store<'r> {
         self.fuel.get_fuel().map_or_else(Reply::Fuel, Reply::Number)
     }
 
-    /// Stores an item to a memory.
-    ///
-    /// # Contract
-    ///
-    /// <span></span><pre><code>ensures memories: [StoresMemoryAt] memory (ptr + offset) ([stored_bytes] op value)
-    /// &#32;&#32;&#32;&#32;self.old.memories result self.new.memories
-    /// ensures rest: self.new ≡ [with_memories] self.old self.new.memories</code></pre>
-    ///
-    /// [StoresMemoryAt]: crate::specs::machine::MemoryEffects#StoresMemoryAt "the memory of an index has the stored bytes at the address, or the store traps"
-    /// [stored_bytes]: crate::specs::ops::ScalarAccessOps#stored_bytes "the bytes that a store writes: the low ones of the value"
-    /// [with_memories]: crate::specs::machine::State#with_memories "the state with other memories"
-    #[inline(always)]
-    pub(crate) fn store_item(
-        &mut self,
-        op: StoreOp,
-        memory: usize,
-        ptr: u64,
-        offset: u64,
-        value: RawVal,
-    ) -> Reply {
-        self.memories.store(op, memory, ptr, offset, value)
-    }
-
-    /// Grows a memory by so many pages.
+    /// Grows a memory by so many pages. A function of the store, since the prover covers no call
+    /// that borrows two fields of a field.
     ///
     /// # Contract
     ///
