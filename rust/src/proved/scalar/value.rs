@@ -154,7 +154,7 @@ pub trait Integer: Sized + Unsigned + Number {
     /// <span></span><pre><code>ensures: [Self.number] result ≡ [irotr] [Self.width] ([Self.number] lhs) ([Self.number] rhs)</code></pre>
     ///
     /// [Self.number]: trait@Integer#contract
-    /// [irotr]: crate::specs::scalar::Numerics#irotr "to the right by k is to the left by the rest of the bits"
+    /// [irotr]: crate::specs::scalar::Numerics#irotr "the bits rotated to the right by an amount modulo the width: to the left by the rest of the bits"
     /// [Self.width]: trait@Integer#contract
     fn rotr(lhs: Self, rhs: Self) -> Self;
 
@@ -170,7 +170,7 @@ pub trait Integer: Sized + Unsigned + Number {
     ///
     /// [GivesNumber]: crate::specs::accesses::LoadStore#GivesNumber "an instruction gives this, where \`number\` reads its value"
     /// [Self.number]: trait@Integer#contract
-    /// [idiv_s]: crate::specs::scalar::Numerics#idiv_s "the one quotient that no signed number of the width is, 2 to the power \`bits w - 1\`, is that of the least number by 1"
+    /// [idiv_s]: crate::specs::scalar::Numerics#idiv_s "the quotient of two signed numbers, rounded towards zero, or a trap where the divisor is 0 or no signed number of the width is the quotient: that of the least number by -1 is 2 to the power \`bits w - 1\`"
     /// [Self.width]: trait@Integer#contract
     fn div_s(lhs: Self, rhs: Self) -> Result<Self, TrapCode>;
 
@@ -186,7 +186,7 @@ pub trait Integer: Sized + Unsigned + Number {
     /// [GivesNumber]: crate::specs::accesses::LoadStore#GivesNumber "an instruction gives this, where \`number\` reads its value"
     /// [unsigned_abs]: crate::specs::library#unsigned_abs "the number without its sign"
     /// [Self.Uint]: trait@Integer#contract
-    /// [idiv_u]: crate::specs::scalar::Numerics#idiv_u "the quotient rounded down, where the divisor is not 0"
+    /// [idiv_u]: crate::specs::scalar::Numerics#idiv_u "the quotient rounded down, or a trap where the divisor is 0"
     fn div_u(lhs: Self::Uint, rhs: Self::Uint) -> Result<Self::Uint, TrapCode>;
 
     /// The remainder, with the sign of the dividend; 0 for the least number by -1.
@@ -199,7 +199,7 @@ pub trait Integer: Sized + Unsigned + Number {
     ///
     /// [GivesNumber]: crate::specs::accesses::LoadStore#GivesNumber "an instruction gives this, where \`number\` reads its value"
     /// [Self.number]: trait@Integer#contract
-    /// [irem_s]: crate::specs::scalar::Numerics#irem_s "with the sign of x"
+    /// [irem_s]: crate::specs::scalar::Numerics#irem_s "the remainder of the quotient rounded towards zero, which has the sign of x, or a trap where the divisor is 0"
     fn rem_s(lhs: Self, rhs: Self) -> Result<Self, TrapCode>;
 
     /// The remainder.
@@ -214,7 +214,7 @@ pub trait Integer: Sized + Unsigned + Number {
     /// [GivesNumber]: crate::specs::accesses::LoadStore#GivesNumber "an instruction gives this, where \`number\` reads its value"
     /// [unsigned_abs]: crate::specs::library#unsigned_abs "the number without its sign"
     /// [Self.Uint]: trait@Integer#contract
-    /// [irem_u]: crate::specs::scalar::Numerics#irem_u "the remainder of the quotient rounded down, where the divisor is not 0"
+    /// [irem_u]: crate::specs::scalar::Numerics#irem_u "the remainder of the quotient rounded down, or a trap where the divisor is 0"
     fn rem_u(lhs: Self::Uint, rhs: Self::Uint) -> Result<Self::Uint, TrapCode>;
 }
 

@@ -145,7 +145,7 @@ pub fn i32_rotl(lhs: i32, rhs: i32) -> i32 {
 ///
 /// <span></span><pre><code>ensures: result ≡ [irotr] [w32] lhs rhs</code></pre>
 ///
-/// [irotr]: crate::specs::scalar::Numerics#irotr "to the right by k is to the left by the rest of the bits"
+/// [irotr]: crate::specs::scalar::Numerics#irotr "the bits rotated to the right by an amount modulo the width: to the left by the rest of the bits"
 /// [w32]: crate::specs::library#w32 "the widths of integers in bits"
 #[inline]
 pub fn i32_rotr(lhs: i32, rhs: i32) -> i32 {
@@ -160,7 +160,7 @@ pub fn i32_rotr(lhs: i32, rhs: i32) -> i32 {
 ///
 /// <span></span><pre><code>ensures: result ≡ [idiv_s] [w32] lhs rhs</code></pre>
 ///
-/// [idiv_s]: crate::specs::scalar::Numerics#idiv_s "the one quotient that no signed number of the width is, 2 to the power \`bits w - 1\`, is that of the least number by 1"
+/// [idiv_s]: crate::specs::scalar::Numerics#idiv_s "the quotient of two signed numbers, rounded towards zero, or a trap where the divisor is 0 or no signed number of the width is the quotient: that of the least number by -1 is 2 to the power \`bits w - 1\`"
 /// [w32]: crate::specs::library#w32 "the widths of integers in bits"
 #[inline]
 pub fn i32_div_s(lhs: i32, rhs: i32) -> Result<i32, TrapCode> {
@@ -175,7 +175,7 @@ pub fn i32_div_s(lhs: i32, rhs: i32) -> Result<i32, TrapCode> {
 ///
 /// <span></span><pre><code>ensures: result ≡ [idiv_u] lhs rhs</code></pre>
 ///
-/// [idiv_u]: crate::specs::scalar::Numerics#idiv_u "the quotient rounded down, where the divisor is not 0"
+/// [idiv_u]: crate::specs::scalar::Numerics#idiv_u "the quotient rounded down, or a trap where the divisor is 0"
 #[inline]
 pub fn i32_div_u(lhs: u32, rhs: u32) -> Result<u32, TrapCode> {
     <i32 as Integer>::div_u(lhs, rhs)
@@ -189,7 +189,7 @@ pub fn i32_div_u(lhs: u32, rhs: u32) -> Result<u32, TrapCode> {
 ///
 /// <span></span><pre><code>ensures: result ≡ [irem_s] lhs rhs</code></pre>
 ///
-/// [irem_s]: crate::specs::scalar::Numerics#irem_s "with the sign of x"
+/// [irem_s]: crate::specs::scalar::Numerics#irem_s "the remainder of the quotient rounded towards zero, which has the sign of x, or a trap where the divisor is 0"
 #[inline]
 pub fn i32_rem_s(lhs: i32, rhs: i32) -> Result<i32, TrapCode> {
     Integer::rem_s(lhs, rhs)
@@ -203,7 +203,7 @@ pub fn i32_rem_s(lhs: i32, rhs: i32) -> Result<i32, TrapCode> {
 ///
 /// <span></span><pre><code>ensures: result ≡ [irem_u] lhs rhs</code></pre>
 ///
-/// [irem_u]: crate::specs::scalar::Numerics#irem_u "the remainder of the quotient rounded down, where the divisor is not 0"
+/// [irem_u]: crate::specs::scalar::Numerics#irem_u "the remainder of the quotient rounded down, or a trap where the divisor is 0"
 #[inline]
 pub fn i32_rem_u(lhs: u32, rhs: u32) -> Result<u32, TrapCode> {
     <i32 as Integer>::rem_u(lhs, rhs)
@@ -516,7 +516,7 @@ pub fn i64_rotl(lhs: i64, rhs: i64) -> i64 {
 ///
 /// <span></span><pre><code>ensures: result ≡ [irotr] [w64] lhs rhs</code></pre>
 ///
-/// [irotr]: crate::specs::scalar::Numerics#irotr "to the right by k is to the left by the rest of the bits"
+/// [irotr]: crate::specs::scalar::Numerics#irotr "the bits rotated to the right by an amount modulo the width: to the left by the rest of the bits"
 /// [w64]: crate::specs::library#w64 "the widths of integers in bits"
 #[inline]
 pub fn i64_rotr(lhs: i64, rhs: i64) -> i64 {
@@ -531,7 +531,7 @@ pub fn i64_rotr(lhs: i64, rhs: i64) -> i64 {
 ///
 /// <span></span><pre><code>ensures: result ≡ [idiv_s] [w64] lhs rhs</code></pre>
 ///
-/// [idiv_s]: crate::specs::scalar::Numerics#idiv_s "the one quotient that no signed number of the width is, 2 to the power \`bits w - 1\`, is that of the least number by 1"
+/// [idiv_s]: crate::specs::scalar::Numerics#idiv_s "the quotient of two signed numbers, rounded towards zero, or a trap where the divisor is 0 or no signed number of the width is the quotient: that of the least number by -1 is 2 to the power \`bits w - 1\`"
 /// [w64]: crate::specs::library#w64 "the widths of integers in bits"
 #[inline]
 pub fn i64_div_s(lhs: i64, rhs: i64) -> Result<i64, TrapCode> {
@@ -546,7 +546,7 @@ pub fn i64_div_s(lhs: i64, rhs: i64) -> Result<i64, TrapCode> {
 ///
 /// <span></span><pre><code>ensures: result ≡ [idiv_u] lhs rhs</code></pre>
 ///
-/// [idiv_u]: crate::specs::scalar::Numerics#idiv_u "the quotient rounded down, where the divisor is not 0"
+/// [idiv_u]: crate::specs::scalar::Numerics#idiv_u "the quotient rounded down, or a trap where the divisor is 0"
 #[inline]
 pub fn i64_div_u(lhs: u64, rhs: u64) -> Result<u64, TrapCode> {
     <i64 as Integer>::div_u(lhs, rhs)
@@ -560,7 +560,7 @@ pub fn i64_div_u(lhs: u64, rhs: u64) -> Result<u64, TrapCode> {
 ///
 /// <span></span><pre><code>ensures: result ≡ [irem_s] lhs rhs</code></pre>
 ///
-/// [irem_s]: crate::specs::scalar::Numerics#irem_s "with the sign of x"
+/// [irem_s]: crate::specs::scalar::Numerics#irem_s "the remainder of the quotient rounded towards zero, which has the sign of x, or a trap where the divisor is 0"
 #[inline]
 pub fn i64_rem_s(lhs: i64, rhs: i64) -> Result<i64, TrapCode> {
     Integer::rem_s(lhs, rhs)
@@ -574,7 +574,7 @@ pub fn i64_rem_s(lhs: i64, rhs: i64) -> Result<i64, TrapCode> {
 ///
 /// <span></span><pre><code>ensures: result ≡ [irem_u] lhs rhs</code></pre>
 ///
-/// [irem_u]: crate::specs::scalar::Numerics#irem_u "the remainder of the quotient rounded down, where the divisor is not 0"
+/// [irem_u]: crate::specs::scalar::Numerics#irem_u "the remainder of the quotient rounded down, or a trap where the divisor is 0"
 #[inline]
 pub fn i64_rem_u(lhs: u64, rhs: u64) -> Result<u64, TrapCode> {
     <i64 as Integer>::rem_u(lhs, rhs)

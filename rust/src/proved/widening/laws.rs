@@ -20,7 +20,7 @@
 /// [ℕ]: crate::specs::library#%E2%84%95 "the whole numbers from 0 on"
 /// [lane_count]: crate::specs::widening::Widening#lane_count "how many lanes of a width a vector has"
 /// [lane]: crate::specs::lanes::Lane#lane "lane i of the vector v"
-/// [half_unary]: crate::specs::widening::Widening#half_unary "lane i is the row of the narrow lanes first + i: 0 is the first one of the lower half, \`lane_count wide\` that of the upper"
+/// [half_unary]: crate::specs::widening::Widening#half_unary "the wide vector whose lane i is the row of the narrow lane first + i: first is 0 for the lower half, and \`lane_count wide\` for the upper"
 /// [bits]: crate::specs::library#bits "the number of bits of a width"
 /// [half_binary]: crate::specs::widening::Widening#half_binary "the wide vector whose lane i is the row of the narrow lanes at first + i of two vectors"
 #[inline]
@@ -92,7 +92,7 @@ pub fn wrapped_numbers() {}
 /// [ℕ]: crate::specs::library#%E2%84%95 "the whole numbers from 0 on"
 /// [lane_count]: crate::specs::widening::Widening#lane_count "how many lanes of a width a vector has"
 /// [lane]: crate::specs::lanes::Lane#lane "lane i of the vector v"
-/// [pairwise_unary]: crate::specs::widening::Widening#pairwise_unary "lane i is the row of the narrow lanes 2 \* i and 2 \* i + 1, of the first operand and then of the second"
+/// [pairwise_unary]: crate::specs::widening::Widening#pairwise_unary "the wide vector whose lane i is the row of the narrow lanes 2 \* i and 2 \* i + 1 of a vector"
 /// [bits]: crate::specs::library#bits "the number of bits of a width"
 /// [pairwise_binary]: crate::specs::widening::Widening#pairwise_binary "the wide vector whose lane i is the row of the narrow lanes 2 \* i and 2 \* i + 1 of two vectors"
 #[inline]
@@ -117,7 +117,7 @@ pub fn pairwise_lanes<A>() {}
 /// [ℕ]: crate::specs::library#%E2%84%95 "the whole numbers from 0 on"
 /// [lane_count]: crate::specs::widening::Widening#lane_count "how many lanes of a width a vector has"
 /// [lane]: crate::specs::lanes::Lane#lane "lane i of the vector v"
-/// [from_low_high]: crate::specs::widening::Widening#from_low_high "the rows of the wide lanes of \`low\`, then those of \`high\`"
+/// [from_low_high]: crate::specs::widening::Widening#from_low_high "the narrow vector of the rows of the wide lanes of \`low\`, and then those of \`high\`"
 /// [bits]: crate::specs::library#bits "the number of bits of a width"
 #[inline]
 pub fn lanes_of_wide_lanes<A>() {}

@@ -19,7 +19,7 @@ use crate::proved::raw::V128;
 /// [ℕ]: crate::specs::library#%E2%84%95 "the whole numbers from 0 on"
 /// [L.Item]: trait@FromWide#contract
 /// [F.post]: crate::specs::library#post "the closure, called on x, may return y"
-/// [made.from_low_high]: crate::specs::widening::Widening#from_low_high "the rows of the wide lanes of \`low\`, then those of \`high\`"
+/// [made.from_low_high]: crate::specs::widening::Widening#from_low_high "the narrow vector of the rows of the wide lanes of \`low\`, and then those of \`high\`"
 #[inline(always)]
 pub(crate) fn from_low_high<W: Lanes, L: FromWide<W>, F: Fn(W::Item) -> L::Item>(
     low: V128,

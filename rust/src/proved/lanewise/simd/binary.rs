@@ -12,7 +12,7 @@ use crate::proved::raw::V128;
 ///
 /// <span></span><pre><code>ensures: result ≡ [vector.add] [w8] lhs rhs</code></pre>
 ///
-/// [vector.add]: crate::specs::lanewise::VectorTable#add "modulo 2 ^ w"
+/// [vector.add]: crate::specs::lanewise::VectorTable#add "the sums of the lanes modulo 2 to the width"
 /// [w8]: crate::specs::library#w8 "the widths of integers in bits"
 #[inline]
 pub fn i8x16_add(lhs: V128, rhs: V128) -> V128 {
@@ -25,7 +25,7 @@ pub fn i8x16_add(lhs: V128, rhs: V128) -> V128 {
 ///
 /// <span></span><pre><code>ensures: result ≡ [vector.add] [w16] lhs rhs</code></pre>
 ///
-/// [vector.add]: crate::specs::lanewise::VectorTable#add "modulo 2 ^ w"
+/// [vector.add]: crate::specs::lanewise::VectorTable#add "the sums of the lanes modulo 2 to the width"
 /// [w16]: crate::specs::library#w16 "the widths of integers in bits"
 #[inline]
 pub fn i16x8_add(lhs: V128, rhs: V128) -> V128 {
@@ -38,7 +38,7 @@ pub fn i16x8_add(lhs: V128, rhs: V128) -> V128 {
 ///
 /// <span></span><pre><code>ensures: result ≡ [vector.add] [w32] lhs rhs</code></pre>
 ///
-/// [vector.add]: crate::specs::lanewise::VectorTable#add "modulo 2 ^ w"
+/// [vector.add]: crate::specs::lanewise::VectorTable#add "the sums of the lanes modulo 2 to the width"
 /// [w32]: crate::specs::library#w32 "the widths of integers in bits"
 #[inline]
 pub fn i32x4_add(lhs: V128, rhs: V128) -> V128 {
@@ -51,7 +51,7 @@ pub fn i32x4_add(lhs: V128, rhs: V128) -> V128 {
 ///
 /// <span></span><pre><code>ensures: result ≡ [vector.add] [w64] lhs rhs</code></pre>
 ///
-/// [vector.add]: crate::specs::lanewise::VectorTable#add "modulo 2 ^ w"
+/// [vector.add]: crate::specs::lanewise::VectorTable#add "the sums of the lanes modulo 2 to the width"
 /// [w64]: crate::specs::library#w64 "the widths of integers in bits"
 #[inline]
 pub fn i64x2_add(lhs: V128, rhs: V128) -> V128 {
@@ -64,7 +64,7 @@ pub fn i64x2_add(lhs: V128, rhs: V128) -> V128 {
 ///
 /// <span></span><pre><code>ensures: result ≡ [vector.sub] [w8] lhs rhs</code></pre>
 ///
-/// [vector.sub]: crate::specs::lanewise::VectorTable#sub "the differences modulo 2 to the width"
+/// [vector.sub]: crate::specs::lanewise::VectorTable#sub "the differences of the lanes modulo 2 to the width"
 /// [w8]: crate::specs::library#w8 "the widths of integers in bits"
 #[inline]
 pub fn i8x16_sub(lhs: V128, rhs: V128) -> V128 {
@@ -77,7 +77,7 @@ pub fn i8x16_sub(lhs: V128, rhs: V128) -> V128 {
 ///
 /// <span></span><pre><code>ensures: result ≡ [vector.sub] [w16] lhs rhs</code></pre>
 ///
-/// [vector.sub]: crate::specs::lanewise::VectorTable#sub "the differences modulo 2 to the width"
+/// [vector.sub]: crate::specs::lanewise::VectorTable#sub "the differences of the lanes modulo 2 to the width"
 /// [w16]: crate::specs::library#w16 "the widths of integers in bits"
 #[inline]
 pub fn i16x8_sub(lhs: V128, rhs: V128) -> V128 {
@@ -90,7 +90,7 @@ pub fn i16x8_sub(lhs: V128, rhs: V128) -> V128 {
 ///
 /// <span></span><pre><code>ensures: result ≡ [vector.sub] [w32] lhs rhs</code></pre>
 ///
-/// [vector.sub]: crate::specs::lanewise::VectorTable#sub "the differences modulo 2 to the width"
+/// [vector.sub]: crate::specs::lanewise::VectorTable#sub "the differences of the lanes modulo 2 to the width"
 /// [w32]: crate::specs::library#w32 "the widths of integers in bits"
 #[inline]
 pub fn i32x4_sub(lhs: V128, rhs: V128) -> V128 {
@@ -103,7 +103,7 @@ pub fn i32x4_sub(lhs: V128, rhs: V128) -> V128 {
 ///
 /// <span></span><pre><code>ensures: result ≡ [vector.sub] [w64] lhs rhs</code></pre>
 ///
-/// [vector.sub]: crate::specs::lanewise::VectorTable#sub "the differences modulo 2 to the width"
+/// [vector.sub]: crate::specs::lanewise::VectorTable#sub "the differences of the lanes modulo 2 to the width"
 /// [w64]: crate::specs::library#w64 "the widths of integers in bits"
 #[inline]
 pub fn i64x2_sub(lhs: V128, rhs: V128) -> V128 {
@@ -117,7 +117,7 @@ pub fn i64x2_sub(lhs: V128, rhs: V128) -> V128 {
 ///
 /// <span></span><pre><code>ensures: result ≡ [vector.mul] [w8] lhs rhs</code></pre>
 ///
-/// [vector.mul]: crate::specs::lanewise::VectorTable#mul "the products modulo 2 to the width"
+/// [vector.mul]: crate::specs::lanewise::VectorTable#mul "the products of the lanes modulo 2 to the width"
 /// [w8]: crate::specs::library#w8 "the widths of integers in bits"
 #[inline]
 pub fn i8x16_mul(lhs: V128, rhs: V128) -> V128 {
@@ -130,7 +130,7 @@ pub fn i8x16_mul(lhs: V128, rhs: V128) -> V128 {
 ///
 /// <span></span><pre><code>ensures: result ≡ [vector.mul] [w16] lhs rhs</code></pre>
 ///
-/// [vector.mul]: crate::specs::lanewise::VectorTable#mul "the products modulo 2 to the width"
+/// [vector.mul]: crate::specs::lanewise::VectorTable#mul "the products of the lanes modulo 2 to the width"
 /// [w16]: crate::specs::library#w16 "the widths of integers in bits"
 #[inline]
 pub fn i16x8_mul(lhs: V128, rhs: V128) -> V128 {
@@ -143,7 +143,7 @@ pub fn i16x8_mul(lhs: V128, rhs: V128) -> V128 {
 ///
 /// <span></span><pre><code>ensures: result ≡ [vector.mul] [w32] lhs rhs</code></pre>
 ///
-/// [vector.mul]: crate::specs::lanewise::VectorTable#mul "the products modulo 2 to the width"
+/// [vector.mul]: crate::specs::lanewise::VectorTable#mul "the products of the lanes modulo 2 to the width"
 /// [w32]: crate::specs::library#w32 "the widths of integers in bits"
 #[inline]
 pub fn i32x4_mul(lhs: V128, rhs: V128) -> V128 {
@@ -156,7 +156,7 @@ pub fn i32x4_mul(lhs: V128, rhs: V128) -> V128 {
 ///
 /// <span></span><pre><code>ensures: result ≡ [vector.mul] [w64] lhs rhs</code></pre>
 ///
-/// [vector.mul]: crate::specs::lanewise::VectorTable#mul "the products modulo 2 to the width"
+/// [vector.mul]: crate::specs::lanewise::VectorTable#mul "the products of the lanes modulo 2 to the width"
 /// [w64]: crate::specs::library#w64 "the widths of integers in bits"
 #[inline]
 pub fn i64x2_mul(lhs: V128, rhs: V128) -> V128 {
@@ -182,7 +182,7 @@ fn product_by_u128(x: u64, y: u64) -> u64 {
 ///
 /// <span></span><pre><code>ensures: result ≡ [vector.add_sat_s] [w8] lhs rhs</code></pre>
 ///
-/// [vector.add_sat_s]: crate::specs::lanewise::VectorTable#add_sat_s "clamped to the signed range, or to the unsigned range"
+/// [vector.add_sat_s]: crate::specs::lanewise::VectorTable#add_sat_s "the sums of lanes read signed, clamped to the signed range"
 /// [w8]: crate::specs::library#w8 "the widths of integers in bits"
 #[inline]
 pub fn i8x16_add_sat_s(lhs: V128, rhs: V128) -> V128 {
@@ -208,7 +208,7 @@ pub fn i8x16_add_sat_u(lhs: V128, rhs: V128) -> V128 {
 ///
 /// <span></span><pre><code>ensures: result ≡ [vector.add_sat_s] [w16] lhs rhs</code></pre>
 ///
-/// [vector.add_sat_s]: crate::specs::lanewise::VectorTable#add_sat_s "clamped to the signed range, or to the unsigned range"
+/// [vector.add_sat_s]: crate::specs::lanewise::VectorTable#add_sat_s "the sums of lanes read signed, clamped to the signed range"
 /// [w16]: crate::specs::library#w16 "the widths of integers in bits"
 #[inline]
 pub fn i16x8_add_sat_s(lhs: V128, rhs: V128) -> V128 {

@@ -113,7 +113,7 @@ pub fn i64x2_ne(lhs: V128, rhs: V128) -> V128 {
 ///
 /// <span></span><pre><code>ensures: result ≡ [vector.lt_s] [w8] lhs rhs</code></pre>
 ///
-/// [vector.lt_s]: crate::specs::lanewise::VectorTable#lt_s "of lanes read signed"
+/// [vector.lt_s]: crate::specs::lanewise::VectorTable#lt_s "all ones in the lanes that are less, read signed, else all zeros"
 /// [w8]: crate::specs::library#w8 "the widths of integers in bits"
 #[inline]
 pub fn i8x16_lt_s(lhs: V128, rhs: V128) -> V128 {
@@ -126,7 +126,7 @@ pub fn i8x16_lt_s(lhs: V128, rhs: V128) -> V128 {
 ///
 /// <span></span><pre><code>ensures: result ≡ [vector.lt_s] [w16] lhs rhs</code></pre>
 ///
-/// [vector.lt_s]: crate::specs::lanewise::VectorTable#lt_s "of lanes read signed"
+/// [vector.lt_s]: crate::specs::lanewise::VectorTable#lt_s "all ones in the lanes that are less, read signed, else all zeros"
 /// [w16]: crate::specs::library#w16 "the widths of integers in bits"
 #[inline]
 pub fn i16x8_lt_s(lhs: V128, rhs: V128) -> V128 {
@@ -139,7 +139,7 @@ pub fn i16x8_lt_s(lhs: V128, rhs: V128) -> V128 {
 ///
 /// <span></span><pre><code>ensures: result ≡ [vector.lt_s] [w32] lhs rhs</code></pre>
 ///
-/// [vector.lt_s]: crate::specs::lanewise::VectorTable#lt_s "of lanes read signed"
+/// [vector.lt_s]: crate::specs::lanewise::VectorTable#lt_s "all ones in the lanes that are less, read signed, else all zeros"
 /// [w32]: crate::specs::library#w32 "the widths of integers in bits"
 #[inline]
 pub fn i32x4_lt_s(lhs: V128, rhs: V128) -> V128 {
@@ -152,7 +152,7 @@ pub fn i32x4_lt_s(lhs: V128, rhs: V128) -> V128 {
 ///
 /// <span></span><pre><code>ensures: result ≡ [vector.lt_s] [w64] lhs rhs</code></pre>
 ///
-/// [vector.lt_s]: crate::specs::lanewise::VectorTable#lt_s "of lanes read signed"
+/// [vector.lt_s]: crate::specs::lanewise::VectorTable#lt_s "all ones in the lanes that are less, read signed, else all zeros"
 /// [w64]: crate::specs::library#w64 "the widths of integers in bits"
 #[inline]
 pub fn i64x2_lt_s(lhs: V128, rhs: V128) -> V128 {
@@ -165,7 +165,7 @@ pub fn i64x2_lt_s(lhs: V128, rhs: V128) -> V128 {
 ///
 /// <span></span><pre><code>ensures: result ≡ [vector.lt_u] [w8] lhs rhs</code></pre>
 ///
-/// [vector.lt_u]: crate::specs::lanewise::VectorTable#lt_u "of lanes read as they are"
+/// [vector.lt_u]: crate::specs::lanewise::VectorTable#lt_u "all ones in the lanes that are less, read unsigned, else all zeros"
 /// [w8]: crate::specs::library#w8 "the widths of integers in bits"
 #[inline]
 pub fn i8x16_lt_u(lhs: V128, rhs: V128) -> V128 {
@@ -178,7 +178,7 @@ pub fn i8x16_lt_u(lhs: V128, rhs: V128) -> V128 {
 ///
 /// <span></span><pre><code>ensures: result ≡ [vector.lt_u] [w16] lhs rhs</code></pre>
 ///
-/// [vector.lt_u]: crate::specs::lanewise::VectorTable#lt_u "of lanes read as they are"
+/// [vector.lt_u]: crate::specs::lanewise::VectorTable#lt_u "all ones in the lanes that are less, read unsigned, else all zeros"
 /// [w16]: crate::specs::library#w16 "the widths of integers in bits"
 #[inline]
 pub fn i16x8_lt_u(lhs: V128, rhs: V128) -> V128 {
@@ -191,7 +191,7 @@ pub fn i16x8_lt_u(lhs: V128, rhs: V128) -> V128 {
 ///
 /// <span></span><pre><code>ensures: result ≡ [vector.lt_u] [w32] lhs rhs</code></pre>
 ///
-/// [vector.lt_u]: crate::specs::lanewise::VectorTable#lt_u "of lanes read as they are"
+/// [vector.lt_u]: crate::specs::lanewise::VectorTable#lt_u "all ones in the lanes that are less, read unsigned, else all zeros"
 /// [w32]: crate::specs::library#w32 "the widths of integers in bits"
 #[inline]
 pub fn i32x4_lt_u(lhs: V128, rhs: V128) -> V128 {

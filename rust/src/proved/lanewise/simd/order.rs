@@ -11,7 +11,7 @@ use crate::proved::raw::V128;
 ///
 /// <span></span><pre><code>ensures: result ≡ [vector.lt_u] [T.width] lhs rhs</code></pre>
 ///
-/// [vector.lt_u]: crate::specs::lanewise::VectorTable#lt_u "of lanes read as they are"
+/// [vector.lt_u]: crate::specs::lanewise::VectorTable#lt_u "all ones in the lanes that are less, read unsigned, else all zeros"
 /// [T.width]: trait@SimdLane#contract
 #[inline(always)]
 pub(super) fn less_u<T: SimdLane>(lhs: V128, rhs: V128) -> V128 {
@@ -63,7 +63,7 @@ pub(super) fn at_least_u<T: SimdLane>(lhs: V128, rhs: V128) -> V128 {
 ///
 /// <span></span><pre><code>ensures: result ≡ [vector.lt_s] [T.width] lhs rhs</code></pre>
 ///
-/// [vector.lt_s]: crate::specs::lanewise::VectorTable#lt_s "of lanes read signed"
+/// [vector.lt_s]: crate::specs::lanewise::VectorTable#lt_s "all ones in the lanes that are less, read signed, else all zeros"
 /// [T.width]: trait@SimdLane#contract
 #[inline(always)]
 pub(super) fn less_s<T: SimdLane>(lhs: V128, rhs: V128) -> V128 {

@@ -10,7 +10,7 @@ use crate::proved::raw::V128;
 ///
 /// <span></span><pre><code>ensures: result ≡ [vector.neg] [w8] v</code></pre>
 ///
-/// [vector.neg]: crate::specs::lanewise::VectorTable#neg "modulo 2 ^ w"
+/// [vector.neg]: crate::specs::lanewise::VectorTable#neg "the negatives of the lanes modulo 2 to the width"
 /// [w8]: crate::specs::library#w8 "the widths of integers in bits"
 #[inline]
 pub fn i8x16_neg(v: V128) -> V128 {
@@ -23,7 +23,7 @@ pub fn i8x16_neg(v: V128) -> V128 {
 ///
 /// <span></span><pre><code>ensures: result ≡ [vector.neg] [w16] v</code></pre>
 ///
-/// [vector.neg]: crate::specs::lanewise::VectorTable#neg "modulo 2 ^ w"
+/// [vector.neg]: crate::specs::lanewise::VectorTable#neg "the negatives of the lanes modulo 2 to the width"
 /// [w16]: crate::specs::library#w16 "the widths of integers in bits"
 #[inline]
 pub fn i16x8_neg(v: V128) -> V128 {
@@ -36,7 +36,7 @@ pub fn i16x8_neg(v: V128) -> V128 {
 ///
 /// <span></span><pre><code>ensures: result ≡ [vector.neg] [w32] v</code></pre>
 ///
-/// [vector.neg]: crate::specs::lanewise::VectorTable#neg "modulo 2 ^ w"
+/// [vector.neg]: crate::specs::lanewise::VectorTable#neg "the negatives of the lanes modulo 2 to the width"
 /// [w32]: crate::specs::library#w32 "the widths of integers in bits"
 #[inline]
 pub fn i32x4_neg(v: V128) -> V128 {
@@ -49,7 +49,7 @@ pub fn i32x4_neg(v: V128) -> V128 {
 ///
 /// <span></span><pre><code>ensures: result ≡ [vector.neg] [w64] v</code></pre>
 ///
-/// [vector.neg]: crate::specs::lanewise::VectorTable#neg "modulo 2 ^ w"
+/// [vector.neg]: crate::specs::lanewise::VectorTable#neg "the negatives of the lanes modulo 2 to the width"
 /// [w64]: crate::specs::library#w64 "the widths of integers in bits"
 #[inline]
 pub fn i64x2_neg(v: V128) -> V128 {

@@ -28,7 +28,7 @@ fn inner_tops<T: WordLane>() -> u64 {
 ///
 /// <span></span><pre><code>ensures: result ≡ [vector.add] [T.width] lhs rhs</code></pre>
 ///
-/// [vector.add]: crate::specs::lanewise::VectorTable#add "modulo 2 ^ w"
+/// [vector.add]: crate::specs::lanewise::VectorTable#add "the sums of the lanes modulo 2 to the width"
 /// [T.width]: trait@WordLane#contract
 #[inline(always)]
 pub(super) fn sums<T: WordLane>(lhs: V128, rhs: V128) -> V128 {
@@ -47,7 +47,7 @@ pub(super) fn sums<T: WordLane>(lhs: V128, rhs: V128) -> V128 {
 ///
 /// <span></span><pre><code>ensures: result ≡ [vector.sub] [T.width] lhs rhs</code></pre>
 ///
-/// [vector.sub]: crate::specs::lanewise::VectorTable#sub "the differences modulo 2 to the width"
+/// [vector.sub]: crate::specs::lanewise::VectorTable#sub "the differences of the lanes modulo 2 to the width"
 /// [T.width]: trait@WordLane#contract
 #[inline(always)]
 pub(super) fn differences<T: WordLane>(lhs: V128, rhs: V128) -> V128 {
@@ -79,7 +79,7 @@ fn inverted(v: V128) -> V128 {
 ///
 /// <span></span><pre><code>ensures: result ≡ [vector.neg] [T.width] v</code></pre>
 ///
-/// [vector.neg]: crate::specs::lanewise::VectorTable#neg "modulo 2 ^ w"
+/// [vector.neg]: crate::specs::lanewise::VectorTable#neg "the negatives of the lanes modulo 2 to the width"
 /// [T.width]: trait@WordLane#contract
 #[inline(always)]
 pub(super) fn negations<T: WordLane>(v: V128) -> V128 {

@@ -15,7 +15,7 @@ use crate::proved::widening::simd::{
 /// <span></span><pre><code>ensures: result ≡ [loaded] 8 ([vector.widen_s] [w8] [w16]) memory.now (ptr + offset)</code></pre>
 ///
 /// [loaded]: crate::specs::accesses::LoadStore#loaded "what a load of n bytes at a gives"
-/// [vector.widen_s]: crate::specs::widening::WideningTable#widen_s "the narrow lanes of a number of 64 bits, extended"
+/// [vector.widen_s]: crate::specs::widening::WideningTable#widen_s "the lanes of a number of 64 bits read signed, at twice their width"
 /// [w8]: crate::specs::library#w8 "the widths of integers in bits"
 /// [w16]: crate::specs::library#w16 "the widths of integers in bits"
 #[inline]
@@ -30,7 +30,7 @@ pub fn v128_load8x8_s(memory: &[u8], ptr: u64, offset: u64) -> Result<V128, Trap
 /// <span></span><pre><code>ensures: result ≡ [loaded] 8 ([vector.widen_s] [w8] [w16]) memory.now address</code></pre>
 ///
 /// [loaded]: crate::specs::accesses::LoadStore#loaded "what a load of n bytes at a gives"
-/// [vector.widen_s]: crate::specs::widening::WideningTable#widen_s "the narrow lanes of a number of 64 bits, extended"
+/// [vector.widen_s]: crate::specs::widening::WideningTable#widen_s "the lanes of a number of 64 bits read signed, at twice their width"
 /// [w8]: crate::specs::library#w8 "the widths of integers in bits"
 /// [w16]: crate::specs::library#w16 "the widths of integers in bits"
 #[inline]
@@ -75,7 +75,7 @@ pub fn v128_load8x8_u_at(memory: &[u8], address: usize) -> Result<V128, TrapCode
 /// <span></span><pre><code>ensures: result ≡ [loaded] 8 ([vector.widen_s] [w16] [w32]) memory.now (ptr + offset)</code></pre>
 ///
 /// [loaded]: crate::specs::accesses::LoadStore#loaded "what a load of n bytes at a gives"
-/// [vector.widen_s]: crate::specs::widening::WideningTable#widen_s "the narrow lanes of a number of 64 bits, extended"
+/// [vector.widen_s]: crate::specs::widening::WideningTable#widen_s "the lanes of a number of 64 bits read signed, at twice their width"
 /// [w16]: crate::specs::library#w16 "the widths of integers in bits"
 /// [w32]: crate::specs::library#w32 "the widths of integers in bits"
 #[inline]
@@ -90,7 +90,7 @@ pub fn v128_load16x4_s(memory: &[u8], ptr: u64, offset: u64) -> Result<V128, Tra
 /// <span></span><pre><code>ensures: result ≡ [loaded] 8 ([vector.widen_s] [w16] [w32]) memory.now address</code></pre>
 ///
 /// [loaded]: crate::specs::accesses::LoadStore#loaded "what a load of n bytes at a gives"
-/// [vector.widen_s]: crate::specs::widening::WideningTable#widen_s "the narrow lanes of a number of 64 bits, extended"
+/// [vector.widen_s]: crate::specs::widening::WideningTable#widen_s "the lanes of a number of 64 bits read signed, at twice their width"
 /// [w16]: crate::specs::library#w16 "the widths of integers in bits"
 /// [w32]: crate::specs::library#w32 "the widths of integers in bits"
 #[inline]
@@ -135,7 +135,7 @@ pub fn v128_load16x4_u_at(memory: &[u8], address: usize) -> Result<V128, TrapCod
 /// <span></span><pre><code>ensures: result ≡ [loaded] 8 ([vector.widen_s] [w32] [w64]) memory.now (ptr + offset)</code></pre>
 ///
 /// [loaded]: crate::specs::accesses::LoadStore#loaded "what a load of n bytes at a gives"
-/// [vector.widen_s]: crate::specs::widening::WideningTable#widen_s "the narrow lanes of a number of 64 bits, extended"
+/// [vector.widen_s]: crate::specs::widening::WideningTable#widen_s "the lanes of a number of 64 bits read signed, at twice their width"
 /// [w32]: crate::specs::library#w32 "the widths of integers in bits"
 /// [w64]: crate::specs::library#w64 "the widths of integers in bits"
 #[inline]
@@ -150,7 +150,7 @@ pub fn v128_load32x2_s(memory: &[u8], ptr: u64, offset: u64) -> Result<V128, Tra
 /// <span></span><pre><code>ensures: result ≡ [loaded] 8 ([vector.widen_s] [w32] [w64]) memory.now address</code></pre>
 ///
 /// [loaded]: crate::specs::accesses::LoadStore#loaded "what a load of n bytes at a gives"
-/// [vector.widen_s]: crate::specs::widening::WideningTable#widen_s "the narrow lanes of a number of 64 bits, extended"
+/// [vector.widen_s]: crate::specs::widening::WideningTable#widen_s "the lanes of a number of 64 bits read signed, at twice their width"
 /// [w32]: crate::specs::library#w32 "the widths of integers in bits"
 /// [w64]: crate::specs::library#w64 "the widths of integers in bits"
 #[inline]

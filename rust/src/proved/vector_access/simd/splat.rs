@@ -131,7 +131,7 @@ pub fn v128_load64_splat_at(memory: &[u8], address: usize) -> Result<V128, TrapC
 /// <span></span><pre><code>ensures: result ≡ [loaded] 4 ([vector.low_zero] [w32]) memory.now (ptr + offset)</code></pre>
 ///
 /// [loaded]: crate::specs::accesses::LoadStore#loaded "what a load of n bytes at a gives"
-/// [vector.low_zero]: crate::specs::widening::WideningTable#low_zero "the number in lane 0, and 0 in the others"
+/// [vector.low_zero]: crate::specs::widening::WideningTable#low_zero "the vector with the number in lane 0, and 0 in the others"
 /// [w32]: crate::specs::library#w32 "the widths of integers in bits"
 #[inline]
 pub fn v128_load32_zero(memory: &[u8], ptr: u64, offset: u64) -> Result<V128, TrapCode> {
@@ -145,7 +145,7 @@ pub fn v128_load32_zero(memory: &[u8], ptr: u64, offset: u64) -> Result<V128, Tr
 /// <span></span><pre><code>ensures: result ≡ [loaded] 4 ([vector.low_zero] [w32]) memory.now address</code></pre>
 ///
 /// [loaded]: crate::specs::accesses::LoadStore#loaded "what a load of n bytes at a gives"
-/// [vector.low_zero]: crate::specs::widening::WideningTable#low_zero "the number in lane 0, and 0 in the others"
+/// [vector.low_zero]: crate::specs::widening::WideningTable#low_zero "the vector with the number in lane 0, and 0 in the others"
 /// [w32]: crate::specs::library#w32 "the widths of integers in bits"
 #[inline]
 pub fn v128_load32_zero_at(memory: &[u8], address: usize) -> Result<V128, TrapCode> {
@@ -159,7 +159,7 @@ pub fn v128_load32_zero_at(memory: &[u8], address: usize) -> Result<V128, TrapCo
 /// <span></span><pre><code>ensures: result ≡ [loaded] 8 ([vector.low_zero] [w64]) memory.now (ptr + offset)</code></pre>
 ///
 /// [loaded]: crate::specs::accesses::LoadStore#loaded "what a load of n bytes at a gives"
-/// [vector.low_zero]: crate::specs::widening::WideningTable#low_zero "the number in lane 0, and 0 in the others"
+/// [vector.low_zero]: crate::specs::widening::WideningTable#low_zero "the vector with the number in lane 0, and 0 in the others"
 /// [w64]: crate::specs::library#w64 "the widths of integers in bits"
 #[inline]
 pub fn v128_load64_zero(memory: &[u8], ptr: u64, offset: u64) -> Result<V128, TrapCode> {
@@ -173,7 +173,7 @@ pub fn v128_load64_zero(memory: &[u8], ptr: u64, offset: u64) -> Result<V128, Tr
 /// <span></span><pre><code>ensures: result ≡ [loaded] 8 ([vector.low_zero] [w64]) memory.now address</code></pre>
 ///
 /// [loaded]: crate::specs::accesses::LoadStore#loaded "what a load of n bytes at a gives"
-/// [vector.low_zero]: crate::specs::widening::WideningTable#low_zero "the number in lane 0, and 0 in the others"
+/// [vector.low_zero]: crate::specs::widening::WideningTable#low_zero "the vector with the number in lane 0, and 0 in the others"
 /// [w64]: crate::specs::library#w64 "the widths of integers in bits"
 #[inline]
 pub fn v128_load64_zero_at(memory: &[u8], address: usize) -> Result<V128, TrapCode> {

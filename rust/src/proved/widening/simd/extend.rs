@@ -184,7 +184,7 @@ pub fn i64x2_extend_high_i32x4_u(v: V128) -> V128 {
 ///
 /// <span></span><pre><code>ensures: result ≡ [vector.widen_s] [w8] [w16] number</code></pre>
 ///
-/// [vector.widen_s]: crate::specs::widening::WideningTable#widen_s "the narrow lanes of a number of 64 bits, extended"
+/// [vector.widen_s]: crate::specs::widening::WideningTable#widen_s "the lanes of a number of 64 bits read signed, at twice their width"
 /// [w8]: crate::specs::library#w8 "the widths of integers in bits"
 /// [w16]: crate::specs::library#w16 "the widths of integers in bits"
 #[inline]
@@ -216,7 +216,7 @@ pub fn v128_widen8x8_u(number: u64) -> V128 {
 ///
 /// <span></span><pre><code>ensures: result ≡ [vector.widen_s] [w16] [w32] number</code></pre>
 ///
-/// [vector.widen_s]: crate::specs::widening::WideningTable#widen_s "the narrow lanes of a number of 64 bits, extended"
+/// [vector.widen_s]: crate::specs::widening::WideningTable#widen_s "the lanes of a number of 64 bits read signed, at twice their width"
 /// [w16]: crate::specs::library#w16 "the widths of integers in bits"
 /// [w32]: crate::specs::library#w32 "the widths of integers in bits"
 #[inline]
@@ -248,7 +248,7 @@ pub fn v128_widen16x4_u(number: u64) -> V128 {
 ///
 /// <span></span><pre><code>ensures: result ≡ [vector.widen_s] [w32] [w64] number</code></pre>
 ///
-/// [vector.widen_s]: crate::specs::widening::WideningTable#widen_s "the narrow lanes of a number of 64 bits, extended"
+/// [vector.widen_s]: crate::specs::widening::WideningTable#widen_s "the lanes of a number of 64 bits read signed, at twice their width"
 /// [w32]: crate::specs::library#w32 "the widths of integers in bits"
 /// [w64]: crate::specs::library#w64 "the widths of integers in bits"
 #[inline]
@@ -280,7 +280,7 @@ pub fn v128_widen32x2_u(number: u64) -> V128 {
 ///
 /// <span></span><pre><code>ensures: result ≡ [vector.low_zero] [w32] number</code></pre>
 ///
-/// [vector.low_zero]: crate::specs::widening::WideningTable#low_zero "the number in lane 0, and 0 in the others"
+/// [vector.low_zero]: crate::specs::widening::WideningTable#low_zero "the vector with the number in lane 0, and 0 in the others"
 /// [w32]: crate::specs::library#w32 "the widths of integers in bits"
 #[inline]
 pub fn v128_low32_zero(number: u32) -> V128 {
@@ -295,7 +295,7 @@ pub fn v128_low32_zero(number: u32) -> V128 {
 ///
 /// <span></span><pre><code>ensures: result ≡ [vector.low_zero] [w64] number</code></pre>
 ///
-/// [vector.low_zero]: crate::specs::widening::WideningTable#low_zero "the number in lane 0, and 0 in the others"
+/// [vector.low_zero]: crate::specs::widening::WideningTable#low_zero "the vector with the number in lane 0, and 0 in the others"
 /// [w64]: crate::specs::library#w64 "the widths of integers in bits"
 #[inline]
 pub fn v128_low64_zero(number: u64) -> V128 {

@@ -68,7 +68,7 @@ pub fn i32x4_extadd_pairwise_i16x8_u(v: V128) -> V128 {
 ///
 /// <span></span><pre><code>ensures: result ≡ [vector.dot_s] [w16] [w32] lhs rhs</code></pre>
 ///
-/// [vector.dot_s]: crate::specs::widening::WideningTable#dot_s "modulo 2 ^ wide"
+/// [vector.dot_s]: crate::specs::widening::WideningTable#dot_s "the sums of the products of each two adjacent lanes of two vectors, read signed, modulo 2 to the wide width"
 /// [w16]: crate::specs::library#w16 "the widths of integers in bits"
 /// [w32]: crate::specs::library#w32 "the widths of integers in bits"
 #[inline]
@@ -84,7 +84,7 @@ pub fn i32x4_dot_i16x8_s(lhs: V128, rhs: V128) -> V128 {
 ///
 /// <span></span><pre><code>ensures: result ≡ [vector.relaxed_dot_s] lhs rhs</code></pre>
 ///
-/// [vector.relaxed_dot_s]: crate::specs::widening::WideningTable#relaxed_dot_s "both operands are read signed, and the sums are modulo 2 ^ 16"
+/// [vector.relaxed_dot_s]: crate::specs::widening::WideningTable#relaxed_dot_s "the sums of the products of each two adjacent lanes of 8 bits, all read signed, modulo 2 ^ 16"
 #[inline]
 pub fn i16x8_relaxed_dot_i8x16_i7x16_s(lhs: V128, rhs: V128) -> V128 {
     let evens = product_of_u16x8(even_i8x16(lhs), even_i8x16(rhs));

@@ -61,7 +61,7 @@ pub fn i64x2_all_true(v: V128) -> bool {
 ///
 /// <span></span><pre><code>ensures: result ≡ [vector.any_true] v</code></pre>
 ///
-/// [vector.any_true]: crate::specs::widening::WideningTable#any_true "whether a bit is set"
+/// [vector.any_true]: crate::specs::widening::WideningTable#any_true "whether a bit of the vector is set"
 #[inline]
 pub fn v128_any_true(v: V128) -> bool {
     v.as_u128() != 0
@@ -73,7 +73,7 @@ pub fn v128_any_true(v: V128) -> bool {
 ///
 /// <span></span><pre><code>ensures: result ≡ [vector.bitmask] [w8] v</code></pre>
 ///
-/// [vector.bitmask]: crate::specs::widening::WideningTable#bitmask "bit i is the highest bit of lane i"
+/// [vector.bitmask]: crate::specs::widening::WideningTable#bitmask "the number whose bit i is the highest bit of lane i"
 /// [w8]: crate::specs::library#w8 "the widths of integers in bits"
 #[inline]
 pub fn i8x16_bitmask(v: V128) -> u32 {
@@ -87,7 +87,7 @@ pub fn i8x16_bitmask(v: V128) -> u32 {
 ///
 /// <span></span><pre><code>ensures: result ≡ [vector.bitmask] [w16] v</code></pre>
 ///
-/// [vector.bitmask]: crate::specs::widening::WideningTable#bitmask "bit i is the highest bit of lane i"
+/// [vector.bitmask]: crate::specs::widening::WideningTable#bitmask "the number whose bit i is the highest bit of lane i"
 /// [w16]: crate::specs::library#w16 "the widths of integers in bits"
 #[inline]
 pub fn i16x8_bitmask(v: V128) -> u32 {
@@ -103,7 +103,7 @@ pub fn i16x8_bitmask(v: V128) -> u32 {
 ///
 /// <span></span><pre><code>ensures: result ≡ [vector.bitmask] [w32] v</code></pre>
 ///
-/// [vector.bitmask]: crate::specs::widening::WideningTable#bitmask "bit i is the highest bit of lane i"
+/// [vector.bitmask]: crate::specs::widening::WideningTable#bitmask "the number whose bit i is the highest bit of lane i"
 /// [w32]: crate::specs::library#w32 "the widths of integers in bits"
 #[inline]
 pub fn i32x4_bitmask(v: V128) -> u32 {
@@ -119,7 +119,7 @@ pub fn i32x4_bitmask(v: V128) -> u32 {
 ///
 /// <span></span><pre><code>ensures: result ≡ [vector.bitmask] [w64] v</code></pre>
 ///
-/// [vector.bitmask]: crate::specs::widening::WideningTable#bitmask "bit i is the highest bit of lane i"
+/// [vector.bitmask]: crate::specs::widening::WideningTable#bitmask "the number whose bit i is the highest bit of lane i"
 /// [w64]: crate::specs::library#w64 "the widths of integers in bits"
 #[inline]
 pub fn i64x2_bitmask(v: V128) -> u32 {

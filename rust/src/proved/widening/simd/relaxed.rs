@@ -86,7 +86,7 @@ pub fn i16x8_relaxed_q15mulr_s(a: V128, b: V128) -> V128 {
 ///
 /// <span></span><pre><code>ensures: result ≡ [vector.relaxed_dot_add_s] lhs rhs c</code></pre>
 ///
-/// [vector.relaxed_dot_add_s]: crate::specs::widening::WideningTable#relaxed_dot_add_s "the sums of each two adjacent lanes of relaxed_dot_s, at twice their width, and of the lanes of a third vector"
+/// [vector.relaxed_dot_add_s]: crate::specs::widening::WideningTable#relaxed_dot_add_s "the sums of each two adjacent lanes of relaxed_dot_s, read signed, and of the lanes of a third vector, modulo 2 ^ 32"
 #[inline]
 pub fn i32x4_relaxed_dot_i8x16_i7x16_add_s(lhs: V128, rhs: V128, c: V128) -> V128 {
     let dot = i16x8_relaxed_dot_i8x16_i7x16_s(lhs, rhs);
