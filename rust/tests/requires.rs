@@ -28,6 +28,12 @@ fn elements(maximum: u32) -> TableType {
 }
 
 #[test]
+#[should_panic = "the reference lends no limiter"]
+fn a_loan_of_no_limiter() {
+    nobody().into_limiter();
+}
+
+#[test]
 #[should_panic = "the minimum is above the maximum"]
 fn a_table_type() {
     TableType::new(RefType::Func, 5, Some(2));

@@ -24,6 +24,7 @@ REQUIRES = {
         ("size as u64 % u64::from(self.page_size()) == 0", "the size is no number of whole pages"),
     "sized: IsSized ty size.old": ("is_sized(ty, *size)", NO_SUCH_SIZE),
     "sized: IsSized ty size": ("is_sized(ty, size)", NO_SUCH_SIZE),
+    "lent: IsSome (loan self)": ("self.limiter.is_some()", "the reference lends no limiter"),
     "within: size.old ≤ length region.old": ("*size <= region.len()", IN_REGION),
     "within: size ≤ length region.old": ("size <= region.len()", IN_REGION),
     "totals: HoldsTotals (L.Reserving.holdings limiter.old) machine.old":

@@ -2,8 +2,7 @@
 ghost use Rattle.std.specs.Prelude.{◌≡◌, ◌<◌, ◌^◌, None, Some, IfOk, OnErr};
 ghost use Rattle.wasmi_meter.specs.declared.limiter.Kind.{Kind};
 ghost use Rattle.wasmi_meter.specs.Amounts.{amounts_of};
-ghost use Rattle.wasmi_meter.specs.Capped.{TakesMore, held_together};
-ghost use Rattle.wasmi_meter.specs.CappedProofs.{asked_reserves, noticed_gives_back};
+ghost use Rattle.wasmi_meter.specs.Capped.{held_together};
 ghost use Rattle.wasmi_meter.specs.Limiter.{optional_rules};
 ghost use Rattle.wasmi_core.specs.Runs.{IsRunOf};
 ghost use Rattle.wasmi_core.specs.Totals.{total, HoldsTotals};
@@ -14,7 +13,7 @@ ghost use Rattle.wasmi_budget.specs.Tenant.{holdings, capped_tenant, tenant_rule
 use std::alloc::AllocError;
 use std::marker::Model;
 use wasmi_core::{Call, Machine, Reply, run_reserving};
-use wasmi_meter::{Amounts, Holdings, Kind, LimiterByKind, LimiterError, Reserving};
+use wasmi_meter::{Amounts, CappedLimiter, Holdings, Kind};
 
 /// The limiter of one machine of a pool: it permits what keeps all tenants together within the
 /// caps, and denies the rest. It counts each difference that it permitted. At a notice it takes
@@ -60,48 +59,23 @@ impl Tenant {
             elements: self.others.elements + held.elements,
         }
     }
+}
 
-    /// Takes `difference` more of a kind, if all tenants together stay within the cap.
-    fn take(&mut self, kind: Kind, difference: u64) -> bool
-        ensures { TakesMore capped_tenant self.old kind difference result self.new }
-    {
+impl CappedLimiter for Tenant {
+    ghost capped = { capped_tenant };
+
+    fn holdings(&self) -> Holdings {
+        self.holdings
+    }
+
+    fn take(&mut self, kind: Kind, difference: u64) -> bool {
         self.holdings
             .take(kind, difference, self.others.of(kind), self.caps.of(kind))
     }
-}
 
-impl LimiterByKind for Tenant {
-    ghost kind_rules = { tenant_rules };
-
-    fn growing(
-        &mut self,
-        kind: Kind,
-        current: usize,
-        desired: usize,
-    ) -> Result<bool, LimiterError> {
-        Ok(self.take(kind, (desired - current) as u64))
-    }
-
-    fn grow_failed(&mut self, kind: Kind) -> Result<(), LimiterError> {
+    fn give_back(&mut self, kind: Kind) {
         self.holdings.give_back(kind);
-        Ok(())
     }
-}
-
-impl Reserving for Tenant {
-    ghost holdings = { holdings };
-
-    fn held_bytes(&self) -> u64 {
-        self.holdings.held().bytes
-    }
-
-    fn held_elements(&self) -> u64 {
-        self.holdings.held().elements
-    }
-
-    ghost reserves = { asked_reserves capped_tenant };
-
-    ghost gives_back = { noticed_gives_back capped_tenant };
 }
 
 /// A machine, with what its memories and tables have, dropped ones with their last size. So what

@@ -35,9 +35,7 @@ pub use Rattle.wasmi_raw.specs.RawVal
 pub use Rattle.wasmi_raw.specs.Vector as RawVector
 pub use Rattle.wasmi_typed.specs.ShiftAmount
 pub use Rattle.wasmi_typed.specs.Global
-pub use Rattle.wasmi_typed.specs.GlobalError
 pub use Rattle.wasmi_typed.specs.TypedRef
-pub use Rattle.wasmi_typed.specs.NotAReference
 pub use Rattle.wasmi_access.specs.LoadStore
 pub use Rattle.wasmi_scalar.specs.Numerics
 pub use Rattle.wasmi_scalar.specs.Wide
@@ -69,7 +67,6 @@ pub use Rattle.wasmi_meter.specs.Quota
 pub use Rattle.wasmi_meter.specs.AnswerList
 pub use Rattle.wasmi_meter.specs.AnyLimiter
 pub use Rattle.wasmi_meter.specs.Texts
-pub use Rattle.wasmi_meter.specs.Errors
 pub use Rattle.wasmi_store.specs.Limits
 pub use Rattle.wasmi_store.specs.Growth
 pub use Rattle.wasmi_store.specs.Buffer
@@ -77,7 +74,6 @@ pub use Rattle.wasmi_store.specs.MemoryType
 pub use Rattle.wasmi_store.specs.Memory
 pub use Rattle.wasmi_store.specs.TableType
 pub use Rattle.wasmi_store.specs.Segment
-pub use Rattle.wasmi_store.specs.SegmentError
 pub use Rattle.wasmi_store.specs.Table
 pub use Rattle.wasmi_meter.specs.declared.limiter.Kind.TheVariants as Kinds
 pub use Rattle.wasmi_meter.specs.declared.error.MemoryError.TheVariants as MemoryErrors

@@ -135,7 +135,7 @@ impl<'r> Machine<'r> {
             self.old.memories result self.new.memories }
         ensures rest { self.new ≡ with_memories self.old self.new.memories }
     {
-        self.store.store_item(op, memory, ptr, offset, value)
+        self.store.memories.store(op, memory, ptr, offset, value)
     }
 
     /// The table of an index, if there is one that wasn't dropped.

@@ -20,6 +20,7 @@ use std::alloc::Global;
 use wasmi_meter::{Fuel, MemoryError, ResourceLimiter, ResourceLimiterRef};
 use wasmi_ops::{LoadOp, StoreLaneOp, StoreOp};
 use wasmi_raw::{RawVal, V128};
+use wasmi_store::range::lies_within;
 use wasmi_store::{Memory, MemoryType};
 use wasmi_types::TrapCode;
 use wasmi_vector_access::simd::v128_store;
@@ -212,7 +213,7 @@ fn stored(answer: Result<(), TrapCode>) -> Reply
 fn read_bytes(alloc: Global, memory: &[u8], offset: usize, len: usize) -> Reply
     ensures { ReadsBytes (at memory.now offset len) result }
 {
-    if memory.len() < offset || memory.len() - offset < len {
+    if !lies_within(memory, offset as u64, len as u64) {
         return Reply::Memory(MemoryError::OutOfBoundsAccess);
     }
     match memory[offset..offset + len].to_vec(alloc) {

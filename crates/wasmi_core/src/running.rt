@@ -68,9 +68,7 @@ impl<'r> Machine<'r> {
     {
         let mut lent = ResourceLimiterRef::from(limiter);
         let reply = self.grow_memory(memory, pages, &mut lent);
-        let Some(_limiter) = lent.into_resource_limiter() else {
-            unreachable!()
-        };
+        let _limiter = lent.into_limiter();
         reply
     }
 
@@ -86,9 +84,7 @@ impl<'r> Machine<'r> {
     {
         let mut lent = ResourceLimiterRef::from(limiter);
         let reply = self.step(call, &mut lent);
-        let Some(_limiter) = lent.into_resource_limiter() else {
-            unreachable!()
-        };
+        let _limiter = lent.into_limiter();
         reply
     }
 }
@@ -133,9 +129,7 @@ pub fn run_lending<L: ResourceLimiter>(
 {
     let mut lent = ResourceLimiterRef::from(limiter);
     let replies = run(machine, calls, &mut lent);
-    let Some(_limiter) = lent.into_resource_limiter() else {
-        unreachable!()
-    };
+    let _limiter = lent.into_limiter();
     replies
 }
 

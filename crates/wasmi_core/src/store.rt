@@ -1,6 +1,6 @@
 //! The store of a machine: what was made, the registers and the meter, and what each call does to
 //! them.
-ghost use Rattle.std.specs.Prelude.{◌≡◌, ◌+◌};
+ghost use Rattle.std.specs.Prelude.{◌≡◌};
 ghost use Rattle.wasmi_meter.specs.Limiter.{optional_rules};
 ghost use Rattle.wasmi_meter.specs.LimiterRef.{lent_limiter, KeepsLoan};
 
@@ -11,8 +11,6 @@ use crate::values::{create_global, create_segment, drop_items, get_global, set_g
 use std::alloc::Global as Allocator;
 use std::marker::Model;
 use wasmi_meter::{Fuel, ResourceLimiter, ResourceLimiterRef};
-use wasmi_ops::StoreOp;
-use wasmi_raw::RawVal;
 use wasmi_store::{ElementSegment, ElementSegmentRef, Memory, Table};
 use wasmi_typed::Global;
 
@@ -51,12 +49,9 @@ impl<'r> Model for Store<'r> {
 
 impl<'r> Store<'r> {
     ghost use Rattle.wasmi_core.specs.FuelEffects.{SetsFuel, get_fuel_reply};
-    ghost use Rattle.wasmi_core.specs.MemoryEffects.{StoresMemoryAt};
-    ghost use Rattle.wasmi_core.specs.State.{with_memories};
     ghost use Rattle.wasmi_core.specs.Steps.{Answers, AnswersAlone, subject_of, Memories, Tables, RegisterFile, Vectors};
     ghost use Rattle.wasmi_core.specs.World.{world};
     ghost use Rattle.wasmi_core.specs.declared.calls.Call.TheVariants.{GrowMemory};
-    ghost use Rattle.wasmi_ops.specs.ScalarAccessOps.{stored_bytes};
 
     fn set_fuel(&mut self, fuel: u64) -> Reply
         ensures { SetsFuel fuel self.old result self.new }
@@ -73,24 +68,8 @@ impl<'r> Store<'r> {
         self.fuel.get_fuel().map_or_else(Reply::Fuel, Reply::Number)
     }
 
-    /// Stores an item to a memory.
-    #[inline(always)]
-    pub(crate) fn store_item(
-        &mut self,
-        op: StoreOp,
-        memory: usize,
-        ptr: u64,
-        offset: u64,
-        value: RawVal,
-    ) -> Reply
-        ensures memories { StoresMemoryAt memory (ptr + offset) (stored_bytes op value)
-            self.old.memories result self.new.memories }
-        ensures rest { self.new ≡ with_memories self.old self.new.memories }
-    {
-        self.memories.store(op, memory, ptr, offset, value)
-    }
-
-    /// Grows a memory by so many pages.
+    /// Grows a memory by so many pages. A function of the store, since the prover covers no call
+    /// that borrows two fields of a field.
     #[inline(always)]
     pub(crate) fn grow_memory<L: ResourceLimiter>(
         &mut self,

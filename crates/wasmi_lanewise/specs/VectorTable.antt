@@ -39,19 +39,19 @@ swizzle a s = unary_of_lanes w8 unsigned (λ k. if nat_lt k 16 then lane w8 a k 
 
 -- ---- binary
 
--- modulo 2 ^ w
+-- the sums of the lanes modulo 2 to the width
 abbrev pub add : Width → ℕ → ℕ → ℕ
 add w = binary_of_lanes w unsigned (λ x y. (x + y) % 2 ^ bits w)
 
--- the differences modulo 2 to the width
+-- the differences of the lanes modulo 2 to the width
 abbrev pub sub : Width → ℕ → ℕ → ℕ
 sub w = binary_of_lanes w unsigned (λ x y. (x + (2 ^ bits w - y)) % 2 ^ bits w)
 
--- the products modulo 2 to the width
+-- the products of the lanes modulo 2 to the width
 abbrev pub mul : Width → ℕ → ℕ → ℕ
 mul w = binary_of_lanes w unsigned (λ x y. (x * y) % 2 ^ bits w)
 
--- clamped to the signed range, or to the unsigned range
+-- the sums of lanes read signed, clamped to the signed range
 abbrev pub add_sat_s : Width → ℕ → ℕ → ℕ
 add_sat_s w = binary_of_lanes w (signed w) (λ x y. wrap w (clamp_signed w (x +ℤ y)))
 
@@ -127,7 +127,7 @@ v128_bitselect a b c = bit_or (bit_and a c) (bit_and b (v128_not c))
 
 -- ---- unary
 
--- modulo 2 ^ w
+-- the negatives of the lanes modulo 2 to the width
 abbrev pub neg : Width → ℕ → ℕ
 neg w = unary_of_lanes w unsigned (λ x. (2 ^ bits w - x) % 2 ^ bits w)
 
@@ -149,7 +149,7 @@ eq w = comparison_of_lanes w unsigned nat_eq
 abbrev pub ne : Width → ℕ → ℕ → ℕ
 ne w = comparison_of_lanes w unsigned (λ x y. not (nat_eq x y))
 
--- of lanes read signed
+-- all ones in the lanes that are less, read signed, else all zeros
 abbrev pub lt_s : Width → ℕ → ℕ → ℕ
 lt_s w = comparison_of_lanes w (signed w) int_lt
 
@@ -165,7 +165,7 @@ gt_s w a b = lt_s w b a
 abbrev pub ge_s : Width → ℕ → ℕ → ℕ
 ge_s w a b = le_s w b a
 
--- of lanes read as they are
+-- all ones in the lanes that are less, read unsigned, else all zeros
 abbrev pub lt_u : Width → ℕ → ℕ → ℕ
 lt_u w = comparison_of_lanes w unsigned nat_lt
 

@@ -1,6 +1,5 @@
 pub mod Limiter
 pub mod LimiterRef
-pub mod Lending
 pub mod Costs
 pub mod Meter
 pub mod Attempt
@@ -12,4 +11,3 @@ pub mod Quota
 pub mod AnswerList
 pub mod AnyLimiter
 pub mod Texts
-pub mod Errors

@@ -1,8 +1,9 @@
 -- What a reference to a limiter leads to.
 use Rattle.std.specs.Prelude.{◌≡◌, Option, Some, None}
 use Rattle.std.specs.Option.{option_copied_mut}
-use Rattle.std.specs.Borrow.{MutBor}
+use Rattle.std.specs.Borrow.{MutBor, LendsIf, Fml, RattleType}
 use Rattle.wasmi_meter.specs.declared.limiter_ref.LimiterRef.{LimiterRef}
+use Rattle.wasmi_meter.specs.contracts.limiter_ref.LimiterRef.{the_row}
 
 -- what is lent, if anything
 abbrev pub loan : {R : Type 0} → LimiterRef R → Option R
@@ -27,3 +28,14 @@ KeepsLoan r r' = SameLoan r.limiter r'.limiter
 abbrev pub shown_of : {R L : Type 0} → (R → L) → Option R → Option L
 shown_of shown None = None
 shown_of shown (Some r) = Some (shown r)
+
+-- the reference, whose limiter is l now
+abbrev pub ending_with : {R L : Type 0} → (R → L → R) → Option R → L → Option R
+ending_with last None l = None
+ending_with last (Some r) l = Some (last r l)
+
+-- r lends the limiter out of s, and s ends with the last value that was written through it
+abbrev pub LendsLimiter : (R L : RattleType) → (R.Denot → L.Denot → R.Denot) → MutBor (LimiterRef R.Denot)
+    → Option (MutBor L.Denot) → Fml
+LendsLimiter R L last s r =
+    LendsIf (the_row R) L s r (λ l. record s.now { limiter = ending_with last s.now.limiter l }) s.now

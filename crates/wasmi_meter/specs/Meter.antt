@@ -6,6 +6,9 @@ use Rattle.std.specs.Option.{option_copied_mut, option_map, unwrap_or}
 use Rattle.wasmi_meter.specs.declared.fuel.FuelError.{FuelError}
 use Rattle.wasmi_meter.specs.declared.fuel.FuelError.TheVariants.{OutOfFuel}
 use Rattle.wasmi_meter.specs.declared.fuel.CustomFuelCosts.{CustomFuelCosts}
+use Rattle.wasmi_meter.specs.declared.fuel.FuelError.TheVariants as fuel
+use Rattle.wasmi_meter.specs.declared.error.TableError.{TableError}
+use Rattle.wasmi_meter.specs.declared.error.TableError.TheVariants as table
 
 -- a meter is off, or on with an amount left, at these costs
 pub record Meter : Type 0 where
@@ -49,3 +52,8 @@ due m price = if is_some m.left then price m.costs else 0
 abbrev pub Charges : Meter → ℕ → Result (Unit {0}) ℕ → Meter → Type 0
 Charges m amount (Ok _) m' = (amount ≤ amount_left m) × (m' ≡ meter_after m amount)
 Charges m amount (Err required) m' = (amount_left m < amount) × (required ≡ amount) × (m' ≡ m)
+
+-- too little fuel is an error of a table; that a meter is off is none, and is handed back
+abbrev pub IsOfFuel : FuelError → Result TableError FuelError → Type 0
+IsOfFuel (fuel.OutOfFuel required) answer = answer ≡ Ok (table.OutOfFuel required)
+IsOfFuel fuel.FuelMeteringDisabled answer = answer ≡ Err fuel.FuelMeteringDisabled

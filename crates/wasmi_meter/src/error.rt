@@ -1,6 +1,6 @@
 //! Why calls on memories and tables are refused, and the error of a resource limiter.
 ghost use Rattle.std.specs.Prelude.{◌≡◌, Some};
-ghost use Rattle.wasmi_meter.specs.Errors.{IsOfFuel};
+ghost use Rattle.wasmi_meter.specs.Meter.{IsOfFuel};
 ghost use Rattle.wasmi_meter.specs.Texts.{limiter_error_text, memory_error_text, table_error_text};
 ghost use Rattle.wasmi_meter.specs.declared.error.MemoryError.TheVariants as memory;
 ghost use Rattle.wasmi_meter.specs.declared.error.TableError.TheVariants as table;

@@ -4,6 +4,7 @@
 mod amounts;
 mod answer_list;
 mod any_limiter;
+mod capped;
 mod error;
 mod fuel;
 pub mod growth;
@@ -17,6 +18,7 @@ mod reserving;
 pub use amounts::Amounts;
 pub use answer_list::{AnswerList, LimiterAnswer};
 pub use any_limiter::AnyLimiter;
+pub use capped::CappedLimiter;
 pub use error::{LimiterError, MemoryError, TableError};
 pub use fuel::{CustomFuelCosts, Fuel, FuelCosts, FuelCostsProvider, FuelError, ValueSize};
 pub use holdings::Holdings;

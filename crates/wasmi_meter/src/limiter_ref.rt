@@ -1,11 +1,10 @@
 //! A borrowed limiter, or none.
-ghost use Rattle.std.specs.Prelude.{◌≡◌, ◌≤◌, ℕ, Option, Some, None, Result, Ok, Bool, true};
+ghost use Rattle.std.specs.Prelude.{◌≡◌, ◌≤◌, ℕ, Option, IsSome, Some, None, Result, Ok, Bool, true};
 ghost use Rattle.std.specs.Option.{option_copied_mut};
 ghost use Rattle.std.specs.Borrow.{sem, Lends};
 ghost use denote.Ref.{at_last};
 ghost use Rattle.wasmi_meter.specs.Limiter.{MemoryFailure, TableFailure, optional_rules};
-ghost use Rattle.wasmi_meter.specs.LimiterRef.{loan, lent_limiter, KeepsLoan, shown_of};
-ghost use Rattle.wasmi_meter.specs.Lending.{LendsLimiter};
+ghost use Rattle.wasmi_meter.specs.LimiterRef.{loan, lent_limiter, KeepsLoan, shown_of, LendsLimiter};
 ghost use Rattle.wasmi_meter.specs.declared.limiter.Kind.TheVariants.{Bytes, Elements};
 
 use crate::error::{LimiterError, MemoryError, TableError};
@@ -107,6 +106,19 @@ impl<R> LimiterRef<R> {
     {
         let LimiterRef { limiter } = self;
         limiter
+    }
+
+    /// Ends the loan of a limiter that is there, as `into_resource_limiter` does.
+    ///
+    /// Own: functions that borrow a limiter for one call end its loan by it.
+    pub fn into_limiter(self) -> R
+        requires lent { IsSome (loan self) }
+        ensures value { loan self ≡ Some result }
+    {
+        match self.into_resource_limiter() {
+            Some(limiter) => limiter,
+            None => unreachable!(),
+        }
     }
 
     /// The limiter, if there is one.

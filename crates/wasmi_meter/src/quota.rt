@@ -1,16 +1,13 @@
 //! A limiter with a cap on the bytes of memories and one on the elements of tables.
 ghost use Rattle.std.specs.Prelude.{◌≡◌, None};
 ghost use Rattle.wasmi_meter.specs.Amounts.{nothing};
-ghost use Rattle.wasmi_meter.specs.Capped.{TakesMore};
-ghost use Rattle.wasmi_meter.specs.CappedProofs.{asked_reserves, noticed_gives_back};
-ghost use Rattle.wasmi_meter.specs.Quota.{holdings, cap_of, capped_quota, quota_rules, IsWithinCaps};
+ghost use Rattle.wasmi_meter.specs.Quota.{holdings, cap_of, capped_quota, IsWithinCaps};
 ghost use Rattle.wasmi_meter.specs.declared.limiter.Kind.TheVariants.{Bytes, Elements};
 
 use crate::amounts::Amounts;
-use crate::error::LimiterError;
+use crate::capped::CappedLimiter;
 use crate::holdings::Holdings;
-use crate::limiter::{Kind, LimiterByKind};
-use crate::reserving::Reserving;
+use crate::limiter::Kind;
 
 /// A limiter that permits what stays within two caps, and denies the rest. It counts each
 /// difference that it permitted. At a notice it takes back the last one if that is of the same
@@ -72,45 +69,20 @@ impl Quota {
     {
         self.holdings.held().elements
     }
+}
 
-    /// Takes `difference` more of a kind, if what is held of it stays within the cap.
-    fn take(&mut self, kind: Kind, difference: u64) -> bool
-        ensures { TakesMore capped_quota self.old kind difference result self.new }
-    {
+impl CappedLimiter for Quota {
+    ghost capped = { capped_quota };
+
+    fn holdings(&self) -> Holdings {
+        self.holdings
+    }
+
+    fn take(&mut self, kind: Kind, difference: u64) -> bool {
         self.holdings.take(kind, difference, 0, self.caps.of(kind))
     }
-}
 
-impl LimiterByKind for Quota {
-    ghost kind_rules = { quota_rules };
-
-    fn growing(
-        &mut self,
-        kind: Kind,
-        current: usize,
-        desired: usize,
-    ) -> Result<bool, LimiterError> {
-        Ok(self.take(kind, (desired - current) as u64))
-    }
-
-    fn grow_failed(&mut self, kind: Kind) -> Result<(), LimiterError> {
+    fn give_back(&mut self, kind: Kind) {
         self.holdings.give_back(kind);
-        Ok(())
     }
-}
-
-impl Reserving for Quota {
-    ghost holdings = { holdings };
-
-    fn held_bytes(&self) -> u64 {
-        self.holdings.held().bytes
-    }
-
-    fn held_elements(&self) -> u64 {
-        self.holdings.held().elements
-    }
-
-    ghost reserves = { asked_reserves capped_quota };
-
-    ghost gives_back = { noticed_gives_back capped_quota };
 }

@@ -28,23 +28,23 @@ imul w x y = int_wrap w (x *ℤ y)
 
 -- ---- quotients towards zero, and their remainders
 
--- the one quotient that no signed number of the width is, 2 to the power `bits w - 1`, is that of the least number by
--- -1
+-- the quotient of two signed numbers, rounded towards zero, or a trap where the divisor is 0 or no signed number of the
+-- width is the quotient: that of the least number by -1 is 2 to the power `bits w - 1`
 abbrev pub idiv_s : Width → ℤ → ℤ → Result ℤ TrapCode
 idiv_s w x y =
     if int_eq y (pos 0) then Err IntegerDivisionByZero
     else if int_eq (int_div x y) (pos (2 ^ (bits w - 1))) then Err IntegerOverflow
     else Ok (int_div x y)
 
--- the quotient rounded down, where the divisor is not 0
+-- the quotient rounded down, or a trap where the divisor is 0
 abbrev pub idiv_u : ℕ → ℕ → Result ℕ TrapCode
 idiv_u n d = if d == 0 then Err IntegerDivisionByZero else Ok (n / d)
 
--- with the sign of x
+-- the remainder of the quotient rounded towards zero, which has the sign of x, or a trap where the divisor is 0
 abbrev pub irem_s : ℤ → ℤ → Result ℤ TrapCode
 irem_s x y = if int_eq y (pos 0) then Err IntegerDivisionByZero else Ok (int_rem x y)
 
--- the remainder of the quotient rounded down, where the divisor is not 0
+-- the remainder of the quotient rounded down, or a trap where the divisor is 0
 abbrev pub irem_u : ℕ → ℕ → Result ℕ TrapCode
 irem_u n d = if d == 0 then Err IntegerDivisionByZero else Ok (n % d)
 
@@ -86,7 +86,7 @@ rotated_left b n k = n * 2 ^ k % 2 ^ b + n / 2 ^ (b - k)
 abbrev pub irotl : Width → ℤ → ℤ → ℤ
 irotl w x y = cast_signed w (rotated_left (bits w) (cast_unsigned w x) (amount_modulo w y))
 
--- to the right by k is to the left by the rest of the bits
+-- the bits rotated to the right by an amount modulo the width: to the left by the rest of the bits
 abbrev pub irotr : Width → ℤ → ℤ → ℤ
 irotr w x y = cast_signed w (rotated_left (bits w) (cast_unsigned w x) (bits w - amount_modulo w y))
 

@@ -3,9 +3,9 @@ use Rattle.std.specs.Prelude.{ℕ, List, [], ◌++◌, codes, flat_map, Option, 
 use Rattle.std.specs.Fmt.{decimal}
 use Rattle.wasmi_types.specs.Trap.{code_message}
 use Rattle.wasmi_meter.specs.Texts.{fuel_error_text, memory_error_text, table_error_text}
-use Rattle.wasmi_typed.specs.GlobalError.{global_error_text}
+use Rattle.wasmi_typed.specs.Global.{global_error_text}
 use Rattle.wasmi_typed.specs.declared.typed_ref.TypedRawRef.{TypedRawRef}
-use Rattle.wasmi_store.specs.SegmentError.{segment_error_text}
+use Rattle.wasmi_store.specs.Segment.{segment_error_text}
 use Rattle.wasmi_core.specs.declared.calls.Call.{Call}
 use Rattle.wasmi_core.specs.declared.calls.Call.TheVariants.{NewMemory, NewLentMemory, NewTable, NewSegment, NewGlobal}
 use Rattle.wasmi_core.specs.declared.calls.Reply.{Reply}

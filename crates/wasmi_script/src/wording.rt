@@ -5,8 +5,8 @@ ghost use Rattle.wasmi_meter.specs.Texts.{fuel_error_text, memory_error_text, ta
 ghost use Rattle.wasmi_script.specs.Fronts.{AddsToFront};
 ghost use Rattle.wasmi_script.specs.Texts.{head_text, kind_text};
 ghost use Rattle.wasmi_script.specs.Wording.{wording_text};
-ghost use Rattle.wasmi_store.specs.SegmentError.{segment_error_text};
-ghost use Rattle.wasmi_typed.specs.GlobalError.{global_error_text};
+ghost use Rattle.wasmi_store.specs.Segment.{segment_error_text};
+ghost use Rattle.wasmi_typed.specs.Global.{global_error_text};
 ghost use Rattle.wasmi_operands.specs.TypeWords.{reference_word};
 
 use crate::front::{put, put_optional};

@@ -10,8 +10,8 @@ use Rattle.wasmi_lanes.specs.Vector.{from_lanes}
 abbrev pub lane_count : Width → ℕ
 lane_count w = 128 / bits w
 
--- lane i is the row of the narrow lanes first + i: 0 is the first one of the lower half, `lane_count wide` that of the
--- upper
+-- the wide vector whose lane i is the row of the narrow lane first + i: first is 0 for the lower half, and `lane_count
+-- wide` for the upper
 unfoldable pub half_unary : {A : Type 0} → (narrow wide : Width) → ℕ → (ℕ → A) → (A → ℕ) → ℕ → ℕ
 half_unary narrow wide first read row v = from_lanes wide (λ i. row (read (lane narrow v (first + i))))
 
@@ -20,7 +20,7 @@ unfoldable pub half_binary : {A : Type 0} → (narrow wide : Width) → ℕ → 
 half_binary narrow wide first read row a b =
     from_lanes wide (λ i. row (read (lane narrow a (first + i))) (read (lane narrow b (first + i))))
 
--- lane i is the row of the narrow lanes 2 * i and 2 * i + 1, of the first operand and then of the second
+-- the wide vector whose lane i is the row of the narrow lanes 2 * i and 2 * i + 1 of a vector
 unfoldable pub pairwise_unary : {A : Type 0} → (narrow wide : Width) → (ℕ → A) → (A → A → ℕ) → ℕ → ℕ
 pairwise_unary narrow wide read row v =
     from_lanes wide (λ i. row (read (lane narrow v (2 * i))) (read (lane narrow v (2 * i + 1))))
@@ -31,7 +31,7 @@ pairwise_binary narrow wide read row a b =
     from_lanes wide (λ i. row (read (lane narrow a (2 * i))) (read (lane narrow a (2 * i + 1)))
     (read (lane narrow b (2 * i))) (read (lane narrow b (2 * i + 1))))
 
--- the rows of the wide lanes of `low`, then those of `high`
+-- the narrow vector of the rows of the wide lanes of `low`, and then those of `high`
 unfoldable pub from_low_high : {A : Type 0} → (wide narrow : Width) → (ℕ → A) → (A → ℕ) → ℕ → ℕ → ℕ
 from_low_high wide narrow read row low high =
     from_lanes narrow

@@ -52,11 +52,11 @@ extadd_pairwise_s narrow wide = pairwise_unary narrow wide (signed narrow) (λ x
 abbrev pub extadd_pairwise_u : Width → Width → ℕ → ℕ
 extadd_pairwise_u narrow wide = pairwise_unary narrow wide unsigned (λ x y. x + y)
 
--- modulo 2 ^ wide
+-- the sums of the products of each two adjacent lanes of two vectors, read signed, modulo 2 to the wide width
 abbrev pub dot_s : Width → Width → ℕ → ℕ → ℕ
 dot_s narrow wide = pairwise_binary narrow wide (signed narrow) (λ x x' y y'. wrap wide ((x *ℤ y) +ℤ (x' *ℤ y')))
 
--- the narrow lanes of a number of 64 bits, extended
+-- the lanes of a number of 64 bits read signed, at twice their width
 abbrev pub widen_s : Width → Width → ℕ → ℕ
 widen_s narrow wide number = extend_low_s narrow wide number
 
@@ -64,7 +64,7 @@ widen_s narrow wide number = extend_low_s narrow wide number
 abbrev pub widen_u : Width → Width → ℕ → ℕ
 widen_u narrow wide number = extend_low_u narrow wide number
 
--- the number in lane 0, and 0 in the others
+-- the vector with the number in lane 0, and 0 in the others
 abbrev pub low_zero : Width → ℕ → ℕ
 low_zero w number = with_lane w 0 0 number
 
@@ -98,11 +98,11 @@ shr_u w v amount = unary_of_lanes w unsigned (λ x. x / 2 ^ (amount % bits w)) v
 abbrev pub all_true : Width → ℕ → Bool
 all_true w = every_lane w unsigned (λ x. not (nat_eq x 0))
 
--- whether a bit is set
+-- whether a bit of the vector is set
 abbrev pub any_true : ℕ → Bool
 any_true v = not (nat_eq v 0)
 
--- bit i is the highest bit of lane i
+-- the number whose bit i is the highest bit of lane i
 abbrev pub bitmask : Width → ℕ → ℕ
 bitmask w = lane_bits w unsigned (λ x. nat_le (2 ^ (bits w - 1)) x)
 
@@ -120,10 +120,10 @@ relaxed_laneselect a b c = v128_bitselect a b c
 abbrev pub relaxed_q15mulr_s : ℕ → ℕ → ℕ
 relaxed_q15mulr_s a b = q15mulr_sat_s a b
 
--- both operands are read signed, and the sums are modulo 2 ^ 16
+-- the sums of the products of each two adjacent lanes of 8 bits, all read signed, modulo 2 ^ 16
 abbrev pub relaxed_dot_s : ℕ → ℕ → ℕ
 relaxed_dot_s a b = dot_s w8 w16 a b
 
--- the sums of each two adjacent lanes of relaxed_dot_s, at twice their width, and of the lanes of a third vector
+-- the sums of each two adjacent lanes of relaxed_dot_s, read signed, and of the lanes of a third vector, modulo 2 ^ 32
 abbrev pub relaxed_dot_add_s : ℕ → ℕ → ℕ → ℕ
 relaxed_dot_add_s a b c = add w32 (extadd_pairwise_s w16 w32 (relaxed_dot_s a b)) c

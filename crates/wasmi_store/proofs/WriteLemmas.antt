@@ -1,9 +1,10 @@
 -- The calls that write over a part of a table, by what was tested on the way.
-use Rattle.std.proofs.Common.{◌≡◌, ℕ, suc, ◌+◌, ◌<◌, Bool, true, false, Option, Some, None, Ok, Err, List, [], ◌∷◌, ◌++◌, length, take, drop, refl, sym, ap, ◌∙◌, arith, append_assoc}
+use Rattle.std.proofs.Common.{◌≡◌, ℕ, suc, ◌+◌, ◌<◌, true, Option, Some, None, Ok, Err, inl, inr, List, [], ◌∷◌, ◌++◌, length, take, drop, refl, sym, ap, ◌∙◌, arith, append_assoc}
+use Rattle.std.proofs.lemmas.Bool.{cases_Bool}
 use Rattle.std.proofs.lemmas.Bool.Decides.{nat_tests}
 use lib.ListN.{set}
 use lib.Seq.{set_split}
-use Rattle.std.specs.Prelude.{nat_le, MatchBool, Result}
+use Rattle.std.specs.Prelude.{nat_le, Result}
 use Rattle.wasmi_types.specs.Access.{overwrite}
 use Rattle.wasmi_meter.specs.declared.error.TableError.{TableError}
 use Rattle.wasmi_meter.specs.declared.error.TableError.TheVariants.{OutOfFuel}
@@ -39,29 +40,26 @@ module _ (write : TableValue → TableWrite) (ty : TableTypeValue) (xs : List �
         rw (is, elements, left) (0, record { ends = ends; meter = meter_after_nothing (Some m) })
 
     -- a write within its lists, by whether it can be paid
-    by_payment : (elements : List ℕ) → w.written ≡ Some elements → (payable : Bool)
-        → covers (Some m) (write_due w s) ≡ payable
-        → MatchBool payable
-        ((result ≡ Ok tt)
-        × (metered xs' (Some m') ≡ metered elements (Some (meter_after m (write_due w s)))))
-        ((result ≡ Err (OutOfFuel (write_due w s))) × (metered xs' (Some m') ≡ metered xs (Some m))) → Written
-    by_payment elements within true paid (done, after) =
-        let written : xs' ≡ elements = ap (λ s. s.value) after in
-        let meters : Some m' ≡ Some (meter_after m (write_due w s)) = ap (λ s. s.meter) after in
-        let left : m' ≡ meter_after m (write_due w s) = cc in
-        rw (done, written, left) (
-          write_due w s,
-          record { ends = rw (same, within, paid) (refl, refl, refl); meter = refl },
-        )
-    by_payment elements within false unpaid short =
-        refused (OutOfFuel (write_due w s)) (rw (same, within, unpaid) (refl, refl, refl)) short
+    by_payment : (elements : List ℕ) → w.written ≡ Some elements
+        → WritesElements (Some elements) w.outside w.paid (metered xs (Some m)) result (metered xs' (Some m')) → Written
+    by_payment elements within ends = elim (cases_Bool (covers (Some m) (write_due w s))) [
+      | inl paid ↦ let done = rw paid at ends in
+          let written : xs' ≡ elements = ap (λ s. s.value) done.1 in
+          let meters : Some m' ≡ Some (meter_after m (write_due w s)) = ap (λ s. s.meter) done.1 in
+          let left : m' ≡ meter_after m (write_due w s) = cc in
+          rw (done.0, written, left) (
+            write_due w s,
+            record { ends = rw (same, within, paid) (refl, refl, refl); meter = refl },
+          )
+      | inr unpaid ↦ refused (OutOfFuel (write_due w s)) (rw (same, within, unpaid) (refl, refl, refl))
+          (rw unpaid at ends)
+    ]
 
     -- a write, by whether its ranges lie within their lists
     by_range : (written : Option (List ℕ)) → w.written ≡ written
         → WritesElements written w.outside w.paid (metered xs (Some m)) result (metered xs' (Some m')) → Written
     by_range None outside short = refused w.outside (rw (same, outside) (refl, refl, refl)) short
-    by_range (Some elements) within ends =
-        by_payment elements within (covers (Some m) (write_due w s)) refl ends
+    by_range (Some elements) within ends = by_payment elements within ends
 
     -- a write over elements is one over the table that has them
     pub writes_elements : WritesElements w.written w.outside w.paid (metered xs (Some m)) result

@@ -3,11 +3,9 @@ pub mod Growth
 pub mod Bulk
 pub mod Buffer
 pub mod Front
-pub mod Lending
 pub mod Storage
 pub mod MemoryType
 pub mod Memory
 pub mod TableType
 pub mod Segment
 pub mod Table
-pub mod SegmentError

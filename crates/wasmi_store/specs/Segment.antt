@@ -1,5 +1,5 @@
 -- Element segments (core specification, element instances), and how one is read of an iterator.
-use Rattle.std.specs.Prelude.{◌≡◌, ◌^◌, ◌-◌, ◌<◌, ◌≤◌, ℕ, List, [], length, Option, Result, Ok, Err}
+use Rattle.std.specs.Prelude.{◌≡◌, ◌^◌, ◌-◌, ◌<◌, ◌≤◌, ℕ, List, [], length, Option, Result, Ok, Err, codes}
 use Rattle.std.specs.Iterator.{Yields}
 use Rattle.wasmi_types.specs.declared.value.RefType.{RefType}
 use Rattle.wasmi_types.specs.Iteration.{ReadsAll, ReadsTooMany}
@@ -54,3 +54,8 @@ pub record IsReadingOf {X I : Type 0} (becomes : X → I → Type 0) (steps : I 
   pub after : I
   pub made : becomes x before
   pub reads : IsReading steps before ty answer after
+
+-- the text of an error of an element segment
+abbrev pub segment_error_text : SegmentError → List ℕ
+segment_error_text TooManyItems = codes "too many items in an element segment"
+segment_error_text OutOfSystemMemory = codes "out of memory"

@@ -19,7 +19,7 @@ mod ty;
 use crate::bulk::{copy_bytes, copy_bytes_within, fill_bytes};
 use crate::growth::{MEMORY_DENIED as DENIED, decide_growth, permitted_minimum};
 use crate::optional_meter::with_meter;
-use crate::range::{read_bytes, write_range};
+use crate::range::{read_bytes, write_bytes};
 pub use buffer::{Buffer, ByteBuffer};
 pub use region::Region;
 use std::alloc::Global;
@@ -113,9 +113,7 @@ impl<'r> LinearMemory<&'r mut [u8]> {
     {
         let mut lent = ResourceLimiterRef::from(limiter);
         let made = Memory::new(alloc, ty, &mut lent);
-        let Some(_limiter) = lent.into_resource_limiter() else {
-            unreachable!()
-        };
+        let _limiter = lent.into_limiter();
         made
     }
 
@@ -131,9 +129,7 @@ impl<'r> LinearMemory<&'r mut [u8]> {
     {
         let mut lent = ResourceLimiterRef::from(limiter);
         let made = Memory::new_static(ty, &mut lent, region);
-        let Some(_limiter) = lent.into_resource_limiter() else {
-            unreachable!()
-        };
+        let _limiter = lent.into_limiter();
         made
     }
 }
@@ -273,9 +269,7 @@ impl<R: Region> LinearMemory<R> {
     {
         let mut lent = ResourceLimiterRef::from(limiter);
         let grown = self.grow_metered(additional, fuel, &mut lent);
-        let Some(_limiter) = lent.into_resource_limiter() else {
-            unreachable!()
-        };
+        let _limiter = lent.into_limiter();
         grown
     }
 
@@ -295,12 +289,7 @@ impl<R: Region> LinearMemory<R> {
     pub fn write(&mut self, offset: usize, buffer: &[u8]) -> Result<(), MemoryError>
         ensures { WritesMemory self.old offset buffer.now result self.new }
     {
-        let size = self.buffer.len();
-        if size < offset || size - offset < buffer.len() {
-            return Err(MemoryError::OutOfBoundsAccess);
-        }
-        write_range(self.buffer.data_mut(), offset, buffer);
-        Ok(())
+        write_bytes(self.buffer.data_mut(), offset, buffer)
     }
 
     /// Fills `len` bytes from `dst` on with a value.

@@ -23,11 +23,27 @@ pub fn read_bytes(bytes: &[u8], offset: usize, buffer: &mut [u8]) -> Result<(), 
         (λ error. (error ≡ MemoryError.OutOfBoundsAccess)
         × (at bytes.now offset (length buffer.old) ≡ None) × (buffer.new ≡ buffer.old)) }
 {
-    if bytes.len() < offset || bytes.len() - offset < buffer.len() {
+    if !lies_within(bytes, offset as u64, buffer.len() as u64) {
         return Err(MemoryError::OutOfBoundsAccess);
     }
     let end = offset + buffer.len();
     buffer.copy_from_slice(&bytes[offset..end]);
+    Ok(())
+}
+
+/// Writes bytes over those from an offset on. The error is `OutOfBoundsAccess` if they would end
+/// past the bytes; then nothing is written.
+pub fn write_bytes(bytes: &mut [u8], offset: usize, buffer: &[u8]) -> Result<(), MemoryError>
+    ensures ok { OnOk result (overwrite bytes.old offset buffer.now ≡ Some bytes.new) }
+    ensures err { IfErr result
+        (λ error. (error ≡ MemoryError.OutOfBoundsAccess)
+        × (overwrite bytes.old offset buffer.now ≡ None) × (bytes.new ≡ bytes.old)) }
+    ensures len { length bytes.new ≡ length bytes.old }
+{
+    if !lies_within(bytes, offset as u64, buffer.len() as u64) {
+        return Err(MemoryError::OutOfBoundsAccess);
+    }
+    write_range(bytes, offset, buffer);
     Ok(())
 }
 

@@ -90,9 +90,7 @@ impl Table {
     {
         let mut lent = ResourceLimiterRef::from(limiter);
         let made = Table::new(alloc, ty, init, &mut lent);
-        let Some(_limiter) = lent.into_resource_limiter() else {
-            unreachable!()
-        };
+        let _limiter = lent.into_limiter();
         made
     }
 
@@ -183,9 +181,7 @@ impl Table {
     {
         let mut lent = ResourceLimiterRef::from(limiter);
         let grown = self.grow_metered(delta, init, fuel, &mut lent);
-        let Some(_limiter) = lent.into_resource_limiter() else {
-            unreachable!()
-        };
+        let _limiter = lent.into_limiter();
         grown
     }
 
@@ -263,9 +259,7 @@ impl Table {
     {
         let mut lent = ResourceLimiterRef::from(limiter);
         let grown = self.grow_raw_metered(delta, init, fuel, &mut lent);
-        let Some(_limiter) = lent.into_resource_limiter() else {
-            unreachable!()
-        };
+        let _limiter = lent.into_limiter();
         grown
     }
 

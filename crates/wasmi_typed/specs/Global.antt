@@ -1,5 +1,5 @@
 -- Global variables.
-use Rattle.std.specs.Prelude.{◌≡◌, ◌≢◌, Result, Ok, Err}
+use Rattle.std.specs.Prelude.{◌≡◌, ◌≢◌, Result, Ok, Err, ℕ, List, codes}
 use Rattle.wasmi_raw.specs.declared.raw.RawVal.{RawVal}
 use Rattle.wasmi_typed.specs.declared.typed.TypedRawVal.{TypedRawVal}
 use Rattle.wasmi_typed.specs.declared.global.GlobalType.{GlobalType}
@@ -23,3 +23,8 @@ SetsGlobal global value (Ok _) global' =
 SetsGlobal global value (Err ImmutableWrite) global' = (global.ty.mutability ≡ Const) × (global' ≡ global)
 SetsGlobal global value (Err TypeMismatch) global' =
     (global.ty.mutability ≡ Var) × (global.ty.content ≢ value.ty) × (global' ≡ global)
+
+-- the text of an error of a global variable
+abbrev pub global_error_text : GlobalError → List ℕ
+global_error_text ImmutableWrite = codes "tried to write to immutable global variable"
+global_error_text TypeMismatch = codes "tried to write value of non-matching type to global variable"

@@ -1,5 +1,5 @@
 -- References with their types.
-use Rattle.std.specs.Prelude.{◌≡◌, Some, None, Result, Ok, Err}
+use Rattle.std.specs.Prelude.{◌≡◌, Some, None, Result, Ok, Err, ℕ, List, codes}
 use Rattle.std.specs.Int.{w32}
 use Rattle.wasmi_types.specs.Value.{reference_of}
 use Rattle.wasmi_raw.specs.RawVal.{unsigned_in}
@@ -12,3 +12,7 @@ abbrev pub IsReference : TypedRawVal → Result TypedRawRef NotAReference → Ty
 IsReference typed (Ok reference) =
     (reference_of typed.ty ≡ Some reference.ty) × (reference.raw ≡ unsigned_in w32 typed.raw)
 IsReference typed (Err error) = reference_of typed.ty ≡ None
+
+-- the text of the error where a value is no reference
+abbrev pub not_a_reference_text : List ℕ
+not_a_reference_text = codes "not a reference type"

@@ -24,7 +24,7 @@ pub enum GlobalError {
 
 impl fmt::Display for GlobalError {
     ghost use Rattle.std.specs.Prelude.{Some};
-    ghost use Rattle.wasmi_typed.specs.GlobalError.{global_error_text};
+    ghost use Rattle.wasmi_typed.specs.Global.{global_error_text};
 
     ghost output = { λ error. Some (global_error_text error) };
 

@@ -70,7 +70,7 @@ impl From<TypedRawRef> for TypedRawVal {
 pub struct NotAReference;
 
 impl fmt::Display for NotAReference {
-    ghost use Rattle.wasmi_typed.specs.NotAReference.{not_a_reference_text};
+    ghost use Rattle.wasmi_typed.specs.TypedRef.{not_a_reference_text};
 
     ghost output = { λ _. Some not_a_reference_text };
 

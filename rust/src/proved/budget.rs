@@ -406,7 +406,7 @@ mod tenant {
     //! One machine of a pool, with what it has, and its limiter.
 
     use crate::proved::machine::{Call, Machine, Reply, run_reserving};
-    use crate::proved::meter::{Amounts, Holdings, Kind, LimiterByKind, LimiterError, Reserving};
+    use crate::proved::meter::{Amounts, CappedLimiter, Holdings, Kind};
     use crate::rattle::Vec;
     use crate::rattle::alloc::AllocError;
 
@@ -471,63 +471,28 @@ mod tenant {
                 elements: self.others.elements + held.elements,
             }
         }
+    }
 
-        /// Takes `difference` more of a kind, if all tenants together stay within the cap.
-        ///
-        /// # Contract
-        ///
-        /// <span></span><pre><code>ensures: [TakesMore] [capped_tenant] self.old kind difference result self.new</code></pre>
-        ///
-        /// [TakesMore]: crate::specs::meter::Capped#TakesMore "so many more of a kind are taken, or not, and all but the holdings stays"
-        /// [capped_tenant]: crate::specs::budget::Tenant#capped_tenant "tenants as limiters with caps"
+    /// # Contract
+    ///
+    /// <span></span><pre><code>capped = [capped_tenant]</code></pre>
+    ///
+    /// [capped_tenant]: crate::specs::budget::Tenant#capped_tenant "tenants as limiters with caps"
+    impl CappedLimiter for Tenant {
+        #[inline]
+        fn holdings(&self) -> Holdings {
+            self.holdings
+        }
+
         #[inline]
         fn take(&mut self, kind: Kind, difference: u64) -> bool {
             self.holdings
                 .take(kind, difference, self.others.of(kind), self.caps.of(kind))
         }
-    }
-
-    /// # Contract
-    ///
-    /// <span></span><pre><code>kind_rules = [tenant_rules]</code></pre>
-    ///
-    /// [tenant_rules]: crate::specs::budget::Tenant#tenant_rules "the rules of a tenant"
-    impl LimiterByKind for Tenant {
-        #[inline]
-        fn growing(
-            &mut self,
-            kind: Kind,
-            current: usize,
-            desired: usize,
-        ) -> Result<bool, LimiterError> {
-            assert!(
-                current <= desired,
-                "the desired size is below the current one"
-            );
-            Ok(self.take(kind, (desired - current) as u64))
-        }
 
         #[inline]
-        fn grow_failed(&mut self, kind: Kind) -> Result<(), LimiterError> {
+        fn give_back(&mut self, kind: Kind) {
             self.holdings.give_back(kind);
-            Ok(())
-        }
-    }
-
-    /// # Contract
-    ///
-    /// <span></span><pre><code>holdings = [holdings]</code></pre>
-    ///
-    /// [holdings]: crate::specs::budget::Tenant#holdings "what a tenant holds"
-    impl Reserving for Tenant {
-        #[inline]
-        fn held_bytes(&self) -> u64 {
-            self.holdings.held().bytes
-        }
-
-        #[inline]
-        fn held_elements(&self) -> u64 {
-            self.holdings.held().elements
         }
     }
 

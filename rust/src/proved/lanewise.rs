@@ -21,7 +21,7 @@ pub mod simd {
         ///
         /// <span></span><pre><code>ensures: result ≡ [vector.add] [w8] lhs rhs</code></pre>
         ///
-        /// [vector.add]: crate::specs::lanewise::VectorTable#add "modulo 2 ^ w"
+        /// [vector.add]: crate::specs::lanewise::VectorTable#add "the sums of the lanes modulo 2 to the width"
         /// [w8]: crate::specs::library#w8 "the widths of integers in bits"
         #[inline]
         pub fn i8x16_add(lhs: V128, rhs: V128) -> V128 {
@@ -34,7 +34,7 @@ pub mod simd {
         ///
         /// <span></span><pre><code>ensures: result ≡ [vector.add] [w16] lhs rhs</code></pre>
         ///
-        /// [vector.add]: crate::specs::lanewise::VectorTable#add "modulo 2 ^ w"
+        /// [vector.add]: crate::specs::lanewise::VectorTable#add "the sums of the lanes modulo 2 to the width"
         /// [w16]: crate::specs::library#w16 "the widths of integers in bits"
         #[inline]
         pub fn i16x8_add(lhs: V128, rhs: V128) -> V128 {
@@ -47,7 +47,7 @@ pub mod simd {
         ///
         /// <span></span><pre><code>ensures: result ≡ [vector.add] [w32] lhs rhs</code></pre>
         ///
-        /// [vector.add]: crate::specs::lanewise::VectorTable#add "modulo 2 ^ w"
+        /// [vector.add]: crate::specs::lanewise::VectorTable#add "the sums of the lanes modulo 2 to the width"
         /// [w32]: crate::specs::library#w32 "the widths of integers in bits"
         #[inline]
         pub fn i32x4_add(lhs: V128, rhs: V128) -> V128 {
@@ -60,7 +60,7 @@ pub mod simd {
         ///
         /// <span></span><pre><code>ensures: result ≡ [vector.add] [w64] lhs rhs</code></pre>
         ///
-        /// [vector.add]: crate::specs::lanewise::VectorTable#add "modulo 2 ^ w"
+        /// [vector.add]: crate::specs::lanewise::VectorTable#add "the sums of the lanes modulo 2 to the width"
         /// [w64]: crate::specs::library#w64 "the widths of integers in bits"
         #[inline]
         pub fn i64x2_add(lhs: V128, rhs: V128) -> V128 {
@@ -73,7 +73,7 @@ pub mod simd {
         ///
         /// <span></span><pre><code>ensures: result ≡ [vector.sub] [w8] lhs rhs</code></pre>
         ///
-        /// [vector.sub]: crate::specs::lanewise::VectorTable#sub "the differences modulo 2 to the width"
+        /// [vector.sub]: crate::specs::lanewise::VectorTable#sub "the differences of the lanes modulo 2 to the width"
         /// [w8]: crate::specs::library#w8 "the widths of integers in bits"
         #[inline]
         pub fn i8x16_sub(lhs: V128, rhs: V128) -> V128 {
@@ -86,7 +86,7 @@ pub mod simd {
         ///
         /// <span></span><pre><code>ensures: result ≡ [vector.sub] [w16] lhs rhs</code></pre>
         ///
-        /// [vector.sub]: crate::specs::lanewise::VectorTable#sub "the differences modulo 2 to the width"
+        /// [vector.sub]: crate::specs::lanewise::VectorTable#sub "the differences of the lanes modulo 2 to the width"
         /// [w16]: crate::specs::library#w16 "the widths of integers in bits"
         #[inline]
         pub fn i16x8_sub(lhs: V128, rhs: V128) -> V128 {
@@ -99,7 +99,7 @@ pub mod simd {
         ///
         /// <span></span><pre><code>ensures: result ≡ [vector.sub] [w32] lhs rhs</code></pre>
         ///
-        /// [vector.sub]: crate::specs::lanewise::VectorTable#sub "the differences modulo 2 to the width"
+        /// [vector.sub]: crate::specs::lanewise::VectorTable#sub "the differences of the lanes modulo 2 to the width"
         /// [w32]: crate::specs::library#w32 "the widths of integers in bits"
         #[inline]
         pub fn i32x4_sub(lhs: V128, rhs: V128) -> V128 {
@@ -112,7 +112,7 @@ pub mod simd {
         ///
         /// <span></span><pre><code>ensures: result ≡ [vector.sub] [w64] lhs rhs</code></pre>
         ///
-        /// [vector.sub]: crate::specs::lanewise::VectorTable#sub "the differences modulo 2 to the width"
+        /// [vector.sub]: crate::specs::lanewise::VectorTable#sub "the differences of the lanes modulo 2 to the width"
         /// [w64]: crate::specs::library#w64 "the widths of integers in bits"
         #[inline]
         pub fn i64x2_sub(lhs: V128, rhs: V128) -> V128 {
@@ -126,7 +126,7 @@ pub mod simd {
         ///
         /// <span></span><pre><code>ensures: result ≡ [vector.mul] [w8] lhs rhs</code></pre>
         ///
-        /// [vector.mul]: crate::specs::lanewise::VectorTable#mul "the products modulo 2 to the width"
+        /// [vector.mul]: crate::specs::lanewise::VectorTable#mul "the products of the lanes modulo 2 to the width"
         /// [w8]: crate::specs::library#w8 "the widths of integers in bits"
         #[inline]
         pub fn i8x16_mul(lhs: V128, rhs: V128) -> V128 {
@@ -139,7 +139,7 @@ pub mod simd {
         ///
         /// <span></span><pre><code>ensures: result ≡ [vector.mul] [w16] lhs rhs</code></pre>
         ///
-        /// [vector.mul]: crate::specs::lanewise::VectorTable#mul "the products modulo 2 to the width"
+        /// [vector.mul]: crate::specs::lanewise::VectorTable#mul "the products of the lanes modulo 2 to the width"
         /// [w16]: crate::specs::library#w16 "the widths of integers in bits"
         #[inline]
         pub fn i16x8_mul(lhs: V128, rhs: V128) -> V128 {
@@ -152,7 +152,7 @@ pub mod simd {
         ///
         /// <span></span><pre><code>ensures: result ≡ [vector.mul] [w32] lhs rhs</code></pre>
         ///
-        /// [vector.mul]: crate::specs::lanewise::VectorTable#mul "the products modulo 2 to the width"
+        /// [vector.mul]: crate::specs::lanewise::VectorTable#mul "the products of the lanes modulo 2 to the width"
         /// [w32]: crate::specs::library#w32 "the widths of integers in bits"
         #[inline]
         pub fn i32x4_mul(lhs: V128, rhs: V128) -> V128 {
@@ -165,7 +165,7 @@ pub mod simd {
         ///
         /// <span></span><pre><code>ensures: result ≡ [vector.mul] [w64] lhs rhs</code></pre>
         ///
-        /// [vector.mul]: crate::specs::lanewise::VectorTable#mul "the products modulo 2 to the width"
+        /// [vector.mul]: crate::specs::lanewise::VectorTable#mul "the products of the lanes modulo 2 to the width"
         /// [w64]: crate::specs::library#w64 "the widths of integers in bits"
         #[inline]
         pub fn i64x2_mul(lhs: V128, rhs: V128) -> V128 {
@@ -191,7 +191,7 @@ pub mod simd {
         ///
         /// <span></span><pre><code>ensures: result ≡ [vector.add_sat_s] [w8] lhs rhs</code></pre>
         ///
-        /// [vector.add_sat_s]: crate::specs::lanewise::VectorTable#add_sat_s "clamped to the signed range, or to the unsigned range"
+        /// [vector.add_sat_s]: crate::specs::lanewise::VectorTable#add_sat_s "the sums of lanes read signed, clamped to the signed range"
         /// [w8]: crate::specs::library#w8 "the widths of integers in bits"
         #[inline]
         pub fn i8x16_add_sat_s(lhs: V128, rhs: V128) -> V128 {
@@ -217,7 +217,7 @@ pub mod simd {
         ///
         /// <span></span><pre><code>ensures: result ≡ [vector.add_sat_s] [w16] lhs rhs</code></pre>
         ///
-        /// [vector.add_sat_s]: crate::specs::lanewise::VectorTable#add_sat_s "clamped to the signed range, or to the unsigned range"
+        /// [vector.add_sat_s]: crate::specs::lanewise::VectorTable#add_sat_s "the sums of lanes read signed, clamped to the signed range"
         /// [w16]: crate::specs::library#w16 "the widths of integers in bits"
         #[inline]
         pub fn i16x8_add_sat_s(lhs: V128, rhs: V128) -> V128 {
@@ -718,7 +718,7 @@ pub mod simd {
         ///
         /// <span></span><pre><code>ensures: result ≡ [vector.lt_s] [w8] lhs rhs</code></pre>
         ///
-        /// [vector.lt_s]: crate::specs::lanewise::VectorTable#lt_s "of lanes read signed"
+        /// [vector.lt_s]: crate::specs::lanewise::VectorTable#lt_s "all ones in the lanes that are less, read signed, else all zeros"
         /// [w8]: crate::specs::library#w8 "the widths of integers in bits"
         #[inline]
         pub fn i8x16_lt_s(lhs: V128, rhs: V128) -> V128 {
@@ -731,7 +731,7 @@ pub mod simd {
         ///
         /// <span></span><pre><code>ensures: result ≡ [vector.lt_s] [w16] lhs rhs</code></pre>
         ///
-        /// [vector.lt_s]: crate::specs::lanewise::VectorTable#lt_s "of lanes read signed"
+        /// [vector.lt_s]: crate::specs::lanewise::VectorTable#lt_s "all ones in the lanes that are less, read signed, else all zeros"
         /// [w16]: crate::specs::library#w16 "the widths of integers in bits"
         #[inline]
         pub fn i16x8_lt_s(lhs: V128, rhs: V128) -> V128 {
@@ -744,7 +744,7 @@ pub mod simd {
         ///
         /// <span></span><pre><code>ensures: result ≡ [vector.lt_s] [w32] lhs rhs</code></pre>
         ///
-        /// [vector.lt_s]: crate::specs::lanewise::VectorTable#lt_s "of lanes read signed"
+        /// [vector.lt_s]: crate::specs::lanewise::VectorTable#lt_s "all ones in the lanes that are less, read signed, else all zeros"
         /// [w32]: crate::specs::library#w32 "the widths of integers in bits"
         #[inline]
         pub fn i32x4_lt_s(lhs: V128, rhs: V128) -> V128 {
@@ -757,7 +757,7 @@ pub mod simd {
         ///
         /// <span></span><pre><code>ensures: result ≡ [vector.lt_s] [w64] lhs rhs</code></pre>
         ///
-        /// [vector.lt_s]: crate::specs::lanewise::VectorTable#lt_s "of lanes read signed"
+        /// [vector.lt_s]: crate::specs::lanewise::VectorTable#lt_s "all ones in the lanes that are less, read signed, else all zeros"
         /// [w64]: crate::specs::library#w64 "the widths of integers in bits"
         #[inline]
         pub fn i64x2_lt_s(lhs: V128, rhs: V128) -> V128 {
@@ -770,7 +770,7 @@ pub mod simd {
         ///
         /// <span></span><pre><code>ensures: result ≡ [vector.lt_u] [w8] lhs rhs</code></pre>
         ///
-        /// [vector.lt_u]: crate::specs::lanewise::VectorTable#lt_u "of lanes read as they are"
+        /// [vector.lt_u]: crate::specs::lanewise::VectorTable#lt_u "all ones in the lanes that are less, read unsigned, else all zeros"
         /// [w8]: crate::specs::library#w8 "the widths of integers in bits"
         #[inline]
         pub fn i8x16_lt_u(lhs: V128, rhs: V128) -> V128 {
@@ -783,7 +783,7 @@ pub mod simd {
         ///
         /// <span></span><pre><code>ensures: result ≡ [vector.lt_u] [w16] lhs rhs</code></pre>
         ///
-        /// [vector.lt_u]: crate::specs::lanewise::VectorTable#lt_u "of lanes read as they are"
+        /// [vector.lt_u]: crate::specs::lanewise::VectorTable#lt_u "all ones in the lanes that are less, read unsigned, else all zeros"
         /// [w16]: crate::specs::library#w16 "the widths of integers in bits"
         #[inline]
         pub fn i16x8_lt_u(lhs: V128, rhs: V128) -> V128 {
@@ -796,7 +796,7 @@ pub mod simd {
         ///
         /// <span></span><pre><code>ensures: result ≡ [vector.lt_u] [w32] lhs rhs</code></pre>
         ///
-        /// [vector.lt_u]: crate::specs::lanewise::VectorTable#lt_u "of lanes read as they are"
+        /// [vector.lt_u]: crate::specs::lanewise::VectorTable#lt_u "all ones in the lanes that are less, read unsigned, else all zeros"
         /// [w32]: crate::specs::library#w32 "the widths of integers in bits"
         #[inline]
         pub fn i32x4_lt_u(lhs: V128, rhs: V128) -> V128 {
@@ -1336,7 +1336,7 @@ pub mod simd {
         ///
         /// <span></span><pre><code>ensures: result ≡ [vector.lt_u] [T.width] lhs rhs</code></pre>
         ///
-        /// [vector.lt_u]: crate::specs::lanewise::VectorTable#lt_u "of lanes read as they are"
+        /// [vector.lt_u]: crate::specs::lanewise::VectorTable#lt_u "all ones in the lanes that are less, read unsigned, else all zeros"
         /// [T.width]: trait@SimdLane#contract
         #[inline(always)]
         pub(super) fn less_u<T: SimdLane>(lhs: V128, rhs: V128) -> V128 {
@@ -1388,7 +1388,7 @@ pub mod simd {
         ///
         /// <span></span><pre><code>ensures: result ≡ [vector.lt_s] [T.width] lhs rhs</code></pre>
         ///
-        /// [vector.lt_s]: crate::specs::lanewise::VectorTable#lt_s "of lanes read signed"
+        /// [vector.lt_s]: crate::specs::lanewise::VectorTable#lt_s "all ones in the lanes that are less, read signed, else all zeros"
         /// [T.width]: trait@SimdLane#contract
         #[inline(always)]
         pub(super) fn less_s<T: SimdLane>(lhs: V128, rhs: V128) -> V128 {
@@ -1865,7 +1865,7 @@ pub mod simd {
         ///
         /// <span></span><pre><code>ensures: result ≡ [vector.neg] [w8] v</code></pre>
         ///
-        /// [vector.neg]: crate::specs::lanewise::VectorTable#neg "modulo 2 ^ w"
+        /// [vector.neg]: crate::specs::lanewise::VectorTable#neg "the negatives of the lanes modulo 2 to the width"
         /// [w8]: crate::specs::library#w8 "the widths of integers in bits"
         #[inline]
         pub fn i8x16_neg(v: V128) -> V128 {
@@ -1878,7 +1878,7 @@ pub mod simd {
         ///
         /// <span></span><pre><code>ensures: result ≡ [vector.neg] [w16] v</code></pre>
         ///
-        /// [vector.neg]: crate::specs::lanewise::VectorTable#neg "modulo 2 ^ w"
+        /// [vector.neg]: crate::specs::lanewise::VectorTable#neg "the negatives of the lanes modulo 2 to the width"
         /// [w16]: crate::specs::library#w16 "the widths of integers in bits"
         #[inline]
         pub fn i16x8_neg(v: V128) -> V128 {
@@ -1891,7 +1891,7 @@ pub mod simd {
         ///
         /// <span></span><pre><code>ensures: result ≡ [vector.neg] [w32] v</code></pre>
         ///
-        /// [vector.neg]: crate::specs::lanewise::VectorTable#neg "modulo 2 ^ w"
+        /// [vector.neg]: crate::specs::lanewise::VectorTable#neg "the negatives of the lanes modulo 2 to the width"
         /// [w32]: crate::specs::library#w32 "the widths of integers in bits"
         #[inline]
         pub fn i32x4_neg(v: V128) -> V128 {
@@ -1904,7 +1904,7 @@ pub mod simd {
         ///
         /// <span></span><pre><code>ensures: result ≡ [vector.neg] [w64] v</code></pre>
         ///
-        /// [vector.neg]: crate::specs::lanewise::VectorTable#neg "modulo 2 ^ w"
+        /// [vector.neg]: crate::specs::lanewise::VectorTable#neg "the negatives of the lanes modulo 2 to the width"
         /// [w64]: crate::specs::library#w64 "the widths of integers in bits"
         #[inline]
         pub fn i64x2_neg(v: V128) -> V128 {
@@ -2011,7 +2011,7 @@ pub mod simd {
         ///
         /// <span></span><pre><code>ensures: result ≡ [vector.add] [T.width] lhs rhs</code></pre>
         ///
-        /// [vector.add]: crate::specs::lanewise::VectorTable#add "modulo 2 ^ w"
+        /// [vector.add]: crate::specs::lanewise::VectorTable#add "the sums of the lanes modulo 2 to the width"
         /// [T.width]: trait@WordLane#contract
         #[inline(always)]
         pub(super) fn sums<T: WordLane>(lhs: V128, rhs: V128) -> V128 {
@@ -2030,7 +2030,7 @@ pub mod simd {
         ///
         /// <span></span><pre><code>ensures: result ≡ [vector.sub] [T.width] lhs rhs</code></pre>
         ///
-        /// [vector.sub]: crate::specs::lanewise::VectorTable#sub "the differences modulo 2 to the width"
+        /// [vector.sub]: crate::specs::lanewise::VectorTable#sub "the differences of the lanes modulo 2 to the width"
         /// [T.width]: trait@WordLane#contract
         #[inline(always)]
         pub(super) fn differences<T: WordLane>(lhs: V128, rhs: V128) -> V128 {
@@ -2062,7 +2062,7 @@ pub mod simd {
         ///
         /// <span></span><pre><code>ensures: result ≡ [vector.neg] [T.width] v</code></pre>
         ///
-        /// [vector.neg]: crate::specs::lanewise::VectorTable#neg "modulo 2 ^ w"
+        /// [vector.neg]: crate::specs::lanewise::VectorTable#neg "the negatives of the lanes modulo 2 to the width"
         /// [T.width]: trait@WordLane#contract
         #[inline(always)]
         pub(super) fn negations<T: WordLane>(v: V128) -> V128 {

@@ -1204,7 +1204,7 @@ mod machine {
             offset: u64,
             value: RawVal,
         ) -> Reply {
-            self.store.store_item(op, memory, ptr, offset, value)
+            self.store.memories.store(op, memory, ptr, offset, value)
         }
 
         /// The table of an index, if there is one that wasn't dropped.
@@ -1311,6 +1311,7 @@ mod memories {
     use crate::proved::meter::{Fuel, MemoryError, ResourceLimiter, ResourceLimiterRef};
     use crate::proved::ops::{LoadOp, StoreLaneOp, StoreOp};
     use crate::proved::raw::{RawVal, V128};
+    use crate::proved::store::range::lies_within;
     use crate::proved::store::{Memory, MemoryType};
     use crate::proved::types::TrapCode;
     use crate::proved::vector_access::simd::v128_store;
@@ -1587,7 +1588,7 @@ mod memories {
     /// [at]: crate::specs::types::Access#at "the items a to a + n - 1, or none where the list ends before them"
     #[inline(always)]
     fn read_bytes(memory: &[u8], offset: usize, len: usize) -> Reply {
-        if memory.len() < offset || memory.len() - offset < len {
+        if !lies_within(memory, offset as u64, len as u64) {
             return Reply::Memory(MemoryError::OutOfBoundsAccess);
         }
         match memory[offset..][..len].try_to_vec() {
@@ -2091,9 +2092,7 @@ mod running {
         ) -> Reply {
             let mut lent = ResourceLimiterRef::from(limiter);
             let reply = self.grow_memory(memory, pages, &mut lent);
-            let Some(_limiter) = lent.into_resource_limiter() else {
-                unreachable!()
-            };
+            let _limiter = lent.into_limiter();
             reply
         }
 
@@ -2118,9 +2117,7 @@ mod running {
         pub fn step_lending<L: ResourceLimiter>(&mut self, call: &Call, limiter: &mut L) -> Reply {
             let mut lent = ResourceLimiterRef::from(limiter);
             let reply = self.step(call, &mut lent);
-            let Some(_limiter) = lent.into_resource_limiter() else {
-                unreachable!()
-            };
+            let _limiter = lent.into_limiter();
             reply
         }
     }
@@ -2190,9 +2187,7 @@ mod running {
     ) -> Result<Vec<Reply>, AllocError> {
         let mut lent = ResourceLimiterRef::from(limiter);
         let replies = run(machine, calls, &mut lent);
-        let Some(_limiter) = lent.into_resource_limiter() else {
-            unreachable!()
-        };
+        let _limiter = lent.into_limiter();
         replies
     }
 
@@ -2560,8 +2555,6 @@ mod store {
         create_global, create_segment, drop_items, get_global, set_global, value_at,
     };
     use crate::proved::meter::{Fuel, ResourceLimiter, ResourceLimiterRef};
-    use crate::proved::ops::StoreOp;
-    use crate::proved::raw::RawVal;
     use crate::proved::store::{ElementSegment, ElementSegmentRef, Memory, Table};
     use crate::proved::typed::Global;
     use crate::rattle::Vec;
@@ -2621,30 +2614,8 @@ mod store {
             self.fuel.get_fuel().map_or_else(Reply::Fuel, Reply::Number)
         }
 
-        /// Stores an item to a memory.
-        ///
-        /// # Contract
-        ///
-        /// <span></span><pre><code>ensures memories: [StoresMemoryAt] memory (ptr + offset) ([stored_bytes] op value)
-        /// &#32;&#32;&#32;&#32;self.old.memories result self.new.memories
-        /// ensures rest: self.new ≡ [with_memories] self.old self.new.memories</code></pre>
-        ///
-        /// [StoresMemoryAt]: crate::specs::machine::MemoryEffects#StoresMemoryAt "the memory of an index has the stored bytes at the address, or the store traps"
-        /// [stored_bytes]: crate::specs::ops::ScalarAccessOps#stored_bytes "the bytes that a store writes: the low ones of the value"
-        /// [with_memories]: crate::specs::machine::State#with_memories "the state with other memories"
-        #[inline(always)]
-        pub(crate) fn store_item(
-            &mut self,
-            op: StoreOp,
-            memory: usize,
-            ptr: u64,
-            offset: u64,
-            value: RawVal,
-        ) -> Reply {
-            self.memories.store(op, memory, ptr, offset, value)
-        }
-
-        /// Grows a memory by so many pages.
+        /// Grows a memory by so many pages. A function of the store, since the prover covers no call
+        /// that borrows two fields of a field.
         ///
         /// # Contract
         ///

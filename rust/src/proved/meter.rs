@@ -221,6 +221,100 @@ mod any_limiter {
         }
     }
 }
+mod capped {
+    //! Limiters with caps: what is taken and given back decides each answer.
+
+    use crate::proved::meter::error::LimiterError;
+    use crate::proved::meter::holdings::Holdings;
+    use crate::proved::meter::limiter::{Kind, LimiterByKind};
+    use crate::proved::meter::reserving::Reserving;
+
+    /// A limiter that permits what keeps all that is held of a kind within a cap, and denies the rest.
+    /// It counts each difference that it permitted. At a notice it takes back the last one if that is
+    /// of the same kind, once.
+    ///
+    /// Own: upstream implements no limiter.
+    ///
+    /// # Contract
+    ///
+    /// <span></span><pre><code><i>\-\- What it holds, what others hold beside it, and its caps.</i>
+    /// capped: [Capped] Self</code></pre>
+    ///
+    /// [Capped]: crate::specs::meter::Capped#Capped "limiters with caps: what one holds, the same one with other holdings, what others hold of a kind beside it, and the most that all of them together may hold of a kind"
+    pub trait CappedLimiter {
+        /// What it holds of each kind, with the last difference that it permitted.
+        ///
+        /// # Contract
+        ///
+        /// <span></span><pre><code>ensures: result ≡ capped.holdings self.now</code></pre>
+        fn holdings(&self) -> Holdings;
+
+        /// Takes `difference` more of a kind, if all that is held of it stays within the cap. Returns
+        /// whether it was taken.
+        ///
+        /// # Contract
+        ///
+        /// <span></span><pre><code>ensures: [TakesMore] capped self.old kind difference result self.new</code></pre>
+        ///
+        /// [TakesMore]: crate::specs::meter::Capped#TakesMore "so many more of a kind are taken, or not, and all but the holdings stays"
+        fn take(&mut self, kind: Kind, difference: u64) -> bool;
+
+        /// Gives back what was taken last, if that is of this kind.
+        ///
+        /// # Contract
+        ///
+        /// <span></span><pre><code>ensures back: capped.holdings self.new ≡ [without_last] kind (capped.holdings self.old)
+        /// ensures rest: self.new ≡ capped.with_holdings self.old (capped.holdings self.new)</code></pre>
+        ///
+        /// [without_last]: crate::specs::meter::Holdings#without_last "what is held after a notice of a kind"
+        fn give_back(&mut self, kind: Kind);
+    }
+
+    /// # Contract
+    ///
+    /// <span></span><pre><code>kind_rules = [capped_rules] [L.capped]</code></pre>
+    ///
+    /// [capped_rules]: crate::specs::meter::Capped#capped_rules "the rules of such limiters"
+    /// [L.capped]: trait@CappedLimiter#contract
+    impl<L: CappedLimiter> LimiterByKind for L {
+        #[inline]
+        fn growing(
+            &mut self,
+            kind: Kind,
+            current: usize,
+            desired: usize,
+        ) -> Result<bool, LimiterError> {
+            assert!(
+                current <= desired,
+                "the desired size is below the current one"
+            );
+            Ok(self.take(kind, (desired - current) as u64))
+        }
+
+        #[inline]
+        fn grow_failed(&mut self, kind: Kind) -> Result<(), LimiterError> {
+            self.give_back(kind);
+            Ok(())
+        }
+    }
+
+    /// # Contract
+    ///
+    /// <span></span><pre><code>holdings = [L.capped].holdings</code></pre>
+    ///
+    /// [L.capped]: trait@CappedLimiter#contract
+    impl<L: CappedLimiter> Reserving for L {
+        #[inline]
+        fn held_bytes(&self) -> u64 {
+            self.holdings().held().bytes
+        }
+
+        #[inline]
+        fn held_elements(&self) -> u64 {
+            self.holdings().held().elements
+        }
+    }
+}
 mod error {
     //! Why calls on memories and tables are refused, and the error of a resource limiter.
 
@@ -412,7 +506,7 @@ mod error {
     ///
     /// <span></span><pre><code>try_from_gives = [IsOfFuel]</code></pre>
     ///
-    /// [IsOfFuel]: crate::specs::meter::Errors#IsOfFuel "too little fuel is an error of a table; that a meter is off is none, and is handed back"
+    /// [IsOfFuel]: crate::specs::meter::Meter#IsOfFuel "too little fuel is an error of a table; that a meter is off is none, and is handed back"
     impl TableError {
         // The error of a meter that is off is handed back. Upstream panics there.
         #[inline]
@@ -1557,6 +1651,31 @@ mod limiter_ref {
             limiter
         }
 
+        /// Ends the loan of a limiter that is there, as `into_resource_limiter` does.
+        ///
+        /// Own: functions that borrow a limiter for one call end its loan by it.
+        ///
+        /// # Panics
+        ///
+        /// Panics if the reference lends no limiter.
+        ///
+        /// # Contract
+        ///
+        /// <span></span><pre><code>requires lent: [IsSome] ([loan] self)
+        /// ensures value: [loan] self ≡ [Some] result</code></pre>
+        ///
+        /// [IsSome]: crate::specs::library#IsSome "there is a value"
+        /// [loan]: crate::specs::meter::LimiterRef#loan "what is lent, if anything"
+        /// [Some]: crate::specs::library#Some "the value x, of an \`Option\`"
+        #[inline]
+        pub fn into_limiter(self) -> R {
+            assert!(self.limiter.is_some(), "the reference lends no limiter");
+            match self.into_resource_limiter() {
+                Some(limiter) => limiter,
+                None => unreachable!(),
+            }
+        }
+
         /// The limiter, if there is one.
         ///
         /// # Contract
@@ -1566,7 +1685,7 @@ mod limiter_ref {
         /// ensures value: [option_copied_mut] result ≡ [shown_of] [R.Lender].shown ([loan] self.old)</code></pre>
         ///
         /// [sem]: crate::specs::library#sem "the fixed form of a clause on a loan"
-        /// [LendsLimiter]: crate::specs::meter::Lending#LendsLimiter "r lends the limiter out of s, and s ends with the last value that was written through it"
+        /// [LendsLimiter]: crate::specs::meter::LimiterRef#LendsLimiter "r lends the limiter out of s, and s ends with the last value that was written through it"
         /// [R.row]: crate::specs::library#row "a type, in a clause on a loan"
         /// [R.Lent]: trait@Lender#contract
         /// [R.Lender]: trait@Lender#contract
@@ -1808,10 +1927,9 @@ mod quota {
     //! A limiter with a cap on the bytes of memories and one on the elements of tables.
 
     use crate::proved::meter::amounts::Amounts;
-    use crate::proved::meter::error::LimiterError;
+    use crate::proved::meter::capped::CappedLimiter;
     use crate::proved::meter::holdings::Holdings;
-    use crate::proved::meter::limiter::{Kind, LimiterByKind};
-    use crate::proved::meter::reserving::Reserving;
+    use crate::proved::meter::limiter::Kind;
 
     /// A limiter that permits what stays within two caps, and denies the rest. It counts each
     /// difference that it permitted. At a notice it takes back the last one if that is of the same
@@ -1927,62 +2045,27 @@ mod quota {
         pub fn held_elements(&self) -> u64 {
             self.holdings.held().elements
         }
+    }
 
-        /// Takes `difference` more of a kind, if what is held of it stays within the cap.
-        ///
-        /// # Contract
-        ///
-        /// <span></span><pre><code>ensures: [TakesMore] [capped_quota] self.old kind difference result self.new</code></pre>
-        ///
-        /// [TakesMore]: crate::specs::meter::Capped#TakesMore "so many more of a kind are taken, or not, and all but the holdings stays"
-        /// [capped_quota]: crate::specs::meter::Quota#capped_quota "quotas as limiters with caps"
+    /// # Contract
+    ///
+    /// <span></span><pre><code>capped = [capped_quota]</code></pre>
+    ///
+    /// [capped_quota]: crate::specs::meter::Quota#capped_quota "quotas as limiters with caps"
+    impl CappedLimiter for Quota {
+        #[inline]
+        fn holdings(&self) -> Holdings {
+            self.holdings
+        }
+
         #[inline]
         fn take(&mut self, kind: Kind, difference: u64) -> bool {
             self.holdings.take(kind, difference, 0, self.caps.of(kind))
         }
-    }
-
-    /// # Contract
-    ///
-    /// <span></span><pre><code>kind_rules = [quota_rules]</code></pre>
-    ///
-    /// [quota_rules]: crate::specs::meter::Quota#quota_rules "the rules of a quota"
-    impl LimiterByKind for Quota {
-        #[inline]
-        fn growing(
-            &mut self,
-            kind: Kind,
-            current: usize,
-            desired: usize,
-        ) -> Result<bool, LimiterError> {
-            assert!(
-                current <= desired,
-                "the desired size is below the current one"
-            );
-            Ok(self.take(kind, (desired - current) as u64))
-        }
 
         #[inline]
-        fn grow_failed(&mut self, kind: Kind) -> Result<(), LimiterError> {
+        fn give_back(&mut self, kind: Kind) {
             self.holdings.give_back(kind);
-            Ok(())
-        }
-    }
-
-    /// # Contract
-    ///
-    /// <span></span><pre><code>holdings = [holdings]</code></pre>
-    ///
-    /// [holdings]: crate::specs::meter::Quota#holdings "what a quota holds"
-    impl Reserving for Quota {
-        #[inline]
-        fn held_bytes(&self) -> u64 {
-            self.holdings.held().bytes
-        }
-
-        #[inline]
-        fn held_elements(&self) -> u64 {
-            self.holdings.held().elements
         }
     }
 }
@@ -2038,6 +2121,7 @@ mod reserving {
 pub use amounts::Amounts;
 pub use answer_list::{AnswerList, LimiterAnswer};
 pub use any_limiter::AnyLimiter;
+pub use capped::CappedLimiter;
 pub use error::{LimiterError, MemoryError, TableError};
 pub use fuel::{CustomFuelCosts, Fuel, FuelCosts, FuelCostsProvider, FuelError, ValueSize};
 pub use holdings::Holdings;

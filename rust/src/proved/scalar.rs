@@ -156,7 +156,7 @@ pub mod value {
         /// <span></span><pre><code>ensures: [Self.number] result ≡ [irotr] [Self.width] ([Self.number] lhs) ([Self.number] rhs)</code></pre>
         ///
         /// [Self.number]: trait@Integer#contract
-        /// [irotr]: crate::specs::scalar::Numerics#irotr "to the right by k is to the left by the rest of the bits"
+        /// [irotr]: crate::specs::scalar::Numerics#irotr "the bits rotated to the right by an amount modulo the width: to the left by the rest of the bits"
         /// [Self.width]: trait@Integer#contract
         fn rotr(lhs: Self, rhs: Self) -> Self;
 
@@ -172,7 +172,7 @@ pub mod value {
         ///
         /// [GivesNumber]: crate::specs::accesses::LoadStore#GivesNumber "an instruction gives this, where \`number\` reads its value"
         /// [Self.number]: trait@Integer#contract
-        /// [idiv_s]: crate::specs::scalar::Numerics#idiv_s "the one quotient that no signed number of the width is, 2 to the power \`bits w - 1\`, is that of the least number by 1"
+        /// [idiv_s]: crate::specs::scalar::Numerics#idiv_s "the quotient of two signed numbers, rounded towards zero, or a trap where the divisor is 0 or no signed number of the width is the quotient: that of the least number by -1 is 2 to the power \`bits w - 1\`"
         /// [Self.width]: trait@Integer#contract
         fn div_s(lhs: Self, rhs: Self) -> Result<Self, TrapCode>;
 
@@ -188,7 +188,7 @@ pub mod value {
         /// [GivesNumber]: crate::specs::accesses::LoadStore#GivesNumber "an instruction gives this, where \`number\` reads its value"
         /// [unsigned_abs]: crate::specs::library#unsigned_abs "the number without its sign"
         /// [Self.Uint]: trait@Integer#contract
-        /// [idiv_u]: crate::specs::scalar::Numerics#idiv_u "the quotient rounded down, where the divisor is not 0"
+        /// [idiv_u]: crate::specs::scalar::Numerics#idiv_u "the quotient rounded down, or a trap where the divisor is 0"
         fn div_u(lhs: Self::Uint, rhs: Self::Uint) -> Result<Self::Uint, TrapCode>;
 
         /// The remainder, with the sign of the dividend; 0 for the least number by -1.
@@ -201,7 +201,7 @@ pub mod value {
         ///
         /// [GivesNumber]: crate::specs::accesses::LoadStore#GivesNumber "an instruction gives this, where \`number\` reads its value"
         /// [Self.number]: trait@Integer#contract
-        /// [irem_s]: crate::specs::scalar::Numerics#irem_s "with the sign of x"
+        /// [irem_s]: crate::specs::scalar::Numerics#irem_s "the remainder of the quotient rounded towards zero, which has the sign of x, or a trap where the divisor is 0"
         fn rem_s(lhs: Self, rhs: Self) -> Result<Self, TrapCode>;
 
         /// The remainder.
@@ -216,7 +216,7 @@ pub mod value {
         /// [GivesNumber]: crate::specs::accesses::LoadStore#GivesNumber "an instruction gives this, where \`number\` reads its value"
         /// [unsigned_abs]: crate::specs::library#unsigned_abs "the number without its sign"
         /// [Self.Uint]: trait@Integer#contract
-        /// [irem_u]: crate::specs::scalar::Numerics#irem_u "the remainder of the quotient rounded down, where the divisor is not 0"
+        /// [irem_u]: crate::specs::scalar::Numerics#irem_u "the remainder of the quotient rounded down, or a trap where the divisor is 0"
         fn rem_u(lhs: Self::Uint, rhs: Self::Uint) -> Result<Self::Uint, TrapCode>;
     }
 
@@ -566,7 +566,7 @@ pub mod wasm {
     ///
     /// <span></span><pre><code>ensures: result ≡ [irotr] [w32] lhs rhs</code></pre>
     ///
-    /// [irotr]: crate::specs::scalar::Numerics#irotr "to the right by k is to the left by the rest of the bits"
+    /// [irotr]: crate::specs::scalar::Numerics#irotr "the bits rotated to the right by an amount modulo the width: to the left by the rest of the bits"
     /// [w32]: crate::specs::library#w32 "the widths of integers in bits"
     #[inline]
     pub fn i32_rotr(lhs: i32, rhs: i32) -> i32 {
@@ -581,7 +581,7 @@ pub mod wasm {
     ///
     /// <span></span><pre><code>ensures: result ≡ [idiv_s] [w32] lhs rhs</code></pre>
     ///
-    /// [idiv_s]: crate::specs::scalar::Numerics#idiv_s "the one quotient that no signed number of the width is, 2 to the power \`bits w - 1\`, is that of the least number by 1"
+    /// [idiv_s]: crate::specs::scalar::Numerics#idiv_s "the quotient of two signed numbers, rounded towards zero, or a trap where the divisor is 0 or no signed number of the width is the quotient: that of the least number by -1 is 2 to the power \`bits w - 1\`"
     /// [w32]: crate::specs::library#w32 "the widths of integers in bits"
     #[inline]
     pub fn i32_div_s(lhs: i32, rhs: i32) -> Result<i32, TrapCode> {
@@ -596,7 +596,7 @@ pub mod wasm {
     ///
     /// <span></span><pre><code>ensures: result ≡ [idiv_u] lhs rhs</code></pre>
     ///
-    /// [idiv_u]: crate::specs::scalar::Numerics#idiv_u "the quotient rounded down, where the divisor is not 0"
+    /// [idiv_u]: crate::specs::scalar::Numerics#idiv_u "the quotient rounded down, or a trap where the divisor is 0"
     #[inline]
     pub fn i32_div_u(lhs: u32, rhs: u32) -> Result<u32, TrapCode> {
         <i32 as Integer>::div_u(lhs, rhs)
@@ -610,7 +610,7 @@ pub mod wasm {
     ///
     /// <span></span><pre><code>ensures: result ≡ [irem_s] lhs rhs</code></pre>
     ///
-    /// [irem_s]: crate::specs::scalar::Numerics#irem_s "with the sign of x"
+    /// [irem_s]: crate::specs::scalar::Numerics#irem_s "the remainder of the quotient rounded towards zero, which has the sign of x, or a trap where the divisor is 0"
     #[inline]
     pub fn i32_rem_s(lhs: i32, rhs: i32) -> Result<i32, TrapCode> {
         Integer::rem_s(lhs, rhs)
@@ -624,7 +624,7 @@ pub mod wasm {
     ///
     /// <span></span><pre><code>ensures: result ≡ [irem_u] lhs rhs</code></pre>
     ///
-    /// [irem_u]: crate::specs::scalar::Numerics#irem_u "the remainder of the quotient rounded down, where the divisor is not 0"
+    /// [irem_u]: crate::specs::scalar::Numerics#irem_u "the remainder of the quotient rounded down, or a trap where the divisor is 0"
     #[inline]
     pub fn i32_rem_u(lhs: u32, rhs: u32) -> Result<u32, TrapCode> {
         <i32 as Integer>::rem_u(lhs, rhs)
@@ -937,7 +937,7 @@ pub mod wasm {
     ///
     /// <span></span><pre><code>ensures: result ≡ [irotr] [w64] lhs rhs</code></pre>
     ///
-    /// [irotr]: crate::specs::scalar::Numerics#irotr "to the right by k is to the left by the rest of the bits"
+    /// [irotr]: crate::specs::scalar::Numerics#irotr "the bits rotated to the right by an amount modulo the width: to the left by the rest of the bits"
     /// [w64]: crate::specs::library#w64 "the widths of integers in bits"
     #[inline]
     pub fn i64_rotr(lhs: i64, rhs: i64) -> i64 {
@@ -952,7 +952,7 @@ pub mod wasm {
     ///
     /// <span></span><pre><code>ensures: result ≡ [idiv_s] [w64] lhs rhs</code></pre>
     ///
-    /// [idiv_s]: crate::specs::scalar::Numerics#idiv_s "the one quotient that no signed number of the width is, 2 to the power \`bits w - 1\`, is that of the least number by 1"
+    /// [idiv_s]: crate::specs::scalar::Numerics#idiv_s "the quotient of two signed numbers, rounded towards zero, or a trap where the divisor is 0 or no signed number of the width is the quotient: that of the least number by -1 is 2 to the power \`bits w - 1\`"
     /// [w64]: crate::specs::library#w64 "the widths of integers in bits"
     #[inline]
     pub fn i64_div_s(lhs: i64, rhs: i64) -> Result<i64, TrapCode> {
@@ -967,7 +967,7 @@ pub mod wasm {
     ///
     /// <span></span><pre><code>ensures: result ≡ [idiv_u] lhs rhs</code></pre>
     ///
-    /// [idiv_u]: crate::specs::scalar::Numerics#idiv_u "the quotient rounded down, where the divisor is not 0"
+    /// [idiv_u]: crate::specs::scalar::Numerics#idiv_u "the quotient rounded down, or a trap where the divisor is 0"
     #[inline]
     pub fn i64_div_u(lhs: u64, rhs: u64) -> Result<u64, TrapCode> {
         <i64 as Integer>::div_u(lhs, rhs)
@@ -981,7 +981,7 @@ pub mod wasm {
     ///
     /// <span></span><pre><code>ensures: result ≡ [irem_s] lhs rhs</code></pre>
     ///
-    /// [irem_s]: crate::specs::scalar::Numerics#irem_s "with the sign of x"
+    /// [irem_s]: crate::specs::scalar::Numerics#irem_s "the remainder of the quotient rounded towards zero, which has the sign of x, or a trap where the divisor is 0"
     #[inline]
     pub fn i64_rem_s(lhs: i64, rhs: i64) -> Result<i64, TrapCode> {
         Integer::rem_s(lhs, rhs)
@@ -995,7 +995,7 @@ pub mod wasm {
     ///
     /// <span></span><pre><code>ensures: result ≡ [irem_u] lhs rhs</code></pre>
     ///
-    /// [irem_u]: crate::specs::scalar::Numerics#irem_u "the remainder of the quotient rounded down, where the divisor is not 0"
+    /// [irem_u]: crate::specs::scalar::Numerics#irem_u "the remainder of the quotient rounded down, or a trap where the divisor is 0"
     #[inline]
     pub fn i64_rem_u(lhs: u64, rhs: u64) -> Result<u64, TrapCode> {
         <i64 as Integer>::rem_u(lhs, rhs)

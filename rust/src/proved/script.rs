@@ -1378,7 +1378,7 @@ mod wording {
         ///
         /// [wording_text]: crate::specs::script::Wording#wording_text "the words of a wording, and then its numbers, the second after a space"
         /// [codes]: crate::specs::library#codes "the characters of a text, by their numbers"
-        /// [global_error_text]: crate::specs::typed::GlobalError#global_error_text "the text of an error of a global variable"
+        /// [global_error_text]: crate::specs::typed::Global#global_error_text "the text of an error of a global variable"
         #[inline]
         fn of_global(error: &GlobalError) -> Wording {
             let words = match error {
@@ -1396,7 +1396,7 @@ mod wording {
         ///
         /// [wording_text]: crate::specs::script::Wording#wording_text "the words of a wording, and then its numbers, the second after a space"
         /// [codes]: crate::specs::library#codes "the characters of a text, by their numbers"
-        /// [segment_error_text]: crate::specs::store::SegmentError#segment_error_text "the text of an error of an element segment"
+        /// [segment_error_text]: crate::specs::store::Segment#segment_error_text "the text of an error of an element segment"
         #[inline]
         fn of_segment(error: &SegmentError) -> Wording {
             let words = match error {

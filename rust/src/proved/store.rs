@@ -841,7 +841,7 @@ mod memory {
         /// <span></span><pre><code>bytes = λ r. r.now
         /// refilled = [region_refilled]</code></pre>
         ///
-        /// [region_refilled]: crate::specs::store::Lending#region_refilled "the reference to a region whose front was written over"
+        /// [region_refilled]: crate::specs::store::Front#region_refilled "the reference to a region whose front was written over"
         impl<'r> Region for &'r mut [u8] {
             #[inline]
             fn whole(&self) -> &[u8] {
@@ -1340,7 +1340,7 @@ mod memory {
     use crate::proved::store::bulk::{copy_bytes, copy_bytes_within, fill_bytes};
     use crate::proved::store::growth::{MEMORY_DENIED as DENIED, decide_growth, permitted_minimum};
     use crate::proved::store::optional_meter::with_meter;
-    use crate::proved::store::range::{read_bytes, write_range};
+    use crate::proved::store::range::{read_bytes, write_bytes};
     pub use buffer::{Buffer, ByteBuffer};
     pub use region::Region;
     pub use ty::{MemoryType, MemoryTypeBuilder};
@@ -1460,9 +1460,7 @@ mod memory {
         ) -> Result<Memory<'r>, MemoryError> {
             let mut lent = ResourceLimiterRef::from(limiter);
             let made = Memory::new(ty, &mut lent);
-            let Some(_limiter) = lent.into_resource_limiter() else {
-                unreachable!()
-            };
+            let _limiter = lent.into_limiter();
             made
         }
 
@@ -1487,9 +1485,7 @@ mod memory {
         ) -> Result<Memory<'r>, MemoryError> {
             let mut lent = ResourceLimiterRef::from(limiter);
             let made = Memory::new_static(ty, &mut lent, region);
-            let Some(_limiter) = lent.into_resource_limiter() else {
-                unreachable!()
-            };
+            let _limiter = lent.into_limiter();
             made
         }
     }
@@ -1705,9 +1701,7 @@ mod memory {
         ) -> Result<u64, MemoryError> {
             let mut lent = ResourceLimiterRef::from(limiter);
             let grown = self.grow_metered(additional, fuel, &mut lent);
-            let Some(_limiter) = lent.into_resource_limiter() else {
-                unreachable!()
-            };
+            let _limiter = lent.into_limiter();
             grown
         }
 
@@ -1745,12 +1739,7 @@ mod memory {
         /// [`OutOfBoundsAccess`]: crate::proved::meter::MemoryError::OutOfBoundsAccess
         #[inline]
         pub fn write(&mut self, offset: usize, buffer: &[u8]) -> Result<(), MemoryError> {
-            let size = self.buffer.len();
-            if size < offset || size - offset < buffer.len() {
-                return Err(MemoryError::OutOfBoundsAccess);
-            }
-            write_range(self.buffer.data_mut(), offset, buffer);
-            Ok(())
+            write_bytes(self.buffer.data_mut(), offset, buffer)
         }
 
         /// Fills `len` bytes from `dst` on with a value.
@@ -2194,11 +2183,39 @@ pub mod range {
     /// [`OutOfBoundsAccess`]: crate::proved::meter::MemoryError::OutOfBoundsAccess
     #[inline]
     pub fn read_bytes(bytes: &[u8], offset: usize, buffer: &mut [u8]) -> Result<(), MemoryError> {
-        if bytes.len() < offset || bytes.len() - offset < buffer.len() {
+        if !lies_within(bytes, offset as u64, buffer.len() as u64) {
             return Err(MemoryError::OutOfBoundsAccess);
         }
         let end = offset + buffer.len();
         buffer.copy_from_slice(&bytes[offset..end]);
+        Ok(())
+    }
+
+    /// Writes bytes over those from an offset on. The error is [`OutOfBoundsAccess`] if they would end
+    /// past the bytes; then nothing is written.
+    ///
+    /// # Contract
+    ///
+    /// <span></span><pre><code>ensures ok: [OnOk] result ([overwrite] bytes.old offset buffer.now ≡ [Some] bytes.new)
+    /// ensures err: [IfErr] result
+    /// &#32;&#32;&#32;&#32;(λ error. (error ≡ [MemoryError.OutOfBoundsAccess])
+    /// &#32;&#32;&#32;&#32;× ([overwrite] bytes.old offset buffer.now ≡ [None]) × (bytes.new ≡ bytes.old))
+    /// ensures len: [length] bytes.new ≡ [length] bytes.old</code></pre>
+    ///
+    /// [OnOk]: crate::specs::library#OnOk "P, if r is a value"
+    /// [overwrite]: crate::specs::types::Access#overwrite "xs with ys at a, or none where the list ends before them"
+    /// [Some]: crate::specs::library#Some "the value x, of an \`Option\`"
+    /// [IfErr]: crate::specs::library#IfErr "P of the error, if r is an error"
+    /// [MemoryError.OutOfBoundsAccess]: crate::proved::meter::MemoryError::OutOfBoundsAccess
+    /// [None]: crate::specs::library#None "no value, of an \`Option\`"
+    /// [length]: crate::specs::library#length "the number of elements of a list"
+    /// [`OutOfBoundsAccess`]: crate::proved::meter::MemoryError::OutOfBoundsAccess
+    #[inline]
+    pub fn write_bytes(bytes: &mut [u8], offset: usize, buffer: &[u8]) -> Result<(), MemoryError> {
+        if !lies_within(bytes, offset as u64, buffer.len() as u64) {
+            return Err(MemoryError::OutOfBoundsAccess);
+        }
+        write_range(bytes, offset, buffer);
         Ok(())
     }
 
@@ -2270,7 +2287,7 @@ mod table {
         /// <span></span><pre><code>output = λ error. [Some] ([segment_error_text] error)</code></pre>
         ///
         /// [Some]: crate::specs::library#Some "the value x, of an \`Option\`"
-        /// [segment_error_text]: crate::specs::store::SegmentError#segment_error_text "the text of an error of an element segment"
+        /// [segment_error_text]: crate::specs::store::Segment#segment_error_text "the text of an error of an element segment"
         impl fmt::Display for SegmentError {
             #[inline]
             fn fmt(&self, f: &mut fmt::Formatter<'_>) -> fmt::Result {
@@ -2863,9 +2880,7 @@ mod table {
         ) -> Result<Self, TableError> {
             let mut lent = ResourceLimiterRef::from(limiter);
             let made = Table::new(ty, init, &mut lent);
-            let Some(_limiter) = lent.into_resource_limiter() else {
-                unreachable!()
-            };
+            let _limiter = lent.into_limiter();
             made
         }
 
@@ -3009,9 +3024,7 @@ mod table {
         ) -> Result<u64, TableError> {
             let mut lent = ResourceLimiterRef::from(limiter);
             let grown = self.grow_metered(delta, init, fuel, &mut lent);
-            let Some(_limiter) = lent.into_resource_limiter() else {
-                unreachable!()
-            };
+            let _limiter = lent.into_limiter();
             grown
         }
 
@@ -3128,9 +3141,7 @@ mod table {
         ) -> Result<u64, TableError> {
             let mut lent = ResourceLimiterRef::from(limiter);
             let grown = self.grow_raw_metered(delta, init, fuel, &mut lent);
-            let Some(_limiter) = lent.into_resource_limiter() else {
-                unreachable!()
-            };
+            let _limiter = lent.into_limiter();
             grown
         }
 

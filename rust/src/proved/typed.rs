@@ -24,7 +24,7 @@ mod global {
     /// <span></span><pre><code>output = λ error. [Some] ([global_error_text] error)</code></pre>
     ///
     /// [Some]: crate::specs::library#Some "the value x, of an \`Option\`"
-    /// [global_error_text]: crate::specs::typed::GlobalError#global_error_text "the text of an error of a global variable"
+    /// [global_error_text]: crate::specs::typed::Global#global_error_text "the text of an error of a global variable"
     impl fmt::Display for GlobalError {
         #[inline]
         fn fmt(&self, f: &mut fmt::Formatter<'_>) -> fmt::Result {
@@ -911,7 +911,7 @@ mod typed_ref {
     /// <span></span><pre><code>output = λ \_. [Some] [not_a_reference_text]</code></pre>
     ///
     /// [Some]: crate::specs::library#Some "the value x, of an \`Option\`"
-    /// [not_a_reference_text]: crate::specs::typed::NotAReference#not_a_reference_text "the text of the error where a value is no reference"
+    /// [not_a_reference_text]: crate::specs::typed::TypedRef#not_a_reference_text "the text of the error where a value is no reference"
     impl fmt::Display for NotAReference {
         #[inline]
         fn fmt(&self, f: &mut fmt::Formatter<'_>) -> fmt::Result {

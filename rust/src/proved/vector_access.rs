@@ -24,7 +24,7 @@ pub mod simd {
         /// <span></span><pre><code>ensures: result ≡ [loaded] 8 ([vector.widen_s] [w8] [w16]) memory.now (ptr + offset)</code></pre>
         ///
         /// [loaded]: crate::specs::accesses::LoadStore#loaded "what a load of n bytes at a gives"
-        /// [vector.widen_s]: crate::specs::widening::WideningTable#widen_s "the narrow lanes of a number of 64 bits, extended"
+        /// [vector.widen_s]: crate::specs::widening::WideningTable#widen_s "the lanes of a number of 64 bits read signed, at twice their width"
         /// [w8]: crate::specs::library#w8 "the widths of integers in bits"
         /// [w16]: crate::specs::library#w16 "the widths of integers in bits"
         #[inline]
@@ -39,7 +39,7 @@ pub mod simd {
         /// <span></span><pre><code>ensures: result ≡ [loaded] 8 ([vector.widen_s] [w8] [w16]) memory.now address</code></pre>
         ///
         /// [loaded]: crate::specs::accesses::LoadStore#loaded "what a load of n bytes at a gives"
-        /// [vector.widen_s]: crate::specs::widening::WideningTable#widen_s "the narrow lanes of a number of 64 bits, extended"
+        /// [vector.widen_s]: crate::specs::widening::WideningTable#widen_s "the lanes of a number of 64 bits read signed, at twice their width"
         /// [w8]: crate::specs::library#w8 "the widths of integers in bits"
         /// [w16]: crate::specs::library#w16 "the widths of integers in bits"
         #[inline]
@@ -84,7 +84,7 @@ pub mod simd {
         /// <span></span><pre><code>ensures: result ≡ [loaded] 8 ([vector.widen_s] [w16] [w32]) memory.now (ptr + offset)</code></pre>
         ///
         /// [loaded]: crate::specs::accesses::LoadStore#loaded "what a load of n bytes at a gives"
-        /// [vector.widen_s]: crate::specs::widening::WideningTable#widen_s "the narrow lanes of a number of 64 bits, extended"
+        /// [vector.widen_s]: crate::specs::widening::WideningTable#widen_s "the lanes of a number of 64 bits read signed, at twice their width"
         /// [w16]: crate::specs::library#w16 "the widths of integers in bits"
         /// [w32]: crate::specs::library#w32 "the widths of integers in bits"
         #[inline]
@@ -99,7 +99,7 @@ pub mod simd {
         /// <span></span><pre><code>ensures: result ≡ [loaded] 8 ([vector.widen_s] [w16] [w32]) memory.now address</code></pre>
         ///
         /// [loaded]: crate::specs::accesses::LoadStore#loaded "what a load of n bytes at a gives"
-        /// [vector.widen_s]: crate::specs::widening::WideningTable#widen_s "the narrow lanes of a number of 64 bits, extended"
+        /// [vector.widen_s]: crate::specs::widening::WideningTable#widen_s "the lanes of a number of 64 bits read signed, at twice their width"
         /// [w16]: crate::specs::library#w16 "the widths of integers in bits"
         /// [w32]: crate::specs::library#w32 "the widths of integers in bits"
         #[inline]
@@ -144,7 +144,7 @@ pub mod simd {
         /// <span></span><pre><code>ensures: result ≡ [loaded] 8 ([vector.widen_s] [w32] [w64]) memory.now (ptr + offset)</code></pre>
         ///
         /// [loaded]: crate::specs::accesses::LoadStore#loaded "what a load of n bytes at a gives"
-        /// [vector.widen_s]: crate::specs::widening::WideningTable#widen_s "the narrow lanes of a number of 64 bits, extended"
+        /// [vector.widen_s]: crate::specs::widening::WideningTable#widen_s "the lanes of a number of 64 bits read signed, at twice their width"
         /// [w32]: crate::specs::library#w32 "the widths of integers in bits"
         /// [w64]: crate::specs::library#w64 "the widths of integers in bits"
         #[inline]
@@ -159,7 +159,7 @@ pub mod simd {
         /// <span></span><pre><code>ensures: result ≡ [loaded] 8 ([vector.widen_s] [w32] [w64]) memory.now address</code></pre>
         ///
         /// [loaded]: crate::specs::accesses::LoadStore#loaded "what a load of n bytes at a gives"
-        /// [vector.widen_s]: crate::specs::widening::WideningTable#widen_s "the narrow lanes of a number of 64 bits, extended"
+        /// [vector.widen_s]: crate::specs::widening::WideningTable#widen_s "the lanes of a number of 64 bits read signed, at twice their width"
         /// [w32]: crate::specs::library#w32 "the widths of integers in bits"
         /// [w64]: crate::specs::library#w64 "the widths of integers in bits"
         #[inline]
@@ -665,7 +665,7 @@ pub mod simd {
         /// <span></span><pre><code>ensures: result ≡ [loaded] 4 ([vector.low_zero] [w32]) memory.now (ptr + offset)</code></pre>
         ///
         /// [loaded]: crate::specs::accesses::LoadStore#loaded "what a load of n bytes at a gives"
-        /// [vector.low_zero]: crate::specs::widening::WideningTable#low_zero "the number in lane 0, and 0 in the others"
+        /// [vector.low_zero]: crate::specs::widening::WideningTable#low_zero "the vector with the number in lane 0, and 0 in the others"
         /// [w32]: crate::specs::library#w32 "the widths of integers in bits"
         #[inline]
         pub fn v128_load32_zero(memory: &[u8], ptr: u64, offset: u64) -> Result<V128, TrapCode> {
@@ -679,7 +679,7 @@ pub mod simd {
         /// <span></span><pre><code>ensures: result ≡ [loaded] 4 ([vector.low_zero] [w32]) memory.now address</code></pre>
         ///
         /// [loaded]: crate::specs::accesses::LoadStore#loaded "what a load of n bytes at a gives"
-        /// [vector.low_zero]: crate::specs::widening::WideningTable#low_zero "the number in lane 0, and 0 in the others"
+        /// [vector.low_zero]: crate::specs::widening::WideningTable#low_zero "the vector with the number in lane 0, and 0 in the others"
         /// [w32]: crate::specs::library#w32 "the widths of integers in bits"
         #[inline]
         pub fn v128_load32_zero_at(memory: &[u8], address: usize) -> Result<V128, TrapCode> {
@@ -693,7 +693,7 @@ pub mod simd {
         /// <span></span><pre><code>ensures: result ≡ [loaded] 8 ([vector.low_zero] [w64]) memory.now (ptr + offset)</code></pre>
         ///
         /// [loaded]: crate::specs::accesses::LoadStore#loaded "what a load of n bytes at a gives"
-        /// [vector.low_zero]: crate::specs::widening::WideningTable#low_zero "the number in lane 0, and 0 in the others"
+        /// [vector.low_zero]: crate::specs::widening::WideningTable#low_zero "the vector with the number in lane 0, and 0 in the others"
         /// [w64]: crate::specs::library#w64 "the widths of integers in bits"
         #[inline]
         pub fn v128_load64_zero(memory: &[u8], ptr: u64, offset: u64) -> Result<V128, TrapCode> {
@@ -707,7 +707,7 @@ pub mod simd {
         /// <span></span><pre><code>ensures: result ≡ [loaded] 8 ([vector.low_zero] [w64]) memory.now address</code></pre>
         ///
         /// [loaded]: crate::specs::accesses::LoadStore#loaded "what a load of n bytes at a gives"
-        /// [vector.low_zero]: crate::specs::widening::WideningTable#low_zero "the number in lane 0, and 0 in the others"
+        /// [vector.low_zero]: crate::specs::widening::WideningTable#low_zero "the vector with the number in lane 0, and 0 in the others"
         /// [w64]: crate::specs::library#w64 "the widths of integers in bits"
         #[inline]
         pub fn v128_load64_zero_at(memory: &[u8], address: usize) -> Result<V128, TrapCode> {

@@ -24,7 +24,7 @@ pub mod laws {
     /// [ℕ]: crate::specs::library#%E2%84%95 "the whole numbers from 0 on"
     /// [lane_count]: crate::specs::widening::Widening#lane_count "how many lanes of a width a vector has"
     /// [lane]: crate::specs::lanes::Lane#lane "lane i of the vector v"
-    /// [half_unary]: crate::specs::widening::Widening#half_unary "lane i is the row of the narrow lanes first + i: 0 is the first one of the lower half, \`lane_count wide\` that of the upper"
+    /// [half_unary]: crate::specs::widening::Widening#half_unary "the wide vector whose lane i is the row of the narrow lane first + i: first is 0 for the lower half, and \`lane_count wide\` for the upper"
     /// [bits]: crate::specs::library#bits "the number of bits of a width"
     /// [half_binary]: crate::specs::widening::Widening#half_binary "the wide vector whose lane i is the row of the narrow lanes at first + i of two vectors"
     #[inline]
@@ -96,7 +96,7 @@ pub mod laws {
     /// [ℕ]: crate::specs::library#%E2%84%95 "the whole numbers from 0 on"
     /// [lane_count]: crate::specs::widening::Widening#lane_count "how many lanes of a width a vector has"
     /// [lane]: crate::specs::lanes::Lane#lane "lane i of the vector v"
-    /// [pairwise_unary]: crate::specs::widening::Widening#pairwise_unary "lane i is the row of the narrow lanes 2 \* i and 2 \* i + 1, of the first operand and then of the second"
+    /// [pairwise_unary]: crate::specs::widening::Widening#pairwise_unary "the wide vector whose lane i is the row of the narrow lanes 2 \* i and 2 \* i + 1 of a vector"
     /// [bits]: crate::specs::library#bits "the number of bits of a width"
     /// [pairwise_binary]: crate::specs::widening::Widening#pairwise_binary "the wide vector whose lane i is the row of the narrow lanes 2 \* i and 2 \* i + 1 of two vectors"
     #[inline]
@@ -121,7 +121,7 @@ pub mod laws {
     /// [ℕ]: crate::specs::library#%E2%84%95 "the whole numbers from 0 on"
     /// [lane_count]: crate::specs::widening::Widening#lane_count "how many lanes of a width a vector has"
     /// [lane]: crate::specs::lanes::Lane#lane "lane i of the vector v"
-    /// [from_low_high]: crate::specs::widening::Widening#from_low_high "the rows of the wide lanes of \`low\`, then those of \`high\`"
+    /// [from_low_high]: crate::specs::widening::Widening#from_low_high "the narrow vector of the rows of the wide lanes of \`low\`, and then those of \`high\`"
     /// [bits]: crate::specs::library#bits "the number of bits of a width"
     #[inline]
     pub fn lanes_of_wide_lanes<A>() {}
@@ -512,7 +512,7 @@ pub mod simd {
         ///
         /// <span></span><pre><code>ensures: result ≡ [vector.widen_s] [w8] [w16] number</code></pre>
         ///
-        /// [vector.widen_s]: crate::specs::widening::WideningTable#widen_s "the narrow lanes of a number of 64 bits, extended"
+        /// [vector.widen_s]: crate::specs::widening::WideningTable#widen_s "the lanes of a number of 64 bits read signed, at twice their width"
         /// [w8]: crate::specs::library#w8 "the widths of integers in bits"
         /// [w16]: crate::specs::library#w16 "the widths of integers in bits"
         #[inline]
@@ -544,7 +544,7 @@ pub mod simd {
         ///
         /// <span></span><pre><code>ensures: result ≡ [vector.widen_s] [w16] [w32] number</code></pre>
         ///
-        /// [vector.widen_s]: crate::specs::widening::WideningTable#widen_s "the narrow lanes of a number of 64 bits, extended"
+        /// [vector.widen_s]: crate::specs::widening::WideningTable#widen_s "the lanes of a number of 64 bits read signed, at twice their width"
         /// [w16]: crate::specs::library#w16 "the widths of integers in bits"
         /// [w32]: crate::specs::library#w32 "the widths of integers in bits"
         #[inline]
@@ -576,7 +576,7 @@ pub mod simd {
         ///
         /// <span></span><pre><code>ensures: result ≡ [vector.widen_s] [w32] [w64] number</code></pre>
         ///
-        /// [vector.widen_s]: crate::specs::widening::WideningTable#widen_s "the narrow lanes of a number of 64 bits, extended"
+        /// [vector.widen_s]: crate::specs::widening::WideningTable#widen_s "the lanes of a number of 64 bits read signed, at twice their width"
         /// [w32]: crate::specs::library#w32 "the widths of integers in bits"
         /// [w64]: crate::specs::library#w64 "the widths of integers in bits"
         #[inline]
@@ -608,7 +608,7 @@ pub mod simd {
         ///
         /// <span></span><pre><code>ensures: result ≡ [vector.low_zero] [w32] number</code></pre>
         ///
-        /// [vector.low_zero]: crate::specs::widening::WideningTable#low_zero "the number in lane 0, and 0 in the others"
+        /// [vector.low_zero]: crate::specs::widening::WideningTable#low_zero "the vector with the number in lane 0, and 0 in the others"
         /// [w32]: crate::specs::library#w32 "the widths of integers in bits"
         #[inline]
         pub fn v128_low32_zero(number: u32) -> V128 {
@@ -623,7 +623,7 @@ pub mod simd {
         ///
         /// <span></span><pre><code>ensures: result ≡ [vector.low_zero] [w64] number</code></pre>
         ///
-        /// [vector.low_zero]: crate::specs::widening::WideningTable#low_zero "the number in lane 0, and 0 in the others"
+        /// [vector.low_zero]: crate::specs::widening::WideningTable#low_zero "the vector with the number in lane 0, and 0 in the others"
         /// [w64]: crate::specs::library#w64 "the widths of integers in bits"
         #[inline]
         pub fn v128_low64_zero(number: u64) -> V128 {
@@ -1225,7 +1225,7 @@ pub mod simd {
         ///
         /// <span></span><pre><code>ensures: result ≡ [vector.dot_s] [w16] [w32] lhs rhs</code></pre>
         ///
-        /// [vector.dot_s]: crate::specs::widening::WideningTable#dot_s "modulo 2 ^ wide"
+        /// [vector.dot_s]: crate::specs::widening::WideningTable#dot_s "the sums of the products of each two adjacent lanes of two vectors, read signed, modulo 2 to the wide width"
         /// [w16]: crate::specs::library#w16 "the widths of integers in bits"
         /// [w32]: crate::specs::library#w32 "the widths of integers in bits"
         #[inline]
@@ -1241,7 +1241,7 @@ pub mod simd {
         ///
         /// <span></span><pre><code>ensures: result ≡ [vector.relaxed_dot_s] lhs rhs</code></pre>
         ///
-        /// [vector.relaxed_dot_s]: crate::specs::widening::WideningTable#relaxed_dot_s "both operands are read signed, and the sums are modulo 2 ^ 16"
+        /// [vector.relaxed_dot_s]: crate::specs::widening::WideningTable#relaxed_dot_s "the sums of the products of each two adjacent lanes of 8 bits, all read signed, modulo 2 ^ 16"
         #[inline]
         pub fn i16x8_relaxed_dot_i8x16_i7x16_s(lhs: V128, rhs: V128) -> V128 {
             let evens = product_of_u16x8(even_i8x16(lhs), even_i8x16(rhs));
@@ -1313,7 +1313,7 @@ pub mod simd {
         ///
         /// <span></span><pre><code>ensures: result ≡ [vector.any_true] v</code></pre>
         ///
-        /// [vector.any_true]: crate::specs::widening::WideningTable#any_true "whether a bit is set"
+        /// [vector.any_true]: crate::specs::widening::WideningTable#any_true "whether a bit of the vector is set"
         #[inline]
         pub fn v128_any_true(v: V128) -> bool {
             v.as_u128() != 0
@@ -1325,7 +1325,7 @@ pub mod simd {
         ///
         /// <span></span><pre><code>ensures: result ≡ [vector.bitmask] [w8] v</code></pre>
         ///
-        /// [vector.bitmask]: crate::specs::widening::WideningTable#bitmask "bit i is the highest bit of lane i"
+        /// [vector.bitmask]: crate::specs::widening::WideningTable#bitmask "the number whose bit i is the highest bit of lane i"
         /// [w8]: crate::specs::library#w8 "the widths of integers in bits"
         #[inline]
         pub fn i8x16_bitmask(v: V128) -> u32 {
@@ -1339,7 +1339,7 @@ pub mod simd {
         ///
         /// <span></span><pre><code>ensures: result ≡ [vector.bitmask] [w16] v</code></pre>
         ///
-        /// [vector.bitmask]: crate::specs::widening::WideningTable#bitmask "bit i is the highest bit of lane i"
+        /// [vector.bitmask]: crate::specs::widening::WideningTable#bitmask "the number whose bit i is the highest bit of lane i"
         /// [w16]: crate::specs::library#w16 "the widths of integers in bits"
         #[inline]
         pub fn i16x8_bitmask(v: V128) -> u32 {
@@ -1355,7 +1355,7 @@ pub mod simd {
         ///
         /// <span></span><pre><code>ensures: result ≡ [vector.bitmask] [w32] v</code></pre>
         ///
-        /// [vector.bitmask]: crate::specs::widening::WideningTable#bitmask "bit i is the highest bit of lane i"
+        /// [vector.bitmask]: crate::specs::widening::WideningTable#bitmask "the number whose bit i is the highest bit of lane i"
         /// [w32]: crate::specs::library#w32 "the widths of integers in bits"
         #[inline]
         pub fn i32x4_bitmask(v: V128) -> u32 {
@@ -1371,7 +1371,7 @@ pub mod simd {
         ///
         /// <span></span><pre><code>ensures: result ≡ [vector.bitmask] [w64] v</code></pre>
         ///
-        /// [vector.bitmask]: crate::specs::widening::WideningTable#bitmask "bit i is the highest bit of lane i"
+        /// [vector.bitmask]: crate::specs::widening::WideningTable#bitmask "the number whose bit i is the highest bit of lane i"
         /// [w64]: crate::specs::library#w64 "the widths of integers in bits"
         #[inline]
         pub fn i64x2_bitmask(v: V128) -> u32 {
@@ -1526,7 +1526,7 @@ pub mod simd {
         ///
         /// <span></span><pre><code>ensures: result ≡ [vector.relaxed_dot_add_s] lhs rhs c</code></pre>
         ///
-        /// [vector.relaxed_dot_add_s]: crate::specs::widening::WideningTable#relaxed_dot_add_s "the sums of each two adjacent lanes of relaxed_dot_s, at twice their width, and of the lanes of a third vector"
+        /// [vector.relaxed_dot_add_s]: crate::specs::widening::WideningTable#relaxed_dot_add_s "the sums of each two adjacent lanes of relaxed_dot_s, read signed, and of the lanes of a third vector, modulo 2 ^ 32"
         #[inline]
         pub fn i32x4_relaxed_dot_i8x16_i7x16_add_s(lhs: V128, rhs: V128, c: V128) -> V128 {
             let dot = i16x8_relaxed_dot_i8x16_i7x16_s(lhs, rhs);
@@ -2062,7 +2062,7 @@ mod widening {
     /// [ℕ]: crate::specs::library#%E2%84%95 "the whole numbers from 0 on"
     /// [L.Item]: trait@FromWide#contract
     /// [F.post]: crate::specs::library#post "the closure, called on x, may return y"
-    /// [made.from_low_high]: crate::specs::widening::Widening#from_low_high "the rows of the wide lanes of \`low\`, then those of \`high\`"
+    /// [made.from_low_high]: crate::specs::widening::Widening#from_low_high "the narrow vector of the rows of the wide lanes of \`low\`, and then those of \`high\`"
     #[inline(always)]
     pub(crate) fn from_low_high<W: Lanes, L: FromWide<W>, F: Fn(W::Item) -> L::Item>(
         low: V128,

@@ -2,8 +2,7 @@
 ghost use Rattle.std.specs.Prelude.{◌≡◌, ◌≤◌, ℕ, List, length, take};
 ghost use Rattle.std.proofs.Common.{refl};
 ghost use Rattle.std.specs.Borrow.{sem, Lends, Array, u8};
-ghost use Rattle.wasmi_store.specs.Front.{refilled_front};
-ghost use Rattle.wasmi_store.specs.Lending.{region_refilled};
+ghost use Rattle.wasmi_store.specs.Front.{refilled_front, region_refilled};
 
 mod sealed {
     pub trait Sealed {}

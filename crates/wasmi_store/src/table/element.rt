@@ -20,7 +20,7 @@ pub enum SegmentError {
 
 impl fmt::Display for SegmentError {
     ghost use Rattle.std.specs.Prelude.{Some};
-    ghost use Rattle.wasmi_store.specs.SegmentError.{segment_error_text};
+    ghost use Rattle.wasmi_store.specs.Segment.{segment_error_text};
 
     ghost output = { λ error. Some (segment_error_text error) };
 
