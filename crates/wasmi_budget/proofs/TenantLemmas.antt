@@ -9,7 +9,7 @@ use Rattle.wasmi_meter.proofs.CappedLemmas.{KeepsCaps, caps_kept, others_kept, a
 use Rattle.wasmi_core.specs.World.{World, Turn}
 use Rattle.wasmi_core.specs.Runs.{Run}
 use Rattle.wasmi_core.specs.Determinism.{IsDeterministic, AcceptsNotices}
-use Rattle.wasmi_core.proofs.DeterminismLemmas.{capped_once}
+use Rattle.wasmi_core.proofs.DeterminismLemmas.{capped_unique}
 use Rattle.wasmi_core.proofs.LimiterLemmas.{run_keeps}
 use Rattle.wasmi_budget.specs.declared.tenant.Tenant.{Tenant}
 use Rattle.wasmi_budget.specs.Tenant.{capped_tenant, tenant_rules}
@@ -59,8 +59,8 @@ run_stays_within first within w w' turns tenant' is is' ran =
     subst (StaysWithin first) (same_Some kept.0 tenant' (sym kept.1 ∙ is')) kept.2
 
 -- a tenant leaves no choice
-pub tenant_once : IsDeterministic tenant_rules
-tenant_once = capped_once capped_tenant
+pub tenant_unique : IsDeterministic tenant_rules
+tenant_unique = capped_unique capped_tenant
 
 -- a tenant accepts each notice
 pub tenant_accepts : AcceptsNotices tenant_rules

@@ -15,7 +15,7 @@ use Rattle.wasmi_core.specs.LimiterKinds.{RelatesByKind, RunsKeepKind}
 use Rattle.wasmi_core.specs.Laws.{HoldsTotalsAlways, QuotasStayWithin}
 use Rattle.wasmi_core.specs.Runs.{IsRunOf, Run}
 use Rattle.wasmi_core.specs.State.{State}
-use Rattle.wasmi_core.specs.Steps.{Answers}
+use Rattle.wasmi_core.specs.Steps.{RepliesWith}
 use Rattle.wasmi_core.specs.Totals.{HoldsTotals}
 use Rattle.wasmi_core.specs.World.{Turn, world}
 use Rattle.wasmi_core.specs.declared.calls.Call.{Call}
@@ -63,7 +63,7 @@ quotas_kept kinds holds stays turns s l s' l' ran kept =
 -- and by each call
 pub kept_by_call : QuotasAreKept → (call : Call) (s : State) (l : AnyLimiter) (reply : Reply) (s' : State)
     (l' : AnyLimiter) → Keeps s l
-    → Answers (optional_rules any_limiter_rules) call (world s (Some l)) reply (world s' (Some l'))
+    → RepliesWith (optional_rules any_limiter_rules) call (world s (Some l)) reply (world s' (Some l'))
     → Keeps s' l' × (caps_of l' ≡ caps_of l)
 kept_by_call keeps call s l reply s' l' kept (charge, written, step) =
     keeps (record { call = call; reply = reply; charge = charge; written = written } ∷ []) s l s' l'

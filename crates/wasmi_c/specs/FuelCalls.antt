@@ -20,8 +20,8 @@ TellsFuel h number status number' = MatchOption (meter_of h).left
 
 -- an amount is taken of a meter that is on where so much is left, and the number is what is left then; else the number
 -- is the amount, and nothing is taken; none of its other numbers changes
-abbrev pub TakesFuel : ℕ → MeterNumbers → ℕ → ℕ → MeterNumbers → ℕ → Type 0
-TakesFuel amount h number status h' number' = MatchOption (meter_of h).left
+abbrev pub PaysFuel : ℕ → MeterNumbers → ℕ → ℕ → MeterNumbers → ℕ → Type 0
+PaysFuel amount h number status h' number' = MatchOption (meter_of h).left
     ((status ≡ metering_disabled_status) × (h' ≡ h) × (number' ≡ number))
     (λ left. MatchBool (nat_le amount left)
     ((status ≡ done_status) × (number' ≡ left - amount) × (meter_of h' ≡ meter_after (meter_of h) amount)

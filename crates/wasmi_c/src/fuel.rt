@@ -1,7 +1,7 @@
 //! A fuel meter that lies with C, and the calls on it.
 ghost use Rattle.std.specs.Prelude.{◌≡◌};
 ghost use Rattle.wasmi_meter.specs.Costs.{copy_cost};
-ghost use Rattle.wasmi_c.specs.FuelCalls.{SetsFuel, TellsFuel, TakesFuel};
+ghost use Rattle.wasmi_c.specs.FuelCalls.{SetsFuel, TellsFuel, PaysFuel};
 ghost use Rattle.wasmi_c.specs.Numbers.{meter_of, with_left};
 
 use crate::status::{DONE, METERING_DISABLED, OUT_OF_FUEL};
@@ -78,7 +78,7 @@ pub fn left(meter: &MeterNumbers, left: &mut u64) -> u8
 /// Takes an amount, and `number` becomes what is left. It is `METERING_DISABLED` where the meter is
 /// off, and `OUT_OF_FUEL` with the amount as number where less is left; then nothing is taken.
 pub fn consume(meter: &mut MeterNumbers, amount: u64, number: &mut u64) -> u8
-    ensures { TakesFuel amount meter.old number.old result meter.new number.new }
+    ensures { PaysFuel amount meter.old number.old result meter.new number.new }
 {
     if meter.is_on == 0 {
         return METERING_DISABLED;
@@ -101,7 +101,7 @@ pub fn copy_cost(meter: &MeterNumbers, bytes: u64) -> u64
 
 /// Takes the price of a copy of so many bytes, as [`consume`] takes an amount.
 pub fn consume_copy(meter: &mut MeterNumbers, bytes: u64, number: &mut u64) -> u8
-    ensures { TakesFuel (copy_cost (meter_of meter.old).costs bytes 1) meter.old number.old result
+    ensures { PaysFuel (copy_cost (meter_of meter.old).costs bytes 1) meter.old number.old result
         meter.new number.new }
 {
     let amount = copy_cost(meter, bytes);

@@ -1,5 +1,5 @@
 //! A fuel meter of the caller's.
-ghost use Rattle.wasmi_c.specs.FuelCalls.{SetsFuel, TellsFuel, TakesFuel};
+ghost use Rattle.wasmi_c.specs.FuelCalls.{SetsFuel, TellsFuel, PaysFuel};
 ghost use Rattle.std.specs.Prelude.{◌≡◌};
 ghost use Rattle.wasmi_meter.specs.Costs.{copy_cost};
 ghost use Rattle.wasmi_c.specs.Numbers.{meter_of};
@@ -25,7 +25,7 @@ pub extern "C" fn wasmi_fuel_left(meter: &MeterNumbers, left: &mut u64) -> u8
 /// Takes an amount of fuel.
 #[unsafe(no_mangle)]
 pub extern "C" fn wasmi_fuel_consume(meter: &mut MeterNumbers, amount: u64, number: &mut u64) -> u8
-    ensures { TakesFuel amount meter.old number.old result meter.new number.new }
+    ensures { PaysFuel amount meter.old number.old result meter.new number.new }
 {
     fuel::consume(meter, amount, number)
 }
@@ -45,7 +45,7 @@ pub extern "C" fn wasmi_fuel_consume_copy(
     bytes: u64,
     number: &mut u64,
 ) -> u8
-    ensures { TakesFuel (copy_cost (meter_of meter.old).costs bytes 1) meter.old number.old result
+    ensures { PaysFuel (copy_cost (meter_of meter.old).costs bytes 1) meter.old number.old result
         meter.new number.new }
 {
     fuel::consume_copy(meter, bytes, number)

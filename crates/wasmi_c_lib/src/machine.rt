@@ -2,7 +2,7 @@
 ghost use Rattle.std.specs.Prelude.{◌≡◌, ℕ, List, None, Some};
 ghost use Rattle.wasmi_core.specs.declared.calls.Call.TheVariants.{GetFuel, GrowMemory, Write};
 ghost use Rattle.wasmi_c.specs.Machine.ByArguments.{RepliesInStatus, RepliesInWord, item_load, item_store, vector_binary};
-ghost use Rattle.wasmi_c.specs.Machine.Calls.{ActsOnHeld, ReadsOut, RepliesToCopy, RepliesToSegment, RepliesToStruct, TakesFuel, no_totals, totals_of};
+ghost use Rattle.wasmi_c.specs.Machine.Calls.{ActsOnHeld, ReadsOut, RepliesToCopy, RepliesToSegment, RepliesToStruct, PaysFuel, no_totals, totals_of};
 ghost use Rattle.wasmi_c.specs.Machine.Caps.{StaysWithinCaps};
 ghost use Rattle.wasmi_c.specs.Machine.Lines.{RunsLines};
 ghost use Rattle.wasmi_c.specs.Machine.NewMachines.{IsNewMachine, MakesMachine, MakesWithAnswers};
@@ -124,7 +124,7 @@ pub extern "C" fn wasmi_machine_totals(handle: &mut Handle) -> Totals
 pub extern "C" fn wasmi_machine_consume_fuel(handle: &mut Handle, amount: u64) -> ReplyStruct
     ensures step { ActsOnHeld (only no_machine_status) handle.old.machine.held
         result handle.new.machine.held
-        (λ machine machine'. TakesFuel amount machine result machine') }
+        (λ machine machine'. PaysFuel amount machine result machine') }
     ensures caps { StaysWithinCaps handle.old.machine.held handle.new.machine.held }
 {
     handle.consume_fuel(amount)

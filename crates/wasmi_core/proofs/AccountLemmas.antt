@@ -7,12 +7,12 @@ use Rattle.std.specs.Option.{option_map, unwrap_or}
 use Rattle.std.specs.Prelude.{if◌then◌else◌, is_none, nat_le, ◌&&◌}
 use Rattle.wasmi_core.proofs.EffectLemmas.{on_live}
 use Rattle.wasmi_core.proofs.StepsLemmas.{change_facts}
-use Rattle.wasmi_core.specs.Account.{Account, Balances, ChangesMeter, TakesCharge, account_after, charged_by, opened}
+use Rattle.wasmi_core.specs.Account.{Account, Balances, ChangesMeter, PaysCharge, account_after, charged_by, opened}
 use Rattle.wasmi_core.specs.Effects.{ActsAt, reply_of}
 use Rattle.wasmi_core.specs.Runs.{Run}
 use Rattle.wasmi_core.specs.State.{State, live_at}
-use Rattle.wasmi_core.specs.Steps.{Changed, Effect, FuelSet, MemoryGrown, RangeWritten, Step, TableGrown, TakesEffect, effect_of}
-use Rattle.wasmi_core.specs.TableEffects.{Metered, WritesRangeAt, WritesTableAt, write_of}
+use Rattle.wasmi_core.specs.Steps.{Changed, Effect, FuelSet, MemoryGrown, RangeWritten, Step, TableGrown, HasEffect, effect_of}
+use Rattle.wasmi_core.specs.TableEffects.{MeteredTables, WritesRangeAt, WritesTableAt, write_of}
 use Rattle.wasmi_store.specs.Growth.{metered}
 use Rattle.wasmi_core.specs.World.{Turn, World}
 use Rattle.wasmi_core.specs.declared.calls.Call.{Call}
@@ -39,7 +39,7 @@ paid_free : (m : Meter) (charge : ℕ) → charge ≡ 0 → charge ≤ amount_le
 paid_free m charge free = omega (arith, free)
 
 -- where nothing is charged and the meter stays
-takes_nothing : (m m' : Meter) (charge : ℕ) → charge ≡ 0 → m' ≡ m → TakesCharge m charge m'
+takes_nothing : (m m' : Meter) (charge : ℕ) → charge ≡ 0 → m' ≡ m → PaysCharge m charge m'
 takes_nothing m m' charge free same = (
   paid_free m charge free,
   same ∙ same_Some m (meter_after m 0) (meter_after_nothing (Some m)) ∙ ap (meter_after m) (sym free),
@@ -47,11 +47,11 @@ takes_nothing m m' charge free same = (
 
 -- where what is charged can be paid
 takes_paid : (m m' : Meter) (charge : ℕ) → charge ≤ amount_left m → Some m' ≡ Some (meter_after m charge)
-    → TakesCharge m charge m'
+    → PaysCharge m charge m'
 takes_paid m m' charge paid same = (paid, same_Some m' (meter_after m charge) same)
 
 -- a meter that is on stays on, and what is left and the charge are what was left
-pub rest_left : (m m' : Meter) (charge : ℕ) → TakesCharge m charge m' → (left : ℕ) → m.left ≡ Some left
+pub rest_left : (m m' : Meter) (charge : ℕ) → PaysCharge m charge m' → (left : ℕ) → m.left ≡ Some left
     → (rest : ℕ) × (m'.left ≡ Some rest) × (rest + charge ≡ left)
 rest_left m m' charge takes left on =
     let within : charge ≤ left = subst (λ (o : Option ℕ). charge ≤ unwrap_or o 0) on takes.0 in (
@@ -89,7 +89,7 @@ module _ {V E S : Type 0} (rules : Rules S) (e : Request V E) (x : V) (m : Meter
 pub grows_takes : {V E S : Type 0} (rules : Rules S) (g : Growth V E) (x : V) (m : Meter) (l : S)
     (result : Result ℕ E) (charge : ℕ) (x' : V) (m' : Meter) (l' : S)
     → Grows rules g (record { value = x; meter = Some m; limiter = l }) result charge
-    (record { value = x'; meter = Some m'; limiter = l' }) → TakesCharge m charge m'
+    (record { value = x'; meter = Some m'; limiter = l' }) → PaysCharge m charge m'
 grows_takes {V = V} {S = S} rules g x m l result charge x' m' l' (inl none) =
     takes_nothing m m' charge none.uncharged (same_Some m' m (ap (λ (s : MeteredValue V S). s.meter) none.same))
 grows_takes rules g x m l result charge x' m' l' (inr some) =
@@ -100,7 +100,7 @@ grows_takes rules g x m l result charge x' m' l' (inr some) =
 table_grows_takes : {S : Type 0} (rules : Rules S) (n : ℕ) (init : TypedRawRef) (x : TableValue) (m : Meter) (l : S)
     (result : Result ℕ TableError) (charge : ℕ) (x' : TableValue) (m' : Meter) (l' : S)
     → GrowsTableCharging rules n init (record { value = x; meter = Some m; limiter = l }) result charge
-    (record { value = x'; meter = Some m'; limiter = l' }) → TakesCharge m charge m'
+    (record { value = x'; meter = Some m'; limiter = l' }) → PaysCharge m charge m'
 table_grows_takes {S} rules n init x m l result charge x' m' l' grows =
     on_test (same_type x.ty.element init.ty) _ _ grows
     (λ h. grows_takes rules (record { amount = n; size = size_of x; request = table.growth_of x n init.raw }) x m l
@@ -125,7 +125,7 @@ module _ (write : TableValue → TableWrite) (x : TableValue) (m : Meter) (resul
 
   -- so it takes its charge
   pub write_takes : (m' : Meter)
-      → WritesTableCharging write (metered x (Some m)) result charge (metered x' (Some m')) → TakesCharge m charge m'
+      → WritesTableCharging write (metered x (Some m)) result charge (metered x' (Some m')) → PaysCharge m charge m'
   write_takes m' writes = takes_paid m m' charge (ends_paid w.typed w.written _ refl writes.ends) writes.meter
 
 -- a value, the meter that is charged for it, and the limiter that is asked
@@ -163,8 +163,8 @@ after t = metered_value t.last.value (Some t.last.meter) t.last.limiter
 acts_takes : {X R S : Type 0} (Acts : MeteredValue X S → R → ℕ → MeteredValue X S → Type 0) (k : ℕ)
     (reply_to : R → Reply) (t : Growing (List (Slot X)) S) (reply : Reply)
     → ((x : X) (result : R) (x' : X) → Acts (with_value (before t) x) result t.charge (with_value (after t) x')
-    → TakesCharge t.first.meter t.charge t.last.meter)
-    → ActsAt k reply_to Acts (before t) reply t.charge (after t) → TakesCharge t.first.meter t.charge t.last.meter
+    → PaysCharge t.first.meter t.charge t.last.meter)
+    → ActsAt k reply_to Acts (before t) reply t.charge (after t) → PaysCharge t.first.meter t.charge t.last.meter
 acts_takes {X = X} {S = S} Acts k reply_to t reply takes acts =
     on_live (live_at t.first.value k) _ _ acts
     (λ missing. takes_nothing t.first.meter t.last.meter t.charge missing.1
@@ -176,7 +176,7 @@ memory_growth_takes : {S : Type 0} (rules : Rules S) (k pages : ℕ) (t : Growin
     (reply : Reply)
     → ActsAt k (reply_of replied.Number replied.Memory) (GrowsMemoryCharging rules pages) (before t) reply t.charge
     (after t)
-    → TakesCharge t.first.meter t.charge t.last.meter
+    → PaysCharge t.first.meter t.charge t.last.meter
 memory_growth_takes rules k pages t reply acts =
     acts_takes (GrowsMemoryCharging rules pages) k (reply_of replied.Number replied.Memory) t reply
     (λ x result x'. grows_takes rules
@@ -190,7 +190,7 @@ table_growth_takes : {S : Type 0} (rules : Rules S) (k n : ℕ) (init : TypedRaw
     (t : Growing (List (Slot TableValue)) S) (reply : Reply)
     → ActsAt k (reply_of replied.Number replied.Table) (GrowsTableCharging rules n init) (before t) reply t.charge
     (after t)
-    → TakesCharge t.first.meter t.charge t.last.meter
+    → PaysCharge t.first.meter t.charge t.last.meter
 table_growth_takes rules k n init t reply acts =
     acts_takes (GrowsTableCharging rules n init) k (reply_of replied.Number replied.Table) t reply
     (λ x result x'. table_grows_takes rules n init x t.first.meter t.first.limiter result t.charge x' t.last.meter
@@ -199,7 +199,7 @@ table_growth_takes rules k n init t reply acts =
 -- a write over a part of the table of an index
 table_write_takes : (k : ℕ) (write : TableValue → TableWrite) (slots : List (Slot TableValue)) (m : Meter)
     (reply : Reply) (charge : ℕ) (slots' : List (Slot TableValue)) (m' : Meter)
-    → WritesTableAt k write (metered slots (Some m)) reply charge (metered slots' (Some m')) → TakesCharge m charge m'
+    → WritesTableAt k write (metered slots (Some m)) reply charge (metered slots' (Some m')) → PaysCharge m charge m'
 table_write_takes k write slots m reply charge slots' m' writes =
     acts_takes {X = TableValue} {S = Unit {0}}
     (WritesTableCharging write) k (reply_of (λ _. replied.Done) replied.Table)
@@ -213,17 +213,17 @@ table_write_takes k write slots m reply charge slots' m' writes =
 -- so where the write may be missing
 part_takes : (k : ℕ) (part : Option (TableValue → TableWrite)) (slots : List (Slot TableValue)) (m : Meter)
     (reply : Reply) (charge : ℕ) (slots' : List (Slot TableValue)) (m' : Meter)
-    → WritesRangeAt k part (metered slots (Some m)) reply charge (metered slots' (Some m')) → TakesCharge m charge m'
+    → WritesRangeAt k part (metered slots (Some m)) reply charge (metered slots' (Some m')) → PaysCharge m charge m'
 part_takes k part slots m reply charge slots' m' writes =
     on_live part _ _ writes
     (λ missing. takes_nothing m m' charge missing.1
-    (same_Some m' m (ap (λ (s : Metered). s.meter) missing.2)))
+    (same_Some m' m (ap (λ (s : MeteredTables). s.meter) missing.2)))
     (λ write found h. table_write_takes k write slots m reply charge slots' m' h)
 
 -- what an effect with a charge makes of the meter
 abbrev ChangesMeterBy : Effect → Meter → ℕ → Meter → Type 0
 ChangesMeterBy (FuelSet fuel) m charge m' = m' ≡ meter_set m fuel
-ChangesMeterBy effect m charge m' = TakesCharge m charge m'
+ChangesMeterBy effect m charge m' = PaysCharge m charge m'
 
 -- so by the call
 changed_meter : (s : State) (call : Call) (m : Meter) (charge : ℕ) (m' : Meter)
@@ -233,18 +233,18 @@ changed_meter s call m charge m' changes = changes
 
 module _ {S : Type 0} (w : World S) (turn : Turn) (w' : World S) where
   -- the turn ends in a world whose meter has paid
-  paid_in : {v : World S} → w' ≡ v → TakesCharge w.state.meter turn.charge v.state.meter
-      → TakesCharge w.state.meter turn.charge w'.state.meter
-  paid_in is takes = subst (λ (x : World S). TakesCharge w.state.meter turn.charge x.state.meter) (sym is) takes
+  paid_in : {v : World S} → w' ≡ v → PaysCharge w.state.meter turn.charge v.state.meter
+      → PaysCharge w.state.meter turn.charge w'.state.meter
+  paid_in is takes = subst (λ (x : World S). PaysCharge w.state.meter turn.charge x.state.meter) (sym is) takes
 
   -- so without a charge
   free_in : {v : World S} → w' ≡ v → turn.charge ≡ 0 → v.state.meter ≡ w.state.meter
-      → TakesCharge w.state.meter turn.charge w'.state.meter
+      → PaysCharge w.state.meter turn.charge w'.state.meter
   free_in {v} is free same = paid_in is (takes_nothing w.state.meter v.state.meter turn.charge free same)
 
 module _ {S : Type 0} (rules : Rules S) (w : World S) (turn : Turn) (w' : World S) where
   -- each effect
-  effect_meter : (effect : Effect) → TakesEffect rules effect w turn w'
+  effect_meter : (effect : Effect) → HasEffect rules effect w turn w'
       → ChangesMeterBy effect w.state.meter turn.charge w'.state.meter
   effect_meter (FuelSet fuel) step =
       ap (λ (v : World S). v.state.meter) step.after ∙ ap (λ (s : State). s.meter) step.effect.1

@@ -4,7 +4,7 @@ use Rattle.wasmi_core.proofs.EffectLemmas.{on_live_too, on_test_too}
 use Rattle.wasmi_core.specs.Effects.{ActsAt, ActsMetered, Asks, Creates, reply_of}
 use Rattle.wasmi_core.specs.Runs.{Run}
 use Rattle.wasmi_core.specs.State.{State, live_at}
-use Rattle.wasmi_core.specs.Steps.{BytesRead, Effect, LentMemoryMade, MemoryGrown, MemoryMade, RangeWritten, TableGrown, TableMade, TakesEffect, Told, effect_of}
+use Rattle.wasmi_core.specs.Steps.{BytesRead, Effect, LentMemoryMade, MemoryGrown, MemoryMade, RangeWritten, TableGrown, TableMade, HasEffect, Told, effect_of}
 use Rattle.wasmi_core.specs.World.{Turn, World}
 use Rattle.wasmi_core.specs.declared.calls.Reply.{Reply}
 use Rattle.wasmi_core.specs.declared.slots.Slot.{Slot}
@@ -156,8 +156,8 @@ module _ {S T : Type 0} (image : S → T) where
       }
 
       -- each effect
-      effect_carried : (effect : Effect) → TakesEffect rules effect w turn w'
-          → TakesEffect rules' effect (carried image w) turn (carried image w')
+      effect_carried : (effect : Effect) → HasEffect rules effect w turn w'
+          → HasEffect rules' effect (carried image w) turn (carried image w')
       effect_carried (MemoryMade ty) step =
           asks_too step (creates_too replied.Memory (memory.creation_of Owned ty) (new_memory Owned ty)
           w.state.memories step.part turn.reply w.limiter step.limiter step.effect)

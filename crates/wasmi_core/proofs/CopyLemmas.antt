@@ -11,7 +11,7 @@ use Rattle.wasmi_core.specs.declared.calls.Reply.{Reply}
 use Rattle.wasmi_core.specs.declared.slots.Slot.{Slot}
 use Rattle.wasmi_core.specs.declared.slots.Slot.TheVariants.{Live, Gone}
 use Rattle.wasmi_core.specs.State.{live_at}
-use Rattle.wasmi_core.specs.TableEffects.{Metered, CopiesSlot, WritesTableFrom}
+use Rattle.wasmi_core.specs.TableEffects.{MeteredTables, CopiesSlot, WritesTableFrom}
 use Rattle.wasmi_store.specs.Growth.{metered}
 
 -- what was read, written back
@@ -50,7 +50,7 @@ module _ (copy : Copying) (reply : Reply) (charge : ℕ) (s' : MeteredValue (Slo
   nothing_put : (slot : Slot TableValue) → slice_get copy.slots copy.into ≡ Some slot
       → s' ≡ record { value = slot; meter = Some copy.meter; limiter = tt }
       → (slots' : List (Slot TableValue)) → slots' ≡ set copy.slots copy.into s'.value
-      → (let after : Metered = record { value = slots'; meter = s'.meter; limiter = tt } in after)
+      → (let after : MeteredTables = record { value = slots'; meter = s'.meter; limiter = tt } in after)
       ≡ metered copy.slots (Some copy.meter)
   nothing_put slot at_i same slots' put =
       λ k. record {

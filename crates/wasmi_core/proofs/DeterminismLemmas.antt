@@ -7,12 +7,12 @@ use Rattle.wasmi_core.proofs.MemoryEffectsLemmas.{reads_same}
 use Rattle.wasmi_core.proofs.EffectLemmas.{Acted, HasOneEnding, HasOneOutcome, acts_same, creates_same, on_both}
 use Rattle.wasmi_core.proofs.StepsLemmas.{change_facts}
 use Rattle.wasmi_core.proofs.TableEffectsLemmas.{parts_same}
-use Rattle.wasmi_core.specs.Determinism.{HasMemory, HaveMemory, IsDeterministic, IsNoWant, with_memory}
+use Rattle.wasmi_core.specs.Determinism.{IsNotOutOfMemory, AreNotOutOfMemory, IsDeterministic, FailsWithMemory, never_out_of_memory}
 use Rattle.wasmi_core.specs.MemoryEffects.{CreatesLent, spare_after}
 use Rattle.wasmi_core.specs.Effects.{ActsMetered, ActsMeteredUnasked, Asks, Changes, Creates, OnlyReplies, reply_of}
 use Rattle.wasmi_core.specs.Runs.{Run}
 use Rattle.wasmi_core.specs.State.{MemoryPart, State, memory_part}
-use Rattle.wasmi_core.specs.Steps.{BytesRead, Changed, Effect, FuelSet, LentMemoryMade, MemoryGrown, MemoryMade, RangeWritten, TableGrown, TableMade, TakesEffect, Told, effect_of}
+use Rattle.wasmi_core.specs.Steps.{BytesRead, Changed, Effect, FuelSet, LentMemoryMade, MemoryGrown, MemoryMade, RangeWritten, TableGrown, TableMade, HasEffect, Told, effect_of}
 use Rattle.wasmi_core.specs.TableEffects.{write_of}
 use Rattle.wasmi_core.specs.World.{Turn, World}
 use Rattle.wasmi_core.specs.declared.calls.Call.{Call}
@@ -23,7 +23,7 @@ use Rattle.wasmi_meter.specs.Capped.{Capped, capped_rules}
 use Rattle.wasmi_meter.specs.Limiter.{Answer, AskedIf, NoticedIf, IsDenial, MemoryFailure, Rules, TableFailure, optional_rules, unlimited_rules}
 use Rattle.wasmi_meter.specs.Meter.{Meter, meter_after}
 use Rattle.wasmi_meter.specs.Quota.{capped_quota, quota_rules}
-use Rattle.wasmi_meter.proofs.CappedLemmas.{asked_once, noticed_once}
+use Rattle.wasmi_meter.proofs.CappedLemmas.{asked_unique, noticed_unique}
 use Rattle.wasmi_meter.specs.declared.error.MemoryError.{MemoryError}
 use Rattle.wasmi_meter.specs.declared.error.TableError.{TableError}
 use Rattle.wasmi_store.proofs.GrowthLemmas.{on_test}
@@ -40,18 +40,18 @@ use Rattle.wasmi_store.specs.Table as table
 
 -- the last cause of an request is want of memory
 record Wants {V E : Type 0} (e : Request V E) : Type 0 where
-  wants : (cause : E) → e.refuses cause → IsNoWant (e.notice cause) → ⊥
+  wants : (cause : E) → e.refuses cause → FailsWithMemory (e.notice cause) → ⊥
 
 module _ {S : Type 0} {rules : Rules S} (once : IsDeterministic rules) where
   -- the rules by which no limiter is told of want of memory
   abbrev told : Rules S
-  told = with_memory rules
+  told = never_out_of_memory rules
 
   module _ {V E : Type 0} {e : Request V E} (want : Wants e) where
     module _ (m : Option Meter) where
       -- two first causes that are no want of memory are one
-      first_cause : (late : Option E) (cause cause' : E) → IsFirstCause e m late cause → IsNoWant (e.notice cause)
-          → IsFirstCause e m late cause' → IsNoWant (e.notice cause') → cause ≡ cause'
+      first_cause : (late : Option E) (cause cause' : E) → IsFirstCause e m late cause → FailsWithMemory (e.notice cause)
+          → IsFirstCause e m late cause' → FailsWithMemory (e.notice cause') → cause ≡ cause'
       first_cause (Some c) cause cause' first other first' other' = first ∙ sym first'
       first_cause None cause cause' first other first' other' =
           on_test (covers m (optional_due m e.price)) _ _ first (λ refuses. absurd (want.wants cause refuses other))
@@ -142,25 +142,25 @@ module _ {S : Type 0} {rules : Rules S} (once : IsDeterministic rules) where
       (a.answered ∙ ap (answer_of g.request g.size) same.0 ∙ sym b.answered, same.1, same.2)
 
 -- what memory refuses, a limiter is told as want of memory
-memory_wants : (room : Room) (cause : MemoryError) → LacksMemory room cause → IsNoWant (MemoryFailure cause) → ⊥
+memory_wants : (room : Room) (cause : MemoryError) → LacksMemory room cause → FailsWithMemory (MemoryFailure cause) → ⊥
 memory_wants Owned cause lacks other = rw lacks at other
 memory_wants (Lent rest) cause lacks other = lacks
 
 -- so for tables
-table_wants : (cause : TableError) → cause ≡ TableError.OutOfSystemMemory → IsNoWant (TableFailure cause) → ⊥
+table_wants : (cause : TableError) → cause ≡ TableError.OutOfSystemMemory → FailsWithMemory (TableFailure cause) → ⊥
 table_wants cause lacks other = rw lacks at other
 
 -- a memory is made
 memory_same : {S : Type 0} {rules : Rules S} → IsDeterministic rules → (room : Room) (ty : MemoryTypeValue)
     (slots : List (Slot MemoryValue)) (l : S)
-    → HasOneOutcome (Creates replied.Memory (MakesMemory (with_memory rules) room ty) slots l)
+    → HasOneOutcome (Creates replied.Memory (MakesMemory (never_out_of_memory rules) room ty) slots l)
 memory_same {rules = rules} once room ty slots l =
-    creates_same replied.Memory (MakesMemory (with_memory rules) room ty)
+    creates_same replied.Memory (MakesMemory (never_out_of_memory rules) room ty)
     (makes_same once (memory.creation_of room ty) (record { wants = memory_wants room }) (new_memory room ty)) slots l
 
 -- a memory is made in the spare region
 lent_same : {S : Type 0} {rules : Rules S} → IsDeterministic rules → (ty : MemoryTypeValue) (part : MemoryPart) (l : S)
-    → HasOneOutcome (CreatesLent (with_memory rules) ty part l)
+    → HasOneOutcome (CreatesLent (never_out_of_memory rules) ty part l)
 lent_same once ty part l o o' has has' a b =
     on_both part.spare _ _ _ _ a b (λ h h'. (h.0 ∙ sym h'.0, h.1 ∙ sym h'.1, h.2 ∙ sym h'.2))
     (λ region h h'.
@@ -186,9 +186,9 @@ module _ {S : Type 0} (w : World S) (t t' : Turn) (v v' : World S) where
   Same = (t.reply ≡ t'.reply) × (t.charge ≡ t'.charge) × (t.written ≡ t'.written) × (v ≡ v')
 
   -- turns that only reply
-  told_once : {Relation : Reply → Type 0} → OnlyReplies w t v Relation → OnlyReplies w t' v' Relation
+  told_unique : {Relation : Reply → Type 0} → OnlyReplies w t v Relation → OnlyReplies w t' v' Relation
       → (Relation t.reply → Relation t'.reply → t.reply ≡ t'.reply) → Same
-  told_once step step' once = (
+  told_unique step step' once = (
     once step.effect step'.effect,
     step.free.0 ∙ sym step'.free.0,
     step.free.1 ∙ sym step'.free.1,
@@ -196,9 +196,9 @@ module _ {S : Type 0} (w : World S) (t t' : Turn) (v v' : World S) where
   )
 
   -- turns that change the state
-  changed_once : {Relation : Reply → State → Type 0} → Changes w t v Relation → Changes w t' v' Relation
+  changed_unique : {Relation : Reply → State → Type 0} → Changes w t v Relation → Changes w t' v' Relation
       → ((s s' : State) → Relation t.reply s → Relation t'.reply s' → (t.reply ≡ t'.reply) × (s ≡ s')) → Same
-  changed_once step step' once =
+  changed_unique step step' once =
       let same = once step.machine step'.machine step.effect step'.effect in (
         same.0,
         step.free.0 ∙ sym step'.free.0,
@@ -208,10 +208,10 @@ module _ {S : Type 0} (w : World S) (t t' : Turn) (v v' : World S) where
 
   module _ {A : Type 0} {with_part : A → State} where
     -- turns that make something under the limiter
-    made_once : {Relation : S → Reply → A → S → Type 0} → Asks w t v with_part Relation
+    made_unique : {Relation : S → Reply → A → S → Type 0} → Asks w t v with_part Relation
         → Asks w t' v' with_part Relation
-        → HasMemory t.reply → HasMemory t'.reply → HasOneOutcome (Relation w.limiter) → Same
-    made_once step step' has has' once =
+        → IsNotOutOfMemory t.reply → IsNotOutOfMemory t'.reply → HasOneOutcome (Relation w.limiter) → Same
+    made_unique step step' has has' once =
         let same =
         once (record { reply = t.reply; part = step.part; limiter = step.limiter })
         (record { reply = t'.reply; part = step'.part; limiter = step'.limiter }) has has' step.effect step'.effect
@@ -224,10 +224,10 @@ module _ {S : Type 0} (w : World S) (t t' : Turn) (v v' : World S) where
 
     module _ {old : A} {bytes : Reply → ℕ} where
       -- turns with a charge
-      paid_once : {Relation : MeteredValue A S → Reply → ℕ → MeteredValue A S → Type 0}
+      paid_unique : {Relation : MeteredValue A S → Reply → ℕ → MeteredValue A S → Type 0}
           → ActsMetered w t v old with_part Relation bytes → ActsMetered w t' v' old with_part Relation bytes
           → HasOneEnding (Relation (record { value = old; meter = Some w.state.meter; limiter = w.limiter })) → Same
-      paid_once step step' once =
+      paid_unique step step' once =
           let same =
           once (acted t step.part step.meter step.limiter) (acted t' step'.part step'.meter step'.limiter) step.effect
           step'.effect in
@@ -243,11 +243,11 @@ module _ {S : Type 0} (w : World S) (t t' : Turn) (v v' : World S) where
           )
 
       -- so where the limiter is not reached
-      unasked_once : {Relation : MeteredValue A (Unit {0}) → Reply → ℕ → MeteredValue A (Unit {0}) → Type 0}
+      unasked_unique : {Relation : MeteredValue A (Unit {0}) → Reply → ℕ → MeteredValue A (Unit {0}) → Type 0}
           → ActsMeteredUnasked w t v old with_part Relation bytes
           → ActsMeteredUnasked w t' v' old with_part Relation bytes
           → HasOneEnding (Relation (record { value = old; meter = Some w.state.meter; limiter = tt })) → Same
-      unasked_once step step' once =
+      unasked_unique step step' once =
           let same =
           once (acted t step.part step.meter tt) (acted t' step'.part step'.meter tt) step.effect step'.effect in
           let parts = ap (λ (s : MeteredValue A (Unit {0})). s.value) same.2 in
@@ -264,15 +264,15 @@ module _ {S : Type 0} (w : World S) (t t' : Turn) (v v' : World S) where
 table_growth_same : {S : Type 0} {rules : Rules S} → IsDeterministic rules
     → (n : ℕ) (init : TypedRawRef) (s : MeteredValue TableValue S) (result result' : Result ℕ TableError)
     (charge charge' : ℕ) (s' s'' : MeteredValue TableValue S)
-    → GrowsTableCharging (with_memory rules) n init s result charge s'
-    → GrowsTableCharging (with_memory rules) n init s result' charge' s''
+    → GrowsTableCharging (never_out_of_memory rules) n init s result charge s'
+    → GrowsTableCharging (never_out_of_memory rules) n init s result' charge' s''
     → (result ≡ result') × (charge ≡ charge') × (s' ≡ s'')
 table_growth_same {rules = rules} once n init s result result' charge charge' s' s'' a b =
     by_type (same_type s.value.ty.element init.ty) a b
   where
-    by_type : (same : Bool) → MatchBool same (table.GrowsTableRawCharging (with_memory rules) n init.raw s result charge
+    by_type : (same : Bool) → MatchBool same (table.GrowsTableRawCharging (never_out_of_memory rules) n init.raw s result charge
         s') ((result ≡ Err TableError.ElementTypeMismatch) × (charge ≡ 0) × (s' ≡ s))
-        → MatchBool same (table.GrowsTableRawCharging (with_memory rules) n init.raw s result' charge' s'')
+        → MatchBool same (table.GrowsTableRawCharging (never_out_of_memory rules) n init.raw s result' charge' s'')
         ((result' ≡ Err TableError.ElementTypeMismatch) × (charge' ≡ 0) × (s'' ≡ s))
         → (result ≡ result') × (charge ≡ charge') × (s' ≡ s'')
     by_type true h h' =
@@ -283,42 +283,42 @@ table_growth_same {rules = rules} once n init s result result' charge charge' s'
     by_type false h h' = (h.0 ∙ sym h'.0, h.1 ∙ sym h'.1, h.2 ∙ sym h'.2)
 
 module _ {S : Type 0} (rules : Rules S) (once : IsDeterministic rules) (w : World S) (t t' : Turn) (v v' : World S)
-    (room : HasMemory t.reply) (room' : HasMemory t'.reply) where
+    (room : IsNotOutOfMemory t.reply) (room' : IsNotOutOfMemory t'.reply) where
   -- each effect
-  effect_same : (effect : Effect) → TakesEffect (with_memory rules) effect w t v
-      → TakesEffect (with_memory rules) effect w t' v' → Same w t t' v v'
-  effect_same (Told reply) step step' = told_once w t t' v v' step step' (λ is is'. is ∙ sym is')
+  effect_same : (effect : Effect) → HasEffect (never_out_of_memory rules) effect w t v
+      → HasEffect (never_out_of_memory rules) effect w t' v' → Same w t t' v v'
+  effect_same (Told reply) step step' = told_unique w t t' v v' step step' (λ is is'. is ∙ sym is')
   effect_same (BytesRead k offset len) step step' =
-      told_once w t t' v v' step step' (reads_same k offset len w.state.memories t.reply t'.reply room room')
+      told_unique w t t' v v' step step' (reads_same k offset len w.state.memories t.reply t'.reply room room')
   effect_same (FuelSet fuel) step step' =
-      changed_once w t t' v v' step step' (λ s s' is is'. (is.0 ∙ sym is'.0, is.1 ∙ sym is'.1))
+      changed_unique w t t' v v' step step' (λ s s' is is'. (is.0 ∙ sym is'.0, is.1 ∙ sym is'.1))
   effect_same (Changed change) step step' =
-      changed_once w t t' v v' step step'
+      changed_unique w t t' v v' step step'
       (λ s s'. (change_facts w.state change).same t.reply t'.reply s s' room room')
   effect_same (MemoryMade ty) step step' =
-      made_once w t t' v v' step step' room room' (memory_same once Owned ty w.state.memories w.limiter)
+      made_unique w t t' v v' step step' room room' (memory_same once Owned ty w.state.memories w.limiter)
   effect_same (LentMemoryMade ty) step step' =
-      made_once w t t' v v' step step' room room' (lent_same once ty (memory_part w.state) w.limiter)
+      made_unique w t t' v v' step step' room room' (lent_same once ty (memory_part w.state) w.limiter)
   effect_same (MemoryGrown k pages) step step' =
-      paid_once w t t' v v' step step' (acts_same (GrowsMemoryCharging (with_memory rules) pages)
+      paid_unique w t t' v v' step step' (acts_same (GrowsMemoryCharging (never_out_of_memory rules) pages)
       (λ s. grows_same once
       (record { amount = pages; size = pages_of s.value; request = memory.growth_of s.value pages })
       (record { wants = memory_wants s.value.room }) s) k (reply_of replied.Number replied.Memory) _)
   effect_same (TableMade ty init) step step' =
-      made_once w t t' v v' step step' room room' (creates_same replied.Table (MakesTable (with_memory rules) ty init)
+      made_unique w t t' v v' step step' room room' (creates_same replied.Table (MakesTable (never_out_of_memory rules) ty init)
       (makes_same once (table.creation_of ty init.ty) (record { wants = table_wants }) (new_table ty init.raw))
       w.state.tables w.limiter)
   effect_same (TableGrown k n init) step step' =
-      paid_once w t t' v v' step step' (acts_same (GrowsTableCharging (with_memory rules) n init)
+      paid_unique w t t' v v' step step' (acts_same (GrowsTableCharging (never_out_of_memory rules) n init)
       (table_growth_same once n init) k (reply_of replied.Number replied.Table) _)
   effect_same (RangeWritten k source dst len) step step' =
-      unasked_once w t t' v v' step step' (parts_same k (write_of source dst len) _)
+      unasked_unique w t t' v v' step step' (parts_same k (write_of source dst len) _)
 
 module _ {S : Type 0} (rules : Rules S) (once : IsDeterministic rules) where
   -- two runs
   pub runs_are_one : (w : World S) (turns turns' : List Turn) (v v' : World S)
-      → map Turn.call turns ≡ map Turn.call turns' → HaveMemory turns → HaveMemory turns'
-      → Run (with_memory rules) w turns v → Run (with_memory rules) w turns' v' → (turns ≡ turns') × (v ≡ v')
+      → map Turn.call turns ≡ map Turn.call turns' → AreNotOutOfMemory turns → AreNotOutOfMemory turns'
+      → Run (never_out_of_memory rules) w turns v → Run (never_out_of_memory rules) w turns' v' → (turns ≡ turns') × (v ≡ v')
   runs_are_one w [] [] v v' calls rooms rooms' ran ran' = (refl, ran ∙ sym ran')
   runs_are_one w [] (t' ∷ turns') v v' calls rooms rooms' ran ran' = absurd cc
   runs_are_one w (t ∷ turns) [] v v' calls rooms rooms' ran ran' = absurd cc
@@ -326,10 +326,10 @@ module _ {S : Type 0} (rules : Rules S) (once : IsDeterministic rules) where
       let call = first_same t.call t'.call (map Turn.call turns) (map Turn.call turns') calls in
       let one =
       effect_same rules once w t t' u u' room room' (effect_of w.state t.call) step
-      (subst (λ c. TakesEffect (with_memory rules) (effect_of w.state c) w t' u') (sym call.0) step') in
+      (subst (λ c. HasEffect (never_out_of_memory rules) (effect_of w.state c) w t' u') (sym call.0) step') in
       let rest =
       runs_are_one u turns turns' v v' call.1 rooms rooms' ran
-      (subst (λ x. Run (with_memory rules) x turns' v') (sym one.3) ran') in
+      (subst (λ x. Run (never_out_of_memory rules) x turns' v') (sym one.3) ran') in
       let turn : t ≡ t' = λ i. record { call = call.0 i; reply = one.0 i; charge = one.1 i; written = one.2 i } in
       (λ i. turn i ∷ rest.0 i, rest.1)
     where
@@ -353,8 +353,8 @@ once_if Answers known once none stays None a a' (Some l') l'' h h' = absurd ((st
 once_if Answers known once none stays None a a' None (Some l'') h h' = absurd ((stays l'' a').1 h')
 
 -- a limiter that may be absent leaves no choice where the limiter leaves none
-pub optional_once : {L : Type 0} (rules : Rules L) → IsDeterministic rules → IsDeterministic (optional_rules rules)
-optional_once rules once = record {
+pub optional_unique : {L : Type 0} (rules : Rules L) → IsDeterministic rules → IsDeterministic (optional_rules rules)
+optional_unique rules once = record {
   asked = λ l question. once_if (λ l a l'. AskedIf rules l question a l') (Ok true)
       (λ l a a' l' l'' h h'. once.asked l question a a' l' l'' h h') (λ a h. h) (λ l a. (λ h. h, λ h. h)) l;
   noticed = λ l failure. once_if (λ l a l'. NoticedIf rules l failure a l') (Ok tt)
@@ -362,16 +362,16 @@ optional_once rules once = record {
 }
 
 -- the limiter that permits everything
-pub unlimited_once : {S : Type 0} → IsDeterministic (unlimited_rules {S = S})
-unlimited_once = record {
+pub unlimited_unique : {S : Type 0} → IsDeterministic (unlimited_rules {S = S})
+unlimited_unique = record {
   asked = λ l question a a' l' l'' h h'. (h.0 ∙ sym h'.0, h.1 ∙ sym h'.1);
   noticed = λ l failure a a' l' l'' h h'. (h.0 ∙ sym h'.0, h.1 ∙ sym h'.1);
 }
 
 -- limiters with caps
-pub capped_once : {L : Type 0} (c : Capped L) → IsDeterministic (capped_rules c)
-capped_once c = record { asked = asked_once c; noticed = noticed_once c }
+pub capped_unique : {L : Type 0} (c : Capped L) → IsDeterministic (capped_rules c)
+capped_unique c = record { asked = asked_unique c; noticed = noticed_unique c }
 
 -- so a quota leaves no choice
-pub quota_once : IsDeterministic quota_rules
-quota_once = capped_once capped_quota
+pub quota_unique : IsDeterministic quota_rules
+quota_unique = capped_unique capped_quota

@@ -6,7 +6,7 @@ use Rattle.std.specs.Option.{option_and_then}
 use Rattle.std.specs.Prelude.{All, MatchBool, slice_get, slice_set}
 use Rattle.wasmi_core.proofs.CopyLemmas.{set_read}
 use Rattle.wasmi_core.proofs.TotalLemmas.{counts_kept}
-use Rattle.wasmi_core.specs.Determinism.{HasMemory}
+use Rattle.wasmi_core.specs.Determinism.{IsNotOutOfMemory}
 use Rattle.wasmi_core.specs.Laws.{IsRefusal}
 use Rattle.wasmi_core.specs.Effects.{ActsAt, AddsEntry, ChangesAt, ChangesFound, ChangesItem, Creates, DropsAt, OnLive, reply_of}
 use Rattle.wasmi_core.specs.State.{live_at, live_value}
@@ -130,7 +130,7 @@ pub record Creation (A S : Type 0) : Type 0 where
 -- a creation ends in one way, where memory isn't wanting
 abbrev pub HasOneOutcome : {A S : Type 0} → (Reply → A → S → Type 0) → Type 0
 HasOneOutcome {A} {S} Relation =
-    (o o' : Creation A S) → HasMemory o.reply → HasMemory o'.reply → Relation o.reply o.part o.limiter
+    (o o' : Creation A S) → IsNotOutOfMemory o.reply → IsNotOutOfMemory o'.reply → Relation o.reply o.part o.limiter
     → Relation o'.reply o'.part o'.limiter → (o.reply ≡ o'.reply) × (o.part ≡ o'.part) × (o.limiter ≡ o'.limiter)
 
 -- two creations in a new slot

@@ -11,13 +11,13 @@ use Rattle.wasmi_core.proofs.StepsLemmas.{change_facts, source_writes}
 use Rattle.wasmi_core.proofs.TableEffectsLemmas.{part_kept}
 use Rattle.wasmi_core.proofs.TotalLemmas.{count_at, counts_kept, counts_set, each_kind}
 use Rattle.wasmi_core.proofs.TurnLemmas.{each_turn}
-use Rattle.wasmi_core.specs.Determinism.{IsNoWant}
+use Rattle.wasmi_core.specs.Determinism.{FailsWithMemory}
 use Rattle.wasmi_core.specs.Exchange.{AsksFor, At, Denial, Exchange, Exchanges, GrowsAsAsked, GrowsBy, New, Nothing, NothingGrows, Notice, Nowhere, Passes, Permission, Place, RepliesTo, charge_at, elements_paid, failed_charge, failed_reply, growth_charge, growth_due, growth_question, place_of, question_in, question_of, table_growth_question, writing_charge}
 use Rattle.wasmi_core.specs.Laws.{RunsGrowAsPermitted}
 use Rattle.wasmi_core.specs.MemoryEffects.{CreatesLent}
 use Rattle.wasmi_core.specs.Effects.{ActsAt, AddsEntry, Creates, IsNoSuch, OnLive, reply_of}
 use Rattle.wasmi_core.specs.State.{MemoryPart, State, live_at, memory_part, with_tables}
-use Rattle.wasmi_core.specs.Steps.{Changed, Effect, FuelSet, LentMemoryMade, MemoryGrown, MemoryMade, RangeWritten, Step, TableGrown, TableMade, TakesEffect, effect_of}
+use Rattle.wasmi_core.specs.Steps.{Changed, Effect, FuelSet, LentMemoryMade, MemoryGrown, MemoryMade, RangeWritten, Step, TableGrown, TableMade, HasEffect, effect_of}
 use Rattle.wasmi_core.specs.TableEffects.{OfReference, OfSegment, OfTable, Source, WritesRangeAt, WritesTableAt, write_of}
 use Rattle.wasmi_store.specs.Growth.{metered}
 use Rattle.wasmi_core.specs.Totals.{byte_count, sizes, slot_count}
@@ -68,33 +68,33 @@ on_tested true Holds Fails h holds fails = holds refl h
 on_tested false Holds Fails h holds fails = fails refl h
 
 -- what is asked where no cause is found before the question
-asked_in : {V E : Type 0} (e : Request V E) → e.early ≡ None → question_in e ≡ Some e.question
-asked_in {E = E} e early = ap (λ (o : Option E). if is_none o then Some e.question else None) early
+question_unrefused : {V E : Type 0} (e : Request V E) → e.early ≡ None → question_in e ≡ Some e.question
+question_unrefused {E = E} e early = ap (λ (o : Option E). if is_none o then Some e.question else None) early
 
 -- so where one is
-none_in : {V E : Type 0} (e : Request V E) (cause : E) → e.early ≡ Some cause → question_in e ≡ None
-none_in {E = E} e cause early = ap (λ (o : Option E). if is_none o then Some e.question else None) early
+no_question_refused : {V E : Type 0} (e : Request V E) (cause : E) → e.early ≡ Some cause → question_in e ≡ None
+no_question_refused {E = E} e cause early = ap (λ (o : Option E). if is_none o then Some e.question else None) early
 
 -- whether a growth is by some
-some_tested : {V E : Type 0} (amount : ℕ) (e : Request V E) (none : Bool) → nat_eq amount 0 ≡ none → 0 < amount
+question_by_test : {V E : Type 0} (amount : ℕ) (e : Request V E) (none : Bool) → nat_eq amount 0 ≡ none → 0 < amount
     → (if none then None else question_in e) ≡ question_in e
-some_tested amount e true is some = absurd (grind (arith, nat_tests, is, some))
-some_tested amount e false is some = refl
+question_by_test amount e true is some = absurd (grind (arith, nat_tests, is, some))
+question_by_test amount e false is some = refl
 
 -- a growth by some asks what its request does
-some_asked : {V E : Type 0} (amount : ℕ) (e : Request V E) → 0 < amount → growth_question amount e ≡ question_in e
-some_asked amount e some = some_tested amount e (nat_eq amount 0) refl some
+growth_question_by_request : {V E : Type 0} (amount : ℕ) (e : Request V E) → 0 < amount → growth_question amount e ≡ question_in e
+growth_question_by_request amount e some = question_by_test amount e (nat_eq amount 0) refl some
 
 -- what a limiter is told of is want of memory, and then a price is charged, or it isn't, and then nothing is
-abbrev pub IsWantOrFree : Failure → Type 0
-IsWantOrFree failure = ((IsNoWant failure → ⊥) × ((price : ℕ) → failed_charge failure price ≡ price))
+abbrev pub IsOutOfMemoryOrFree : Failure → Type 0
+IsOutOfMemoryOrFree failure = ((FailsWithMemory failure → ⊥) × ((price : ℕ) → failed_charge failure price ≡ price))
     ⊎ ((price : ℕ) → failed_charge failure price ≡ 0)
 
 -- so for each failure
-pub want_or_none : (failure : Failure) → IsWantOrFree failure
-want_or_none (MemoryFailure memory_error.OutOfSystemMemory) = inl (λ no. no, λ price. refl)
-want_or_none (TableFailure table_error.OutOfSystemMemory) = inl (λ no. no, λ price. refl)
-want_or_none failure = inr (λ price. refl)
+pub out_of_memory_or_free : (failure : Failure) → IsOutOfMemoryOrFree failure
+out_of_memory_or_free (MemoryFailure memory_error.OutOfSystemMemory) = inl (λ no. no, λ price. refl)
+out_of_memory_or_free (TableFailure table_error.OutOfSystemMemory) = inl (λ no. no, λ price. refl)
+out_of_memory_or_free failure = inr (λ price. refl)
 
 -- what an exchange is between: a limiter and the sizes before and after, the meter before, the charge, the reply, and
 -- the question of the call
@@ -222,10 +222,10 @@ module _ {S : Type 0} (rules : Rules S) (t : Meeting S) (place : Place) where
         → Follows e rules t.first outcome t.last → GrowsByOutcome outcome
         → IsCharged place (exchange_of e outcome) t.meter t.charge → Passed
     attempt_passes meter (Unasked cause) is follows own charged =
-        nothing_passes (inl (is.asks ∙ none_in e cause is.may_end)) follows (still own) charged
+        nothing_passes (inl (is.asks ∙ no_question_refused e cause is.may_end)) follows (still own) charged
     attempt_passes meter (Denied answer) is follows own charged = record {
       exchange = Denial e.question answer;
-      asks = is.asks ∙ asked_in e is.may_end.0;
+      asks = is.asks ∙ question_unrefused e is.may_end.0;
       passes = (is.may_end.1, follows);
       replies = is.replies;
       grows = still own;
@@ -233,7 +233,7 @@ module _ {S : Type 0} (rules : Rules S) (t : Meeting S) (place : Place) where
     }
     attempt_passes meter Met is follows own charged = record {
       exchange = Permission e.question;
-      asks = is.asks ∙ asked_in e is.may_end.0;
+      asks = is.asks ∙ question_unrefused e is.may_end.0;
       passes = follows;
       replies = is.replies;
       grows = (own, others);
@@ -241,7 +241,7 @@ module _ {S : Type 0} (rules : Rules S) (t : Meeting S) (place : Place) where
     }
     attempt_passes meter (Failed cause notice_answer) is follows own charged = record {
       exchange = Notice e.question (e.notice cause) notice_answer;
-      asks = is.asks ∙ asked_in e is.may_end.0;
+      asks = is.asks ∙ question_unrefused e is.may_end.0;
       passes = (tells cause, follows.0, follows.1, follows.2);
       replies = is.replies;
       grows = still own;
@@ -387,7 +387,7 @@ module _ {S X : Type 0} (rules : Rules S) (v : Watch S X) where
         attempt_passes rules v.meeting (At k) g.request growth.tells watched.others (Some v.meeting.meter) some.outcome
         (record {
           may_end = some.attempt.may_end;
-          asks = is.asks ∙ some_asked g.amount g.request some.some;
+          asks = is.asks ∙ growth_question_by_request g.amount g.request some.some;
           replies = growth_replies g growth.refusal growth.told v.meeting.reply some.outcome
               (is.replies ∙ ap (reply_of replied.Number growth.refusal) some.answered);
         })
@@ -780,7 +780,7 @@ same_charge s call exchange m reply charge charged writing = writing
 
 module _ {S : Type 0} (rules : Rules S) (w : World S) (turn : Turn) (w' : World S) where
   -- each effect
-  effect_passes : (effect : Effect) → TakesEffect rules effect w turn w'
+  effect_passes : (effect : Effect) → HasEffect rules effect w turn w'
       → Passed rules (meeting_of w turn (question_by w.state effect) w') (place_by effect)
   effect_passes (FuelSet fuel) step =
       idle rules w turn w' step.after refl (λ kind. ap (λ t. sizes t kind) step.effect.1)
@@ -811,7 +811,7 @@ module _ {S : Type 0} (rules : Rules S) (w : World S) (turn : Turn) (w' : World 
   effect_passes effect step = idle rules w turn w' step.after refl (λ kind. refl)
 
   -- what it is charged, unless it is a growth
-  effect_writing : (effect : Effect) → TakesEffect rules effect w turn w'
+  effect_writing : (effect : Effect) → HasEffect rules effect w turn w'
       → IsChargedForWriting effect w.state.meter turn.reply turn.charge
   effect_writing (MemoryGrown k pages) step = tt
   effect_writing (TableGrown k n init) step = tt

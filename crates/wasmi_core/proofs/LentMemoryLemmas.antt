@@ -14,7 +14,7 @@ use Rattle.wasmi_core.specs.RegisterEffects.{StoresVectorAt, lane_loaded, vector
 use Rattle.wasmi_core.specs.Effects.{ActsAt, AddsEntry, ChangesAt, Creates, DropsAt, OnLive, reply_of}
 use Rattle.wasmi_core.specs.Runs.{Run}
 use Rattle.wasmi_core.specs.State.{State, live_at, live_value}
-use Rattle.wasmi_core.specs.Steps.{BytesRead, BytesStored, BytesWritten, Change, Changed, Effect, FuelSet, LentMemoryMade, MemoryDropped, MemoryGrown, MemoryMade, RangeWritten, RegisterSet, Step, TableGrown, TableMade, TakesChange, TakesEffect, Told, effect_of}
+use Rattle.wasmi_core.specs.Steps.{BytesRead, BytesStored, BytesWritten, Change, Changed, Effect, FuelSet, LentMemoryMade, MemoryDropped, MemoryGrown, MemoryMade, RangeWritten, RegisterSet, Step, TableGrown, TableMade, HasChange, HasEffect, Told, effect_of}
 use Rattle.wasmi_core.specs.Totals.{byte_count}
 use Rattle.wasmi_core.specs.World.{Turn, World}
 use Rattle.wasmi_core.specs.declared.calls.Call.{Call}
@@ -339,8 +339,8 @@ effect_kept s (LoadLane op dst a k ptr offset) =
 effect_kept s call = refl
 
 -- a change of one part is the same change with such memories
-change_owned : (s : State) (reply : Reply) (s' : State) (change : Change) → TakesChange change s reply s'
-    → TakesChange change (owned s) reply (owned s')
+change_owned : (s : State) (reply : Reply) (s' : State) (change : Change) → HasChange change s reply s'
+    → HasChange change (owned s) reply (owned s')
 change_owned s reply s' (BytesWritten k offset bytes) c =
     record {
       part = map owned_slot c.part;
@@ -365,8 +365,8 @@ change_owned s reply s' change c = record { part = c.part; effect = c.effect; af
 
 module _ {S : Type 0} (rules : Rules S) (w : World S) (turn : Turn) (w' : World S) where
   -- each effect that fits
-  effect_owned : (effect : Effect) → EffectFits w.state effect → TakesEffect rules effect w turn w'
-      → TakesEffect rules effect (owned_world w) turn (owned_world w')
+  effect_owned : (effect : Effect) → EffectFits w.state effect → HasEffect rules effect w turn w'
+      → HasEffect rules effect (owned_world w) turn (owned_world w')
   effect_owned (Told told) fits step =
       record { free = step.free; effect = step.effect; after = ap owned_world step.after }
   effect_owned (BytesRead k offset len) fits step =
@@ -426,8 +426,8 @@ pub creation_is_owned : {S : Type 0} (rules : Rules S) (w : World S) (turn : Tur
     → minimum_bytes ty ≤ length region
     → Step rules w turn w' → Step rules (unlent_world w) (record turn { call = NewMemory ty }) (unlent_world w')
 creation_is_owned rules w turn w' ty region called spare fits step =
-    let lent : TakesEffect rules (LentMemoryMade ty) w turn w' = subst
-    (λ c. TakesEffect rules (effect_of w.state c) w turn w') called step in
+    let lent : HasEffect rules (LentMemoryMade ty) w turn w' = subst
+    (λ c. HasEffect rules (effect_of w.state c) w turn w') called step in
     let creates = on_spare _ _ w.state.spare region spare lent.effect in
     record {
       free = lent.free;

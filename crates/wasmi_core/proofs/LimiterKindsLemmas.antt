@@ -16,7 +16,7 @@ use Rattle.wasmi_store.specs.Table as table
 use Rattle.wasmi_core.specs.LimiterKinds.{RelatesByKind, RepliesKeepKind, RunsKeepKind, RunsOfCallsKeepKind}
 use Rattle.wasmi_core.specs.Runs.{IsRunOf, Run}
 use Rattle.wasmi_core.specs.State.{State}
-use Rattle.wasmi_core.specs.Steps.{Answers, Step}
+use Rattle.wasmi_core.specs.Steps.{RepliesWith, Step}
 use Rattle.wasmi_core.specs.World.{World, Turn, world}
 use Rattle.wasmi_core.specs.declared.calls.Reply.{Reply}
 use Rattle.wasmi_core.specs.declared.calls.Reply.TheVariants as replied
@@ -259,6 +259,6 @@ runs_of_calls_keep_kind calls replies s l s' l' (turns, called, told, ran) =
 pub replies_keep_kind : RepliesKeepKind
 replies_keep_kind call reply s l s' l' (charge, written, step) =
     let turn : Turn = record { call = call; reply = reply; charge = charge; written = written } in
-    by_kind (λ L rules w w'. Run rules w (turn ∷ []) w') (λ L rules w w'. Answers rules call w reply w')
+    by_kind (λ L rules w w'. Run rules w (turn ∷ []) w') (λ L rules w w'. RepliesWith rules call w reply w')
     (λ L rules w w' ran. (charge, written, subst (Step rules w turn) (sym ran.2) ran.1)) s l s' l'
     (runs_keep_kind (turn ∷ []) s l s' l' (world s' (Some l'), step, refl))

@@ -5,7 +5,7 @@ use Rattle.std.proofs.lemmas.List.{length-append, length-drop, length-take-le}
 use Rattle.std.proofs.lemmas.Option.{none-some, same_Some}
 use Rattle.std.specs.Prelude.{MatchOption, if◌then◌else◌, nat_le}
 use Rattle.wasmi_core.proofs.EffectLemmas.{AllValid, IsDecided, changes_back, changes_kept, changes_valid, creates_back, grows_back, on_both, on_live, put_back, slot_same}
-use Rattle.wasmi_core.specs.Determinism.{HasMemory}
+use Rattle.wasmi_core.specs.Determinism.{IsNotOutOfMemory}
 use Rattle.wasmi_core.specs.Laws.{IsRefusal}
 use Rattle.wasmi_core.specs.MemoryEffects.{CreatesLent, ReadsBytes, ReadsMemoryAt, StoresMemory, StoresMemoryAt, WritesMemoryAt, spare_after}
 use Rattle.wasmi_core.specs.RegisterEffects.{StoresVectorAt}
@@ -100,7 +100,7 @@ write_refused k offset source slots reply slots' refused writes =
     changes_back k slots reply slots' _ (λ x x' c. written_back x x' offset source c.0 (rw c.2 at refused) c.1) writes
 
 -- memories
-read_same : (found : Option (List ℕ)) (reply reply' : Reply) → HasMemory reply → HasMemory reply'
+read_same : (found : Option (List ℕ)) (reply reply' : Reply) → IsNotOutOfMemory reply → IsNotOutOfMemory reply'
     → ReadsBytes found reply → ReadsBytes found reply' → reply ≡ reply'
 read_same None reply reply' room room' a b = a ∙ sym b
 read_same (Some bytes) reply reply' room room' (inl none) b = absurd (rw none at room)
@@ -108,8 +108,8 @@ read_same (Some bytes) reply reply' room room' (inr a) (inl none) = absurd (rw n
 read_same (Some bytes) reply reply' room room' (inr a) (inr b) = a ∙ sym b
 
 -- two reads of the memory of an index
-pub reads_same : (k offset len : ℕ) (slots : List (Slot MemoryValue)) (reply reply' : Reply) → HasMemory reply
-    → HasMemory reply' → ReadsMemoryAt k offset len slots reply → ReadsMemoryAt k offset len slots reply'
+pub reads_same : (k offset len : ℕ) (slots : List (Slot MemoryValue)) (reply reply' : Reply) → IsNotOutOfMemory reply
+    → IsNotOutOfMemory reply' → ReadsMemoryAt k offset len slots reply → ReadsMemoryAt k offset len slots reply'
     → reply ≡ reply'
 reads_same k offset len slots reply reply' room room' a b =
     on_both (live_at slots k) _ _ _ _ a b (λ h h'. h ∙ sym h')

@@ -5,17 +5,17 @@ use Rattle.std.proofs.lemmas.Option.{same_Some}
 use Rattle.std.specs.Prelude.{All, if◌then◌else◌, is_some}
 use Rattle.wasmi_core.proofs.MemoryEffectsLemmas.{lent_back, lent_spare, memory_growth_back}
 use Rattle.wasmi_core.proofs.EffectLemmas.{creates_back}
-use Rattle.wasmi_core.proofs.ExchangeLemmas.{IsWantOrFree, growths_are_permitted, want_or_none}
+use Rattle.wasmi_core.proofs.ExchangeLemmas.{IsOutOfMemoryOrFree, growths_are_permitted, out_of_memory_or_free}
 use Rattle.wasmi_core.proofs.StepsLemmas.{change_facts}
 use Rattle.wasmi_core.proofs.TableEffectsLemmas.{part_back, table_growth_back}
 use Rattle.wasmi_core.proofs.TurnLemmas.{each_turn}
-use Rattle.wasmi_core.specs.Account.{ChangesMeter, TakesCharge}
+use Rattle.wasmi_core.specs.Account.{ChangesMeter, PaysCharge}
 use Rattle.wasmi_core.specs.Exchange.{AsksFor, At, Denial, Exchange, Exchanges, New, Nothing, Notice, Nowhere, Passes, Permission, Place, RepliesTo, charge_at, elements_paid, failed_charge, failed_reply, growth_charge, growth_due, place_of, question_of, writing_charge}
 use Rattle.wasmi_core.specs.Laws.{Keeps, KeepsMeter, KeepsSpare, RefusalsInRunsKeepContents, SameContents}
 use Rattle.wasmi_core.specs.MemoryEffects.{spare_after}
 use Rattle.wasmi_core.specs.Runs.{Run}
 use Rattle.wasmi_core.specs.State.{State, memory_part, with_memories, with_tables}
-use Rattle.wasmi_core.specs.Steps.{Changed, Effect, FuelSet, LentMemoryMade, MemoryGrown, MemoryMade, RangeWritten, Step, TableGrown, TableMade, TakesEffect, effect_of}
+use Rattle.wasmi_core.specs.Steps.{Changed, Effect, FuelSet, LentMemoryMade, MemoryGrown, MemoryMade, RangeWritten, Step, TableGrown, TableMade, HasEffect, effect_of}
 use Rattle.wasmi_core.specs.TableEffects.{write_of}
 use Rattle.wasmi_store.specs.Growth.{metered}
 use Rattle.wasmi_core.specs.World.{IsRefusal, Turn, World}
@@ -65,7 +65,7 @@ module _ {S : Type 0} (w w' : World S) where
 module _ {S : Type 0} (rules : Rules S) (w : World S) (turn : Turn) (w' : World S)
     (refused : IsRefusal turn.reply) where
   -- each effect
-  effect_back : (effect : Effect) → TakesEffect rules effect w turn w'
+  effect_back : (effect : Effect) → HasEffect rules effect w turn w'
       → SameContents w.state w'.state × LeavesSpare effect turn.reply w.state w'.state
   effect_back (FuelSet fuel) step = paid w w' _ step.after step.effect.1
   effect_back (Changed change) step =
@@ -114,7 +114,7 @@ module _ {S : Type 0} (rules : Rules S) (w : World S) (turn : Turn) (w' : World 
   effect_back effect step = kept w w' step.after refl
 
 -- a meter of which nothing was taken
-free_meter : (m m' : Meter) (charge : ℕ) → charge ≡ 0 → TakesCharge m charge m' → m' ≡ m
+free_meter : (m m' : Meter) (charge : ℕ) → charge ≡ 0 → PaysCharge m charge m' → m' ≡ m
 free_meter m m' charge free takes =
     takes.1 ∙ ap (meter_after m) free ∙ sym (same_Some m (meter_after m 0) (meter_after_nothing (Some m)))
 
@@ -146,12 +146,12 @@ record IsFailed {S : Type 0} (rules : Rules S) (w : World S) (turn : Turn) (w' :
 module _ {S : Type 0} (rules : Rules S) (w : World S) (turn : Turn) (w' : World S)
     (refused : IsRefusal turn.reply) where
   -- the meter stays, where nothing was charged
-  stays : TakesCharge w.state.meter turn.charge w'.state.meter → turn.charge ≡ 0 → KeepsMeter rules w turn w'
+  stays : PaysCharge w.state.meter turn.charge w'.state.meter → turn.charge ≡ 0 → KeepsMeter rules w turn w'
   stays takes free = inl (free_meter w.state.meter w'.state.meter turn.charge free takes)
 
   -- where memory was wanting, its price is taken
-  failed_meter : (failed : IsFailed rules w turn w') → TakesCharge w.state.meter turn.charge w'.state.meter
-      → IsWantOrFree failed.failure → KeepsMeter rules w turn w'
+  failed_meter : (failed : IsFailed rules w turn w') → PaysCharge w.state.meter turn.charge w'.state.meter
+      → IsOutOfMemoryOrFree failed.failure → KeepsMeter rules w turn w'
   failed_meter failed takes (inl (wants, paid)) = inr (record {
     index = failed.at.0;
     grows = failed.at.1;
@@ -162,7 +162,7 @@ module _ {S : Type 0} (rules : Rules S) (w : World S) (turn : Turn) (w' : World 
     wants = wants;
     tells = failed.tells;
     replies = failed.replies;
-    meter = subst (λ c. TakesCharge w.state.meter c w'.state.meter)
+    meter = subst (λ c. PaysCharge w.state.meter c w'.state.meter)
         (failed.charged ∙ paid (growth_due w.state.meter failed.question)) takes;
   })
   failed_meter failed takes (inr free) =
@@ -172,7 +172,7 @@ module _ {S : Type 0} (rules : Rules S) (w : World S) (turn : Turn) (w' : World 
   growth_meter : (k : ℕ) × (place_of turn.call ≡ At k) → (exchange : Exchange)
       → AsksFor (question_of w.state turn.call) exchange turn.reply → Passes rules w.limiter exchange w'.limiter
       → RepliesTo exchange turn.reply → turn.charge ≡ growth_charge exchange w.state.meter
-      → TakesCharge w.state.meter turn.charge w'.state.meter → KeepsMeter rules w turn w'
+      → PaysCharge w.state.meter turn.charge w'.state.meter → KeepsMeter rules w turn w'
   growth_meter at Nothing asks passes replies charged takes = stays takes charged
   growth_meter at (Denial question answer) asks passes replies charged takes = stays takes charged
   growth_meter at (Permission question) asks passes replies charged takes = absurd (replies refused)
@@ -186,9 +186,9 @@ module _ {S : Type 0} (rules : Rules S) (w : World S) (turn : Turn) (w' : World 
         tells = passes;
         replies = replies;
         charged = charged;
-      }) takes (want_or_none failure)
+      }) takes (out_of_memory_or_free failure)
 
-  module _ (x : Exchanges rules w turn w') (takes : TakesCharge w.state.meter turn.charge w'.state.meter) where
+  module _ (x : Exchanges rules w turn w') (takes : PaysCharge w.state.meter turn.charge w'.state.meter) where
     -- by its place
     place_meter : (place : Place) → place_of turn.call ≡ place
         → turn.charge ≡ charge_at place x.exchange w.state.meter (writing_charge w.state.meter
@@ -202,8 +202,8 @@ module _ {S : Type 0} (rules : Rules S) (w : World S) (turn : Turn) (w' : World 
   -- where the fuel was to be set, metering is off
   set_meter : (fuel : ℕ) → turn.call ≡ SetFuel fuel → Step rules w turn w' → w'.state.meter ≡ w.state.meter
   set_meter fuel is step =
-      let sets : TakesEffect rules (FuelSet fuel) w turn w' =
-      subst (λ call. TakesEffect rules (effect_of w.state call) w turn w') is step
+      let sets : HasEffect rules (FuelSet fuel) w turn w' =
+      subst (λ call. HasEffect rules (effect_of w.state call) w turn w') is step
       in
       ap (λ (v : World S). v.state.meter) sets.after ∙ (ap (λ (s : State). s.meter) sets.effect.1
       ∙ unset w.state.meter.left w.state.meter.costs fuel turn.reply refused sets.effect.0)

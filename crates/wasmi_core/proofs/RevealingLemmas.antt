@@ -8,7 +8,7 @@ use Rattle.wasmi_core.proofs.StoreLemmas.{acts_too, asks_too}
 use Rattle.wasmi_core.specs.Effects.{ActsAt, ActsMetered, AddsEntry, Asks, Creates, reply_of}
 use Rattle.wasmi_core.specs.Runs.{Run}
 use Rattle.wasmi_core.specs.State.{State, live_at}
-use Rattle.wasmi_core.specs.Steps.{Effect, LentMemoryMade, MemoryGrown, MemoryMade, TableGrown, TableMade, TakesEffect, effect_of, Step}
+use Rattle.wasmi_core.specs.Steps.{Effect, LentMemoryMade, MemoryGrown, MemoryMade, TableGrown, TableMade, HasEffect, effect_of, Step}
 use Rattle.wasmi_core.specs.World.{Turn, World}
 use Rattle.wasmi_core.specs.declared.calls.Reply.{Reply}
 use Rattle.wasmi_core.specs.declared.slots.Slot.{Slot}
@@ -162,8 +162,8 @@ module _ {S : Type 0} (n : Narrowing S) where
       pays_revealed step effect = acts_too step step.part effect refl step.after
 
       -- where its reply shows it, an effect under the one rules is one under the others
-      effect_revealed : (effect : Effect) → TakesEffect n.rules effect w turn w'
-          → TakesEffect n.narrower effect w turn w'
+      effect_revealed : (effect : Effect) → HasEffect n.rules effect w turn w'
+          → HasEffect n.narrower effect w turn w'
       effect_revealed (MemoryMade ty) step =
           asks_revealed step (creates_revealed replied.Memory (memory.creation_of Owned ty) (each.memory_made Owned ty)
           (new_memory Owned ty) w.state.memories w.limiter

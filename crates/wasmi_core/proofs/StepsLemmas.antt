@@ -8,12 +8,12 @@ use Rattle.wasmi_core.proofs.EffectLemmas.{AllValid, changes_valid, drops_back, 
 use Rattle.wasmi_core.proofs.TableEffectsLemmas.{IsWrite, copied_length, set_kept, set_refused, set_valid, sets_same}
 use Rattle.wasmi_core.proofs.TotalLemmas.{each_kind}
 use Rattle.wasmi_core.proofs.ValueEffectsLemmas.{creates_segment_valid, global_made_back, global_refused, global_sets_same, globals_same, items_refused, items_same, segment_back, segments_same}
-use Rattle.wasmi_core.specs.Determinism.{HasMemory}
+use Rattle.wasmi_core.specs.Determinism.{IsNotOutOfMemory}
 use Rattle.wasmi_core.specs.Exchange.{NothingGrows}
 use Rattle.wasmi_core.specs.Laws.{IsRefusal}
 use Rattle.wasmi_core.specs.Effects.{ChangesPart, OnLive}
 use Rattle.wasmi_core.specs.State.{State, with_globals, with_memories, with_registers, with_segments, with_tables}
-use Rattle.wasmi_core.specs.Steps.{BytesStored, BytesWritten, Change, ElementSet, GlobalMade, GlobalSet, ItemsDropped, MemoryDropped, RegisterSet, SegmentMade, TableDropped, TakesChange}
+use Rattle.wasmi_core.specs.Steps.{BytesStored, BytesWritten, Change, ElementSet, GlobalMade, GlobalSet, ItemsDropped, MemoryDropped, RegisterSet, SegmentMade, TableDropped, HasChange}
 use Rattle.wasmi_core.specs.TableEffects.{OfReference, OfSegment, OfTable, Source, write_of}
 use Rattle.wasmi_core.specs.Totals.{byte_count, sizes, slot_count}
 use Rattle.wasmi_core.specs.Validity.{IsValid, IsValidSegment}
@@ -28,7 +28,7 @@ use Rattle.wasmi_types.specs.Access.{at}
 -- what holds of an effect on a part: a refusal leaves it, it is decided where memory isn't wanting, and it keeps a fact
 pub record EffectFacts {A : Type 0} (Effect : Reply → A → Type 0) (old : A) (Keeps : A → Type 0) : Type 0 where
   pub back : (reply : Reply) (part : A) → IsRefusal reply → Effect reply part → part ≡ old
-  pub same : (reply reply' : Reply) (part part' : A) → HasMemory reply → HasMemory reply' → Effect reply part
+  pub same : (reply reply' : Reply) (part part' : A) → IsNotOutOfMemory reply → IsNotOutOfMemory reply' → Effect reply part
       → Effect reply' part'
       → (reply ≡ reply') × (part ≡ part')
   pub keeps : (reply : Reply) (part : A) → Effect reply part → Keeps part
@@ -36,7 +36,7 @@ pub record EffectFacts {A : Type 0} (Effect : Reply → A → Type 0) (old : A) 
 -- what holds of a change of one part: so for the state, whose meter, sizes and validity stay
 pub record ChangeFacts (s : State) (Becomes : Reply → State → Type 0) : Type 0 where
   pub back : (reply : Reply) (s' : State) → IsRefusal reply → Becomes reply s' → s' ≡ s
-  pub same : (reply reply' : Reply) (s' s'' : State) → HasMemory reply → HasMemory reply' → Becomes reply s'
+  pub same : (reply reply' : Reply) (s' s'' : State) → IsNotOutOfMemory reply → IsNotOutOfMemory reply' → Becomes reply s'
       → Becomes reply' s''
       → (reply ≡ reply') × (s' ≡ s'')
   pub meter : (reply : Reply) (s' : State) → Becomes reply s' → s'.meter ≡ s.meter
@@ -150,7 +150,7 @@ module _ (s : State) where
       (λ part keeps. valid_by s (with_registers s part) (λ v. v) (λ v. v) (λ v. v) (λ v. keeps ∙ v))
 
 -- each change of one part
-pub change_facts : (s : State) (change : Change) → ChangeFacts s (TakesChange change s)
+pub change_facts : (s : State) (change : Change) → ChangeFacts s (HasChange change s)
 change_facts s (BytesWritten k offset bytes) =
     change_of s (with_memories s) s.memories (KeepsMemories s) _ (the_memories s) (record {
       back = λ reply part refused effect. write_refused k offset bytes s.memories reply part refused effect;

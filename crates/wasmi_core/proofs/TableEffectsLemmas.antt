@@ -8,7 +8,7 @@ use Rattle.wasmi_core.proofs.TotalLemmas.{counts_kept}
 use Rattle.wasmi_core.specs.Laws.{IsRefusal}
 use Rattle.wasmi_core.specs.Effects.{ActsAt, OnLive, reply_of}
 use Rattle.wasmi_core.specs.State.{live_at}
-use Rattle.wasmi_core.specs.TableEffects.{Metered, SetsElementAt, WritesRangeAt, WritesTableAt, WritesTableFrom}
+use Rattle.wasmi_core.specs.TableEffects.{MeteredTables, SetsElementAt, WritesRangeAt, WritesTableAt, WritesTableFrom}
 use Rattle.wasmi_core.specs.Totals.{slot_count}
 use Rattle.wasmi_core.specs.declared.calls.Reply.{Reply}
 use Rattle.wasmi_core.specs.declared.slots.Slot.{Slot}
@@ -47,12 +47,12 @@ module _ (s : MeteredTable) (charge : ℕ) where
   write_back write s' result refused writes =
       let w = write s.value in ends_back w s'.value w.typed w.written _ result refused writes.ends
 
-module _ (k : ℕ) (s s' : Metered) (reply : Reply) (charge : ℕ) (refused : IsRefusal reply) where
+module _ (k : ℕ) (s s' : MeteredTables) (reply : Reply) (charge : ℕ) (refused : IsRefusal reply) where
   -- so in its slot
   table_write_back : (write : TableValue → TableWrite) → WritesTableAt k write s reply charge s' → s'.value ≡ s.value
   table_write_back write writes =
       on_live (live_at s.value k) _ _ writes
-      (λ missing. ap (λ (s : Metered). s.value) missing.2)
+      (λ missing. ap (λ (s : MeteredTables). s.value) missing.2)
       (λ x found h. h.4 ∙ put_back s.value k x h.1 found (write_back (with_value s x) charge write (with_value s' h.1)
       h.0 (rw h.3 at refused) h.2))
 
@@ -60,7 +60,7 @@ module _ (k : ℕ) (s s' : Metered) (reply : Reply) (charge : ℕ) (refused : Is
   pub part_back : (part : Option (TableValue → TableWrite)) → WritesRangeAt k part s reply charge s'
       → s'.value ≡ s.value
   part_back part writes =
-      on_live part _ _ writes (λ missing. ap (λ (s : Metered). s.value) missing.2)
+      on_live part _ _ writes (λ missing. ap (λ (s : MeteredTables). s.value) missing.2)
       (λ write found h. table_write_back write h)
 
 -- a refused growth leaves the slots
@@ -142,7 +142,7 @@ sets_same k index value slots =
     (h.2 ∙ ap (reply_of (λ _. replied.Done) replied.Table) both.0 ∙ sym h'.2, both.1))
 
 -- two writes over a part of the table of an index
-table_writes_same : (k : ℕ) (write : TableValue → TableWrite) (s : Metered) → HasOneEnding (WritesTableAt k write s)
+table_writes_same : (k : ℕ) (write : TableValue → TableWrite) (s : MeteredTables) → HasOneEnding (WritesTableAt k write s)
 table_writes_same k write s =
     acts_same {S = Unit {0}} (WritesTableCharging write)
     (λ s result result' charge charge' s' s'' h h'.
@@ -153,7 +153,7 @@ table_writes_same k write s =
     k (reply_of (λ _. replied.Done) replied.Table) s
 
 -- so where the write may be missing
-pub parts_same : (k : ℕ) (part : Option (TableValue → TableWrite)) (s : Metered)
+pub parts_same : (k : ℕ) (part : Option (TableValue → TableWrite)) (s : MeteredTables)
     → HasOneEnding (WritesRangeAt k part s)
 parts_same k part s o o' a b =
     on_both part _ _ _ _ a b (λ h h'. (h.0 ∙ sym h'.0, h.1 ∙ sym h'.1, h.2 ∙ sym h'.2))
@@ -193,13 +193,13 @@ module _ (write : TableValue → TableWrite) (s : MeteredTable) (result : Result
   write_count writes = ends_count w.typed w.written _ refl writes.ends
 
 -- the writes over a table at an index
-module _ (k : ℕ) (s s' : Metered) (reply : Reply) (charge : ℕ) (len : ℕ) where
+module _ (k : ℕ) (s s' : MeteredTables) (reply : Reply) (charge : ℕ) (len : ℕ) where
   -- so it keeps the sizes
   write_kept : (write : TableValue → TableWrite) → IsWrite len write → WritesTableAt k write s reply charge s'
       → map (slot_count size_of) s'.value ≡ map (slot_count size_of) s.value
   write_kept write is writes =
       on_live (live_at s.value k) _ _ writes
-      (λ missing. ap (λ (s : Metered). map (slot_count size_of) s.value) missing.2)
+      (λ missing. ap (λ (s : MeteredTables). map (slot_count size_of) s.value) missing.2)
       (λ x found h. ap (map (slot_count size_of)) h.4
       ∙ counts_kept size_of s.value k x (Live h.1) found
       (write_count write (with_value s x) h.0 charge (with_value s' h.1) (is x).0 h.2))
@@ -209,7 +209,7 @@ module _ (k : ℕ) (s s' : Metered) (reply : Reply) (charge : ℕ) (len : ℕ) w
       → WritesRangeAt k part s reply charge s' → map (slot_count size_of) s'.value ≡ map (slot_count size_of) s.value
   part_kept part is writes =
       on_live part _ _ (both_live part _ _ _ _ is writes)
-      (λ missing. ap (λ (s : Metered). map (slot_count size_of) s.value) missing.1.2)
+      (λ missing. ap (λ (s : MeteredTables). map (slot_count size_of) s.value) missing.1.2)
       (λ write found h. write_kept write h.0 h.1)
 
 -- what is true of a table and of the one with other elements, where an element is set, is true of what it becomes
@@ -262,7 +262,7 @@ module _ (write : TableValue → TableWrite) (s : MeteredTable) (result : Result
       (write_count write s result charge s' keeps writes) valid
 
 -- a table that is written over
-module _ (k : ℕ) (s s' : Metered) (reply : Reply) (charge : ℕ) (len : ℕ) where
+module _ (k : ℕ) (s s' : MeteredTables) (reply : Reply) (charge : ℕ) (len : ℕ) where
   -- at an index
   write_valid : (write : TableValue → TableWrite) → IsWrite len write → WritesTableAt k write s reply charge s'
       → AllValid IsValidTable s.value → AllValid IsValidTable s'.value
@@ -275,7 +275,7 @@ module _ (k : ℕ) (s s' : Metered) (reply : Reply) (charge : ℕ) (len : ℕ) w
       → WritesRangeAt k part s reply charge s' → AllValid IsValidTable s.value → AllValid IsValidTable s'.value
   part_valid part is writes valid =
       on_live part _ _ (both_live part _ _ _ _ is writes)
-      (λ missing. subst (λ (t : Metered). AllValid IsValidTable t.value) (sym missing.1.2) valid)
+      (λ missing. subst (λ (t : MeteredTables). AllValid IsValidTable t.value) (sym missing.1.2) valid)
       (λ write found h. write_valid write h.0 h.1 valid)
 
 -- an element that is set
@@ -289,8 +289,8 @@ set_valid k index value slots reply slots' sets valid =
     (overwrite_length x.elements (value.raw ∷ []) elements index is) h)) sets valid
 
 -- what is written with a live value, as a write that is there if the value is
-pub part_from : {X : Type 0} (source : Option X) (k : ℕ) (write : X → TableValue → TableWrite) (s : Metered)
-    (reply : Reply) (charge : ℕ) (s' : Metered)
+pub part_from : {X : Type 0} (source : Option X) (k : ℕ) (write : X → TableValue → TableWrite) (s : MeteredTables)
+    (reply : Reply) (charge : ℕ) (s' : MeteredTables)
     → WritesTableFrom source k write s reply charge s' → WritesRangeAt k (option_map write source) s reply charge s'
 part_from None k write s reply charge s' writes = writes
 part_from (Some y) k write s reply charge s' writes = writes

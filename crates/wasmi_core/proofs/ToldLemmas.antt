@@ -19,18 +19,18 @@ use Rattle.wasmi_core.specs.World.{World, Turn}
 use Rattle.wasmi_core.specs.Exchange.{Exchange, Nothing, Denial, Permission, Notice, Passes}
 use Rattle.wasmi_core.specs.Steps.{Step}
 use Rattle.wasmi_core.specs.Runs.{Run, IsRunOf}
-use Rattle.wasmi_core.specs.Determinism.{AcceptsNotices, StaysAccepting, IsIn, IsNoWant, IsDeterministic, with_memory, HasMemory, HaveMemory}
+use Rattle.wasmi_core.specs.Determinism.{AcceptsNotices, StaysAccepting, IsIn, FailsWithMemory, IsDeterministic, never_out_of_memory, IsNotOutOfMemory, AreNotOutOfMemory}
 use Rattle.wasmi_core.proofs.DeterminismLemmas as determinism
 use Rattle.wasmi_core.proofs.ExchangeLemmas.{growths_are_permitted}
 use Rattle.wasmi_core.proofs.RevealingLemmas.{Narrowing, Reveals, run_revealed}
 
 -- an error of which a reply that has memory tells is no want of it
-no_memory : (c : MemoryError) → HasMemory (replied.Memory c) → IsNoWant (MemoryFailure c)
+no_memory : (c : MemoryError) → IsNotOutOfMemory (replied.Memory c) → FailsWithMemory (MemoryFailure c)
 no_memory memerr.OutOfSystemMemory has = has
 no_memory c has = tt
 
 -- so for tables
-no_table : (c : TableError) → HasMemory (replied.Table c) → IsNoWant (TableFailure c)
+no_table : (c : TableError) → IsNotOutOfMemory (replied.Table c) → FailsWithMemory (TableFailure c)
 no_table taberr.OutOfSystemMemory has = has
 no_table c has = tt
 
@@ -38,11 +38,11 @@ module _ {S : Type 0} (rules : Rules S) (IsAccepting : S → Type 0) (stays : St
   -- the replies that have memory, in these states of the limiter
   abbrev telling : Narrowing S
   telling =
-      record { rules = rules; narrower = with_memory rules; shown = HasMemory; within = IsAccepting }
+      record { rules = rules; narrower = never_out_of_memory rules; shown = IsNotOutOfMemory; within = IsAccepting }
 
   -- the replies to an attempt's errors tell whether the limiter is told of want of memory
   want_revealed : {V E : Type 0} (refusal : E → Reply) (e : Request V E)
-      → ((c : E) → HasMemory (refusal c) → IsNoWant (e.notice c))
+      → ((c : E) → IsNotOutOfMemory (refusal c) → FailsWithMemory (e.notice c))
       → Reveals telling refusal e
   want_revealed refusal e nowant (Unasked c) l l' within shown f = f
   want_revealed refusal e nowant (Denied answer) l l' within shown f = f
@@ -54,7 +54,7 @@ module _ {S : Type 0} (rules : Rules S) (IsAccepting : S → Type 0) (stays : St
         asks,
         (
           notices,
-          nowant c (subst (λ h. HasMemory (refusal (error_of_failure e.refusal c h))) accepted.0 (shown _ refl)),
+          nowant c (subst (λ h. IsNotOutOfMemory (refusal (error_of_failure e.refusal c h))) accepted.0 (shown _ refl)),
         ),
       )
 
@@ -76,7 +76,7 @@ module _ {S : Type 0} (rules : Rules S) (IsAccepting : S → Type 0) (stays : St
 
   -- a run whose replies have memory is one under these rules
   pub told_run : (w : World S) (turns : List Turn) (w' : World S) → IsAccepting w.limiter
-      → All HasMemory (map Turn.reply turns) → Run rules w turns w' → Run (with_memory rules) w turns w'
+      → All IsNotOutOfMemory (map Turn.reply turns) → Run rules w turns w' → Run (never_out_of_memory rules) w turns w'
   told_run = run_revealed telling
       (record {
         memory_made = λ room ty. want_revealed replied.Memory (memory.creation_of room ty) no_memory;
@@ -87,23 +87,23 @@ module _ {S : Type 0} (rules : Rules S) (IsAccepting : S → Type 0) (stays : St
       step_stays
 
 -- turns whose replies have memory, and their replies
-all_shown : (turns : List Turn) → HaveMemory turns → All HasMemory (map Turn.reply turns)
-all_shown [] have = All-nil HasMemory
-all_shown (turn ∷ turns) have = All-cons HasMemory turn.reply (map Turn.reply turns) have.0 (all_shown turns have.1)
+all_shown : (turns : List Turn) → AreNotOutOfMemory turns → All IsNotOutOfMemory (map Turn.reply turns)
+all_shown [] have = All-nil IsNotOutOfMemory
+all_shown (turn ∷ turns) have = All-cons IsNotOutOfMemory turn.reply (map Turn.reply turns) have.0 (all_shown turns have.1)
 
 -- and the other way round
-all_have : (turns : List Turn) → All HasMemory (map Turn.reply turns) → HaveMemory turns
+all_have : (turns : List Turn) → All IsNotOutOfMemory (map Turn.reply turns) → AreNotOutOfMemory turns
 all_have [] has = tt
 all_have (turn ∷ turns) has = (
-  All-head HasMemory turn.reply (map Turn.reply turns) has,
+  All-head IsNotOutOfMemory turn.reply (map Turn.reply turns) has,
   all_have turns
-      (All-tail HasMemory turn.reply (map Turn.reply turns) has),
+      (All-tail IsNotOutOfMemory turn.reply (map Turn.reply turns) has),
 )
 
 -- so by their replies
-replies_have : (turns : List Turn) (replies : List Reply) → map Turn.reply turns ≡ replies → All HasMemory replies
-    → HaveMemory turns
-replies_have turns replies is has = all_have turns (subst (All HasMemory) (sym is) has)
+replies_have : (turns : List Turn) (replies : List Reply) → map Turn.reply turns ≡ replies → All IsNotOutOfMemory replies
+    → AreNotOutOfMemory turns
+replies_have turns replies is has = all_have turns (subst (All IsNotOutOfMemory) (sym is) has)
 
 -- a limiter that accepts each notice does so in any state
 pub accepts_always : {S : Type 0} (rules : Rules S) → AcceptsNotices rules → StaysAccepting rules (λ l. Unit {0})
@@ -148,13 +148,13 @@ quota_accepts l failure notice_answer l' noticed = noticed.accepts
 pub record SeenRun {S : Type 0} (rules : Rules S) (calls : List Call) (w : World S) : Type 0 where
   pub replies : List Reply
   pub after : World S
-  pub has : All HasMemory replies
+  pub has : All IsNotOutOfMemory replies
   pub ran : IsRunOf rules calls w replies after
 
 module _ {L : Type 0} (rules : Rules L) (IsAccepting : L → Type 0) (stays : StaysAccepting rules IsAccepting) where
   -- so where the limiter may be absent
   accepted_runs : (w : World (Option L)) (turns : List Turn) (w' : World (Option L)) → IsIn IsAccepting w.limiter
-      → HaveMemory turns → Run (optional_rules rules) w turns w' → Run (with_memory (optional_rules rules)) w turns w'
+      → AreNotOutOfMemory turns → Run (optional_rules rules) w turns w' → Run (never_out_of_memory (optional_rules rules)) w turns w'
   accepted_runs w turns w' within have =
       told_run (optional_rules rules) (IsIn IsAccepting) (optional_stays rules IsAccepting stays) w turns w' within
       (all_shown turns have)
@@ -169,7 +169,7 @@ module _ {L : Type 0} (rules : Rules L) (IsAccepting : L → Type 0) (stays : St
       let have = replies_have turns a.replies told a.has in
       let have' = replies_have turns' b.replies told' b.has in
       let one =
-      determinism.runs_are_one (optional_rules rules) (determinism.optional_once rules once) w turns turns' a.after
+      determinism.runs_are_one (optional_rules rules) (determinism.optional_unique rules once) w turns turns' a.after
       b.after (made ∙ sym made') have have' (accepted_runs w turns a.after within have ran)
       (accepted_runs w turns' b.after within have' ran') in
       (sym told ∙ ap (map Turn.reply) one.0 ∙ told', one.1)
@@ -181,8 +181,8 @@ any_state None = tt
 
 module _ {L : Type 0} (rules : Rules L) (accepts : AcceptsNotices rules) where
   -- a run whose replies have memory, under a limiter that accepts each notice
-  pub told_runs : (w : World (Option L)) (turns : List Turn) (w' : World (Option L)) → HaveMemory turns
-      → Run (optional_rules rules) w turns w' → Run (with_memory (optional_rules rules)) w turns w'
+  pub told_runs : (w : World (Option L)) (turns : List Turn) (w' : World (Option L)) → AreNotOutOfMemory turns
+      → Run (optional_rules rules) w turns w' → Run (never_out_of_memory (optional_rules rules)) w turns w'
   told_runs w turns w' =
       accepted_runs rules (λ l. Unit {0}) (accepts_always rules accepts) w turns w' (any_state w.limiter)
 

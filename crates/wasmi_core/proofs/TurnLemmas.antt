@@ -6,7 +6,7 @@ use Rattle.wasmi_core.specs.declared.calls.Call.{Call}
 use Rattle.wasmi_core.specs.declared.calls.Reply.{Reply}
 use Rattle.wasmi_core.specs.State.{State}
 use Rattle.wasmi_core.specs.World.{World, Turn, world}
-use Rattle.wasmi_core.specs.Steps.{Step, Answers}
+use Rattle.wasmi_core.specs.Steps.{Step, RepliesWith}
 use Rattle.wasmi_core.specs.Runs.{Sequence, Run, IsRunOf}
 
 -- what is made of two lists
@@ -56,7 +56,7 @@ module _ {S : Type 0} (rules : Rules S) where
 
   -- an answered call, with the limiter before and after it by other names
   pub answers_by : (call : Call) (m m' : State) (reply : Reply) (l k l' k' : S) → l ≡ k → l' ≡ k'
-      → Answers rules call (world m l) reply (world m' l') → Answers rules call (world m k) reply (world m' k')
+      → RepliesWith rules call (world m l) reply (world m' l') → RepliesWith rules call (world m k) reply (world m' k')
   answers_by call m m' reply l k l' k' before after answers =
-      subst (λ x. Answers rules call (world m x) reply (world m' k')) before
-      (subst (λ x. Answers rules call (world m l) reply (world m' x)) after answers)
+      subst (λ x. RepliesWith rules call (world m x) reply (world m' k')) before
+      (subst (λ x. RepliesWith rules call (world m l) reply (world m' x)) after answers)

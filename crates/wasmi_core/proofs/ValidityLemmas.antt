@@ -8,7 +8,7 @@ use Rattle.wasmi_core.proofs.TableEffectsLemmas.{part_valid}
 use Rattle.wasmi_core.specs.Effects.{reply_of}
 use Rattle.wasmi_core.specs.Runs.{Run}
 use Rattle.wasmi_core.specs.State.{MemoryPart, State}
-use Rattle.wasmi_core.specs.Steps.{Answers, Changed, Effect, FuelSet, LentMemoryMade, MemoryGrown, MemoryMade, RangeWritten, TableGrown, TableMade, TakesEffect, effect_of}
+use Rattle.wasmi_core.specs.Steps.{RepliesWith, Changed, Effect, FuelSet, LentMemoryMade, MemoryGrown, MemoryMade, RangeWritten, TableGrown, TableMade, HasEffect, effect_of}
 use Rattle.wasmi_core.specs.TableEffects.{write_of}
 use Rattle.wasmi_store.specs.Growth.{metered}
 use Rattle.wasmi_core.specs.Validity.{IsValid, IsValidCall}
@@ -65,7 +65,7 @@ module _ {S : Type 0} (rules : Rules S) (w : World S) (turn : Turn) (w' : World 
   now v = v.state
 
   -- each effect
-  effect_valid : (effect : Effect) → IsValidEffect effect → TakesEffect rules effect w turn w' → IsValid w'.state
+  effect_valid : (effect : Effect) → IsValidEffect effect → HasEffect rules effect w turn w' → IsValid w'.state
   effect_valid (FuelSet fuel) typed step =
       rw (ap now step.after, step.effect.1)
       (record {
@@ -118,7 +118,7 @@ module _ {S : Type 0} (rules : Rules S) (w : World S) (turn : Turn) (w' : World 
 
 -- a call that is answered leads from a valid state to a valid one, where the type that it names is valid
 pub answer_is_valid : {S : Type 0} (rules : Rules S) (call : Call) (w : World S) (reply : Reply) (w' : World S)
-    → IsValidCall call → IsValid w.state → Answers rules call w reply w' → IsValid w'.state
+    → IsValidCall call → IsValid w.state → RepliesWith rules call w reply w' → IsValid w'.state
 answer_is_valid rules call w reply w' typed valid (charge, written, step) =
     effect_valid rules w (record { call = call; reply = reply; charge = charge; written = written }) w' valid
     (effect_of w.state call) (names_valid w.state call typed) step

@@ -2,7 +2,7 @@
 use Rattle.std.proofs.Common.{Err, List, Ok, Result, ap, arith, inl, inr, length, refl, subst, sym, ℕ, ◌∙◌, ◌≡◌, ◌≤◌}
 use Rattle.std.specs.Prelude.{All}
 use Rattle.wasmi_core.proofs.EffectLemmas.{IsDecided, appended_valid, appends_back, appends_same, item_back, item_same}
-use Rattle.wasmi_core.specs.Determinism.{HasMemory}
+use Rattle.wasmi_core.specs.Determinism.{IsNotOutOfMemory}
 use Rattle.wasmi_core.specs.Laws.{IsRefusal}
 use Rattle.wasmi_core.specs.Effects.{AddsEntry, reply_of}
 use Rattle.wasmi_core.specs.Validity.{IsValidSegment}
@@ -63,7 +63,7 @@ IsHad result = Unit {0}
 
 -- as the reply tells
 had : (result : Result SegmentValue SegmentError) (segments : List SegmentValue) (reply : Reply)
-    (segments' : List SegmentValue) → HasMemory reply
+    (segments' : List SegmentValue) → IsNotOutOfMemory reply
     → AddsEntry (λ x. x) replied.Segment result segments reply segments' → IsHad result
 had (Ok x) segments reply segments' has appends = tt
 had (Err TooManyItems) segments reply segments' has appends = tt
@@ -82,7 +82,7 @@ segment_made ty items (Err OutOfSystemMemory) result' h h' is is' = absurd h
 
 -- two creations of an element segment
 pub segments_same : (ty : RefType) (items : List ℕ) (segments : List SegmentValue) (reply reply' : Reply)
-    (segments' segments'' : List SegmentValue) → HasMemory reply → HasMemory reply'
+    (segments' segments'' : List SegmentValue) → IsNotOutOfMemory reply → IsNotOutOfMemory reply'
     → CreatesSegment ty items segments reply segments' → CreatesSegment ty items segments reply' segments''
     → (reply ≡ reply') × (segments' ≡ segments'')
 segments_same ty items segments reply reply' segments' segments'' room room' (inl none) b = absurd (rw none.0 at room)
@@ -103,7 +103,7 @@ items_same k segments =
 
 -- two creations of a global
 pub globals_same : (global : GlobalInstance) (globals : List GlobalInstance) (reply reply' : Reply)
-    (globals' globals'' : List GlobalInstance) → HasMemory reply → HasMemory reply'
+    (globals' globals'' : List GlobalInstance) → IsNotOutOfMemory reply → IsNotOutOfMemory reply'
     → CreatesGlobal global globals reply globals' → CreatesGlobal global globals reply' globals''
     → (reply ≡ reply') × (globals' ≡ globals'')
 globals_same global globals reply reply' globals' globals'' room room' (inl none) b = absurd (rw none.0 at room)

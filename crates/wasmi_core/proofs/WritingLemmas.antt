@@ -12,12 +12,12 @@ use Rattle.wasmi_core.proofs.EffectLemmas.{both_live, on_live}
 use Rattle.wasmi_core.proofs.StepsLemmas.{change_facts, source_writes}
 use Rattle.wasmi_core.proofs.TableEffectsLemmas.{IsWrite}
 use Rattle.wasmi_core.specs.MemoryEffects.{bytes_appended}
-use Rattle.wasmi_core.specs.Account.{TakesCharge}
+use Rattle.wasmi_core.specs.Account.{PaysCharge}
 use Rattle.wasmi_core.specs.Effects.{ActsAt, OnLive, reply_of}
 use Rattle.wasmi_core.specs.Runs.{Run}
 use Rattle.wasmi_core.specs.State.{State, live_at}
-use Rattle.wasmi_core.specs.Steps.{Changed, Effect, FuelSet, MemoryGrown, RangeWritten, TableGrown, TakesEffect, effect_of, is_charged}
-use Rattle.wasmi_core.specs.TableEffects.{Metered, WritesRangeAt, WritesTableAt, element_bytes, write_of}
+use Rattle.wasmi_core.specs.Steps.{Changed, Effect, FuelSet, MemoryGrown, RangeWritten, TableGrown, HasEffect, effect_of, is_charged}
+use Rattle.wasmi_core.specs.TableEffects.{MeteredTables, WritesRangeAt, WritesTableAt, element_bytes, write_of}
 use Rattle.wasmi_store.specs.Growth.{metered}
 use Rattle.wasmi_core.specs.World.{Turn, World}
 use Rattle.wasmi_core.specs.Writing.{IsBounded, amount_set, amounts_set, bytes_written, charges_for_writing, has_written, is_accepted, writing_turns}
@@ -77,7 +77,7 @@ sets fuel m m' charge written none same = record {
 }
 
 -- a refusal: something may be charged, and nothing is written
-refuses : (m m' : Meter) (charge : ℕ) → m'.costs ≡ m.costs → TakesCharge m charge m' → Wrote m charge 0 false 0 m'
+refuses : (m m' : Meter) (charge : ℕ) → m'.costs ≡ m.costs → PaysCharge m charge m' → Wrote m charge 0 false 0 m'
 refuses m m' charge same takes = record {
   costs = same;
   paid = λ left on rated. omega arith;
@@ -85,7 +85,7 @@ refuses m m' charge same takes = record {
 }
 
 -- a charge that pays for the bytes
-pays : (m m' : Meter) (charge written : ℕ) → m'.costs ≡ m.costs → TakesCharge m charge m'
+pays : (m m' : Meter) (charge written : ℕ) → m'.costs ≡ m.costs → PaysCharge m charge m'
     → ((left : ℕ) → m.left ≡ Some left → 0 < rate m → written ≤ rate m * charge + (rate m - 1))
     → Wrote m charge written true 0 m'
 pays m m' charge written same takes bound = record {
@@ -127,7 +127,7 @@ module _ {V E S : Type 0} (rules : Rules S) (g : Growth V E) (t : Growing V S) w
   growth_costs result (inr some) = same_costs t.first.meter t.last.meter t.charge some.attempt.meter
 
   -- the charge is taken
-  growth_takes : (result : Result ℕ E) → Grown result → TakesCharge t.first.meter t.charge t.last.meter
+  growth_takes : (result : Result ℕ E) → Grown result → PaysCharge t.first.meter t.charge t.last.meter
   growth_takes result grows =
       grows_takes rules g t.first.value t.first.meter t.first.limiter result t.charge t.last.value t.last.meter
       t.last.limiter grows
@@ -317,7 +317,7 @@ module _ (k len : ℕ) (slots : List (Slot TableValue)) (m : Meter) (reply : Rep
   table_write_writes write is writes =
       on_live (live_at slots k) _ _ writes
       (λ missing. rw missing.0
-      (idles m m' charge _ refl (same_Some m' m (ap (λ (s : Metered). s.meter) missing.2))))
+      (idles m m' charge _ refl (same_Some m' m (ap (λ (s : MeteredTables). s.meter) missing.2))))
       (λ x found a. rw a.3 (write_result write x len m charge (is x).1 a.1 m' a.0 a.2))
 
   -- so where the write may be missing
@@ -327,7 +327,7 @@ module _ (k len : ℕ) (slots : List (Slot TableValue)) (m : Meter) (reply : Rep
   part_writes part is writes =
       on_live part _ _ (both_live part _ _ _ _ is writes)
       (λ missing. rw missing.1.0
-      (idles m m' charge _ refl (same_Some m' m (ap (λ (s : Metered). s.meter) missing.1.2))))
+      (idles m m' charge _ refl (same_Some m' m (ap (λ (s : MeteredTables). s.meter) missing.1.2))))
       (λ write found h. table_write_writes write h.0 h.1)
 
 module _ {S : Type 0} (w : World S) (turn : Turn) (w' : World S) where
@@ -362,7 +362,7 @@ same_charges s call = (refl, refl)
 
 module _ {S : Type 0} (rules : Rules S) (w : World S) (turn : Turn) (w' : World S) where
   -- each effect
-  effect_writes : (effect : Effect) → TakesEffect rules effect w turn w'
+  effect_writes : (effect : Effect) → HasEffect rules effect w turn w'
       → Wrote w.state.meter turn.charge turn.written (is_charged_effect effect && is_accepted turn.reply)
       (amount_set_by effect) w'.state.meter
   effect_writes (FuelSet fuel) step =

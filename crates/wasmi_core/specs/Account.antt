@@ -28,13 +28,13 @@ abbrev pub Balances : Account → Meter → Type 0
 Balances account m = (left : ℕ) × (m.left ≡ Some left) × (left + account.charged ≡ account.granted)
 
 -- a charge is at most what was left of a meter, and is taken of the meter
-abbrev pub TakesCharge : Meter → ℕ → Meter → Type 0
-TakesCharge m charge m' = (charge ≤ amount_left m) × (m' ≡ meter_after m charge)
+abbrev pub PaysCharge : Meter → ℕ → Meter → Type 0
+PaysCharge m charge m' = (charge ≤ amount_left m) × (m' ≡ meter_after m charge)
 
 -- what a call with a charge makes of the meter: one that sets the fuel sets it, and each other one takes its charge
 abbrev pub ChangesMeter : Call → Meter → ℕ → Meter → Type 0
 ChangesMeter (SetFuel fuel) m charge m' = m' ≡ meter_set m fuel
-ChangesMeter call m charge m' = TakesCharge m charge m'
+ChangesMeter call m charge m' = PaysCharge m charge m'
 
 -- the call doesn't set the fuel
 abbrev pub SetsNoFuel : Call → Type 0

@@ -35,29 +35,29 @@ IsIn IsAccepting (Some l) = IsAccepting l
 IsIn IsAccepting None = Unit {0}
 
 -- the failure isn't out of memory
-abbrev pub IsNoWant : Failure → Type 0
-IsNoWant (MemoryFailure memory.OutOfSystemMemory) = ⊥
-IsNoWant (TableFailure table.OutOfSystemMemory) = ⊥
-IsNoWant failure = Unit {0}
+abbrev pub FailsWithMemory : Failure → Type 0
+FailsWithMemory (MemoryFailure memory.OutOfSystemMemory) = ⊥
+FailsWithMemory (TableFailure table.OutOfSystemMemory) = ⊥
+FailsWithMemory failure = Unit {0}
 
 -- the rules by which no limiter is notified that memory was refused
-abbrev pub with_memory : {S : Type 0} → Rules S → Rules S
-with_memory rules =
+abbrev pub never_out_of_memory : {S : Type 0} → Rules S → Rules S
+never_out_of_memory rules =
     record {
       asked = rules.asked;
       noticed = λ l failure notice_answer l'. rules.noticed l failure notice_answer l'
-          × IsNoWant failure;
+          × FailsWithMemory failure;
     }
 
 -- the reply doesn't say out of memory
-abbrev pub HasMemory : Reply → Type 0
-HasMemory NoRoom = ⊥
-HasMemory (Memory memory.OutOfSystemMemory) = ⊥
-HasMemory (Table table.OutOfSystemMemory) = ⊥
-HasMemory (Segment segment.OutOfSystemMemory) = ⊥
-HasMemory reply = Unit {0}
+abbrev pub IsNotOutOfMemory : Reply → Type 0
+IsNotOutOfMemory NoRoom = ⊥
+IsNotOutOfMemory (Memory memory.OutOfSystemMemory) = ⊥
+IsNotOutOfMemory (Table table.OutOfSystemMemory) = ⊥
+IsNotOutOfMemory (Segment segment.OutOfSystemMemory) = ⊥
+IsNotOutOfMemory reply = Unit {0}
 
 -- no reply of the turns says out of memory
-abbrev pub HaveMemory : List Turn → Type 0
-HaveMemory [] = Unit {0}
-HaveMemory (turn ∷ turns) = HasMemory turn.reply × HaveMemory turns
+abbrev pub AreNotOutOfMemory : List Turn → Type 0
+AreNotOutOfMemory [] = Unit {0}
+AreNotOutOfMemory (turn ∷ turns) = IsNotOutOfMemory turn.reply × AreNotOutOfMemory turns

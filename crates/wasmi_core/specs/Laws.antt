@@ -17,10 +17,10 @@ use Rattle.wasmi_core.specs.World.{World, Turn, world}
 pub use Rattle.wasmi_core.specs.World.{IsRefusal}
 use Rattle.wasmi_core.specs.Steps.{Step}
 use Rattle.wasmi_core.specs.Runs.{Sequence, Run, IsRunOf}
-use Rattle.wasmi_core.specs.Account.{opened, account_after, Balances, TakesCharge, SetsNoFuel}
+use Rattle.wasmi_core.specs.Account.{opened, account_after, Balances, PaysCharge, SetsNoFuel}
 use Rattle.wasmi_core.specs.Exchange.{Notice, Passes, At, place_of, question_of, failed_reply, growth_due, Exchanges}
 use Rattle.wasmi_core.specs.MemoryEffects.{spare_after}
-use Rattle.wasmi_core.specs.Determinism.{IsDeterministic, AcceptsNotices, IsNoWant, with_memory, HasMemory, HaveMemory}
+use Rattle.wasmi_core.specs.Determinism.{IsDeterministic, AcceptsNotices, FailsWithMemory, never_out_of_memory, IsNotOutOfMemory, AreNotOutOfMemory}
 use Rattle.wasmi_core.specs.LentMemory.{owned_world, unlent_world, RunInRegions}
 use Rattle.wasmi_core.specs.Writing.{IsBounded, IsSpent}
 use Rattle.wasmi_core.specs.Permission.{permitting, TellsNoDenial}
@@ -49,10 +49,10 @@ pub record FailsAfterCharge {S : Type 0} (rules : Rules S) (w : World S) (turn :
   pub asks : question_of w.state turn.call ≡ Some question
   pub failure : Failure
   pub notice_answer : NoticeAnswer
-  pub wants : IsNoWant failure → ⊥
+  pub wants : FailsWithMemory failure → ⊥
   pub tells : Passes rules w.limiter (Notice question failure notice_answer) w'.limiter
   pub replies : turn.reply ≡ failed_reply failure notice_answer
-  pub meter : TakesCharge w.state.meter (growth_due w.state.meter question) w'.state.meter
+  pub meter : PaysCharge w.state.meter (growth_due w.state.meter question) w'.state.meter
 
 -- the meter stays, unless a growth fails after its charge
 abbrev pub KeepsMeter : {S : Type 0} → Rules S → World S → Turn → World S → Type 0
@@ -176,14 +176,14 @@ abbrev pub RunsAreOne : {L : Type 0} → Rules L → Type 0
 RunsAreOne {L} rules =
     IsDeterministic rules → (w : World (Option L)) (turns turns' : List Turn) (v v' : World (Option L))
     → map Turn.call turns ≡ map Turn.call turns'
-    → HaveMemory turns → HaveMemory turns' → Run (with_memory (optional_rules rules)) w turns v
-    → Run (with_memory (optional_rules rules)) w turns' v' → (turns ≡ turns') × (v ≡ v')
+    → AreNotOutOfMemory turns → AreNotOutOfMemory turns' → Run (never_out_of_memory (optional_rules rules)) w turns v
+    → Run (never_out_of_memory (optional_rules rules)) w turns' v' → (turns ≡ turns') × (v ≡ v')
 
 -- if the limiter accepts each notice, a run in which no reply says out of memory is one in which no notice does
 abbrev pub RepliesTell : {L : Type 0} → Rules L → Type 0
 RepliesTell {L} rules =
-    AcceptsNotices rules → (w : World (Option L)) (turns : List Turn) (w' : World (Option L)) → HaveMemory turns
-    → Run (optional_rules rules) w turns w' → Run (with_memory (optional_rules rules)) w turns w'
+    AcceptsNotices rules → (w : World (Option L)) (turns : List Turn) (w' : World (Option L)) → AreNotOutOfMemory turns
+    → Run (optional_rules rules) w turns w' → Run (never_out_of_memory (optional_rules rules)) w turns w'
 
 -- if the limiter is deterministic and accepts each notice, two runs of one list of calls from one world, in which no
 -- reply says out of memory, have the same replies and end in one world
@@ -191,7 +191,7 @@ abbrev pub RepliesAreOne : {L : Type 0} → Rules L → Type 0
 RepliesAreOne {L} rules =
     IsDeterministic rules → AcceptsNotices rules
     → (calls : List Call) (w : World (Option L)) (replies replies' : List Reply) (v v' : World (Option L))
-    → All HasMemory replies → All HasMemory replies'
+    → All IsNotOutOfMemory replies → All IsNotOutOfMemory replies'
     → IsRunOf (optional_rules rules) calls w replies v → IsRunOf (optional_rules rules) calls w replies' v'
     → (replies ≡ replies') × (v ≡ v')
 

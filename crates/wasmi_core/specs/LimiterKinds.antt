@@ -10,7 +10,7 @@ use Rattle.wasmi_meter.specs.Quota.{quota_rules}
 use Rattle.wasmi_core.specs.State.{State}
 use Rattle.wasmi_core.specs.World.{World, Turn, world}
 use Rattle.wasmi_core.specs.Runs.{Run, IsRunOf}
-use Rattle.wasmi_core.specs.Steps.{Answers}
+use Rattle.wasmi_core.specs.Steps.{RepliesWith}
 use Rattle.wasmi_core.specs.declared.calls.Call.{Call}
 use Rattle.wasmi_core.specs.declared.calls.Reply.{Reply}
 
@@ -42,4 +42,4 @@ RunsOfCallsKeepKind = (calls : List Call) (replies : List Reply)
 
 -- a reply to a call under such a limiter is one by the rules of its kind
 abbrev pub RepliesKeepKind : Type 0
-RepliesKeepKind = (call : Call) (reply : Reply) → KindStays (λ L rules w w'. Answers rules call w reply w')
+RepliesKeepKind = (call : Call) (reply : Reply) → KindStays (λ L rules w w'. RepliesWith rules call w reply w')

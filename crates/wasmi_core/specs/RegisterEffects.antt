@@ -20,17 +20,17 @@ vector_at registers r = option_map vector_in (slice_get registers r)
 
 -- a register, if there is one, takes what a call gives it: the value; a trap keeps it; an operand that names nothing
 -- gives nothing
-abbrev pub TakesAt : Option (Result RawVal TrapCode) → Option RawVal → ℕ → List RawVal → Reply → List RawVal → Type 0
-TakesAt None old dst registers reply registers' = (reply ≡ NoSuch) × (registers' ≡ registers)
-TakesAt (Some given) None dst registers reply registers' = (reply ≡ NoSuch) × (registers' ≡ registers)
-TakesAt (Some (Ok value)) (Some old) dst registers reply registers' =
+abbrev pub SetsAt : Option (Result RawVal TrapCode) → Option RawVal → ℕ → List RawVal → Reply → List RawVal → Type 0
+SetsAt None old dst registers reply registers' = (reply ≡ NoSuch) × (registers' ≡ registers)
+SetsAt (Some given) None dst registers reply registers' = (reply ≡ NoSuch) × (registers' ≡ registers)
+SetsAt (Some (Ok value)) (Some old) dst registers reply registers' =
     (reply ≡ Done) × (registers' ≡ slice_set registers dst value)
-TakesAt (Some (Err trap)) (Some old) dst registers reply registers' = (reply ≡ Trap trap) × (registers' ≡ registers)
+SetsAt (Some (Err trap)) (Some old) dst registers reply registers' = (reply ≡ Trap trap) × (registers' ≡ registers)
 
 -- the register of an index takes what a call gives, if there is such a register
-abbrev pub TakesRegister : ℕ → Option (Result RawVal TrapCode) → List RawVal → Reply → List RawVal → Type 0
-TakesRegister dst given registers reply registers' =
-    TakesAt given (slice_get registers dst) dst registers reply registers'
+abbrev pub SetsRegister : ℕ → Option (Result RawVal TrapCode) → List RawVal → Reply → List RawVal → Type 0
+SetsRegister dst given registers reply registers' =
+    SetsAt given (slice_get registers dst) dst registers reply registers'
 
 -- a vector as a register takes it
 abbrev pub given_vector : ℕ → Result RawVal TrapCode

@@ -35,7 +35,7 @@ use Rattle.wasmi_ops.specs.ScalarAccessOps.{stored_bytes}
 use Rattle.wasmi_core.specs.FuelEffects.{SetsFuel, get_fuel_reply}
 use Rattle.wasmi_core.specs.MemoryEffects.{bytes_appended, CreatesLent, ReadsMemoryAt, WritesMemoryAt, load_reply}
 use Rattle.wasmi_core.specs.TableEffects.{Source, OfReference, OfTable, OfSegment, element_reply, SetsElementAt, write_of, WritesRangeAt, element_bytes}
-use Rattle.wasmi_core.specs.RegisterEffects.{TakesRegister, StoresVectorAt, given_vector, of_one, of_two, of_three, vector_loaded, lane_loaded, raw_reply, vector_at}
+use Rattle.wasmi_core.specs.RegisterEffects.{SetsRegister, StoresVectorAt, given_vector, of_one, of_two, of_three, vector_loaded, lane_loaded, raw_reply, vector_at}
 use Rattle.wasmi_core.specs.ValueEffects.{CreatesSegment, DropsItemsAt, CreatesGlobal, SetsGlobalAt, global_reply}
 
 -- what a call is about
@@ -45,7 +45,7 @@ pub data Subject : Type 0 where
   Tables : Subject
   Values : Subject
   RegisterFile : Subject
-  Vectors : Subject
+  VectorAccesses : Subject
 
 -- what each call is about: a line for each
 abbrev pub subject_of : Call → Subject
@@ -83,10 +83,10 @@ subject_of (call.Test op a) = RegisterFile
 subject_of (call.Extract op a) = RegisterFile
 subject_of (call.Replace op dst a item) = RegisterFile
 subject_of (call.Shuffle dst a b lanes) = RegisterFile
-subject_of (call.VectorLoad op dst k ptr offset) = Vectors
-subject_of (call.LoadLane op dst a k ptr offset) = Vectors
-subject_of (call.VectorStore a k ptr offset) = Vectors
-subject_of (call.StoreLane op a k ptr offset) = Vectors
+subject_of (call.VectorLoad op dst k ptr offset) = VectorAccesses
+subject_of (call.LoadLane op dst a k ptr offset) = VectorAccesses
+subject_of (call.VectorStore a k ptr offset) = VectorAccesses
+subject_of (call.StoreLane op a k ptr offset) = VectorAccesses
 
 -- the calls that are charged for what they write: growths, and those that write over a part of a table
 abbrev pub is_charged : Call → Bool
@@ -179,55 +179,55 @@ effect_of s (call.StoreLane op a k ptr offset) =
     Changed (BytesStored k (ptr + offset) (option_map (stored_lane op) (vector_at s.registers a)))
 
 -- one part of the state changes: a line for each kind
-abbrev pub TakesChange : Change → State → Reply → State → Type 0
-TakesChange (BytesWritten k offset bytes) s = ChangesPart (with_memories s) (WritesMemoryAt k offset bytes s.memories)
-TakesChange (BytesStored k a stored) s = ChangesPart (with_memories s) (StoresVectorAt k a stored s.memories)
-TakesChange (RegisterSet dst given) s = ChangesPart (with_registers s) (TakesRegister dst given s.registers)
-TakesChange (MemoryDropped k) s = ChangesPart (with_memories s) (DropsAt byte_count k s.memories)
-TakesChange (TableDropped k) s = ChangesPart (with_tables s) (DropsAt size_of k s.tables)
-TakesChange (ElementSet k index value) s = ChangesPart (with_tables s) (SetsElementAt k index value s.tables)
-TakesChange (SegmentMade ty items) s = ChangesPart (with_segments s) (CreatesSegment ty items s.segments)
-TakesChange (ItemsDropped k) s = ChangesPart (with_segments s) (DropsItemsAt k s.segments)
-TakesChange (GlobalMade global) s = ChangesPart (with_globals s) (CreatesGlobal global s.globals)
-TakesChange (GlobalSet k value) s = ChangesPart (with_globals s) (SetsGlobalAt k value s.globals)
+abbrev pub HasChange : Change → State → Reply → State → Type 0
+HasChange (BytesWritten k offset bytes) s = ChangesPart (with_memories s) (WritesMemoryAt k offset bytes s.memories)
+HasChange (BytesStored k a stored) s = ChangesPart (with_memories s) (StoresVectorAt k a stored s.memories)
+HasChange (RegisterSet dst given) s = ChangesPart (with_registers s) (SetsRegister dst given s.registers)
+HasChange (MemoryDropped k) s = ChangesPart (with_memories s) (DropsAt byte_count k s.memories)
+HasChange (TableDropped k) s = ChangesPart (with_tables s) (DropsAt size_of k s.tables)
+HasChange (ElementSet k index value) s = ChangesPart (with_tables s) (SetsElementAt k index value s.tables)
+HasChange (SegmentMade ty items) s = ChangesPart (with_segments s) (CreatesSegment ty items s.segments)
+HasChange (ItemsDropped k) s = ChangesPart (with_segments s) (DropsItemsAt k s.segments)
+HasChange (GlobalMade global) s = ChangesPart (with_globals s) (CreatesGlobal global s.globals)
+HasChange (GlobalSet k value) s = ChangesPart (with_globals s) (SetsGlobalAt k value s.globals)
 
 -- an effect takes place from one world to the next: a line for each kind
-abbrev pub TakesEffect : {S : Type 0} → Rules S → Effect → World S → Turn → World S → Type 0
-TakesEffect rules (Told told) w turn w' = OnlyReplies w turn w' (λ answer. answer ≡ told)
-TakesEffect rules (BytesRead k offset len) w turn w' =
+abbrev pub HasEffect : {S : Type 0} → Rules S → Effect → World S → Turn → World S → Type 0
+HasEffect rules (Told told) w turn w' = OnlyReplies w turn w' (λ answer. answer ≡ told)
+HasEffect rules (BytesRead k offset len) w turn w' =
     OnlyReplies w turn w' (ReadsMemoryAt k offset len w.state.memories)
-TakesEffect rules (FuelSet fuel) w turn w' = Changes w turn w' (SetsFuel fuel w.state)
-TakesEffect rules (Changed change) w turn w' = Changes w turn w' (TakesChange change w.state)
-TakesEffect rules (MemoryMade ty) w turn w' =
+HasEffect rules (FuelSet fuel) w turn w' = Changes w turn w' (SetsFuel fuel w.state)
+HasEffect rules (Changed change) w turn w' = Changes w turn w' (HasChange change w.state)
+HasEffect rules (MemoryMade ty) w turn w' =
     Asks w turn w' (with_memories w.state) (Creates reply.Memory (MakesMemory rules Owned ty) w.state.memories)
-TakesEffect rules (LentMemoryMade ty) w turn w' =
+HasEffect rules (LentMemoryMade ty) w turn w' =
     Asks w turn w' (with_memory_part w.state) (CreatesLent rules ty (memory_part w.state))
-TakesEffect rules (MemoryGrown k pages) w turn w' =
+HasEffect rules (MemoryGrown k pages) w turn w' =
     ActsMetered w turn w' w.state.memories (with_memories w.state)
     (ActsAt k (reply_of reply.Number reply.Memory) (GrowsMemoryCharging rules pages))
     (bytes_appended (live_at w.state.memories k) pages)
-TakesEffect rules (TableMade ty init) w turn w' =
+HasEffect rules (TableMade ty init) w turn w' =
     Asks w turn w' (with_tables w.state) (Creates reply.Table (MakesTable rules ty init) w.state.tables)
-TakesEffect rules (TableGrown k n init) w turn w' =
+HasEffect rules (TableGrown k n init) w turn w' =
     ActsMetered w turn w' w.state.tables (with_tables w.state)
     (ActsAt k (reply_of reply.Number reply.Table) (GrowsTableCharging rules n init)) (element_bytes n)
-TakesEffect rules (RangeWritten k source dst len) w turn w' =
+HasEffect rules (RangeWritten k source dst len) w turn w' =
     ActsMeteredUnasked w turn w' w.state.tables (with_tables w.state) (WritesRangeAt k (write_of source dst len))
     (element_bytes len)
 
 -- a step from one world to the next: the effect of the turn's call takes place
 abbrev pub Step : {S : Type 0} → Rules S → World S → Turn → World S → Type 0
-Step rules w turn w' = TakesEffect rules (effect_of w.state turn.call) w turn w'
+Step rules w turn w' = HasEffect rules (effect_of w.state turn.call) w turn w'
 
 -- a call is answered by a reply: there is a step by it, with some charge and some bytes written
-abbrev pub Answers : {S : Type 0} → Rules S → Call → World S → Reply → World S → Type 0
-Answers rules call w reply w' =
+abbrev pub RepliesWith : {S : Type 0} → Rules S → Call → World S → Reply → World S → Type 0
+RepliesWith rules call w reply w' =
     (charge : ℕ) × (written : ℕ)
     × Step rules w (record { call = call; reply = reply; charge = charge; written = written }) w'
 
 -- a call is answered by a reply without the limiter, whatever the limiter is, in a step that charges and writes nothing
-abbrev pub AnswersAlone : {S : Type 0} → Rules S → Call → State → Reply → State → Type 0
-AnswersAlone {S} rules call s reply s' =
+abbrev pub RepliesWithoutLimiter : {S : Type 0} → Rules S → Call → State → Reply → State → Type 0
+RepliesWithoutLimiter {S} rules call s reply s' =
     (limiter : S)
     → Step rules (world s limiter) (record { call = call; reply = reply; charge = 0; written = 0 })
     (world s' limiter)

@@ -30,16 +30,16 @@ SetsElementAt k index value slots reply slots' = ChangesAt k slots reply slots'
     × (reply ≡ reply_of (λ _. Done) Table result))
 
 -- tables, and the meter that is charged
-abbrev pub Metered : Type 0
-Metered = MeteredValue (List (Slot TableValue)) (Unit {0})
+abbrev pub MeteredTables : Type 0
+MeteredTables = MeteredValue (List (Slot TableValue)) (Unit {0})
 
 -- a part of the table of an index is written over, with its charge
-abbrev pub WritesTableAt : ℕ → (TableValue → TableWrite) → Metered → Reply → ℕ → Metered → Type 0
+abbrev pub WritesTableAt : ℕ → (TableValue → TableWrite) → MeteredTables → Reply → ℕ → MeteredTables → Type 0
 WritesTableAt k write = ActsAt k (reply_of (λ _. Done) Table) (WritesTableCharging write)
 
 -- a part of the table of an index is written over with what a source has, with its charge; without a source the reply
 -- is `NoSuch`, and nothing has changed
-abbrev pub WritesTableFrom : {X : Type 0} → Option X → ℕ → (X → TableValue → TableWrite) → Metered → Reply → ℕ → Metered
+abbrev pub WritesTableFrom : {X : Type 0} → Option X → ℕ → (X → TableValue → TableWrite) → MeteredTables → Reply → ℕ → MeteredTables
     → Type 0
 WritesTableFrom source k write s reply charge s' =
     OnLive source (IsNoSuch s reply charge s') (λ x. WritesTableAt k (write x) s reply charge s')
@@ -68,7 +68,7 @@ write_of (OfTable source src) dst len = option_map (copy_of dst src len) source
 write_of (OfSegment segment src) dst len = option_map (initialization_of dst src len) segment
 
 -- a range of a table is written over by such a write, if there is one
-abbrev pub WritesRangeAt : ℕ → Option (TableValue → TableWrite) → Metered → Reply → ℕ → Metered → Type 0
+abbrev pub WritesRangeAt : ℕ → Option (TableValue → TableWrite) → MeteredTables → Reply → ℕ → MeteredTables → Type 0
 WritesRangeAt k write = WritesTableFrom write k (λ w. w)
 
 -- the bytes that an accepted call on so many elements has written

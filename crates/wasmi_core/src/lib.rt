@@ -1,4 +1,4 @@
-//! Metered WebAssembly memories and tables under a resource limiter, and a machine that runs lists
+//! MeteredTables WebAssembly memories and tables under a resource limiter, and a machine that runs lists
 //! of calls on them.
 #![tactic(auto)]
 

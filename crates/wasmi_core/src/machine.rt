@@ -51,7 +51,7 @@ impl<'r> Machine<'r> {
     pub fn new(alloc: Allocator, fuel: Fuel) -> Machine<'r>
         ensures { result ≡ new_state fuel }
     {
-        Machine::with_nothing(alloc, fuel, None)
+        Machine::empty(alloc, fuel, None)
     }
 
     /// A machine with this meter and this spare region, on which nothing was made yet. It takes no
@@ -59,11 +59,11 @@ impl<'r> Machine<'r> {
     pub fn with_region(alloc: Allocator, fuel: Fuel, region: &'r mut [u8]) -> Machine<'r>
         ensures { result ≡ with_spare (new_state fuel) region.entry.now }
     {
-        Machine::with_nothing(alloc, fuel, Some(region))
+        Machine::empty(alloc, fuel, Some(region))
     }
 
     /// A machine with this meter, and with this spare region if there is one.
-    fn with_nothing(alloc: Allocator, fuel: Fuel, spare: Option<&'r mut [u8]>) -> Machine<'r>
+    fn empty(alloc: Allocator, fuel: Fuel, spare: Option<&'r mut [u8]>) -> Machine<'r>
         ensures { result ≡ record (new_state fuel) { spare = option_copied_mut spare.entry } }
     {
         let store = Store {

@@ -11,7 +11,7 @@ ghost use Rattle.wasmi_ops.specs.TernaryOps.{ternary_vector};
 ghost use Rattle.wasmi_ops.specs.TestOps.{tested_raw};
 ghost use Rattle.wasmi_ops.specs.UnaryOps.{unary_vector};
 ghost use Rattle.wasmi_ops.specs.RawResults.{as_raw};
-ghost use Rattle.wasmi_core.specs.RegisterEffects.{TakesRegister, given_vector, of_one, of_two, of_three, raw_reply, vector_at, vector_loaded, lane_loaded};
+ghost use Rattle.wasmi_core.specs.RegisterEffects.{SetsRegister, given_vector, of_one, of_two, of_three, raw_reply, vector_at, vector_loaded, lane_loaded};
 
 use crate::calls::Reply;
 use wasmi_lanes::ImmLaneIdx32;
@@ -48,7 +48,7 @@ impl Registers {
 
     /// Sets a register.
     pub(crate) fn set(&mut self, dst: u8, value: RawVal) -> Reply
-        ensures { TakesRegister dst (Some (Ok value)) self.old.values result self.new.values }
+        ensures { SetsRegister dst (Some (Ok value)) self.old.values result self.new.values }
     {
         let index = usize::from(dst);
         if index >= self.values.len() {
@@ -60,7 +60,7 @@ impl Registers {
 
     /// Sets a register to a vector that was loaded, or keeps it where the load has trapped.
     fn set_loaded(&mut self, dst: u8, vector: Result<V128, TrapCode>) -> Reply
-        ensures { TakesRegister dst
+        ensures { SetsRegister dst
             (Some (as_raw raw_of_vector vector)) self.old.values result self.new.values }
     {
         match vector {
@@ -79,7 +79,7 @@ impl Registers {
 
     /// Makes a vector of an item.
     pub(crate) fn make(&mut self, op: MakeOp, dst: u8, a: u8) -> Reply
-        ensures { TakesRegister dst
+        ensures { SetsRegister dst
             (option_map (λ raw. given_vector (made_vector op raw)) (slice_get self.old.values a))
             self.old.values result self.new.values }
     {
@@ -91,7 +91,7 @@ impl Registers {
 
     /// An instruction of one vector.
     pub(crate) fn unary(&mut self, op: UnaryOp, dst: u8, a: u8) -> Reply
-        ensures { TakesRegister dst
+        ensures { SetsRegister dst
             (of_one (unary_vector op) (vector_at self.old.values a)) self.old.values result
             self.new.values }
     {
@@ -103,7 +103,7 @@ impl Registers {
 
     /// An instruction of two vectors.
     pub(crate) fn binary(&mut self, op: BinaryOp, dst: u8, a: u8, b: u8) -> Reply
-        ensures { TakesRegister dst
+        ensures { SetsRegister dst
             (of_two (binary_vector op) (vector_at self.old.values a) (vector_at self.old.values b))
             self.old.values result self.new.values }
     {
@@ -115,7 +115,7 @@ impl Registers {
 
     /// An instruction of three vectors.
     pub(crate) fn ternary(&mut self, op: TernaryOp, dst: u8, a: u8, b: u8, c: u8) -> Reply
-        ensures { TakesRegister dst
+        ensures { SetsRegister dst
             (of_three (ternary_vector op) (vector_at self.old.values a)
             (vector_at self.old.values b) (vector_at self.old.values c)) self.old.values result
             self.new.values }
@@ -128,7 +128,7 @@ impl Registers {
 
     /// A shift of the lanes of a vector.
     pub(crate) fn shift(&mut self, op: ShiftOp, dst: u8, a: u8, amount: u32) -> Reply
-        ensures { TakesRegister dst
+        ensures { SetsRegister dst
             (of_one (λ v. shifted_vector op v amount) (vector_at self.old.values a)) self.old.values
             result self.new.values }
     {
@@ -160,7 +160,7 @@ impl Registers {
 
     /// A vector with an item in a lane.
     pub(crate) fn replace(&mut self, op: ReplaceOp, dst: u8, a: u8, item: u8) -> Reply
-        ensures { TakesRegister dst
+        ensures { SetsRegister dst
             (option_and_then
             (λ raw. of_one (λ v. replaced_vector op v raw) (vector_at self.old.values a))
             (slice_get self.old.values item)) self.old.values result self.new.values }
@@ -173,7 +173,7 @@ impl Registers {
 
     /// Bytes of two vectors.
     pub(crate) fn shuffle(&mut self, dst: u8, a: u8, b: u8, lanes: [ImmLaneIdx32; 16]) -> Reply
-        ensures { TakesRegister dst
+        ensures { SetsRegister dst
             (of_two (λ x y. shuffle x y lanes) (vector_at self.old.values a)
             (vector_at self.old.values b)) self.old.values result self.new.values }
     {
@@ -192,7 +192,7 @@ impl Registers {
         ptr: u64,
         offset: u64,
     ) -> Reply
-        ensures { TakesRegister dst (vector_loaded op (ptr + offset) (option_copied memory.entry))
+        ensures { SetsRegister dst (vector_loaded op (ptr + offset) (option_copied memory.entry))
             self.old.values result self.new.values }
     {
         let Some(memory) = memory else {
@@ -211,7 +211,7 @@ impl Registers {
         ptr: u64,
         offset: u64,
     ) -> Reply
-        ensures { TakesRegister dst
+        ensures { SetsRegister dst
             (lane_loaded op (ptr + offset) (vector_at self.old.values a)
             (option_copied memory.entry)) self.old.values result self.new.values }
     {

@@ -5,7 +5,7 @@ ghost use Rattle.wasmi_meter.specs.LimiterRef.{lent_limiter, KeepsLoan};
 ghost use Rattle.wasmi_core.specs.Validity.{IsValid};
 ghost use Rattle.wasmi_core.specs.World.{world};
 ghost use Rattle.wasmi_core.specs.Runs.{IsRunOf};
-ghost use Rattle.wasmi_core.specs.Steps.{Answers};
+ghost use Rattle.wasmi_core.specs.Steps.{RepliesWith};
 ghost use Rattle.wasmi_core.specs.Totals.{HoldsTotals};
 ghost use Rattle.wasmi_core.specs.declared.calls.Call.TheVariants.{GrowMemory};
 
@@ -23,7 +23,7 @@ impl<'r> Machine<'r> {
         limiter: &mut ResourceLimiterRef<L>,
     ) -> Reply
         ensures loan { KeepsLoan limiter.old limiter.new }
-        ensures step { Answers (optional_rules L.rules) call.now
+        ensures step { RepliesWith (optional_rules L.rules) call.now
             (world self.old (lent_limiter limiter.old)) result
             (world self.new (lent_limiter limiter.new)) }
         ensures valid { IsValid self.new }
@@ -45,7 +45,7 @@ impl<'r> Machine<'r> {
         limiter: &mut ResourceLimiterRef<L>,
     ) -> Reply
         ensures loan { KeepsLoan limiter.old limiter.new }
-        ensures step { Answers (optional_rules L.rules) (GrowMemory memory pages)
+        ensures step { RepliesWith (optional_rules L.rules) (GrowMemory memory pages)
             (world self.old (lent_limiter limiter.old)) result
             (world self.new (lent_limiter limiter.new)) }
         ensures valid { IsValid self.new }
@@ -62,7 +62,7 @@ impl<'r> Machine<'r> {
         pages: u64,
         limiter: &mut L,
     ) -> Reply
-        ensures step { Answers (optional_rules L.rules) (GrowMemory memory pages)
+        ensures step { RepliesWith (optional_rules L.rules) (GrowMemory memory pages)
             (world self.old (Some limiter.old)) result (world self.new (Some limiter.new)) }
         ensures valid { IsValid self.new }
     {
@@ -78,7 +78,7 @@ impl<'r> Machine<'r> {
     /// Own: upstream leaves running to the interpreter.
     #[inline(always)]
     pub fn step_lending<L: ResourceLimiter>(&mut self, call: &Call, limiter: &mut L) -> Reply
-        ensures step { Answers (optional_rules L.rules) call.now
+        ensures step { RepliesWith (optional_rules L.rules) call.now
             (world self.old (Some limiter.old)) result (world self.new (Some limiter.new)) }
         ensures valid { IsValid self.new }
     {

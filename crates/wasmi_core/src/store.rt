@@ -49,7 +49,7 @@ impl<'r> Model for Store<'r> {
 
 impl<'r> Store<'r> {
     ghost use Rattle.wasmi_core.specs.FuelEffects.{SetsFuel, get_fuel_reply};
-    ghost use Rattle.wasmi_core.specs.Steps.{Answers, AnswersAlone, subject_of, Memories, Tables, RegisterFile, Vectors};
+    ghost use Rattle.wasmi_core.specs.Steps.{RepliesWith, RepliesWithoutLimiter, subject_of, Memories, Tables, RegisterFile, VectorAccesses};
     ghost use Rattle.wasmi_core.specs.World.{world};
     ghost use Rattle.wasmi_core.specs.declared.calls.Call.TheVariants.{GrowMemory};
 
@@ -78,7 +78,7 @@ impl<'r> Store<'r> {
         limiter: &mut ResourceLimiterRef<L>,
     ) -> Reply
         ensures loan { KeepsLoan limiter.old limiter.new }
-        ensures step { Answers (optional_rules L.rules) (GrowMemory memory pages)
+        ensures step { RepliesWith (optional_rules L.rules) (GrowMemory memory pages)
             (world self.old (lent_limiter limiter.old)) result
             (world self.new (lent_limiter limiter.new)) }
     {
@@ -93,7 +93,7 @@ impl<'r> Store<'r> {
         limiter: &mut ResourceLimiterRef<L>,
     ) -> Reply
         ensures loan { KeepsLoan limiter.old limiter.new }
-        ensures step { Answers (optional_rules L.rules) call.now
+        ensures step { RepliesWith (optional_rules L.rules) call.now
             (world self.old (lent_limiter limiter.old)) result
             (world self.new (lent_limiter limiter.new)) }
     {
@@ -139,7 +139,7 @@ impl<'r> Store<'r> {
     ) -> Reply
         requires subject { subject_of call.now ≡ Memories }
         ensures loan { KeepsLoan limiter.old limiter.new }
-        ensures step { Answers (optional_rules L.rules) call.now
+        ensures step { RepliesWith (optional_rules L.rules) call.now
             (world self.old (lent_limiter limiter.old)) result
             (world self.new (lent_limiter limiter.new)) }
     {
@@ -183,7 +183,7 @@ impl<'r> Store<'r> {
     ) -> Reply
         requires subject { subject_of call.now ≡ Tables }
         ensures loan { KeepsLoan limiter.old limiter.new }
-        ensures step { Answers (optional_rules L.rules) call.now
+        ensures step { RepliesWith (optional_rules L.rules) call.now
             (world self.old (lent_limiter limiter.old)) result
             (world self.new (lent_limiter limiter.new)) }
     {
@@ -241,7 +241,7 @@ impl<'r> Store<'r> {
     /// Executes one call on registers, which doesn't reach the limiter: only the contract has `L`.
     fn step_register<L: ResourceLimiter>(&mut self, call: &Call) -> Reply
         requires subject { subject_of call.now ≡ RegisterFile }
-        ensures step { AnswersAlone (optional_rules L.rules) call.now self.old result self.new }
+        ensures step { RepliesWithoutLimiter (optional_rules L.rules) call.now self.old result self.new }
     {
         match call {
             Call::SetRegister { dst, value } => self.registers.set(*dst, *value),
@@ -262,8 +262,8 @@ impl<'r> Store<'r> {
     /// Executes one load or store of a vector, which doesn't reach the limiter: only the contract
     /// names `L`.
     fn step_vector_access<L: ResourceLimiter>(&mut self, call: &Call) -> Reply
-        requires subject { subject_of call.now ≡ Vectors }
-        ensures step { AnswersAlone (optional_rules L.rules) call.now self.old result self.new }
+        requires subject { subject_of call.now ≡ VectorAccesses }
+        ensures step { RepliesWithoutLimiter (optional_rules L.rules) call.now self.old result self.new }
     {
         match call {
             Call::VectorLoad {

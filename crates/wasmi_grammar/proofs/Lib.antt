@@ -8,5 +8,5 @@ pub mod LimitWordsLemmas
 pub mod MemoryWordsLemmas
 pub mod TableWordsLemmas
 pub mod TextsLemmas
-pub mod SayingLemmas
+pub mod MeaningLemmas
 pub mod OneScriptLemmas

@@ -9,14 +9,14 @@ use Rattle.wasmi_grammar.specs.declared.script.Line.{Line}
 use Rattle.wasmi_grammar.specs.declared.script.Line.TheVariants.{Meter, Limiter, Region, As, Call as Command}
 use Rattle.wasmi_grammar.specs.declared.script.Script.{Script}
 use Rattle.wasmi_grammar.specs.Parts.{parts_in, calls_in}
-use Rattle.wasmi_grammar.specs.Lines.{AddsLine, AddsWords, TakesLine, TakesLines, AreTaken, calls_of, lines_in}
+use Rattle.wasmi_grammar.specs.Lines.{AddsLine, AddsWords, AcceptsLine, AcceptsLines, AreTaken, calls_of, lines_in}
 use Rattle.wasmi_grammar.specs.Refusals.{IsBadLine, IsFirstBadLine}
 use Rattle.wasmi_grammar.proofs.PartsLemmas.{with_last}
 
 -- one line more
 pub one_more : (lines : List (List ℕ)) (line : List ℕ) (first middle last : Script)
-    → TakesLines lines first middle → TakesLine middle line last → TakesLines (lines ++ line ∷ []) first last
-one_more [] line first middle last same taken = (last, subst (λ s. TakesLine s line last) same taken, refl)
+    → AcceptsLines lines first middle → AcceptsLine middle line last → AcceptsLines (lines ++ line ∷ []) first last
+one_more [] line first middle last same taken = (last, subst (λ s. AcceptsLine s line last) same taken, refl)
 one_more (l ∷ lines) line first middle last before taken =
     (before.0, before.1, one_more lines line before.0 middle last before.2 taken)
 

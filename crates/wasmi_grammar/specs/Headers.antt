@@ -63,14 +63,14 @@ abbrev pub meter_off : Meter
 meter_off = record { left = None; costs = default_costs }
 
 -- the meter that a line asks for, with no fuel left yet
-abbrev pub meter_said : MeterLine → Meter
-meter_said Off = meter_off
-meter_said (On bytes_per_fuel) =
+abbrev pub meter_meaning : MeterLine → Meter
+meter_meaning Off = meter_off
+meter_meaning (On bytes_per_fuel) =
     record { left = Some 0; costs = record default_costs { bytes_copied_per_fuel = bytes_per_fuel } }
 
 -- the meter that a script starts with: off without a line that says more
 abbrev pub meter_of : Header → Meter
-meter_of header = option_map_or meter_said header.meter meter_off
+meter_of header = option_map_or meter_meaning header.meter meter_off
 
 -- the bytes of a region that a line asks for
 abbrev pub region_bytes : RegionLine → List ℕ

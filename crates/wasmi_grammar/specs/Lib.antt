@@ -6,4 +6,4 @@ pub mod Headers
 pub mod Parts
 pub mod Lines
 pub mod Refusals
-pub mod Sayings
+pub mod Meanings

@@ -76,14 +76,14 @@ AddsWords old words new =
     ⊎ ((line : Line) × NamesLine (word_at words 0) (drop 1 words) line × AddsLine old line new)
 
 -- a line of a script: a text, by its words
-abbrev pub TakesLine : Script → List ℕ → Script → Type 0
-TakesLine old line new =
+abbrev pub AcceptsLine : Script → List ℕ → Script → Type 0
+AcceptsLine old line new =
     IsUtf8 line × (words : LineWords) × (map (λ word. word.now) words ≡ words_in line) × AddsWords old words new
 
 -- lines taken one after the other
-abbrev pub TakesLines : List (List ℕ) → Script → Script → Type 0
-TakesLines [] old new = new ≡ old
-TakesLines (line ∷ lines) old new = (middle : Script) × TakesLine old line middle × TakesLines lines middle new
+abbrev pub AcceptsLines : List (List ℕ) → Script → Script → Type 0
+AcceptsLines [] old new = new ≡ old
+AcceptsLines (line ∷ lines) old new = (middle : Script) × AcceptsLine old line middle × AcceptsLines lines middle new
 
 -- the lines of a text, which line feeds separate
 unfoldable pub lines_in : List ℕ → List (List ℕ)
@@ -98,7 +98,7 @@ pub record IsNewScript (script : Script) : Type 0 where
 pub record AreTaken (texts : List (List ℕ)) (script : Script) : Type 0 where
   pub empty : Script
   pub is_new : IsNewScript empty
-  pub lines : TakesLines texts empty script
+  pub lines : AcceptsLines texts empty script
 
 -- the script that a text writes: what its lines make
 abbrev pub WritesScript : List ℕ → Script → Type 0

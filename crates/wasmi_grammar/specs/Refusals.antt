@@ -3,11 +3,11 @@ use Rattle.std.specs.Prelude.{◌≡◌, ◌+◌, ⊤, ℕ, List, ◌∷◌, ◌
 use Rattle.wasmi_grammar.specs.declared.error.ParseError.{ParseError}
 use Rattle.wasmi_grammar.specs.declared.error.ParseError.TheVariants.{BadCommand, OutOfMemory}
 use Rattle.wasmi_grammar.specs.declared.script.Script.{Script}
-use Rattle.wasmi_grammar.specs.Lines.{TakesLine, AreTaken, lines_in}
+use Rattle.wasmi_grammar.specs.Lines.{AcceptsLine, AreTaken, lines_in}
 
 -- a line that can't be taken after those before: it is no text, or its words, however they are held, add nothing
 abbrev pub IsBadLine : Script → List ℕ → Type 0
-IsBadLine script line = (new : Script) → ¬ (TakesLine script line new)
+IsBadLine script line = (new : Script) → ¬ (AcceptsLine script line new)
 
 -- the lines before this one, counted from 1, are taken, and this one adds nothing to them
 pub record IsFirstBadLine (text : List ℕ) (number : ℕ) : Type 0 where

@@ -1,6 +1,6 @@
 //! What holds of all texts and of the scripts that they write. These functions do nothing: each
 //! states a law as its contract.
-ghost use Rattle.wasmi_grammar.specs.Sayings.{FirstBadLinesAreOne, TextsWriteOneScript, WrittenTextsHaveNoBadLine};
+ghost use Rattle.wasmi_grammar.specs.Meanings.{FirstBadLinesAreOne, TextsWriteOneScript, WrittenTextsHaveNoBadLine};
 
 /// Two scripts that one text writes say the same: the same header lines, the same parts, the same
 /// last tenant and the same calls. A list counts by its items, however it is held.

@@ -84,8 +84,8 @@ module _ (tops k w top : ℕ) (fits : tops < 2 ^ 64) (starts : (k ≡ 0) ⊎ (bi
       ∙ ap (λ n. bit_and (bit_or ((bit_and n (2 ^ w - 1 - top) + (2 ^ w - 1 - top)) % 2 ^ w) n) top) (field_xor k w a b)
 
 -- a lane has a bit
-no_lane : {A : Type 0} (tops k : ℕ) → IsLane tops k 0 → A
-no_lane tops k lane = absurd (omega (arith, lane.top, field_lt k 0 tops))
+lane_has_a_bit : {A : Type 0} (tops k : ℕ) → IsLane tops k 0 → A
+lane_has_a_bit tops k lane = absurd (omega (arith, lane.top, field_lt k 0 tops))
 
 -- tops has in its lane of h + 1 bits the bit h alone
 top_is : (tops k h : ℕ) → IsLane tops k (suc h) → field k (suc h) tops ≡ 2 ^ h
@@ -101,7 +101,7 @@ beside_top h = omega (arith, pow-suc 2 h)
 pub add_lane : (tops k w a b : ℕ) → tops < 2 ^ 64 → IsLane tops k w →
     field k w (bit_xor ((bit_and a (2 ^ 64 - 1 - tops) + bit_and b (2 ^ 64 - 1 - tops)) % 2 ^ 64)
     (bit_and (bit_xor a b) tops)) ≡ (field k w a + field k w b) % 2 ^ w
-add_lane tops k zero a b fits lane = no_lane tops k lane
+add_lane tops k zero a b fits lane = lane_has_a_bit tops k lane
 add_lane tops k (suc h) a b fits lane =
     let x : ℕ = field k (suc h) a in
     let y : ℕ = field k (suc h) b in
@@ -113,7 +113,7 @@ add_lane tops k (suc h) a b fits lane =
 pub sub_lane : (tops k w a b : ℕ) → tops < 2 ^ 64 → b < 2 ^ 64 → IsLane tops k w →
     field k w (bit_xor ((bit_or a tops + (2 ^ 64 - bit_and b (2 ^ 64 - 1 - tops))) % 2 ^ 64)
     (bit_and (bit_xor a (2 ^ 64 - 1 - b)) tops)) ≡ (field k w a + (2 ^ w - field k w b)) % 2 ^ w
-sub_lane tops k zero a b fits fits_b lane = no_lane tops k lane
+sub_lane tops k zero a b fits fits_b lane = lane_has_a_bit tops k lane
 sub_lane tops k (suc h) a b fits fits_b lane =
     let x : ℕ = field k (suc h) a in
     let y : ℕ = field k (suc h) b in
@@ -127,7 +127,7 @@ pub differ_lane : (tops k w a b : ℕ) → tops < 2 ^ 64 → IsLane tops k w →
     field k w (bit_and
     (bit_or ((bit_and (bit_xor a b) (2 ^ 64 - 1 - tops) + (2 ^ 64 - 1 - tops)) % 2 ^ 64) (bit_xor a b)) tops)
     ≡ cond (eqb (field k w a) (field k w b)) 0 (2 ^ (w - 1))
-differ_lane tops k zero a b fits lane = no_lane tops k lane
+differ_lane tops k zero a b fits lane = lane_has_a_bit tops k lane
 differ_lane tops k (suc h) a b fits lane =
     let back : h ≡ suc h - 1 = omega arith in
     let x : ℕ = field k (suc h) a in

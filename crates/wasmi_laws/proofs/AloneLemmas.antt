@@ -11,7 +11,7 @@ use Rattle.wasmi_core.specs.declared.slots.Slot.TheVariants.{Live}
 use Rattle.wasmi_core.specs.Effects.{reply_of}
 use Rattle.wasmi_core.specs.MemoryEffects.{bytes_appended}
 use Rattle.wasmi_core.specs.State.{live_at}
-use Rattle.wasmi_core.specs.Steps.{Answers}
+use Rattle.wasmi_core.specs.Steps.{RepliesWith}
 use Rattle.wasmi_core.specs.TableEffects.{element_bytes}
 use Rattle.wasmi_core.specs.World.{World}
 use Rattle.wasmi_laws.specs.Alone.{MemoriesGrowAlike, TablesGrowAlike, MemoriesReadAlike, MemoriesWriteAlike}
@@ -50,8 +50,8 @@ module _ {S : Type 0} (rules : Rules S) where
   -- a read, by what is found of the memory
   read_by : (w : World S) (k offset len : ℕ) (x : MemoryValue) → live_at w.state.memories k ≡ Some x
       → (found : Option (List ℕ)) → at x.bytes offset len ≡ found
-      → MatchOption found (Answers rules (Read k offset len) w (Memory OutOfBoundsAccess) w)
-      (λ bytes. Answers rules (Read k offset len) w (Bytes bytes) w)
+      → MatchOption found (RepliesWith rules (Read k offset len) w (Memory OutOfBoundsAccess) w)
+      (λ bytes. RepliesWith rules (Read k offset len) w (Bytes bytes) w)
   read_by w k offset len x live None is =
       (0, 0, record { free = (refl, refl); effect = rw (live, is) refl; after = refl })
   read_by w k offset len x live (Some bytes) is =

@@ -5,10 +5,10 @@ use Rattle.std.specs.Option.{option_and_then, option_map}
 use Rattle.std.specs.Prelude.{All, slice_get, slice_set}
 use Rattle.wasmi_core.specs.Effects.{ChangesAt, ChangesItem, ChangesPart, DropsAt, OnLive, reply_of}
 use Rattle.wasmi_core.specs.MemoryEffects.{ReadsBytes, StoresMemory, WritesMemoryAt, load_reply}
-use Rattle.wasmi_core.specs.RegisterEffects.{StoresVectorAt, TakesAt, TakesRegister, given_vector, lane_loaded, of_one, of_three, of_two, raw_reply, vector_at, vector_loaded}
+use Rattle.wasmi_core.specs.RegisterEffects.{StoresVectorAt, SetsAt, SetsRegister, given_vector, lane_loaded, of_one, of_three, of_two, raw_reply, vector_at, vector_loaded}
 use Rattle.wasmi_core.specs.Runs.{Run}
 use Rattle.wasmi_core.specs.State.{State, live_at, live_value, with_globals, with_memories, with_registers, with_segments, with_tables}
-use Rattle.wasmi_core.specs.Steps.{BytesRead, BytesStored, BytesWritten, Change, Changed, Effect, ElementSet, GlobalMade, GlobalSet, ItemsDropped, MemoryDropped, RegisterSet, SegmentMade, Step, TableDropped, TakesChange, TakesEffect, Told, effect_of}
+use Rattle.wasmi_core.specs.Steps.{BytesRead, BytesStored, BytesWritten, Change, Changed, Effect, ElementSet, GlobalMade, GlobalSet, ItemsDropped, MemoryDropped, RegisterSet, SegmentMade, Step, TableDropped, HasChange, HasEffect, Told, effect_of}
 use Rattle.wasmi_core.specs.TableEffects.{SetsElementAt, element_reply}
 use Rattle.wasmi_core.specs.Totals.{byte_count}
 use Rattle.wasmi_core.specs.ValueEffects.{DropsItemsAt, SetsGlobalAt, global_reply}
@@ -238,8 +238,8 @@ store_moves k a slots reply slots' (Some stored) stores =
 module _ (dst : ℕ) (registers : List RawVal) (reply : Reply) (registers' : List RawVal) where
   -- so a register that takes what it is given
   register_moves_by : (given : Option (Result RawVal TrapCode)) (old : Option RawVal) → slice_get registers dst ≡ old
-      → TakesAt given old dst registers reply registers'
-      → ListMoves dst (TakesRegister dst given) registers reply registers'
+      → SetsAt given old dst registers reply registers'
+      → ListMoves dst (SetsRegister dst given) registers reply registers'
   register_moves_by None old is takes =
       record { put = None; after = takes.1; too = λ ys same. (takes.0, refl) }
   register_moves_by (Some given) None is takes =
@@ -250,8 +250,8 @@ module _ (dst : ℕ) (registers : List RawVal) (reply : Reply) (registers' : Lis
       record { put = None; after = takes.1; too = λ ys same. rw (same ∙ is) (takes.0, refl) }
 
   -- by what it has
-  register_moves : (given : Option (Result RawVal TrapCode)) → TakesRegister dst given registers reply registers'
-      → ListMoves dst (TakesRegister dst given) registers reply registers'
+  register_moves : (given : Option (Result RawVal TrapCode)) → SetsRegister dst given registers reply registers'
+      → ListMoves dst (SetsRegister dst given) registers reply registers'
   register_moves given takes = register_moves_by given (slice_get registers dst) refl takes
 
 -- what is done to a state goes by what is at an index: each state with the same there is edited in the same way
@@ -378,7 +378,7 @@ IsLocalChange change = Unit {0}
 
 -- each such change goes by what is at its index
 change_moves : (s : State) (reply : Reply) (s' : State) (change : Change) → IsLocalChange change
-    → TakesChange change s reply s' → Moves (changed_by change) (λ t t'. TakesChange change t reply t') s s'
+    → HasChange change s reply s' → Moves (changed_by change) (λ t t'. HasChange change t reply t') s s'
 change_moves s reply s' (BytesWritten k offset bytes) local c =
     part_moves _ (the_memory k) (WritesMemoryAt k offset bytes) s reply s' c
     (slot_moves k _ s.memories reply c.part c.effect)
@@ -386,7 +386,7 @@ change_moves s reply s' (BytesStored k a stored) local c =
     part_moves _ (the_memory k) (StoresVectorAt k a stored) s reply s' c
     (store_moves k a s.memories reply c.part stored c.effect)
 change_moves s reply s' (RegisterSet dst given) local c =
-    part_moves _ (the_register dst) (TakesRegister dst given) s reply s' c
+    part_moves _ (the_register dst) (SetsRegister dst given) s reply s' c
     (register_moves dst s.registers reply c.part given c.effect)
 change_moves s reply s' (MemoryDropped k) local c =
     part_moves _ (the_memory k) (DropsAt byte_count k) s reply s' c
@@ -430,8 +430,8 @@ record TurnMoves {S : Type 0} (Becomes : World S → World S → Type 0) (change
 
 module _ {S : Type 0} (rules : Rules S) (w : World S) (turn : Turn) (w' : World S) where
   -- a local effect
-  effect_moves : (effect : Effect) → IsLocalEffect effect → TakesEffect rules effect w turn w'
-      → TurnMoves (λ u u'. TakesEffect rules effect u turn u') (changed_in effect) (read_in effect) w w'
+  effect_moves : (effect : Effect) → IsLocalEffect effect → HasEffect rules effect w turn w'
+      → TurnMoves (λ u u'. HasEffect rules effect u turn u') (changed_in effect) (read_in effect) w w'
   effect_moves (Told told) local step = record {
     edit = Keep;
     here = tt;
@@ -544,7 +544,7 @@ module _ {S : Type 0} (rules : Rules S) where
         edit = moves.edit;
         here = subst (λ l. IsEditAt l moves.edit) changed moves.here;
         after = moves.after;
-        too = λ u same reads. subst (λ effect. TakesEffect rules effect u turn (record u {
+        too = λ u same reads. subst (λ effect. HasEffect rules effect u turn (record u {
           state = edited moves.edit
               u.state;
         })) (sym (same_effect w.state u.state turn.call local reads))

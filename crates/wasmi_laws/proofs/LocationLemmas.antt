@@ -5,9 +5,9 @@ use Rattle.std.specs.Prelude.{slice_get}
 use Rattle.wasmi_core.proofs.EffectLemmas.{on_live}
 use Rattle.wasmi_core.specs.Effects.{reply_of}
 use Rattle.wasmi_core.specs.MemoryEffects.{CreatesLent}
-use Rattle.wasmi_core.specs.RegisterEffects.{StoresVectorAt, TakesAt}
+use Rattle.wasmi_core.specs.RegisterEffects.{StoresVectorAt, SetsAt}
 use Rattle.wasmi_core.specs.State.{MemoryPart, State, memory_part, with_globals, with_registers, with_segments}
-use Rattle.wasmi_core.specs.Steps.{BytesRead, BytesStored, BytesWritten, Change, Changed, Effect, ElementSet, FuelSet, GlobalMade, GlobalSet, ItemsDropped, LentMemoryMade, MemoryDropped, MemoryGrown, MemoryMade, RangeWritten, RegisterSet, SegmentMade, Step, TableDropped, TableGrown, TableMade, TakesChange, TakesEffect, Told, effect_of}
+use Rattle.wasmi_core.specs.Steps.{BytesRead, BytesStored, BytesWritten, Change, Changed, Effect, ElementSet, FuelSet, GlobalMade, GlobalSet, ItemsDropped, LentMemoryMade, MemoryDropped, MemoryGrown, MemoryMade, RangeWritten, RegisterSet, SegmentMade, Step, TableDropped, TableGrown, TableMade, HasChange, HasEffect, Told, effect_of}
 use Rattle.wasmi_core.specs.TableEffects.{Metered, WritesRangeAt, write_of}
 use Rattle.wasmi_core.specs.Totals.{byte_count}
 use Rattle.wasmi_core.specs.ValueEffects.{CreatesGlobal, CreatesSegment}
@@ -243,7 +243,7 @@ stored_parts k a slots reply slots' (Some stored) stores =
 -- a register that takes what it is given
 register_parts : (given : Option (Result RawVal TrapCode)) (old : Option RawVal) (dst : ℕ) (registers : List RawVal)
     (reply : Reply) (registers' : List RawVal) → slice_get registers dst ≡ old
-    → TakesAt given old dst registers reply registers'
+    → SetsAt given old dst registers reply registers'
     → EachAfter (λ j. May (Some (RegisterAt dst)) None (RegisterAt j)) registers registers'
 register_parts None old dst registers reply registers' is takes = unchanged _ registers registers' takes.1
 register_parts (Some given) None dst registers reply registers' is takes = unchanged _ registers registers' takes.1
@@ -332,7 +332,7 @@ dropped_is s call = refl
 
 module _ (s : State) (reply : Reply) (s' : State) where
   -- what becomes of each part by a change
-  change_parts : (change : Change) → TakesChange change s reply s'
+  change_parts : (change : Change) → HasChange change s reply s'
       → EachPart (changed_by change) (dropped_by change) s s'
   change_parts (BytesWritten k offset bytes) c =
       subst (EachPart _ _ s) (sym c.after)
@@ -397,7 +397,7 @@ module _ {S : Type 0} (rules : Rules S) (w : World S) (turn : Turn) (w' : World 
       subst (λ (x : World S). EachPart changed dropped w.state x.state) (sym is) parts
 
   -- in a turn with this effect
-  effect_parts : (effect : Effect) → TakesEffect rules effect w turn w'
+  effect_parts : (effect : Effect) → HasEffect rules effect w turn w'
       → EachPart (changed_in effect) (dropped_in effect) w.state w'.state
   effect_parts (Told told) step = all_stay _ _ w.state w'.state (ap (λ (v : World S). v.state) step.after)
   effect_parts (BytesRead k offset len) step =

@@ -26,7 +26,7 @@ use Rattle.wasmi_core.specs.Determinism.{AcceptsNotices}
 use Rattle.wasmi_core.specs.Effects.{ActsAt, reply_of}
 use Rattle.wasmi_core.specs.Runs.{Run}
 use Rattle.wasmi_core.specs.State.{State, live_at}
-use Rattle.wasmi_core.specs.Steps.{BytesRead, BytesWritten, Change, Changed, Effect, FuelSet, LentMemoryMade, MemoryGrown, MemoryMade, RangeWritten, Step, TableGrown, TableMade, TakesChange, TakesEffect, Told, effect_of}
+use Rattle.wasmi_core.specs.Steps.{BytesRead, BytesWritten, Change, Changed, Effect, FuelSet, LentMemoryMade, MemoryGrown, MemoryMade, RangeWritten, Step, TableGrown, TableMade, HasChange, HasEffect, Told, effect_of}
 use Rattle.wasmi_core.specs.TableEffects.{WritesRangeAt, write_of}
 use Rattle.wasmi_core.specs.World.{Turn, World}
 use Rattle.wasmi_core.proofs.AccountLemmas.{Growing, after, before, growing, grows_takes, write_takes}
@@ -259,8 +259,8 @@ module _ (more : ℕ) where
   richer_state s = record s { meter = richer s.meter }
 
   -- a change of one part
-  change_richer : (change : Change) (s : State) (reply : Reply) (s' : State) → TakesChange change s reply s'
-      → TakesChange change (richer_state s) reply (richer_state s')
+  change_richer : (change : Change) (s : State) (reply : Reply) (s' : State) → HasChange change s reply s'
+      → HasChange change (richer_state s) reply (richer_state s')
   change_richer (BytesWritten k offset bytes) s reply s' changes =
       record { part = changes.part; effect = changes.effect; after = ap richer_state changes.after }
   change_richer change s reply s' changes =
@@ -289,8 +289,8 @@ module _ (more : ℕ) {S : Type 0} (rules : Rules S) (accepts : AcceptsNotices r
 
   module _ (w : World S) (turn : Turn) (w' : World S) (has : HasFuel turn.reply) where
     -- each effect
-    effect_richer : (effect : Effect) → KeepsFuel effect → TakesEffect rules effect w turn w'
-        → TakesEffect rules effect (richer_world w) turn (richer_world w')
+    effect_richer : (effect : Effect) → KeepsFuel effect → HasEffect rules effect w turn w'
+        → HasEffect rules effect (richer_world w) turn (richer_world w')
     effect_richer (Told told) keeps step =
         record { free = step.free; effect = step.effect; after = ap richer_world step.after }
     effect_richer (BytesRead k offset len) keeps step =
@@ -360,7 +360,7 @@ module _ (more : ℕ) {S : Type 0} (rules : Rules S) (accepts : AcceptsNotices r
     -- so each step
     step_richer : NamesNoFuel turn.call → Step rules w turn w' → Step rules (richer_world w) turn (richer_world w')
     step_richer other step =
-        subst (λ effect. TakesEffect rules effect (richer_world w) turn (richer_world w'))
+        subst (λ effect. HasEffect rules effect (richer_world w) turn (richer_world w'))
         (sym (same_effect w.state (richer more w.state.meter) turn.call other))
         (effect_richer (effect_of w.state turn.call) (keeps_fuel w.state turn.call other) step)
 

@@ -12,7 +12,7 @@ use Rattle.wasmi_core.proofs.MemoryEffectsLemmas.{stored_count}
 use Rattle.wasmi_core.specs.Effects.{reply_of}
 use Rattle.wasmi_core.specs.MemoryEffects.{StoresMemory, load_reply}
 use Rattle.wasmi_core.specs.State.{State, live_at, live_value}
-use Rattle.wasmi_core.specs.Steps.{Answers}
+use Rattle.wasmi_core.specs.Steps.{RepliesWith}
 use Rattle.wasmi_core.specs.World.{World}
 use Rattle.wasmi_core.specs.declared.calls.Call.TheVariants.{Store}
 use Rattle.wasmi_core.specs.declared.calls.Reply.TheVariants.{Done, NoSuch, Trap, Value}
@@ -97,7 +97,7 @@ module _ {S : Type 0} (rules : Rules S) (it : NumberStore) where
   bytes = stored_bytes it.op it.value
 
   -- by its step
-  stored_by : (t u : World S) → Answers rules (store_call it) t Done u → Stored it.memory address bytes t.state u.state
+  stored_by : (t u : World S) → RepliesWith rules (store_call it) t Done u → Stored it.memory address bytes t.state u.state
   stored_by t u (charge, written, step) =
       on_live (live_at t.state.memories it.memory) _ _ step.effect.effect
       (λ missing. absurd (none_done missing.0))

@@ -27,13 +27,13 @@ use Rattle.wasmi_core.specs.declared.calls.Reply.{Reply}
 use Rattle.wasmi_core.specs.declared.calls.Reply.TheVariants as replied
 use Rattle.wasmi_core.specs.declared.slots.Slot.{Slot}
 use Rattle.wasmi_core.specs.declared.slots.Slot.TheVariants.{Live}
-use Rattle.wasmi_core.specs.Determinism.{IsNoWant}
+use Rattle.wasmi_core.specs.Determinism.{FailsWithMemory}
 use Rattle.wasmi_core.specs.Effects.{ActsAt, AddsEntry, Creates, reply_of}
 use Rattle.wasmi_core.specs.Exchange.{AsksFor, At, Denial, Exchange, New, Nothing, Notice, Nowhere, Passes, Permission, failed_reply, place_of, question_of}
 use Rattle.wasmi_core.specs.Laws.{Keeps, KeepsMeter, KeepsSpare}
 use Rattle.wasmi_core.specs.MemoryEffects.{CreatesLent, spare_after}
 use Rattle.wasmi_core.specs.State.{MemoryPart, State, live_at, memory_part}
-use Rattle.wasmi_core.specs.Steps.{Effect, LentMemoryMade, MemoryGrown, MemoryMade, Step, TableGrown, TableMade, TakesEffect, effect_of}
+use Rattle.wasmi_core.specs.Steps.{Effect, LentMemoryMade, MemoryGrown, MemoryMade, Step, TableGrown, TableMade, HasEffect, effect_of}
 use Rattle.wasmi_core.specs.World.{IsRefusal, Turn, World}
 use Rattle.wasmi_core.proofs.EffectLemmas.{Creation, on_live}
 use Rattle.wasmi_core.proofs.ExchangeLemmas.{growths_are_permitted}
@@ -243,7 +243,7 @@ module _ {S : Type 0} (rules : Rules S) where
 
   module _ (w : World S) (turn : Turn) (w' : World S) (plain : IsPlainRefusal turn.reply) where
     -- the limiter stays, by each effect
-    limiter_stays : (effect : Effect) → TakesEffect rules effect w turn w' → w'.limiter ≡ w.limiter
+    limiter_stays : (effect : Effect) → HasEffect rules effect w turn w' → w'.limiter ≡ w.limiter
     limiter_stays (MemoryMade ty) step =
         ap (λ (v : World S). v.limiter) step.after
         ∙ creates_unasked rules replied.Memory (memory.creation_of Owned ty) (memory_made_loud Owned ty)
@@ -276,15 +276,15 @@ module _ {S : Type 0} (rules : Rules S) where
     spare_stays : (call : Call) → turn.call ≡ call → Step rules w turn w'
         → KeepsSpare call turn.reply w.state w'.state → w'.state.spare ≡ w.state.spare
     spare_stays (NewLentMemory ty) is step keeps =
-        let made : TakesEffect rules (LentMemoryMade ty) w turn w' =
-        subst (λ call. TakesEffect rules (effect_of w.state call) w turn w') is step
+        let made : HasEffect rules (LentMemoryMade ty) w turn w' =
+        subst (λ call. HasEffect rules (effect_of w.state call) w turn w') is step
         in
         ap (λ (v : World S). v.state.spare) made.after
         ∙ (lent_unasked ty (memory_part w.state) w.limiter turn.reply made.part made.limiter made.effect plain).1
     spare_stays call is step keeps = keeps
 
 -- a growth that fails after its charge has no plain refusal
-want_loud : (failure : Failure) (notice_answer : NoticeAnswer) → (IsNoWant failure → ⊥)
+want_loud : (failure : Failure) (notice_answer : NoticeAnswer) → (FailsWithMemory failure → ⊥)
     → IsLoud (failed_reply failure notice_answer)
 want_loud (MemoryFailure error) (Err _) wants plain = plain
 want_loud (TableFailure error) (Err _) wants plain = plain

@@ -15,7 +15,7 @@ use Rattle.wasmi_core.specs.declared.calls.Reply.TheVariants.{Bytes, Done, Memor
 use Rattle.wasmi_core.specs.declared.slots.Slot.TheVariants.{Live}
 use Rattle.wasmi_core.specs.Effects.{reply_of}
 use Rattle.wasmi_core.specs.State.{State, live_at, with_memories, with_tables}
-use Rattle.wasmi_core.specs.Steps.{Answers}
+use Rattle.wasmi_core.specs.Steps.{RepliesWith}
 use Rattle.wasmi_core.specs.World.{World, world}
 
 -- the state with this memory at an index
@@ -39,7 +39,7 @@ module _ {S : Type 0} (rules : Rules S) where
       → live_at w.state.memories k ≡ Some x
       → GrowsMemory rules pages (metered_value x (Some w.state.meter) w.limiter) result
       (metered_value x' (Some m') l')
-      → Answers rules (GrowMemory k pages) w (reply_of Number Memory result)
+      → RepliesWith rules (GrowMemory k pages) w (reply_of Number Memory result)
       (world (with_meter (with_memory_at w.state k x') m') l')
 
   -- a table that grows by itself grows as the one at an index of a machine does, with the same reply
@@ -49,20 +49,20 @@ module _ {S : Type 0} (rules : Rules S) where
       (l' : S) → live_at w.state.tables k ≡ Some x
       → GrowsTable rules n init (metered_value x (Some w.state.meter) w.limiter) result
       (metered_value x' (Some m') l')
-      → Answers rules (GrowTable k n init) w (reply_of Number Table result)
+      → RepliesWith rules (GrowTable k n init) w (reply_of Number Table result)
       (world (with_meter (with_table_at w.state k x') m') l')
 
   -- bytes that are read of a memory by itself are those that the machine answers, and a read past its end is refused
   abbrev pub MemoriesReadAlike : Type 0
   MemoriesReadAlike =
       (w : World S) (k offset len : ℕ) (x : MemoryValue) → live_at w.state.memories k ≡ Some x
-      → MatchOption (at x.bytes offset len) (Answers rules (Read k offset len) w (Memory OutOfBoundsAccess) w)
-      (λ bytes. Answers rules (Read k offset len) w (Bytes bytes) w)
+      → MatchOption (at x.bytes offset len) (RepliesWith rules (Read k offset len) w (Memory OutOfBoundsAccess) w)
+      (λ bytes. RepliesWith rules (Read k offset len) w (Bytes bytes) w)
 
   -- bytes that are written over those of a memory by itself are written by the machine's call, or refused by it
   abbrev pub MemoriesWriteAlike : Type 0
   MemoriesWriteAlike =
       (w : World S) (k offset : ℕ) (bytes : Vec ℕ _) (x x' : MemoryValue) (result : Result (Unit {0}) MemoryError)
       → live_at w.state.memories k ≡ Some x → WritesMemory x offset bytes.items result x'
-      → Answers rules (Write k offset bytes) w (reply_of (λ _. Done) Memory result)
+      → RepliesWith rules (Write k offset bytes) w (reply_of (λ _. Done) Memory result)
       (world (with_memory_at w.state k x') w.limiter)

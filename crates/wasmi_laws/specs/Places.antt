@@ -21,7 +21,7 @@ use Rattle.wasmi_core.specs.declared.calls.Reply.{Reply}
 use Rattle.wasmi_core.specs.declared.calls.Reply.TheVariants.{Done, Value}
 use Rattle.wasmi_core.specs.State.{State, live_at}
 use Rattle.wasmi_core.specs.World.{World, Turn}
-use Rattle.wasmi_core.specs.Steps.{Step, Answers}
+use Rattle.wasmi_core.specs.Steps.{Step, RepliesWith}
 use Rattle.wasmi_core.specs.Runs.{Run}
 
 -- an index of a machine: of a memory, a table, an element segment or a global, by the order of their making, or of a
@@ -246,14 +246,14 @@ module _ {S : Type 0} (rules : Rules S) where
   abbrev pub StoresAreReadBack : Type 0
   StoresAreReadBack =
       (it : NumberStore) (t u v w : World S) (turns : List Turn) (reply : Reply)
-      → Answers rules (store_call it) t Done u → Run rules u turns v
-      → All (LeavesAlone (MemoryAt it.memory)) (map Turn.call turns) → Answers rules (load_call it) v reply w
+      → RepliesWith rules (store_call it) t Done u → Run rules u turns v
+      → All (LeavesAlone (MemoryAt it.memory)) (map Turn.call turns) → RepliesWith rules (load_call it) v reply w
       → (reply ≡ Value (stored_part it.op it.value)) × (w ≡ v)
 
   -- an accepted store keeps all other bytes of its memory, and how many there are
   abbrev pub StoresKeepOtherBytes : Type 0
   StoresKeepOtherBytes =
-      (it : NumberStore) (t u : World S) → Answers rules (store_call it) t Done u
+      (it : NumberStore) (t u : World S) → RepliesWith rules (store_call it) t Done u
       → (x x' : MemoryValue) → live_at t.state.memories it.memory ≡ Some x
       → live_at u.state.memories it.memory ≡ Some x'
       → IsSameOutside x.bytes x'.bytes (it.ptr + it.offset) (stored_size it.op)

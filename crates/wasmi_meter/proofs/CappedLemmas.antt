@@ -9,9 +9,9 @@ use Rattle.wasmi_meter.specs.Holdings.{amount_held, with_more, without_last_of, 
 use Rattle.wasmi_meter.specs.Limiter.{Question, Answer, Failure, NoticeAnswer, kind_of}
 
 -- what is to be taken leaves no choice of whether it is, nor of what is held after it
-takes_once : (others cap : ℕ) (h : Holdings) (kind : Kind) (n : ℕ) (taken taken' : Bool) (a b : Holdings)
+takes_unique : (others cap : ℕ) (h : Holdings) (kind : Kind) (n : ℕ) (taken taken' : Bool) (a b : Holdings)
     → Takes others cap h kind n taken a → Takes others cap h kind n taken' b → (taken ≡ taken') × (a ≡ b)
-takes_once others cap h kind n taken taken' a b first second =
+takes_unique others cap h kind n taken taken' a b first second =
     elim (cases_lt cap (others + amount_held h kind + n)) [
       | inl above ↦ let one = first.above above in let other =
           second.above above in (one.0 ∙ sym other.0, one.1 ∙ sym other.1)
@@ -47,17 +47,17 @@ pub record KeepsCaps {L : Type 0} (c : Capped L) : Type 0 where
 
 module _ {L : Type 0} (c : Capped L) where
   -- a question leaves no choice of the answer, nor of the limiter after it
-  pub asked_once : (l : L) (q : Question) (answer answer' : Answer) (a b : L) → Asked c l q answer a
+  pub asked_unique : (l : L) (q : Question) (answer answer' : Answer) (a b : L) → Asked c l q answer a
       → Asked c l q answer' b → (answer ≡ answer') × (a ≡ b)
-  asked_once l q answer answer' a b (taken, answered, first) (taken', answered', second) =
-      let one = takes_once (c.others l q.kind) (c.cap l q.kind) (c.holdings l) q.kind (q.desired - q.current)
+  asked_unique l q answer answer' a b (taken, answered, first) (taken', answered', second) =
+      let one = takes_unique (c.others l q.kind) (c.cap l q.kind) (c.holdings l) q.kind (q.desired - q.current)
       taken taken' (c.holdings a) (c.holdings b) first.takes second.takes in
       (answered ∙ ap Ok one.0 ∙ sym answered', first.rest ∙ ap (c.with_holdings l) one.1 ∙ sym second.rest)
 
   -- nor does a notice
-  pub noticed_once : (l : L) (failure : Failure) (answer answer' : NoticeAnswer) (a b : L)
+  pub noticed_unique : (l : L) (failure : Failure) (answer answer' : NoticeAnswer) (a b : L)
       → Noticed c l failure answer a → Noticed c l failure answer' b → (answer ≡ answer') × (a ≡ b)
-  noticed_once l failure answer answer' a b first second = (
+  noticed_unique l failure answer answer' a b first second = (
     first.accepts ∙ sym second.accepts,
     first.rest ∙ ap (c.with_holdings l) (first.gives_back ∙ sym second.gives_back) ∙ sym second.rest,
   )

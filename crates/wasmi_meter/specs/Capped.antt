@@ -23,13 +23,13 @@ module _ {L : Type 0} (c : Capped L) where
   IsWithin l = (kind : Kind) → held_together l kind ≤ c.cap l kind
 
   -- so many more of a kind are taken, or not, and all but the holdings stays
-  pub record TakesMore (l : L) (kind : Kind) (n : ℕ) (taken : Bool) (l' : L) : Type 0 where
+  pub record HoldsMore (l : L) (kind : Kind) (n : ℕ) (taken : Bool) (l' : L) : Type 0 where
     pub takes : Takes (c.others l kind) (c.cap l kind) (c.holdings l) kind n taken (c.holdings l')
     pub rest : l' ≡ c.with_holdings l (c.holdings l')
 
   -- a question is answered by whether the difference is taken
   abbrev pub Asked : L → Question → Answer → L → Type 0
-  Asked l q answer l' = (taken : Bool) × (answer ≡ Ok taken) × TakesMore l q.kind (q.desired - q.current) taken l'
+  Asked l q answer l' = (taken : Bool) × (answer ≡ Ok taken) × HoldsMore l q.kind (q.desired - q.current) taken l'
 
   -- a notice is accepted, gives back what was taken last, if that is of its kind, and keeps all but the holdings
   pub record Noticed (l : L) (failure : Failure) (notice_answer : NoticeAnswer) (l' : L) : Type 0 where

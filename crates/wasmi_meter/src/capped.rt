@@ -1,6 +1,6 @@
 //! Limiters with caps: what is taken and given back decides each answer.
 ghost use Rattle.std.specs.Prelude.{◌≡◌};
-ghost use Rattle.wasmi_meter.specs.Capped.{Capped, TakesMore, capped_rules};
+ghost use Rattle.wasmi_meter.specs.Capped.{Capped, HoldsMore, capped_rules};
 ghost use Rattle.wasmi_meter.specs.CappedProofs.{asked_reserves, noticed_gives_back};
 ghost use Rattle.wasmi_meter.specs.Holdings.{without_last};
 
@@ -25,7 +25,7 @@ pub trait CappedLimiter {
     /// Takes `difference` more of a kind, if all that is held of it stays within the cap. Returns
     /// whether it was taken.
     fn take(&mut self, kind: Kind, difference: u64) -> bool
-        ensures { TakesMore capped self.old kind difference result self.new };
+        ensures { HoldsMore capped self.old kind difference result self.new };
 
     /// Gives back what was taken last, if that is of this kind.
     fn give_back(&mut self, kind: Kind)

@@ -19,10 +19,10 @@ use Rattle.wasmi_core.specs.World.{World, Turn}
 use Rattle.wasmi_core.specs.Effects.{ActsMetered}
 use Rattle.wasmi_core.specs.Steps.{Effect, Told, BytesRead, FuelSet, Changed, MemoryMade, LentMemoryMade, MemoryGrown}
 use Rattle.wasmi_core.specs.Steps.{TableMade}
-use Rattle.wasmi_core.specs.Steps.{TableGrown, RangeWritten, effect_of, TakesEffect, Step}
+use Rattle.wasmi_core.specs.Steps.{TableGrown, RangeWritten, effect_of, HasEffect, Step}
 use Rattle.wasmi_core.specs.Runs.{Run, IsRunOf}
-use Rattle.wasmi_core.specs.Determinism.{IsDeterministic, AcceptsNotices, HasMemory}
-use Rattle.wasmi_core.proofs.DeterminismLemmas.{unlimited_once, quota_once}
+use Rattle.wasmi_core.specs.Determinism.{IsDeterministic, AcceptsNotices, IsNotOutOfMemory}
+use Rattle.wasmi_core.proofs.DeterminismLemmas.{unlimited_unique, quota_unique}
 use Rattle.wasmi_core.proofs.ToldLemmas.{SeenRun, replies_are_one, unlimited_accepts, quota_accepts}
 use Rattle.wasmi_budget.specs.Pool.{PoolValue, RunsTenant, tenant_at}
 use Rattle.wasmi_budget.specs.Tenant.{tenant_rules}
@@ -36,7 +36,7 @@ use Rattle.wasmi_grammar.specs.declared.header.Header.{Header}
 use Rattle.wasmi_grammar.specs.declared.header.LimiterLine.{LimiterLine}
 use Rattle.wasmi_grammar.specs.declared.header.MeterLine.{MeterLine}
 use Rattle.wasmi_grammar.specs.declared.header.LimiterLine.TheVariants.{Quota, Answers, Tenants}
-use Rattle.wasmi_grammar.specs.Headers.{meter_said, meter_off, meter_of, region_bytes, start_of}
+use Rattle.wasmi_grammar.specs.Headers.{meter_meaning, meter_off, meter_of, region_bytes, start_of}
 use Rattle.wasmi_script.specs.Printing.{line}
 use Rattle.wasmi_script.specs.Texts.{kind_text, reply_text, error_text}
 use Rattle.wasmi_meter.specs.declared.answer_list.LimiterAnswer.{LimiterAnswer}
@@ -45,52 +45,52 @@ use Rattle.wasmi_script.specs.ScriptRuns.{IsReplayBy, IsReplayOf, AnswersParts, 
 use Rattle.wasmi_grammar.specs.Parts.{TenantRun, parts_in, calls_in}
 use Rattle.wasmi_grammar.specs.Lines.{calls_of}
 use Rattle.wasmi_script.specs.Outcomes.{replies_text, held_text}
-use Rattle.wasmi_grammar.specs.Sayings.{CallSaid, WriteSaid, SegmentSaid, OtherCall, call_said, limiter_said, PartSaid}
-use Rattle.wasmi_grammar.specs.Sayings.{part_said}
-use Rattle.wasmi_grammar.specs.Sayings.{ScriptSaid, SayTheSame}
+use Rattle.wasmi_grammar.specs.Meanings.{CallMeaning, WriteMeaning, SegmentMeaning, OtherCall, call_meaning, limiter_meaning, PartMeaning}
+use Rattle.wasmi_grammar.specs.Meanings.{part_meaning}
+use Rattle.wasmi_grammar.specs.Meanings.{ScriptMeaning, HaveSameMeaning}
 use Rattle.wasmi_meter.specs.AnswerList.{answer_list_rules, new_answers, notice_answer_by}
 use Rattle.wasmi_script.specs.Decided.{HasNoComplain, OutcomesAreOne}
 use Rattle.wasmi_script.proofs.QuietListsLemmas.{quiet_lists_decide}
-use Rattle.wasmi_grammar.proofs.OneScriptLemmas.{texts_once, bad_lines_once, no_bad_line}
+use Rattle.wasmi_grammar.proofs.OneScriptLemmas.{texts_unique, bad_lines_once, no_bad_line}
 
 -- a call by what it says
-abbrev Says : CallSaid → Call → Type 0
+abbrev HasMeaning : CallMeaning → Call → Type 0
 -- a write, by its place and its bytes
-Says (WriteSaid memory offset bytes) call = (v : Vec ℕ _) × (call ≡ Write memory offset v) × (v.items ≡ bytes)
+HasMeaning (WriteMeaning memory offset bytes) call = (v : Vec ℕ _) × (call ≡ Write memory offset v) × (v.items ≡ bytes)
 -- a new segment, by its type and its items
-Says (SegmentSaid ty items) call = (v : Vec ℕ _) × (call ≡ NewSegment ty v) × (v.items ≡ items)
-Says (OtherCall other) call = call ≡ other
+HasMeaning (SegmentMeaning ty items) call = (v : Vec ℕ _) × (call ≡ NewSegment ty v) × (v.items ≡ items)
+HasMeaning (OtherCall other) call = call ≡ other
 
 -- each call is one of what it says
-says : (call : Call) → Says (call_said call) call
+says : (call : Call) → HasMeaning (call_meaning call) call
 says (Write memory offset bytes) = (bytes, refl, refl)
 says (NewSegment ty items) = (items, refl, refl)
 says call = refl
 
 -- calls that say the same have the same effect, and make the same kind of thing
-same_effect : (s : State) (call call' : Call) → Says (call_said call) call' → effect_of s call' ≡ effect_of s call
+same_effect : (s : State) (call call' : Call) → HasMeaning (call_meaning call) call' → effect_of s call' ≡ effect_of s call
 same_effect s (Write memory offset bytes) call' (v, is, items) = ap (effect_of s) is ∙ rw items refl
 same_effect s (NewSegment ty items) call' (v, is, same) = ap (effect_of s) is ∙ rw same refl
 same_effect s call call' is = ap (effect_of s) is
 
 -- calls that say the same make the same kind of thing
-pub same_kind : (call call' : Call) → Says (call_said call) call' → kind_text call' ≡ kind_text call
+pub same_kind : (call call' : Call) → HasMeaning (call_meaning call) call' → kind_text call' ≡ kind_text call
 same_kind (Write memory offset bytes) call' (v, is, items) = ap kind_text is
 same_kind (NewSegment ty items) call' (v, is, same) = ap kind_text is
 same_kind call call' is = ap kind_text is
 
 -- what the calls of parts say
-calls_said : (parts : List TenantRun) → map call_said (calls_in parts) ≡ flat_map PartSaid.calls (map part_said parts)
-calls_said [] = refl
-calls_said (part ∷ parts) =
-    map-append call_said part.calls (calls_in parts) ∙ ap (λ said. map call_said part.calls ++ said) (calls_said parts)
+calls_meaning : (parts : List TenantRun) → map call_meaning (calls_in parts) ≡ flat_map PartMeaning.calls (map part_meaning parts)
+calls_meaning [] = refl
+calls_meaning (part ∷ parts) =
+    map-append call_meaning part.calls (calls_in parts) ∙ ap (λ said. map call_meaning part.calls ++ said) (calls_meaning parts)
 
 -- scripts that say the same have calls that say the same
-calls_same : (script script' : Script) → SayTheSame script script'
-    → map call_said (calls_of script) ≡ map call_said (calls_of script')
+calls_same : (script script' : Script) → HaveSameMeaning script script'
+    → map call_meaning (calls_of script) ≡ map call_meaning (calls_of script')
 calls_same script script' same =
-    calls_said (parts_in script.parts) ∙ ap (λ s. flat_map PartSaid.calls s.parts) same
-    ∙ sym (calls_said (parts_in script'.parts))
+    calls_meaning (parts_in script.parts) ∙ ap (λ s. flat_map PartMeaning.calls s.parts) same
+    ∙ sym (calls_meaning (parts_in script'.parts))
 
 -- and the same replies to them the same text
 reply_same : (call call' : Call) (reply : Reply) → kind_text call' ≡ kind_text call
@@ -100,16 +100,16 @@ reply_same call call' (Made index) same =
 reply_same call call' reply same = refl
 
 -- the same replies to calls that say the same have the same text
-replies_same : (calls calls' : List Call) (replies : List Reply) → map call_said calls ≡ map call_said calls'
+replies_same : (calls calls' : List Call) (replies : List Reply) → map call_meaning calls ≡ map call_meaning calls'
     → replies_text calls replies ≡ replies_text calls' replies
 replies_same [] [] replies same = refl
 replies_same [] (call' ∷ calls') replies same = absurd cc
 replies_same (call ∷ calls) [] replies same = absurd cc
 replies_same (call ∷ calls) (call' ∷ calls') [] same = refl
 replies_same (call ∷ calls) (call' ∷ calls') (reply ∷ replies) same =
-    let here : call_said call ≡ call_said call' = cc in
-    let later : map call_said calls ≡ map call_said calls' = cc in
-    let kind = same_kind call call' (subst (λ said. Says said call') (sym here) (says call')) in
+    let here : call_meaning call ≡ call_meaning call' = cc in
+    let later : map call_meaning calls ≡ map call_meaning calls' = cc in
+    let kind = same_kind call call' (subst (λ said. HasMeaning said call') (sym here) (says call')) in
     λ i. line (sym (reply_same call call' reply kind) i) ++ replies_same calls calls' replies later i
 
 -- a turn by a call that says the same
@@ -134,7 +134,7 @@ module _ {S : Type 0} (rules : Rules S) where
 
   -- a turn that takes an effect takes it by any other call too
   retold_effect : (w : World S) (turn : Turn) (w' : World S) (other : Call) (effect : Effect)
-      → TakesEffect rules effect w turn w' → TakesEffect rules effect w (by_call turn other) w'
+      → HasEffect rules effect w turn w' → HasEffect rules effect w (by_call turn other) w'
   retold_effect w turn w' other (Told reply) step =
       record { free = step.free; effect = step.effect; after = step.after }
   retold_effect w turn w' other (BytesRead k offset len) step =
@@ -155,26 +155,26 @@ module _ {S : Type 0} (rules : Rules S) where
       record { part = step.part; meter = step.meter; effect = step.effect; wrote = step.wrote; after = step.after }
 
   -- a step by a call is one by another call that says the same
-  retold_step : (w : World S) (turn : Turn) (w' : World S) (other : Call) → call_said other ≡ call_said turn.call
+  retold_step : (w : World S) (turn : Turn) (w' : World S) (other : Call) → call_meaning other ≡ call_meaning turn.call
       → Step rules w turn w'
       → Step rules w (by_call turn other) w'
   retold_step w turn w' other same step =
       let effect = same_effect w.state other turn.call
-      (subst (λ said. Says said turn.call) (sym same) (says turn.call)) in
-      subst (λ e. TakesEffect rules e w (by_call turn other) w') effect
+      (subst (λ said. HasMeaning said turn.call) (sym same) (says turn.call)) in
+      subst (λ e. HasEffect rules e w (by_call turn other) w') effect
       (retold_effect w turn w' other (effect_of w.state turn.call) step)
 
   -- turns that are a run are one by other calls that say the same, with the same replies
   retold_run : (turns : List Turn) (calls : List Call) (w w' : World S)
-      → map call_said calls ≡ map call_said (map Turn.call turns) → Run rules w turns w'
+      → map call_meaning calls ≡ map call_meaning (map Turn.call turns) → Run rules w turns w'
       → (retold : List Turn) × (map Turn.call retold ≡ calls) ×
       (map Turn.reply retold ≡ map Turn.reply turns) × Run rules w retold w'
   retold_run [] [] w w' same ran = ([], refl, refl, ran)
   retold_run [] (call ∷ calls) w w' same ran = absurd cc
   retold_run (turn ∷ turns) [] w w' same ran = absurd cc
   retold_run (turn ∷ turns) (call ∷ calls) w w' same (v, step, ran) =
-      let here : call_said call ≡ call_said turn.call = cc in
-      let later : map call_said calls ≡ map call_said (map Turn.call turns) = cc in
+      let here : call_meaning call ≡ call_meaning turn.call = cc in
+      let later : map call_meaning calls ≡ map call_meaning (map Turn.call turns) = cc in
       let rest = retold_run turns calls v w' later ran in (
         by_call turn call ∷ rest.0,
         ap (λ cs. call ∷ cs) rest.1,
@@ -184,23 +184,23 @@ module _ {S : Type 0} (rules : Rules S) where
 
   -- a run of calls is one of others that say the same
   retold : (calls calls' : List Call) (w w' : World S) (replies : List Reply)
-      → map call_said calls ≡ map call_said calls'
+      → map call_meaning calls ≡ map call_meaning calls'
       → IsRunOf rules calls' w replies w' → IsRunOf rules calls w replies w'
   retold calls calls' w w' replies same (turns, called, replied, ran) =
-      let again = retold_run turns calls w w' (same ∙ ap (map call_said) (sym called)) ran in
+      let again = retold_run turns calls w w' (same ∙ ap (map call_meaning) (sym called)) ran in
       (again.0, again.1, again.2 ∙ replied, again.3)
 
 -- the replies of both tell of no want of memory
 abbrev HaveBoth : List Reply → List Reply → Type 0
-HaveBoth replies replies' = All HasMemory replies × All HasMemory replies'
+HaveBoth replies replies' = All IsNotOutOfMemory replies × All IsNotOutOfMemory replies'
 
 -- two runs of calls that say the same, from one machine under one limiter that leaves no choice and accepts each notice
 module _ {L : Type 0} (rules : Rules L) (once : IsDeterministic rules) (accepts : AcceptsNotices rules) where
   -- where neither tells of want of memory, both have the same replies and end alike
-  run_once : (calls calls' : List Call) (w : World (Option L)) → map call_said calls ≡ map call_said calls'
+  run_unique : (calls calls' : List Call) (w : World (Option L)) → map call_meaning calls ≡ map call_meaning calls'
       → (a : SeenRun (optional_rules rules) calls w) (b : SeenRun (optional_rules rules) calls' w)
       → (a.replies ≡ b.replies) × (a.after ≡ b.after)
-  run_once calls calls' w same a b =
+  run_unique calls calls' w same a b =
       replies_are_one rules accepts once calls w a (record {
         replies = b.replies;
         after = b.after;
@@ -212,7 +212,7 @@ module _ {L : Type 0} (rules : Rules L) (once : IsDeterministic rules) (accepts 
 starts_same : (header header' : Header) → header.meter ≡ header'.meter → header.region ≡ header'.region
     → start_of header ≡ start_of header'
 starts_same header header' meter region =
-    λ i. record (new_state (option_map_or meter_said (meter i) meter_off))
+    λ i. record (new_state (option_map_or meter_meaning (meter i) meter_off))
     { spare = option_map region_bytes (region i) }
 
 -- two quotas of a line that hold nothing are one
@@ -236,11 +236,11 @@ HasNoAnswers (Some (Answers words)) = ⊥
 HasNoAnswers limiter = Unit {0}
 
 -- so it is under limiters of the same answers, of which none is `Complain`
-listed_once : (words : List LimiterAnswer) (start : State) (calls calls' : List Call) (replies replies' : List Reply)
-    (held held' : Held) → All (λ word. notice_answer_by word ≡ Ok tt) words → map call_said calls ≡ map call_said calls'
+listed_unique : (words : List LimiterAnswer) (start : State) (calls calls' : List Call) (replies replies' : List Reply)
+    (held held' : Held) → All (λ word. notice_answer_by word ≡ Ok tt) words → map call_meaning calls ≡ map call_meaning calls'
     → IsListedReplay words start calls replies held × IsListedReplay words start calls' replies' held'
     → HaveBoth replies replies' → SameReplies replies replies' held held'
-listed_once words start calls calls' replies replies' held held' quiet same
+listed_unique words start calls calls' replies replies' held held' quiet same
     ((none, after, run), (none', after', run')) has =
     let again = retold (optional_rules answer_list_rules) calls calls' _ after' replies' same run' in
     record {
@@ -250,23 +250,23 @@ listed_once words start calls calls' replies replies' held held' quiet same
     }
 
 -- so it is without a limiter and under a quota
-under_once : (limiter : Option LimiterLine) (start : State) (calls calls' : List Call) (replies replies' : List Reply)
-    (held held' : Held) → HasNoAnswers limiter → map call_said calls ≡ map call_said calls'
+under_unique : (limiter : Option LimiterLine) (start : State) (calls calls' : List Call) (replies replies' : List Reply)
+    (held held' : Held) → HasNoAnswers limiter → map call_meaning calls ≡ map call_meaning calls'
     → IsReplayUnder limiter start calls replies held × IsReplayUnder limiter start calls' replies' held'
     → HaveBoth replies replies' → SameReplies replies replies' held held'
-under_once None start calls calls' replies replies' held held' none same ((is, after, run), (is', after', run')) has =
+under_unique None start calls calls' replies replies' held held' none same ((is, after, run), (is', after', run')) has =
     record {
-      answers = (run_once unlimited_rules unlimited_once unlimited_accepts calls calls' _ same
+      answers = (run_unique unlimited_rules unlimited_unique unlimited_accepts calls calls' _ same
           (record { replies = replies; after = after; has = has.0; ran = run })
           (record { replies = replies'; after = after'; has = has.1; ran = run' })).0;
       text = ap held_text (is ∙ sym is');
     }
-under_once (Some (Quota asked)) start calls calls' replies replies' held held' none same
+under_unique (Some (Quota asked)) start calls calls' replies replies' held held' none same
     ((quota, new, end, after, run, totals, is), (quota', new', end', after', run', totals', is')) has =
     let again = subst (λ (q : quotas.Quota). IsRunOf (optional_rules quota_rules) calls'
     (record { state = start; limiter = Some q }) replies' (record { state = end'; limiter = Some after' }))
     (sym (new_quotas asked quota quota' new new')) run' in
-    let one = run_once quota_rules quota_once quota_accepts calls calls' _ same
+    let one = run_unique quota_rules quota_unique quota_accepts calls calls' _ same
     (record { replies = replies; after = _; has = has.0; ran = run })
     (record { replies = replies'; after = _; has = has.1; ran = again }) in
     let limiters : Some after ≡ Some after' = ap (λ (w : World (Option quotas.Quota)). w.limiter) one.1 in
@@ -275,8 +275,8 @@ under_once (Some (Quota asked)) start calls calls' replies replies' held held' n
       answers = one.0;
       text = ap held_text (is ∙ ap (λ q. holding.Quota (holdings q).held) afters ∙ sym is');
     }
-under_once (Some (Answers words)) start calls calls' replies replies' held held' none same replays has = absurd none
-under_once (Some (Tenants asked)) start calls calls' replies replies' held held' none same replays has =
+under_unique (Some (Answers words)) start calls calls' replies replies' held held' none same replays has = absurd none
+under_unique (Some (Tenants asked)) start calls calls' replies replies' held held' none same replays has =
     absurd replays.0
 
 -- what holds of all items of two lists, one after the other, holds of those of each
@@ -290,16 +290,16 @@ all_parted P (x ∷ xs) ys all =
 record TenantRan (pool : PoolValue) (tenant : ℕ) (calls : List Call) : Type 0 where
   pub replies : List Reply
   pub after : PoolValue
-  pub has : All HasMemory replies
+  pub has : All IsNotOutOfMemory replies
   pub ran : RunsTenant pool tenant calls replies after
 
 -- the runs of tenants, one after the other
 module _ (once : IsDeterministic tenant_rules) where
   -- two runs of a tenant by calls that say the same have the same replies and leave the same pool
-  tenant_once : (pool : PoolValue) (tenant : ℕ) (calls calls' : List Call) → map call_said calls ≡ map call_said calls'
+  tenant_unique : (pool : PoolValue) (tenant : ℕ) (calls calls' : List Call) → map call_meaning calls ≡ map call_meaning calls'
       → (a : TenantRan pool tenant calls) (b : TenantRan pool tenant calls')
       → (a.replies ≡ b.replies) × (a.after ≡ b.after)
-  tenant_once pool tenant calls calls' same a b =
+  tenant_unique pool tenant calls calls' same a b =
       let ran = a.ran in
       let ran' = b.ran in
       let found : Some ran'.machine ≡ Some ran.machine = sym ran'.found ∙ ran.found in
@@ -307,7 +307,7 @@ module _ (once : IsDeterministic tenant_rules) where
       let again = subst (λ (s : State). IsRunOf (optional_rules tenant_rules) calls'
       (record { state = s; limiter = Some (tenant_at pool tenant s) })
       b.replies (record { state = ran'.machine'; limiter = Some ran'.tenant' })) machine ran'.ran in
-      let one = run_once tenant_rules once (λ l failure notice_answer l' noticed. noticed.accepts)
+      let one = run_unique tenant_rules once (λ l failure notice_answer l' noticed. noticed.accepts)
       calls calls' _ same
       (record { replies = a.replies; after = _; has = a.has; ran = ran.ran })
       (record { replies = b.replies; after = _; has = b.has; ran = again }) in (
@@ -317,46 +317,46 @@ module _ (once : IsDeterministic tenant_rules) where
       )
 
   -- two runs of parts that say the same have the same replies and leave the same pool
-  parts_once : (parts parts' : List TenantRun) (pool : PoolValue) → map part_said parts ≡ map part_said parts'
+  parts_unique : (parts parts' : List TenantRun) (pool : PoolValue) → map part_meaning parts ≡ map part_meaning parts'
       → (replies replies' : List Reply) (after after' : PoolValue) → HaveBoth replies replies'
       → AnswersParts pool parts replies after → AnswersParts pool parts' replies' after'
       → (replies ≡ replies') × (after ≡ after')
-  parts_once [] [] pool same replies replies' after after' has (none, is) (none', is') =
+  parts_unique [] [] pool same replies replies' after after' has (none, is) (none', is') =
       (none ∙ sym none', is ∙ sym is')
-  parts_once [] (part' ∷ parts') pool same replies replies' after after' has ran ran' = absurd cc
-  parts_once (part ∷ parts) [] pool same replies replies' after after' has ran ran' = absurd cc
-  parts_once (part ∷ parts) (part' ∷ parts') pool same replies replies' after after' has
+  parts_unique [] (part' ∷ parts') pool same replies replies' after after' has ran ran' = absurd cc
+  parts_unique (part ∷ parts) [] pool same replies replies' after after' has ran ran' = absurd cc
+  parts_unique (part ∷ parts) (part' ∷ parts') pool same replies replies' after after' has
       (answered, later, middle, split, ran, rest) (answered', later', middle', split', ran', rest') =
-      let here : part_said part ≡ part_said part' = cc in
-      let more : map part_said parts ≡ map part_said parts' = cc in
-      let parted = all_parted HasMemory answered later (subst (All HasMemory) split has.0) in
-      let parted' = all_parted HasMemory answered' later' (subst (All HasMemory) split' has.1) in
-      let one = tenant_once pool part.tenant part.calls part'.calls (ap PartSaid.calls here)
+      let here : part_meaning part ≡ part_meaning part' = cc in
+      let more : map part_meaning parts ≡ map part_meaning parts' = cc in
+      let parted = all_parted IsNotOutOfMemory answered later (subst (All IsNotOutOfMemory) split has.0) in
+      let parted' = all_parted IsNotOutOfMemory answered' later' (subst (All IsNotOutOfMemory) split' has.1) in
+      let one = tenant_unique pool part.tenant part.calls part'.calls (ap PartMeaning.calls here)
       (record { replies = answered; after = middle; has = parted.0; ran = ran })
       (record {
         replies = answered';
         after = middle';
         has = parted'.0;
-        ran = subst (λ k. RunsTenant pool k part'.calls answered' middle') (sym (ap PartSaid.tenant here)) ran';
+        ran = subst (λ k. RunsTenant pool k part'.calls answered' middle') (sym (ap PartMeaning.tenant here)) ran';
       }) in
-      let others = parts_once parts parts' middle more later later' after after' (parted.1, parted'.1) rest
+      let others = parts_unique parts parts' middle more later later' after after' (parted.1, parted'.1) rest
       (subst (λ (p : PoolValue). AnswersParts p parts' later' after') (sym one.1) rest') in
       (split ∙ (λ i. one.0 i ++ others.0 i) ∙ sym split', others.1)
 
   -- replays of scripts that say the same, by the limiter line
-  by_once : (limiter : Option LimiterLine) (script script' : Script) (ran ran' : Ran) → HasNoAnswers limiter
-      → SayTheSame script script'
+  by_unique : (limiter : Option LimiterLine) (script script' : Script) (ran ran' : Ran) → HasNoAnswers limiter
+      → HaveSameMeaning script script'
       → IsReplayBy limiter script ran → IsReplayBy limiter script' ran' → HaveBoth ran.replies.items ran'.replies.items
       → SameReplies ran.replies.items ran'.replies.items ran.held ran'.held
-  by_once limiter script script' ran ran' none same replay replay' has = by limiter none replay replay' where
+  by_unique limiter script script' ran ran' none same replay replay' has = by limiter none replay replay' where
     start : start_of script.header ≡ start_of script'.header
-    start = starts_same script.header script'.header (ap ScriptSaid.meter same) (ap ScriptSaid.region same)
+    start = starts_same script.header script'.header (ap ScriptMeaning.meter same) (ap ScriptMeaning.region same)
 
     alone : (l : Option LimiterLine) → HasNoAnswers l → IsReplayOnOne l script.header (calls_of script) ran
         → IsReplayOnOne l script'.header (calls_of script') ran'
         → SameReplies ran.replies.items ran'.replies.items ran.held ran'.held
     alone l none replay replay' =
-        under_once l (start_of script.header) (calls_of script) (calls_of script') ran.replies.items
+        under_unique l (start_of script.header) (calls_of script) (calls_of script') ran.replies.items
         ran'.replies.items ran.held ran'.held none (calls_same script script' same) (
           replay,
           subst (λ (s : State). IsReplayUnder l s (calls_of script') ran'.replies.items ran'.held) (sym start) replay',
@@ -369,16 +369,16 @@ module _ (once : IsDeterministic tenant_rules) where
     by (Some (Answers words)) none replay replay' = absurd none
     by (Some (Tenants asked)) none (pool, held, answers) (pool', held', answers') =
         let meters : meter_of script'.header ≡ meter_of script.header =
-        ap (λ (m : Option MeterLine). option_map_or meter_said m meter_off) (ap ScriptSaid.meter (sym same)) in
+        ap (λ (m : Option MeterLine). option_map_or meter_meaning m meter_off) (ap ScriptMeaning.meter (sym same)) in
         let again = subst (λ m. AnswersParts (new_pool asked (new_state m))
         (parts_in script'.parts) ran'.replies.items pool') meters answers' in
-        let one = parts_once (parts_in script.parts) (parts_in script'.parts) _ (ap ScriptSaid.parts same)
+        let one = parts_unique (parts_in script.parts) (parts_in script'.parts) _ (ap ScriptMeaning.parts same)
         ran.replies.items ran'.replies.items pool pool' has answers again in
         record { answers = one.0; text = ap held_text (held ∙ ap holding.Tenants one.1 ∙ sym held') }
 
   -- limiter lines but `answers` say all that they are
   same_line : (limiter limiter' : Option LimiterLine) → HasNoAnswers limiter
-      → option_map limiter_said limiter ≡ option_map limiter_said limiter' → limiter ≡ limiter'
+      → option_map limiter_meaning limiter ≡ option_map limiter_meaning limiter' → limiter ≡ limiter'
   same_line None None none same = refl
   same_line None (Some asked) none same = absurd cc
   same_line (Some (Answers words)) limiter' none same = absurd none
@@ -392,28 +392,28 @@ module _ (once : IsDeterministic tenant_rules) where
   same_line (Some (Tenants asked)) (Some (Tenants asked')) none same = cc
 
   -- replays of scripts that say the same, where no word is `complain`
-  replays_once : (script script' : Script) (ran ran' : Ran) → HasNoComplain script.header.limiter
-      → SayTheSame script script'
+  replays_unique : (script script' : Script) (ran ran' : Ran) → HasNoComplain script.header.limiter
+      → HaveSameMeaning script script'
       → IsReplayOf script ran → IsReplayOf script' ran' → HaveBoth ran.replies.items ran'.replies.items
       → SameReplies ran.replies.items ran'.replies.items ran.held ran'.held
-  replays_once script script' ran ran' quiet same replay replay' has =
-      by script.header.limiter script'.header.limiter quiet (ap ScriptSaid.limiter same) replay replay'
+  replays_unique script script' ran ran' quiet same replay replay' has =
+      by script.header.limiter script'.header.limiter quiet (ap ScriptMeaning.limiter same) replay replay'
     where
-      other : (l l' : Option LimiterLine) → HasNoAnswers l → option_map limiter_said l ≡ option_map limiter_said l'
+      other : (l l' : Option LimiterLine) → HasNoAnswers l → option_map limiter_meaning l ≡ option_map limiter_meaning l'
           → IsReplayBy l script ran → IsReplayBy l' script' ran'
           → SameReplies ran.replies.items ran'.replies.items ran.held ran'.held
       other l l' none said replay replay' =
-          by_once l script script' ran ran' none same replay
+          by_unique l script script' ran ran' none same replay
           (subst (λ line. IsReplayBy line script' ran') (sym (same_line l l' none said)) replay') has
 
-      by : (l l' : Option LimiterLine) → HasNoComplain l → option_map limiter_said l ≡ option_map limiter_said l'
+      by : (l l' : Option LimiterLine) → HasNoComplain l → option_map limiter_meaning l ≡ option_map limiter_meaning l'
           → IsReplayBy l script ran → IsReplayBy l' script' ran'
           → SameReplies ran.replies.items ran'.replies.items ran.held ran'.held
       by (Some (Answers words)) (Some (Answers words')) quiet said replay replay' =
           let given : words.items ≡ words'.items = cc in
-          let start = starts_same script.header script'.header (ap ScriptSaid.meter same) (ap ScriptSaid.region same) in
+          let start = starts_same script.header script'.header (ap ScriptMeaning.meter same) (ap ScriptMeaning.region same) in
           let calls' = calls_of script' in
-          listed_once words.items (start_of script.header) (calls_of script) calls' ran.replies.items
+          listed_unique words.items (start_of script.header) (calls_of script) calls' ran.replies.items
           ran'.replies.items ran.held ran'.held quiet (calls_same script script' same) (
             replay,
             subst (λ (g : List LimiterAnswer).
@@ -429,10 +429,10 @@ module _ (once : IsDeterministic tenant_rules) where
       by (Some (Tenants asked)) l' quiet said replay replay' = other (Some (Tenants asked)) l' tt said replay replay'
 
   -- two outcomes of the same bytes that these decide end alike
-  pub outcomes_once : OutcomesAreOne
-  outcomes_once bytes (Ok a) (Ok b) (short, writes, replay) (short', writes', replay') (has, none) (has', none') =
-      let same = texts_once bytes a.script b.script writes writes' in
-      let ran = replays_once a.script b.script a.ran b.ran none same replay replay' (has, has') in
+  pub outcomes_unique : OutcomesAreOne
+  outcomes_unique bytes (Ok a) (Ok b) (short, writes, replay) (short', writes', replay') (has, none) (has', none') =
+      let same = texts_unique bytes a.script b.script writes writes' in
+      let ran = replays_unique a.script b.script a.ran b.ran none same replay replay' (has, has') in
       record {
         text = ap (λ t. t ++ held_text a.ran.held)
             (replies_same (calls_of a.script) (calls_of b.script) a.ran.replies.items
@@ -440,21 +440,21 @@ module _ (once : IsDeterministic tenant_rules) where
             ∙ (λ i. replies_text (calls_of b.script) (ran.answers i) ++ ran.text i);
         status = refl;
       }
-  outcomes_once bytes (Ok a) (Err (Parse (BadCommand number))) is is' decided decided' =
+  outcomes_unique bytes (Ok a) (Err (Parse (BadCommand number))) is is' decided decided' =
       absurd (no_bad_line bytes a.script number is.1 is'.1)
-  outcomes_once bytes (Ok a) (Err TooLong) is is' decided decided' = absurd (omega (arith, is.0, is'))
-  outcomes_once bytes (Err (Parse (BadCommand number))) (Ok b) is is' decided decided' =
+  outcomes_unique bytes (Ok a) (Err TooLong) is is' decided decided' = absurd (omega (arith, is.0, is'))
+  outcomes_unique bytes (Err (Parse (BadCommand number))) (Ok b) is is' decided decided' =
       absurd (no_bad_line bytes b.script number is'.1 is.1)
-  outcomes_once bytes (Err (Parse (BadCommand number))) (Err (Parse (BadCommand number'))) is is' decided decided' =
+  outcomes_unique bytes (Err (Parse (BadCommand number))) (Err (Parse (BadCommand number'))) is is' decided decided' =
       let same = bad_lines_once bytes number number' is.1 is'.1 in
       record { text = ap (λ n. line (error_text (Parse (BadCommand n)))) same; status = refl }
-  outcomes_once bytes (Err (Parse (BadCommand number))) (Err TooLong) is is' decided decided' =
+  outcomes_unique bytes (Err (Parse (BadCommand number))) (Err TooLong) is is' decided decided' =
       absurd (omega (arith, is.0, is'))
-  outcomes_once bytes (Err TooLong) (Ok b) is is' decided decided' = absurd (omega (arith, is'.0, is))
-  outcomes_once bytes (Err TooLong) (Err (Parse (BadCommand number))) is is' decided decided' =
+  outcomes_unique bytes (Err TooLong) (Ok b) is is' decided decided' = absurd (omega (arith, is'.0, is))
+  outcomes_unique bytes (Err TooLong) (Err (Parse (BadCommand number))) is is' decided decided' =
       absurd (omega (arith, is'.0, is))
-  outcomes_once bytes (Err TooLong) (Err TooLong) is is' decided decided' = record { text = refl; status = refl }
-  outcomes_once bytes (Err (Parse OutOfMemory)) outcome' is is' decided decided' = absurd decided
-  outcomes_once bytes (Err ReadFault) outcome' is is' decided decided' = absurd decided
-  outcomes_once bytes outcome (Err (Parse OutOfMemory)) is is' decided decided' = absurd decided'
-  outcomes_once bytes outcome (Err ReadFault) is is' decided decided' = absurd decided'
+  outcomes_unique bytes (Err TooLong) (Err TooLong) is is' decided decided' = record { text = refl; status = refl }
+  outcomes_unique bytes (Err (Parse OutOfMemory)) outcome' is is' decided decided' = absurd decided
+  outcomes_unique bytes (Err ReadFault) outcome' is is' decided decided' = absurd decided
+  outcomes_unique bytes outcome (Err (Parse OutOfMemory)) is is' decided decided' = absurd decided'
+  outcomes_unique bytes outcome (Err ReadFault) is is' decided decided' = absurd decided'

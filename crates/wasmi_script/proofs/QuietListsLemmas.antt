@@ -10,8 +10,8 @@ use Rattle.wasmi_core.proofs.ToldLemmas.{accepted_replies_are_one}
 use Rattle.wasmi_script.specs.QuietLists.{NeverComplains, QuietListsAcceptNotices, QuietListsDecideReplies}
 
 -- a limiter that answers from a list leaves no choice
-pub answers_once : IsDeterministic answer_list_rules
-answers_once = record {
+pub answers_unique : IsDeterministic answer_list_rules
+answers_unique = record {
   asked = λ list question answer answer' list' list'' takes takes'.
       (takes.answered ∙ sym takes'.answered, takes.taken ∙ sym takes'.taken);
   noticed = λ list failure notice_answer notice_answer' list' list'' accepts accepts'.
@@ -41,6 +41,6 @@ quiet_lists = record {
 -- where memory isn't wanting, such a limiter leaves the replies no choice
 pub quiet_lists_decide : QuietListsDecideReplies
 quiet_lists_decide calls s list quiet replies replies' v v' has has' ran ran' =
-    accepted_replies_are_one answer_list_rules NeverComplains quiet_lists answers_once calls (world s (Some list)) quiet
+    accepted_replies_are_one answer_list_rules NeverComplains quiet_lists answers_unique calls (world s (Some list)) quiet
     (record { replies = replies; after = v; has = has; ran = ran })
     (record { replies = replies'; after = v'; has = has'; ran = ran' })

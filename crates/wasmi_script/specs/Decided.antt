@@ -1,6 +1,6 @@
 -- Outcomes that the bytes of a reader decide.
 use Rattle.std.specs.Prelude.{◌≡◌, ⊤, ℕ, List, All, Option, Some, Ok, Err}
-use Rattle.wasmi_core.specs.Determinism.{HasMemory}
+use Rattle.wasmi_core.specs.Determinism.{IsNotOutOfMemory}
 use Rattle.wasmi_script.specs.declared.error.ReplayError.TheVariants.{Parse, ReadFault}
 use Rattle.wasmi_grammar.specs.declared.error.ParseError.TheVariants.{OutOfMemory}
 use Rattle.wasmi_grammar.specs.declared.header.LimiterLine.{LimiterLine}
@@ -17,7 +17,7 @@ HasNoComplain limiter = ⊤
 -- Memory isn't refused and the reader doesn't fail: no reply says out of memory, and no word is `complain`, so that no
 -- notice of it is answered by another error.
 abbrev pub IsDecided : ReplayOutcome → Type 0
-IsDecided (Ok replayed) = All HasMemory replayed.ran.replies.items × HasNoComplain replayed.script.header.limiter
+IsDecided (Ok replayed) = All IsNotOutOfMemory replayed.ran.replies.items × HasNoComplain replayed.script.header.limiter
 IsDecided (Err (Parse OutOfMemory)) = ⊥
 IsDecided (Err ReadFault) = ⊥
 IsDecided (Err error) = ⊤

@@ -7,7 +7,7 @@ use Rattle.wasmi_core.specs.declared.calls.Reply.{Reply}
 use Rattle.wasmi_core.specs.State.{State}
 use Rattle.wasmi_core.specs.World.{World, world}
 use Rattle.wasmi_core.specs.Runs.{IsRunOf}
-use Rattle.wasmi_core.specs.Determinism.{HasMemory, StaysAccepting}
+use Rattle.wasmi_core.specs.Determinism.{IsNotOutOfMemory, StaysAccepting}
 
 -- a limiter whose answers, with the last one that was given, let each notice be accepted: none of them is `Complain`
 pub record NeverComplains (list : AnswersAhead) : Type 0 where
@@ -23,7 +23,7 @@ QuietListsAcceptNotices = StaysAccepting answer_list_rules NeverComplains
 abbrev pub QuietListsDecideReplies : Type 0
 QuietListsDecideReplies = (calls : List Call) (s : State) (list : AnswersAhead) → NeverComplains list
     → (replies replies' : List Reply) (v v' : World (Option AnswersAhead))
-    → All HasMemory replies → All HasMemory replies'
+    → All IsNotOutOfMemory replies → All IsNotOutOfMemory replies'
     → IsRunOf (optional_rules answer_list_rules) calls (world s (Some list)) replies v
     → IsRunOf (optional_rules answer_list_rules) calls (world s (Some list)) replies' v'
     → (replies ≡ replies') × (v ≡ v')

@@ -60,7 +60,7 @@ pub fn replay<R: io::Read, W: io::Write>(alloc: Global, reader: &mut R, writer: 
 fn outcome_of<R: io::Read>(alloc: Global, reader: &mut R) -> Result<Replayed, ReplayError>
     ensures outcome { IsOutcomeOfReader (R.remaining reader.old) result }
 {
-    let bytes = read(alloc, &mut Turns::new(reader))?;
+    let bytes = read(alloc, &mut CountedReader::new(reader))?;
     let script = parse(alloc, bytes.as_slice())?;
     let ran = run_script(alloc, &script)?;
     Ok(Replayed { script, ran })
@@ -82,19 +82,19 @@ fn status_of(outcome: &Result<Replayed, ReplayError>) -> Status
 
 /// A reader whose turns are counted.
 #[derive(Drop)]
-struct Turns<'r, R> {
+struct CountedReader<'r, R> {
     reader: &'r mut R,
     /// How many turns it took.
     taken: usize,
 }
 
-impl<'r, R: io::Read> Turns<'r, R> {
+impl<'r, R: io::Read> CountedReader<'r, R> {
     /// A reader that took no turn yet.
     fn new(reader: &'r mut R) -> Self
         ensures reader { result.reader ≡ reader.entry }
         ensures taken { result.taken ≡ 0 }
     {
-        Turns { reader, taken: 0 }
+        CountedReader { reader, taken: 0 }
     }
 
     /// One turn more.
@@ -112,7 +112,10 @@ impl<'r, R: io::Read> Turns<'r, R> {
 
 /// The bytes of the reader up to its end, in at most `LIMIT + 1` turns: a turn that gives nothing
 /// is the end.
-fn read<R: io::Read>(alloc: Global, reader: &mut Turns<'_, R>) -> Result<Vec<u8>, ReplayError>
+fn read<R: io::Read>(
+    alloc: Global,
+    reader: &mut CountedReader<'_, R>,
+) -> Result<Vec<u8>, ReplayError>
     requires fresh { reader.old.taken ≡ 0 }
     ensures bounded { IfOk result (λ script. vec_len script ≤ LIMIT) }
     ensures whole { IfOk result

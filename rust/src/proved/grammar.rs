@@ -1073,7 +1073,7 @@ pub mod laws {
     ///
     /// <span></span><pre><code>ensures: [TextsWriteOneScript]</code></pre>
     ///
-    /// [TextsWriteOneScript]: crate::specs::grammar::Sayings#TextsWriteOneScript "two scripts that one text writes say the same"
+    /// [TextsWriteOneScript]: crate::specs::grammar::Meanings#TextsWriteOneScript "two scripts that one text writes say the same"
     #[inline]
     pub fn texts_write_one_script() {}
 
@@ -1083,7 +1083,7 @@ pub mod laws {
     ///
     /// <span></span><pre><code>ensures: [FirstBadLinesAreOne]</code></pre>
     ///
-    /// [FirstBadLinesAreOne]: crate::specs::grammar::Sayings#FirstBadLinesAreOne "the first bad line of a text is one number"
+    /// [FirstBadLinesAreOne]: crate::specs::grammar::Meanings#FirstBadLinesAreOne "the first bad line of a text is one number"
     #[inline]
     pub fn first_bad_lines_are_one() {}
 
@@ -1093,7 +1093,7 @@ pub mod laws {
     ///
     /// <span></span><pre><code>ensures: [WrittenTextsHaveNoBadLine]</code></pre>
     ///
-    /// [WrittenTextsHaveNoBadLine]: crate::specs::grammar::Sayings#WrittenTextsHaveNoBadLine "a text that writes a script has no bad line"
+    /// [WrittenTextsHaveNoBadLine]: crate::specs::grammar::Meanings#WrittenTextsHaveNoBadLine "a text that writes a script has no bad line"
     #[inline]
     pub fn written_texts_have_no_bad_line() {}
 }

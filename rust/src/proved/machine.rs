@@ -1,4 +1,4 @@
-//! Metered WebAssembly memories and tables under a resource limiter, and a machine that runs lists
+//! MeteredTables WebAssembly memories and tables under a resource limiter, and a machine that runs lists
 //! of calls on them.
 mod calls {
     //! What a machine can be asked, and what it replies. Both are our own: upstream leaves running to
@@ -1076,7 +1076,7 @@ mod machine {
         /// [new_state]: crate::specs::machine::State#new_state "a machine on which nothing was made yet, with 16 registers of zeros"
         #[inline]
         pub fn new(fuel: Fuel) -> Machine<'r> {
-            Machine::with_nothing(fuel, None)
+            Machine::empty(fuel, None)
         }
 
         /// A machine with this meter and this spare region, on which nothing was made yet. It takes no
@@ -1090,7 +1090,7 @@ mod machine {
         /// [new_state]: crate::specs::machine::State#new_state "a machine on which nothing was made yet, with 16 registers of zeros"
         #[inline]
         pub fn with_region(fuel: Fuel, region: &'r mut [u8]) -> Machine<'r> {
-            Machine::with_nothing(fuel, Some(region))
+            Machine::empty(fuel, Some(region))
         }
 
         /// A machine with this meter, and with this spare region if there is one.
@@ -1102,7 +1102,7 @@ mod machine {
         /// [new_state]: crate::specs::machine::State#new_state "a machine on which nothing was made yet, with 16 registers of zeros"
         /// [option_copied_mut]: crate::specs::library#option_copied_mut "the value behind an optional \`&mut\`, if there is one"
         #[inline]
-        fn with_nothing(fuel: Fuel, spare: Option<&'r mut [u8]>) -> Machine<'r> {
+        fn empty(fuel: Fuel, spare: Option<&'r mut [u8]>) -> Machine<'r> {
             let store = Store {
                 memories: Slots::new(),
                 tables: Slots::new(),
@@ -1705,9 +1705,9 @@ mod registers {
         ///
         /// # Contract
         ///
-        /// <span></span><pre><code>ensures: [TakesRegister] dst ([Some] ([Ok] value)) self.old.values result self.new.values</code></pre>
+        /// <span></span><pre><code>ensures: [SetsRegister] dst ([Some] ([Ok] value)) self.old.values result self.new.values</code></pre>
         ///
-        /// [TakesRegister]: crate::specs::machine::RegisterEffects#TakesRegister "the register of an index takes what a call gives, if there is such a register"
+        /// [SetsRegister]: crate::specs::machine::RegisterEffects#SetsRegister "the register of an index takes what a call gives, if there is such a register"
         /// [Some]: crate::specs::library#Some "the value x, of an \`Option\`"
         /// [Ok]: crate::specs::library#Ok "the value x, of a \`Result\`"
         #[inline(always)]
@@ -1724,10 +1724,10 @@ mod registers {
         ///
         /// # Contract
         ///
-        /// <span></span><pre><code>ensures: [TakesRegister] dst
+        /// <span></span><pre><code>ensures: [SetsRegister] dst
         /// &#32;&#32;&#32;&#32;([Some] ([as_raw] [raw_of_vector] vector)) self.old.values result self.new.values</code></pre>
         ///
-        /// [TakesRegister]: crate::specs::machine::RegisterEffects#TakesRegister "the register of an index takes what a call gives, if there is such a register"
+        /// [SetsRegister]: crate::specs::machine::RegisterEffects#SetsRegister "the register of an index takes what a call gives, if there is such a register"
         /// [Some]: crate::specs::library#Some "the value x, of an \`Option\`"
         /// [as_raw]: crate::specs::ops::RawResults#as_raw "an answer as a raw value; a trap stays"
         /// [raw_of_vector]: crate::specs::raw::RawVal#raw_of_vector "the words of a vector"
@@ -1757,11 +1757,11 @@ mod registers {
         ///
         /// # Contract
         ///
-        /// <span></span><pre><code>ensures: [TakesRegister] dst
+        /// <span></span><pre><code>ensures: [SetsRegister] dst
         /// &#32;&#32;&#32;&#32;([option_map] (λ raw. [given_vector] ([made_vector] op raw)) ([slice_get] self.old.values a))
         /// &#32;&#32;&#32;&#32;self.old.values result self.new.values</code></pre>
         ///
-        /// [TakesRegister]: crate::specs::machine::RegisterEffects#TakesRegister "the register of an index takes what a call gives, if there is such a register"
+        /// [SetsRegister]: crate::specs::machine::RegisterEffects#SetsRegister "the register of an index takes what a call gives, if there is such a register"
         /// [option_map]: crate::specs::library#option_map "f of the value, if there is one"
         /// [given_vector]: crate::specs::machine::RegisterEffects#given_vector "a vector as a register takes it"
         /// [made_vector]: crate::specs::ops::MakeOps#made_vector "the vector that an instruction makes of an item in a raw value"
@@ -1778,11 +1778,11 @@ mod registers {
         ///
         /// # Contract
         ///
-        /// <span></span><pre><code>ensures: [TakesRegister] dst
+        /// <span></span><pre><code>ensures: [SetsRegister] dst
         /// &#32;&#32;&#32;&#32;([of_one] ([unary_vector] op) ([vector_at] self.old.values a)) self.old.values result
         /// &#32;&#32;&#32;&#32;self.new.values</code></pre>
         ///
-        /// [TakesRegister]: crate::specs::machine::RegisterEffects#TakesRegister "the register of an index takes what a call gives, if there is such a register"
+        /// [SetsRegister]: crate::specs::machine::RegisterEffects#SetsRegister "the register of an index takes what a call gives, if there is such a register"
         /// [of_one]: crate::specs::machine::RegisterEffects#of_one "what a function of one vector gives a register, if the vector is there"
         /// [unary_vector]: crate::specs::ops::UnaryOps#unary_vector "what an instruction of one vector gives"
         /// [vector_at]: crate::specs::machine::RegisterEffects#vector_at "the vector in a register, if there is one"
@@ -1798,11 +1798,11 @@ mod registers {
         ///
         /// # Contract
         ///
-        /// <span></span><pre><code>ensures: [TakesRegister] dst
+        /// <span></span><pre><code>ensures: [SetsRegister] dst
         /// &#32;&#32;&#32;&#32;([of_two] ([binary_vector] op) ([vector_at] self.old.values a) ([vector_at] self.old.values b))
         /// &#32;&#32;&#32;&#32;self.old.values result self.new.values</code></pre>
         ///
-        /// [TakesRegister]: crate::specs::machine::RegisterEffects#TakesRegister "the register of an index takes what a call gives, if there is such a register"
+        /// [SetsRegister]: crate::specs::machine::RegisterEffects#SetsRegister "the register of an index takes what a call gives, if there is such a register"
         /// [of_two]: crate::specs::machine::RegisterEffects#of_two "what a function of two vectors gives a register, if both are there"
         /// [binary_vector]: crate::specs::ops::BinaryOps#binary_vector "what an instruction of two vectors gives"
         /// [vector_at]: crate::specs::machine::RegisterEffects#vector_at "the vector in a register, if there is one"
@@ -1818,12 +1818,12 @@ mod registers {
         ///
         /// # Contract
         ///
-        /// <span></span><pre><code>ensures: [TakesRegister] dst
+        /// <span></span><pre><code>ensures: [SetsRegister] dst
         /// &#32;&#32;&#32;&#32;([of_three] ([ternary_vector] op) ([vector_at] self.old.values a)
         /// &#32;&#32;&#32;&#32;([vector_at] self.old.values b) ([vector_at] self.old.values c)) self.old.values result
         /// &#32;&#32;&#32;&#32;self.new.values</code></pre>
         ///
-        /// [TakesRegister]: crate::specs::machine::RegisterEffects#TakesRegister "the register of an index takes what a call gives, if there is such a register"
+        /// [SetsRegister]: crate::specs::machine::RegisterEffects#SetsRegister "the register of an index takes what a call gives, if there is such a register"
         /// [of_three]: crate::specs::machine::RegisterEffects#of_three "what a function of three vectors gives a register, if all three are there"
         /// [ternary_vector]: crate::specs::ops::TernaryOps#ternary_vector "what an instruction of three vectors gives"
         /// [vector_at]: crate::specs::machine::RegisterEffects#vector_at "the vector in a register, if there is one"
@@ -1840,11 +1840,11 @@ mod registers {
         ///
         /// # Contract
         ///
-        /// <span></span><pre><code>ensures: [TakesRegister] dst
+        /// <span></span><pre><code>ensures: [SetsRegister] dst
         /// &#32;&#32;&#32;&#32;([of_one] (λ v. [shifted_vector] op v amount) ([vector_at] self.old.values a)) self.old.values
         /// &#32;&#32;&#32;&#32;result self.new.values</code></pre>
         ///
-        /// [TakesRegister]: crate::specs::machine::RegisterEffects#TakesRegister "the register of an index takes what a call gives, if there is such a register"
+        /// [SetsRegister]: crate::specs::machine::RegisterEffects#SetsRegister "the register of an index takes what a call gives, if there is such a register"
         /// [of_one]: crate::specs::machine::RegisterEffects#of_one "what a function of one vector gives a register, if the vector is there"
         /// [shifted_vector]: crate::specs::ops::ShiftOps#shifted_vector "what a shift of a vector by an amount gives"
         /// [vector_at]: crate::specs::machine::RegisterEffects#vector_at "the vector in a register, if there is one"
@@ -1896,12 +1896,12 @@ mod registers {
         ///
         /// # Contract
         ///
-        /// <span></span><pre><code>ensures: [TakesRegister] dst
+        /// <span></span><pre><code>ensures: [SetsRegister] dst
         /// &#32;&#32;&#32;&#32;([option_and_then]
         /// &#32;&#32;&#32;&#32;(λ raw. [of_one] (λ v. [replaced_vector] op v raw) ([vector_at] self.old.values a))
         /// &#32;&#32;&#32;&#32;([slice_get] self.old.values item)) self.old.values result self.new.values</code></pre>
         ///
-        /// [TakesRegister]: crate::specs::machine::RegisterEffects#TakesRegister "the register of an index takes what a call gives, if there is such a register"
+        /// [SetsRegister]: crate::specs::machine::RegisterEffects#SetsRegister "the register of an index takes what a call gives, if there is such a register"
         /// [option_and_then]: crate::specs::library#option_and_then "f of the value, if there is one"
         /// [of_one]: crate::specs::machine::RegisterEffects#of_one "what a function of one vector gives a register, if the vector is there"
         /// [replaced_vector]: crate::specs::ops::LaneOps#replaced_vector "the vector with an item of a raw value in a lane"
@@ -1919,11 +1919,11 @@ mod registers {
         ///
         /// # Contract
         ///
-        /// <span></span><pre><code>ensures: [TakesRegister] dst
+        /// <span></span><pre><code>ensures: [SetsRegister] dst
         /// &#32;&#32;&#32;&#32;([of_two] (λ x y. [shuffle] x y lanes) ([vector_at] self.old.values a)
         /// &#32;&#32;&#32;&#32;([vector_at] self.old.values b)) self.old.values result self.new.values</code></pre>
         ///
-        /// [TakesRegister]: crate::specs::machine::RegisterEffects#TakesRegister "the register of an index takes what a call gives, if there is such a register"
+        /// [SetsRegister]: crate::specs::machine::RegisterEffects#SetsRegister "the register of an index takes what a call gives, if there is such a register"
         /// [of_two]: crate::specs::machine::RegisterEffects#of_two "what a function of two vectors gives a register, if both are there"
         /// [shuffle]: crate::specs::lanewise::VectorTable#shuffle "of the 32 bytes of a and b, those at the indices s"
         /// [vector_at]: crate::specs::machine::RegisterEffects#vector_at "the vector in a register, if there is one"
@@ -1945,10 +1945,10 @@ mod registers {
         ///
         /// # Contract
         ///
-        /// <span></span><pre><code>ensures: [TakesRegister] dst ([vector_loaded] op (ptr + offset) ([option_copied] memory.entry))
+        /// <span></span><pre><code>ensures: [SetsRegister] dst ([vector_loaded] op (ptr + offset) ([option_copied] memory.entry))
         /// &#32;&#32;&#32;&#32;self.old.values result self.new.values</code></pre>
         ///
-        /// [TakesRegister]: crate::specs::machine::RegisterEffects#TakesRegister "the register of an index takes what a call gives, if there is such a register"
+        /// [SetsRegister]: crate::specs::machine::RegisterEffects#SetsRegister "the register of an index takes what a call gives, if there is such a register"
         /// [vector_loaded]: crate::specs::machine::RegisterEffects#vector_loaded "what a load of a vector from a memory gives a register, if the memory is there"
         /// [option_copied]: crate::specs::library#option_copied "the value behind an optional reference, if there is one"
         #[inline(always)]
@@ -1970,11 +1970,11 @@ mod registers {
         ///
         /// # Contract
         ///
-        /// <span></span><pre><code>ensures: [TakesRegister] dst
+        /// <span></span><pre><code>ensures: [SetsRegister] dst
         /// &#32;&#32;&#32;&#32;([lane_loaded] op (ptr + offset) ([vector_at] self.old.values a)
         /// &#32;&#32;&#32;&#32;([option_copied] memory.entry)) self.old.values result self.new.values</code></pre>
         ///
-        /// [TakesRegister]: crate::specs::machine::RegisterEffects#TakesRegister "the register of an index takes what a call gives, if there is such a register"
+        /// [SetsRegister]: crate::specs::machine::RegisterEffects#SetsRegister "the register of an index takes what a call gives, if there is such a register"
         /// [lane_loaded]: crate::specs::machine::RegisterEffects#lane_loaded "what a load of one lane of a vector from a memory gives a register, if the vector and the memory are there"
         /// [vector_at]: crate::specs::machine::RegisterEffects#vector_at "the vector in a register, if there is one"
         /// [option_copied]: crate::specs::library#option_copied "the value behind an optional reference, if there is one"
@@ -2010,13 +2010,13 @@ mod running {
         /// # Contract
         ///
         /// <span></span><pre><code>ensures loan: [KeepsLoan] limiter.old limiter.new
-        /// ensures step: [Answers] ([optional_rules] [L.rules]) call.now
+        /// ensures step: [RepliesWith] ([optional_rules] [L.rules]) call.now
         /// &#32;&#32;&#32;&#32;([world] self.old ([lent_limiter] limiter.old)) result
         /// &#32;&#32;&#32;&#32;([world] self.new ([lent_limiter] limiter.new))
         /// ensures valid: [IsValid] self.new</code></pre>
         ///
         /// [KeepsLoan]: crate::specs::meter::LimiterRef#KeepsLoan "r\' leads to what r leads to"
-        /// [Answers]: crate::specs::machine::Steps#Answers "a call is answered by a reply: there is a step by it, with some charge and some bytes written"
+        /// [RepliesWith]: crate::specs::machine::Steps#RepliesWith "a call is answered by a reply: there is a step by it, with some charge and some bytes written"
         /// [optional_rules]: crate::specs::meter::Limiter#optional_rules "the rules of a limiter that may be absent"
         /// [L.rules]: trait@ResourceLimiter#contract
         /// [world]: crate::specs::machine::World#world "a machine in this state with this limiter"
@@ -2041,13 +2041,13 @@ mod running {
         /// # Contract
         ///
         /// <span></span><pre><code>ensures loan: [KeepsLoan] limiter.old limiter.new
-        /// ensures step: [Answers] ([optional_rules] [L.rules]) ([GrowMemory] memory pages)
+        /// ensures step: [RepliesWith] ([optional_rules] [L.rules]) ([GrowMemory] memory pages)
         /// &#32;&#32;&#32;&#32;([world] self.old ([lent_limiter] limiter.old)) result
         /// &#32;&#32;&#32;&#32;([world] self.new ([lent_limiter] limiter.new))
         /// ensures valid: [IsValid] self.new</code></pre>
         ///
         /// [KeepsLoan]: crate::specs::meter::LimiterRef#KeepsLoan "r\' leads to what r leads to"
-        /// [Answers]: crate::specs::machine::Steps#Answers "a call is answered by a reply: there is a step by it, with some charge and some bytes written"
+        /// [RepliesWith]: crate::specs::machine::Steps#RepliesWith "a call is answered by a reply: there is a step by it, with some charge and some bytes written"
         /// [optional_rules]: crate::specs::meter::Limiter#optional_rules "the rules of a limiter that may be absent"
         /// [L.rules]: trait@ResourceLimiter#contract
         /// [GrowMemory]: crate::proved::machine::Call::GrowMemory
@@ -2072,11 +2072,11 @@ mod running {
         ///
         /// # Contract
         ///
-        /// <span></span><pre><code>ensures step: [Answers] ([optional_rules] [L.rules]) ([GrowMemory] memory pages)
+        /// <span></span><pre><code>ensures step: [RepliesWith] ([optional_rules] [L.rules]) ([GrowMemory] memory pages)
         /// &#32;&#32;&#32;&#32;([world] self.old ([Some] limiter.old)) result ([world] self.new ([Some] limiter.new))
         /// ensures valid: [IsValid] self.new</code></pre>
         ///
-        /// [Answers]: crate::specs::machine::Steps#Answers "a call is answered by a reply: there is a step by it, with some charge and some bytes written"
+        /// [RepliesWith]: crate::specs::machine::Steps#RepliesWith "a call is answered by a reply: there is a step by it, with some charge and some bytes written"
         /// [optional_rules]: crate::specs::meter::Limiter#optional_rules "the rules of a limiter that may be absent"
         /// [L.rules]: trait@ResourceLimiter#contract
         /// [GrowMemory]: crate::proved::machine::Call::GrowMemory
@@ -2103,11 +2103,11 @@ mod running {
         ///
         /// # Contract
         ///
-        /// <span></span><pre><code>ensures step: [Answers] ([optional_rules] [L.rules]) call.now
+        /// <span></span><pre><code>ensures step: [RepliesWith] ([optional_rules] [L.rules]) call.now
         /// &#32;&#32;&#32;&#32;([world] self.old ([Some] limiter.old)) result ([world] self.new ([Some] limiter.new))
         /// ensures valid: [IsValid] self.new</code></pre>
         ///
-        /// [Answers]: crate::specs::machine::Steps#Answers "a call is answered by a reply: there is a step by it, with some charge and some bytes written"
+        /// [RepliesWith]: crate::specs::machine::Steps#RepliesWith "a call is answered by a reply: there is a step by it, with some charge and some bytes written"
         /// [optional_rules]: crate::specs::meter::Limiter#optional_rules "the rules of a limiter that may be absent"
         /// [L.rules]: trait@ResourceLimiter#contract
         /// [world]: crate::specs::machine::World#world "a machine in this state with this limiter"
@@ -2620,12 +2620,12 @@ mod store {
         /// # Contract
         ///
         /// <span></span><pre><code>ensures loan: [KeepsLoan] limiter.old limiter.new
-        /// ensures step: [Answers] ([optional_rules] [L.rules]) ([GrowMemory] memory pages)
+        /// ensures step: [RepliesWith] ([optional_rules] [L.rules]) ([GrowMemory] memory pages)
         /// &#32;&#32;&#32;&#32;([world] self.old ([lent_limiter] limiter.old)) result
         /// &#32;&#32;&#32;&#32;([world] self.new ([lent_limiter] limiter.new))</code></pre>
         ///
         /// [KeepsLoan]: crate::specs::meter::LimiterRef#KeepsLoan "r\' leads to what r leads to"
-        /// [Answers]: crate::specs::machine::Steps#Answers "a call is answered by a reply: there is a step by it, with some charge and some bytes written"
+        /// [RepliesWith]: crate::specs::machine::Steps#RepliesWith "a call is answered by a reply: there is a step by it, with some charge and some bytes written"
         /// [optional_rules]: crate::specs::meter::Limiter#optional_rules "the rules of a limiter that may be absent"
         /// [L.rules]: trait@ResourceLimiter#contract
         /// [GrowMemory]: crate::proved::machine::Call::GrowMemory
@@ -2646,12 +2646,12 @@ mod store {
         /// # Contract
         ///
         /// <span></span><pre><code>ensures loan: [KeepsLoan] limiter.old limiter.new
-        /// ensures step: [Answers] ([optional_rules] [L.rules]) call.now
+        /// ensures step: [RepliesWith] ([optional_rules] [L.rules]) call.now
         /// &#32;&#32;&#32;&#32;([world] self.old ([lent_limiter] limiter.old)) result
         /// &#32;&#32;&#32;&#32;([world] self.new ([lent_limiter] limiter.new))</code></pre>
         ///
         /// [KeepsLoan]: crate::specs::meter::LimiterRef#KeepsLoan "r\' leads to what r leads to"
-        /// [Answers]: crate::specs::machine::Steps#Answers "a call is answered by a reply: there is a step by it, with some charge and some bytes written"
+        /// [RepliesWith]: crate::specs::machine::Steps#RepliesWith "a call is answered by a reply: there is a step by it, with some charge and some bytes written"
         /// [optional_rules]: crate::specs::meter::Limiter#optional_rules "the rules of a limiter that may be absent"
         /// [L.rules]: trait@ResourceLimiter#contract
         /// [world]: crate::specs::machine::World#world "a machine in this state with this limiter"
@@ -2710,14 +2710,14 @@ mod store {
         ///
         /// <span></span><pre><code>requires subject: [subject_of] call.now ≡ [Memories]
         /// ensures loan: [KeepsLoan] limiter.old limiter.new
-        /// ensures step: [Answers] ([optional_rules] [L.rules]) call.now
+        /// ensures step: [RepliesWith] ([optional_rules] [L.rules]) call.now
         /// &#32;&#32;&#32;&#32;([world] self.old ([lent_limiter] limiter.old)) result
         /// &#32;&#32;&#32;&#32;([world] self.new ([lent_limiter] limiter.new))</code></pre>
         ///
         /// [subject_of]: crate::specs::machine::Steps#subject_of "what each call is about: a line for each"
         /// [Memories]: crate::specs::machine::Steps#Memories
         /// [KeepsLoan]: crate::specs::meter::LimiterRef#KeepsLoan "r\' leads to what r leads to"
-        /// [Answers]: crate::specs::machine::Steps#Answers "a call is answered by a reply: there is a step by it, with some charge and some bytes written"
+        /// [RepliesWith]: crate::specs::machine::Steps#RepliesWith "a call is answered by a reply: there is a step by it, with some charge and some bytes written"
         /// [optional_rules]: crate::specs::meter::Limiter#optional_rules "the rules of a limiter that may be absent"
         /// [L.rules]: trait@ResourceLimiter#contract
         /// [world]: crate::specs::machine::World#world "a machine in this state with this limiter"
@@ -2766,14 +2766,14 @@ mod store {
         ///
         /// <span></span><pre><code>requires subject: [subject_of] call.now ≡ [Tables]
         /// ensures loan: [KeepsLoan] limiter.old limiter.new
-        /// ensures step: [Answers] ([optional_rules] [L.rules]) call.now
+        /// ensures step: [RepliesWith] ([optional_rules] [L.rules]) call.now
         /// &#32;&#32;&#32;&#32;([world] self.old ([lent_limiter] limiter.old)) result
         /// &#32;&#32;&#32;&#32;([world] self.new ([lent_limiter] limiter.new))</code></pre>
         ///
         /// [subject_of]: crate::specs::machine::Steps#subject_of "what each call is about: a line for each"
         /// [Tables]: crate::specs::machine::Steps#Tables
         /// [KeepsLoan]: crate::specs::meter::LimiterRef#KeepsLoan "r\' leads to what r leads to"
-        /// [Answers]: crate::specs::machine::Steps#Answers "a call is answered by a reply: there is a step by it, with some charge and some bytes written"
+        /// [RepliesWith]: crate::specs::machine::Steps#RepliesWith "a call is answered by a reply: there is a step by it, with some charge and some bytes written"
         /// [optional_rules]: crate::specs::meter::Limiter#optional_rules "the rules of a limiter that may be absent"
         /// [L.rules]: trait@ResourceLimiter#contract
         /// [world]: crate::specs::machine::World#world "a machine in this state with this limiter"
@@ -2840,11 +2840,11 @@ mod store {
         /// # Contract
         ///
         /// <span></span><pre><code>requires subject: [subject_of] call.now ≡ [RegisterFile]
-        /// ensures step: [AnswersAlone] ([optional_rules] [L.rules]) call.now self.old result self.new</code></pre>
+        /// ensures step: [RepliesWithoutLimiter] ([optional_rules] [L.rules]) call.now self.old result self.new</code></pre>
         ///
         /// [subject_of]: crate::specs::machine::Steps#subject_of "what each call is about: a line for each"
         /// [RegisterFile]: crate::specs::machine::Steps#RegisterFile
-        /// [AnswersAlone]: crate::specs::machine::Steps#AnswersAlone "a call is answered by a reply without the limiter, whatever the limiter is, in a step that charges and writes nothing"
+        /// [RepliesWithoutLimiter]: crate::specs::machine::Steps#RepliesWithoutLimiter "a call is answered by a reply without the limiter, whatever the limiter is, in a step that charges and writes nothing"
         /// [optional_rules]: crate::specs::meter::Limiter#optional_rules "the rules of a limiter that may be absent"
         /// [L.rules]: trait@ResourceLimiter#contract
         #[inline(always)]
@@ -2870,12 +2870,12 @@ mod store {
         ///
         /// # Contract
         ///
-        /// <span></span><pre><code>requires subject: [subject_of] call.now ≡ [Vectors]
-        /// ensures step: [AnswersAlone] ([optional_rules] [L.rules]) call.now self.old result self.new</code></pre>
+        /// <span></span><pre><code>requires subject: [subject_of] call.now ≡ [VectorAccesses]
+        /// ensures step: [RepliesWithoutLimiter] ([optional_rules] [L.rules]) call.now self.old result self.new</code></pre>
         ///
         /// [subject_of]: crate::specs::machine::Steps#subject_of "what each call is about: a line for each"
-        /// [Vectors]: crate::specs::machine::Steps#Vectors
-        /// [AnswersAlone]: crate::specs::machine::Steps#AnswersAlone "a call is answered by a reply without the limiter, whatever the limiter is, in a step that charges and writes nothing"
+        /// [VectorAccesses]: crate::specs::machine::Steps#VectorAccesses
+        /// [RepliesWithoutLimiter]: crate::specs::machine::Steps#RepliesWithoutLimiter "a call is answered by a reply without the limiter, whatever the limiter is, in a step that charges and writes nothing"
         /// [optional_rules]: crate::specs::meter::Limiter#optional_rules "the rules of a limiter that may be absent"
         /// [L.rules]: trait@ResourceLimiter#contract
         #[inline(always)]

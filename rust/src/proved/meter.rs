@@ -254,9 +254,9 @@ mod capped {
         ///
         /// # Contract
         ///
-        /// <span></span><pre><code>ensures: [TakesMore] capped self.old kind difference result self.new</code></pre>
+        /// <span></span><pre><code>ensures: [HoldsMore] capped self.old kind difference result self.new</code></pre>
         ///
-        /// [TakesMore]: crate::specs::meter::Capped#TakesMore "so many more of a kind are taken, or not, and all but the holdings stays"
+        /// [HoldsMore]: crate::specs::meter::Capped#HoldsMore "so many more of a kind are taken, or not, and all but the holdings stays"
         fn take(&mut self, kind: Kind, difference: u64) -> bool;
 
         /// Gives back what was taken last, if that is of this kind.

@@ -845,7 +845,7 @@ mod replaying {
     /// [R.remaining]: crate::specs::library#remaining "the bytes that a reader still has"
     #[inline]
     fn outcome_of<R: io::Read>(reader: &mut R) -> Result<Replayed, ReplayError> {
-        let bytes = read(&mut Turns::new(reader))?;
+        let bytes = read(&mut CountedReader::new(reader))?;
         let script = parse(bytes.as_slice())?;
         let ran = run_script(&script)?;
         Ok(Replayed { script, ran })
@@ -871,13 +871,13 @@ mod replaying {
     }
 
     /// A reader whose turns are counted.
-    struct Turns<'r, R> {
+    struct CountedReader<'r, R> {
         reader: &'r mut R,
         /// How many turns it took.
         taken: usize,
     }
 
-    impl<'r, R: io::Read> Turns<'r, R> {
+    impl<'r, R: io::Read> CountedReader<'r, R> {
         /// A reader that took no turn yet.
         ///
         /// # Contract
@@ -886,7 +886,7 @@ mod replaying {
         /// ensures taken: result.taken ≡ 0</code></pre>
         #[inline]
         fn new(reader: &'r mut R) -> Self {
-            Turns { reader, taken: 0 }
+            CountedReader { reader, taken: 0 }
         }
 
         /// One turn more.
@@ -930,7 +930,7 @@ mod replaying {
     /// [IsReadError]: crate::specs::script::Refusals#IsReadError "why the bytes that a reader has left aren\'t read"
     /// [script_limit]: crate::specs::script::Refusals#script_limit "the most bytes that a script may have"
     #[inline]
-    fn read<R: io::Read>(reader: &mut Turns<'_, R>) -> Result<Vec<u8>, ReplayError> {
+    fn read<R: io::Read>(reader: &mut CountedReader<'_, R>) -> Result<Vec<u8>, ReplayError> {
         let mut script = Vec::new();
         let mut chunk = [0u8; 4096];
         for _turn in 0..LIMIT + 1 {

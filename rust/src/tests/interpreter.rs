@@ -1,10 +1,10 @@
-//! Programs of the interpreter of `wasmi_uses`, and a memory under its limiter.
+//! Programs of the interpreter of `wasmi_example_callers`, and a memory under its limiter.
 use crate::machine::{
     Call, CustomFuelCosts, Fuel, FuelCostsProvider, Machine, Memory, MemoryError, MemoryType,
     NoLimits, Quota, RawVal, Reply, ResourceLimiter, ResourceLimiterRef, TrapCode, run_lending,
 };
-use crate::proved::tests::uses::interpreter::{Ending, Instruction, Outcome, execute};
-use crate::proved::tests::uses::limiter::AtMost;
+use crate::proved::tests::example_callers::interpreter::{Ending, Instruction, Outcome, execute};
+use crate::proved::tests::example_callers::limiter::AtMost;
 
 /// A machine with so much fuel, of which one is taken for 64 copied bytes, or with a meter that is off.
 fn machine(fuel: Option<u64>) -> Machine<'static> {

@@ -12,7 +12,7 @@ use Rattle.wasmi_meter.specs.declared.fuel.FuelError.TheVariants.{FuelMeteringDi
 use Rattle.wasmi_meter.specs.declared.limiter.Kind.TheVariants.{Bytes, Elements}
 use Rattle.wasmi_core.specs.State.{live_at}
 use Rattle.wasmi_core.specs.Totals.{total}
-use Rattle.wasmi_core.specs.Steps.{Answers}
+use Rattle.wasmi_core.specs.Steps.{RepliesWith}
 use Rattle.wasmi_core.specs.World.{World, world}
 use Rattle.wasmi_core.specs.declared.calls.Call.{Call}
 use Rattle.wasmi_core.specs.declared.calls.Call.TheVariants.{NewSegment}
@@ -33,7 +33,7 @@ world_of machine = world machine.state (Some machine.limiter)
 -- a machine replies to a call: a step under its limiter
 abbrev pub MachineReplies : Call → MachineValue → Reply → MachineValue → Type 0
 MachineReplies call machine reply machine' =
-    Answers (optional_rules any_limiter_rules) call (world_of machine) reply (world_of machine')
+    RepliesWith (optional_rules any_limiter_rules) call (world_of machine) reply (world_of machine')
 
 -- a machine replies to a call with a struct
 abbrev pub RepliesInStruct : Call → MachineValue → ReplyStruct → MachineValue → Type 0
@@ -88,8 +88,8 @@ abbrev pub no_totals : Totals
 no_totals = totals_in no_machine_status 0 0
 
 -- an amount of fuel is taken where the meter is on and so much is left, and the reply has what is left then
-abbrev pub TakesFuel : ℕ → MachineValue → ReplyStruct → MachineValue → Type 0
-TakesFuel amount machine reply machine' = MatchOption machine.state.meter.left
+abbrev pub PaysFuel : ℕ → MachineValue → ReplyStruct → MachineValue → Type 0
+PaysFuel amount machine reply machine' = MatchOption machine.state.meter.left
     ((reply ≡ fuel_refusal FuelMeteringDisabled) × (machine' ≡ machine))
     (λ left. (amount ≤ left → (reply ≡ with_number done_status (left - amount))
     × (machine' ≡ record machine { state = record machine.state { meter = meter_after machine.state.meter amount } }))

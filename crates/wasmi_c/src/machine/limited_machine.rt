@@ -37,7 +37,7 @@ impl Model for LimitedMachine {
 }
 
 impl LimitedMachine {
-    ghost use Rattle.wasmi_c.specs.Machine.Calls.{MachineReplies, ReadsOut, RepliesInStruct, RepliesToCopy, RepliesToSegment, RepliesToStruct, TakesFuel, totals_of};
+    ghost use Rattle.wasmi_c.specs.Machine.Calls.{MachineReplies, ReadsOut, RepliesInStruct, RepliesToCopy, RepliesToSegment, RepliesToStruct, PaysFuel, totals_of};
     ghost use Rattle.wasmi_c.specs.Machine.Caps.{IsCapped};
     ghost use Rattle.wasmi_c.specs.Machine.NewMachines.{IsNewMachine, IsNewWithAnswers};
     ghost use Rattle.wasmi_c.specs.Machine.Replies.{reply_struct};
@@ -244,7 +244,7 @@ impl LimitedMachine {
 
     /// Takes fuel that isn't a call's.
     pub fn consume_fuel(&mut self, amount: u64) -> ReplyStruct
-        ensures step { TakesFuel amount self.old result self.new }
+        ensures step { PaysFuel amount self.old result self.new }
         ensures caps { caps_of self.new.limiter ≡ caps_of self.old.limiter }
     {
         match self.machine.consume_fuel(amount) {

@@ -1,8 +1,8 @@
 //! The tests of the proved crates, and the callers that they use.
+#[allow(dead_code)]
+pub(crate) mod example_callers;
 mod instruction;
 mod machine;
 mod script;
 mod store;
-#[allow(dead_code)]
-pub(crate) mod uses;
 mod value;

@@ -13,7 +13,7 @@ use Rattle.std.specs.Slice.Iter.{split_rest, split_done, split_callee, split_ste
 use Rattle.wasmi_operands.specs.LineWords.{words_in}
 use Rattle.wasmi_grammar.specs.declared.script.Script.{Script}
 use Rattle.wasmi_grammar.specs.Parts.{parts_in, calls_in}
-use Rattle.wasmi_grammar.specs.Lines.{TakesLine, TakesLines, AreTaken, lines_in}
+use Rattle.wasmi_grammar.specs.Lines.{AcceptsLine, AcceptsLines, AreTaken, lines_in}
 use Rattle.wasmi_grammar.specs.Refusals.{IsBadLine, IsFirstBadLine}
 use Rattle.wasmi_grammar.proofs.TextsLemmas.{retell}
 use Rattle.wasmi_grammar.proofs.ScriptLemmas.{one_more, without_numbers, stops_at, added_count}
@@ -66,7 +66,7 @@ loop-index-preserved c =
     ap (map (λ word. word.now)) c.as_slice.ensures.value ∙ c.in_ok-read_words.ensures
     ∙ ap words_in c.in-Ok.ensures.cases.0 in
     let words = c.as_slice.result.now in
-    let line_taken : TakesLine c.loop-index.script c.in-Some.bytes.now new =
+    let line_taken : AcceptsLine c.loop-index.script c.in-Some.bytes.now new =
     (c.in-Ok.ensures.cases.1, words, same, c.in-Ok-take_line.ensures.ok) in (
       omega (
         arith,
@@ -77,7 +77,7 @@ loop-index-preserved c =
       record {
         empty = taken.empty;
         is_new = taken.is_new;
-        lines = subst (λ lines. TakesLines lines taken.empty new)
+        lines = subst (λ lines. AcceptsLines lines taken.empty new)
             (sym (map-append line_of yielded ((c.in-Some.index, c.in-Some.bytes) ∷ [])))
             (one_more (map line_of yielded) c.in-Some.bytes.now taken.empty c.loop-index.script new taken.lines
             line_taken);

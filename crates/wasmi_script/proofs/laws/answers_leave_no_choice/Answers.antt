@@ -1,5 +1,5 @@
-use Rattle.wasmi_script.proofs.QuietListsLemmas.{answers_once}
+use Rattle.wasmi_script.proofs.QuietListsLemmas.{answers_unique}
 use Rattle.wasmi_script.proofs.laws.answers_leave_no_choice.Goals as goal
 
 pub returns : goal.returns
-returns c = answers_once
+returns c = answers_unique

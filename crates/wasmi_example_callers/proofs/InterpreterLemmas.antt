@@ -1,0 +1,477 @@
+-- What a program did is a run, and what fuel it took.
+use Rattle.std.proofs.Common.{◌≡◌, ◌∙◌, ◌+◌, ◌-◌, ◌*◌, ◌<◌, ◌≤◌, ◌⊎◌, inl, inr, ℕ, zero, suc, Bool, true, false, ◌==◌, Option, Some, None, MatchOption, MatchBool, Result, Ok, Err, cond, List, [], ◌∷◌, ◌++◌, map, refl, sym, ap, subst, arith}
+use Rattle.std.specs.Prelude.{All, if◌then◌else◌, is_some, IsSome, slice_get}
+use Rattle.std.specs.Int.{w64, cast_unsigned}
+use Rattle.std.specs.Option.{option_map, option_map_or, option_and_then, unwrap_or}
+use Rattle.std.proofs.Math.Nat.{mul-le-mul_left}
+use Rattle.std.proofs.lemmas.Bool.Decides.{nat_tests}
+use Rattle.std.proofs.lemmas.List.Elements.{All-nil, All-cons}
+use Rattle.std.proofs.lemmas.List.Sums.{sum_by-append, sum_by-le-sum_by}
+use Rattle.wasmi_meter.specs.declared.fuel.FuelError.{FuelError}
+use Rattle.wasmi_meter.specs.declared.fuel.FuelError.TheVariants.{FuelMeteringDisabled, OutOfFuel}
+use Rattle.wasmi_meter.specs.declared.error.MemoryError.{MemoryError}
+use Rattle.wasmi_meter.specs.Limiter.{Rules}
+use Rattle.wasmi_meter.specs.Meter.{Meter, amount_left, meter_after, ConsumesFuel}
+use Rattle.wasmi_raw.specs.declared.raw.RawVal.{RawVal}
+use Rattle.wasmi_raw.specs.RawVal.{raw_of, signed_in}
+use Rattle.wasmi_scalar.specs.Numerics.{iadd, imul}
+use Rattle.wasmi_ops.specs.declared.scalar.access.StoreOp.TheVariants.{Store64}
+use Rattle.wasmi_ops.specs.declared.vector.access.VectorLoadOp.TheVariants.{V128Load64Zero}
+use Rattle.wasmi_store.specs.Memory.{MemoryValue, pages_of}
+use Rattle.wasmi_core.specs.declared.calls.Call.{Call}
+use Rattle.wasmi_core.specs.declared.calls.Call.TheVariants.{SetFuel, GrowMemory, SetRegister, VectorLoad}
+use Rattle.wasmi_core.specs.declared.calls.Call.TheVariants as call
+use Rattle.wasmi_core.specs.declared.calls.Reply.{Reply}
+use Rattle.wasmi_core.specs.declared.calls.Reply.TheVariants.{Done, Fuel, Number, Memory}
+use Rattle.wasmi_core.specs.Account.{SetsNoFuel, charges}
+use Rattle.wasmi_core.specs.State.{State, live_at}
+use Rattle.wasmi_core.specs.World.{World, Turn, world}
+use Rattle.wasmi_core.specs.Steps.{Step, RepliesWith}
+use Rattle.wasmi_core.specs.Runs.{Run, AreTurns}
+use Rattle.wasmi_core.specs.Writing.{has_written, bytes_written, writing_turns, charges_for_writing}
+use Rattle.wasmi_core.specs.Laws.{RunsJoin, ChargesAreSpent, FuelBoundsWriting}
+use Rattle.wasmi_example_callers.specs.declared.interpreter.Instruction.{Instruction}
+use Rattle.wasmi_example_callers.specs.declared.interpreter.Instruction.TheVariants.{Constant, Copy, Add, Multiply, AddBytes, Load, Store, Grow, Size, Branch, BranchIf, Return}
+use Rattle.wasmi_example_callers.specs.declared.interpreter.Action.{Action}
+use Rattle.wasmi_example_callers.specs.declared.interpreter.Action.TheVariants.{Calls, Grows, Continues, Branches, Returns}
+use Rattle.wasmi_example_callers.specs.declared.interpreter.Ending.{Ending}
+use Rattle.wasmi_example_callers.specs.declared.interpreter.Ending.TheVariants as ending
+use Rattle.wasmi_example_callers.specs.declared.interpreter.Outcome.{Outcome}
+use Rattle.wasmi_example_callers.specs.Interpreter.{sets, action_of, action_at, grow_result, place_after, IsGrowth, CarriesOut, is_out_of_fuel, fuel_taken, Stops, StepsAt, Reaches, ExecutesProgram, HasRun, last_instruction, instructions_of, PaysProgramFuel}
+
+-- the state with so much left
+abbrev with_left : State → Option ℕ → State
+with_left s left = record s { meter = record s.meter { left = left } }
+
+-- where metering is off nothing is taken
+taken_off : (s : State) → s.meter.left ≡ None → fuel_taken s ≡ s
+taken_off s off = ap (with_left s) (ap (option_map (λ n. n - 1)) off ∙ sym off)
+
+-- what the answer to a request for one fuel tells of the state before and after it
+abbrev pub Tells : State → State → Result ℕ FuelError → Type 0
+Tells s s' (Err (OutOfFuel required)) = (is_out_of_fuel s.meter ≡ true) × (s' ≡ s)
+Tells s s' result = (is_out_of_fuel s.meter ≡ false) × (s' ≡ fuel_taken s)
+
+module _ (s s' : State) (result : Result ℕ FuelError)
+    (on : IsSome s.meter.left → ConsumesFuel s.meter 1 (amount_left s.meter - 1) result s'.meter)
+    (off : s.meter.left ≡ None → (result ≡ Err FuelMeteringDisabled) × (s' ≡ s))
+    (rest : s' ≡ record s { meter = s'.meter }) where
+  -- whether nothing is left, by what is left
+  tested : (o : Option ℕ) → s.meter.left ≡ o → is_out_of_fuel s.meter ≡ option_map_or (λ n. n == 0) o false
+  tested o is = ap (λ o. option_map_or (λ n. n == 0) o false) is
+
+  -- the state by its meter
+  metered : (m : Meter) → s'.meter ≡ m → s' ≡ record s { meter = m }
+  metered m is = rest ∙ ap (λ m. record s { meter = m }) is
+
+  -- the answer, by what was left
+  told_by : (o : Option ℕ) → s.meter.left ≡ o → Tells s s' result
+  told_by None is =
+      let answer = off is in
+      subst (Tells s s') (sym answer.0) (tested None is, answer.1 ∙ sym (taken_off s is))
+  told_by (Some zero) is =
+      let short = (on (ap is_some is)).short (omega (arith, ap (λ o. unwrap_or o 0) is)) in
+      subst (Tells s s') (sym short.0) (tested (Some 0) is, metered s.meter short.1)
+  told_by (Some (suc n)) is =
+      let enough = (on (ap is_some is)).enough (omega (arith, ap (λ o. unwrap_or o 0) is)) in
+      let some : (suc n == 0) ≡ false = grind (arith, nat_tests) in
+      subst (Tells s s') (sym enough.0) (tested (Some (suc n)) is ∙ some, metered (meter_after s.meter 1) enough.1)
+
+  -- so it tells
+  pub told : Tells s s' result
+  told = told_by s.meter.left refl
+
+module _ {S : Type 0} (rules : Rules S) where
+  -- a call that is answered is a run of one turn
+  pub answered : (c : Call) (w : World S) (reply : Reply) (w' : World S) → RepliesWith rules c w reply w'
+      → (turns : List Turn) × Run rules w turns w' × AreTurns (c ∷ []) (reply ∷ []) turns
+  answered c w reply w' (charge, written, step) = (
+    record { call = c; reply = reply; charge = charge; written = written } ∷ [],
+    (w', step, refl),
+    record { calls_of = refl; replies_of = refl },
+  )
+
+  -- two are a run of two
+  pub answered_twice : (c c' : Call) (w : World S) (reply : Reply) (v : World S) (reply' : Reply) (w' : World S)
+      → RepliesWith rules c w reply v → RepliesWith rules c' v reply' w'
+      → (turns : List Turn) × Run rules w turns w' × AreTurns (c ∷ c' ∷ []) (reply ∷ reply' ∷ []) turns
+  answered_twice c c' w reply v reply' w' (charge, written, step) (charge', written', step') = (
+    record { call = c; reply = reply; charge = charge; written = written }
+        ∷ record { call = c'; reply = reply'; charge = charge'; written = written' } ∷ [],
+    (v, step, (w', step', refl)),
+    record { calls_of = refl; replies_of = refl },
+  )
+
+-- a growth with a result
+pub grown : (dst pages : ℕ) (turns : List Turn) (reply last : Reply) (size : ℕ) → grow_result reply ≡ Some size
+    → AreTurns (GrowMemory 0 pages ∷ SetRegister dst (raw_of size) ∷ []) (reply ∷ last ∷ []) turns
+    → IsGrowth dst pages turns last
+grown dst pages turns reply last size is are = (reply, rw is are)
+
+-- no other reply has one
+no_result : (reply : Reply) → ((size : ℕ) → reply ≡ Number size → ⊥)
+    → ((error : MemoryError) → reply ≡ Memory error → ⊥)
+    → grow_result reply ≡ None
+no_result (Number size) number memory = absurd (number size refl)
+no_result (Memory error) number memory = absurd (memory error refl)
+no_result reply number memory = refl
+
+-- so the growth ends there
+pub ungrown : (dst pages : ℕ) (turns : List Turn) (reply : Reply) → ((size : ℕ) → reply ≡ Number size → ⊥)
+    → ((error : MemoryError) → reply ≡ Memory error → ⊥)
+    → AreTurns (GrowMemory 0 pages ∷ []) (reply ∷ []) turns → IsGrowth dst pages turns reply
+ungrown dst pages turns reply number memory are = (reply, rw (no_result reply number memory) (are, refl))
+
+-- one instruction more leads on from where those so far have led
+pub reaches_more : {S : Type 0} (rules : Rules S) (program : List Instruction) (w : World S) (n at : ℕ)
+    (turns : List Turn) (v : World S) → Reaches rules program w n at turns v → (more : List Turn) (at' : ℕ)
+    (v' : World S) → StepsAt rules program at v more (Ok at') v'
+    → Reaches rules program w (n + 1) at' (turns ++ more) v'
+reaches_more rules program w n at turns v path more at' v' steps =
+    let next : n + 1 ≡ suc n = omega arith in
+    subst (λ k. Reaches rules program w k at' (turns ++ more) v') (sym next)
+    (at, turns, v, path, more, steps, refl)
+
+-- the call of an action doesn't set the fuel
+abbrev ActsWithoutFuel : Option Action → Type 0
+ActsWithoutFuel (Some (Calls c)) = SetsNoFuel c
+ActsWithoutFuel action = Unit {0}
+
+-- so of what is made of a register
+of_one : {A : Type 0} (o : Option A) (f : A → Action) → ((x : A) → ActsWithoutFuel (Some (f x)))
+    → ActsWithoutFuel (option_map f o)
+of_one None f each = tt
+of_one (Some x) f each = each x
+
+-- of two
+of_two : {A B : Type 0} (o : Option A) (p : Option B) (f : A → B → Action)
+    → ((x : A) (y : B) → ActsWithoutFuel (Some (f x y)))
+    → ActsWithoutFuel (option_and_then (λ x. option_map (f x) p) o)
+of_two None p f each = tt
+of_two (Some x) p f each = of_one p (f x) (each x)
+
+-- of a branch
+of_branch : (stays : Bool) (target : ℕ) → ActsWithoutFuel (Some (if stays then Continues else Branches target))
+of_branch true target = tt
+of_branch false target = tt
+
+-- no instruction sets the fuel
+acts_without_fuel : (i : Instruction) (s : State) → ActsWithoutFuel (action_of i s)
+acts_without_fuel (Constant dst number) s = tt
+acts_without_fuel (Copy dst src) s = of_one (slice_get s.registers src) (λ (x : RawVal). sets dst x) (λ x. tt)
+acts_without_fuel (Add dst a b) s =
+    of_two (slice_get s.registers a) (slice_get s.registers b)
+    (λ (x y : RawVal). sets dst (raw_of (cast_unsigned w64 (iadd w64 (signed_in w64 x) (signed_in w64 y)))))
+    (λ x y. tt)
+acts_without_fuel (Multiply dst a b) s =
+    of_two (slice_get s.registers a) (slice_get s.registers b)
+    (λ (x y : RawVal). sets dst (raw_of (cast_unsigned w64 (imul w64 (signed_in w64 x) (signed_in w64 y)))))
+    (λ x y. tt)
+acts_without_fuel (AddBytes dst a b) s = tt
+acts_without_fuel (Load dst ptr offset) s =
+    of_one (slice_get s.registers ptr) (λ (x : RawVal). Calls (VectorLoad V128Load64Zero dst 0 x.lo offset)) (λ x. tt)
+acts_without_fuel (Store ptr offset value) s =
+    of_two (slice_get s.registers ptr) (slice_get s.registers value)
+    (λ (x y : RawVal). Calls (call.Store Store64 0 x.lo offset y)) (λ x y. tt)
+acts_without_fuel (Grow dst pages) s =
+    of_two (slice_get s.registers dst) (slice_get s.registers pages) (λ (old x : RawVal). Grows dst x.lo) (λ x y. tt)
+acts_without_fuel (Size dst) s =
+    of_one (live_at s.memories 0) (λ (x : MemoryValue). sets dst (raw_of (pages_of x))) (λ x. tt)
+acts_without_fuel (Branch target) s = tt
+acts_without_fuel (BranchIf condition target) s =
+    of_one (slice_get s.registers condition) (λ (x : RawVal). if x.lo == 0 then Continues else Branches target)
+    (λ x. of_branch (x.lo == 0) target)
+acts_without_fuel (Return local) s = of_one (slice_get s.registers local) (λ (x : RawVal). Returns x) (λ x. tt)
+
+-- nor does that of a place
+place_without_fuel : (o : Option Instruction) (s : State)
+    → ActsWithoutFuel (option_and_then (λ i. action_of i s) o)
+place_without_fuel None s = tt
+place_without_fuel (Some i) s = acts_without_fuel i s
+
+-- turns of these calls don't set the fuel
+turns_without_fuel : (calls : List Call) (replies : List Reply) (turns : List Turn) → All SetsNoFuel calls
+    → AreTurns calls replies turns → All SetsNoFuel (map Turn.call turns)
+turns_without_fuel calls replies turns none are = subst (All SetsNoFuel) (sym are.calls_of) none
+
+-- so those of a growth, by its result
+growth_without_fuel : (o : Option ℕ) (dst pages : ℕ) (turns : List Turn) (reply last : Reply)
+    → MatchOption o (AreTurns (GrowMemory 0 pages ∷ []) (reply ∷ []) turns × (last ≡ reply))
+    (λ size. AreTurns (GrowMemory 0 pages ∷ SetRegister dst (raw_of size) ∷ []) (reply ∷ last ∷ []) turns)
+    → All SetsNoFuel (map Turn.call turns)
+growth_without_fuel None dst pages turns reply last are =
+    turns_without_fuel _ _ turns (All-cons SetsNoFuel (GrowMemory 0 pages) [] tt (All-nil SetsNoFuel)) are.0
+growth_without_fuel (Some size) dst pages turns reply last are =
+    turns_without_fuel _ _ turns
+    (All-cons SetsNoFuel (GrowMemory 0 pages) (SetRegister dst (raw_of size) ∷ []) tt
+    (All-cons SetsNoFuel (SetRegister dst (raw_of size)) [] tt (All-nil SetsNoFuel))) are
+
+-- there are none
+none_without_fuel : (turns : List Turn) → turns ≡ [] → All SetsNoFuel (map Turn.call turns)
+none_without_fuel turns none = subst (λ ts. All SetsNoFuel (map Turn.call ts)) (sym none) (All-nil SetsNoFuel)
+
+-- so those of an action
+action_without_fuel : (action : Action) (next : ℕ) (turns : List Turn) (result : Result ℕ Ending)
+    → ActsWithoutFuel (Some action) → CarriesOut action next turns result → All SetsNoFuel (map Turn.call turns)
+action_without_fuel (Calls c) next turns result free (reply, are, is) =
+    turns_without_fuel (c ∷ []) (reply ∷ []) turns (All-cons SetsNoFuel c [] free (All-nil SetsNoFuel)) are
+action_without_fuel (Grows dst pages) next turns result free (last, (reply, are), is) =
+    growth_without_fuel (grow_result reply) dst pages turns reply last are
+action_without_fuel Continues next turns result free (none, is) = none_without_fuel turns none
+action_without_fuel (Branches target) next turns result free (none, is) = none_without_fuel turns none
+action_without_fuel (Returns value) next turns result free (none, is) = none_without_fuel turns none
+
+-- whether an instruction takes fuel, by what follows it
+abbrev instruction_of : Result ℕ Ending → ℕ
+instruction_of (Ok place) = 1
+instruction_of (Err ending) = last_instruction ending
+
+-- so where a call is answered
+reply_instruction : (reply : Reply) (next : ℕ) → instruction_of (place_after reply next) ≡ 1
+reply_instruction Done next = refl
+reply_instruction reply next = refl
+
+-- so does each action
+action_instruction : (action : Action) (next : ℕ) (turns : List Turn) (result : Result ℕ Ending)
+    → CarriesOut action next turns result → instruction_of result ≡ 1
+action_instruction (Calls c) next turns result (reply, are, is) = ap instruction_of is ∙ reply_instruction reply next
+action_instruction (Grows dst pages) next turns result (reply, are, is) =
+    ap instruction_of is ∙ reply_instruction reply next
+action_instruction Continues next turns result (none, is) = ap instruction_of is
+action_instruction (Branches target) next turns result (none, is) = ap instruction_of is
+action_instruction (Returns value) next turns result (none, is) = ap instruction_of is
+
+-- as many turns have written as much, and were charged as much for it
+record IsWrittenAs (all turns : List Turn) : Type 0 where
+  bytes : bytes_written all ≡ bytes_written turns
+  number : writing_turns all ≡ writing_turns turns
+  charged : charges_for_writing all ≡ charges_for_writing turns
+
+-- so have they and more
+written_append : (all turns more extra : List Turn) → IsWrittenAs all turns → IsWrittenAs more extra
+    → IsWrittenAs (all ++ more) (turns ++ extra)
+written_append all turns more extra first second = record {
+  bytes = let f : Turn → ℕ = λ t. t.written in
+      omega (arith, sum_by-append f all more, sum_by-append f turns extra, first.bytes, second.bytes);
+  number = let f : Turn → ℕ = λ t. cond (has_written t.call t.reply) 1 0 in
+      omega (arith, sum_by-append f all more, sum_by-append f turns extra, first.number, second.number);
+  charged = let f : Turn → ℕ = λ t. if has_written t.call t.reply then t.charge else 0 in
+      omega (arith, sum_by-append f all more, sum_by-append f turns extra, first.charged, second.charged);
+}
+
+-- a part of a number
+part_of : (counts : Bool) (n : ℕ) → (if counts then n else 0) ≤ n
+part_of true n = omega arith
+part_of false n = omega arith
+
+-- the charges for writing are charges
+writing_within : (turns : List Turn) → charges_for_writing turns ≤ charges turns
+writing_within turns =
+    sum_by-le-sum_by (λ (t : Turn). if has_written t.call t.reply then t.charge else 0) (λ (t : Turn). t.charge) turns
+    (λ t. part_of (has_written t.call t.reply) t.charge)
+
+module _ {S : Type 0} (rules : Rules S) where
+  -- turns between which so much fuel was taken for instructions: they are those of a run, in which a call that sets the
+  -- fuel stands for each fuel taken, and what is left is what was left less that fuel and the charges
+  record Taken (w : World S) (turns : List Turn) (fuel : ℕ) (w' : World S) : Type 0 where
+    all : List Turn
+    run : Run rules w all w'
+    written : IsWrittenAs all turns
+    spent : (left : ℕ) → w.state.meter.left ≡ Some left
+        → (left' : ℕ) × (w'.state.meter.left ≡ Some left') × (left' + fuel + charges turns ≡ left)
+
+  -- the call that stands for the fuel that is taken of so much
+  abbrev taking_turn : ℕ → Turn
+  taking_turn left = record { call = SetFuel (left - 1); reply = Done; charge = 0; written = 0 }
+
+  -- the world with one fuel taken
+  abbrev next_world : World S → World S
+  next_world w = world (fuel_taken w.state) w.limiter
+
+  -- one fuel is taken by a run
+  taken_run : (w : World S) (o : Option ℕ) → w.state.meter.left ≡ o
+      → (all : List Turn) × Run rules w all (next_world w) × IsWrittenAs all []
+  taken_run w None off = (
+    [],
+    ap (λ s. world s w.limiter) (taken_off w.state off),
+    record { bytes = refl; number = refl; charged = refl },
+  )
+  taken_run w (Some left) on =
+      let step : Step rules w (taking_turn left) (next_world w) = record {
+        free = (refl, refl);
+        machine = fuel_taken w.state;
+        effect = (
+          sym (ap (λ (o : Option ℕ). if is_some o then Done else Fuel FuelMeteringDisabled) on),
+          ap (with_left w.state)
+              (ap (option_map (λ n. n - 1)) on ∙ sym (ap (option_map (λ n. left - 1)) on)),
+        );
+        after = refl;
+      } in (taking_turn left ∷ [], (next_world w, step, refl), record { bytes = refl; number = refl; charged = refl })
+
+  -- an instruction takes no fuel and has no turns, or one fuel before its turns
+  abbrev Needs : World S → List Turn → ℕ → World S → Type 0
+  Needs w turns fuel w' = ((turns ≡ []) × (w' ≡ w) × (fuel ≡ 0))
+      ⊎ ((is_out_of_fuel w.state.meter ≡ false) × Run rules (next_world w) turns w'
+      × All SetsNoFuel (map Turn.call turns) × (fuel ≡ 1))
+
+  -- the program ends with no turn
+  stops_needs : (ending : Ending) (w : World S) (turns : List Turn) (result : Result ℕ Ending) (w' : World S)
+      → last_instruction ending ≡ 0 → Stops ending w turns result w' → Needs w turns (instruction_of result) w'
+  stops_needs ending w turns result w' free stops = inl (stops.1, stops.2, ap instruction_of stops.0 ∙ free)
+
+  -- an action, by whether fuel is left for it
+  action_needs : (action : Action) (next : ℕ) (w : World S) (turns : List Turn) (result : Result ℕ Ending)
+      (w' : World S) (out : Bool) → ActsWithoutFuel (Some action) → is_out_of_fuel w.state.meter ≡ out
+      → MatchBool out (Stops ending.OutOfFuel w turns result w')
+      (Run rules (next_world w) turns w' × CarriesOut action next turns result)
+      → Needs w turns (instruction_of result) w'
+  action_needs action next w turns result w' true free is stops =
+      stops_needs ending.OutOfFuel w turns result w' refl stops
+  action_needs action next w turns result w' false free is (run, follows) = inr (
+    is,
+    run,
+    action_without_fuel action next turns result free follows,
+    action_instruction action next turns result follows,
+  )
+
+  -- so an instruction
+  place_needs : (o : Option Action) (next : ℕ) (w : World S) (turns : List Turn) (result : Result ℕ Ending)
+      (w' : World S) → ActsWithoutFuel o
+      → MatchOption o (Stops ending.Undefined w turns result w')
+      (λ action. MatchBool (is_out_of_fuel w.state.meter) (Stops ending.OutOfFuel w turns result w')
+      (Run rules (next_world w) turns w' × CarriesOut action next turns result))
+      → Needs w turns (instruction_of result) w'
+  place_needs None next w turns result w' free stops = stops_needs ending.Undefined w turns result w' refl stops
+  place_needs (Some action) next w turns result w' free h =
+      action_needs action next w turns result w' (is_out_of_fuel w.state.meter) free refl h
+
+module _ {S : Type 0} (rules : Rules S) (joins : RunsJoin rules) (spends : ChargesAreSpent rules) where
+  -- so much fuel is taken by it
+  needs_taken : (w : World S) (turns : List Turn) (fuel : ℕ) (w' : World S) → Needs rules w turns fuel w'
+      → Taken rules w turns fuel w'
+  needs_taken w turns fuel w' (inl (none, same, free)) = record {
+    all = [];
+    run = same;
+    written = record {
+      bytes = sym (ap bytes_written none);
+      number = sym (ap writing_turns none);
+      charged = sym (ap charges_for_writing none);
+    };
+    spent = λ left on. (
+      left,
+      ap (λ (v : World S). v.state.meter.left) same ∙ on,
+      omega (arith, free, ap charges none),
+    );
+  }
+  needs_taken w turns fuel w' (inr (fuelled, run, quiet, one)) =
+      let before = taken_run rules w w.state.meter.left refl in
+      record {
+        all = before.0 ++ turns;
+        run = joins w before.0 (next_world rules w) turns w' before.1 run;
+        written = written_append before.0 [] turns turns before.2
+            (record { bytes = refl; number = refl; charged = refl });
+        spent = λ left on.
+            let tested : (left == 0) ≡ false =
+            sym (ap (λ (o : Option ℕ). option_map_or (λ n. n == 0) o false) on) ∙ fuelled in
+            let rest =
+            spends (next_world rules w) (left - 1) (ap (option_map (λ n. n - 1)) on) turns w' run quiet in
+            let some : 0 < left = grind (arith, nat_tests, tested) in
+            (rest.0, rest.1, omega (arith, rest.2.charged, one, some));
+      }
+
+  -- so by more turns
+  taken_more : (w : World S) (turns : List Turn) (n : ℕ) (v : World S) → Taken rules w turns n v
+      → (more : List Turn) (k : ℕ) (w' : World S) → Taken rules v more k w' → Taken rules w (turns ++ more) (n + k) w'
+  taken_more w turns n v first more k w' second = record {
+    all = first.all ++ second.all;
+    run = joins w first.all v second.all w' first.run second.run;
+    written = written_append first.all turns second.all more first.written second.written;
+    spent = λ left on.
+        let middle = first.spent left on in
+        let last = second.spent middle.0 middle.1 in
+        let both = sum_by-append (λ (t : Turn). t.charge) turns more in
+        (last.0, last.1, omega (arith, middle.2, last.2, both));
+  }
+
+  module _ (program : List Instruction) where
+    -- so by the instruction of a place
+    step_taken : (place : ℕ) (w : World S) (turns : List Turn) (result : Result ℕ Ending) (w' : World S)
+        → StepsAt rules program place w turns result w' → Taken rules w turns (instruction_of result) w'
+    step_taken place w turns result w' steps =
+        needs_taken w turns (instruction_of result) w'
+        (place_needs rules (action_at program place w.state) (place + 1) w turns result w'
+        (place_without_fuel (slice_get program place) w.state) steps)
+
+    -- by so many
+    reached_taken : (w : World S) (n place : ℕ) (turns : List Turn) (v : World S)
+        → Reaches rules program w n place turns v → Taken rules w turns n v
+    reached_taken w zero place turns v (start, none, same) = needs_taken w turns 0 v (inl (none, same, refl))
+    reached_taken w (suc n) place turns v (last, before, u, path, more, steps, are) =
+        let next : n + 1 ≡ suc n = omega arith in
+        subst (λ k. Taken rules w turns k v) next
+        (subst (λ ts. Taken rules w ts (n + 1) v) (sym are)
+        (taken_more w before n u (reached_taken w n last before u path) more 1 v
+        (step_taken last u more (Ok place) v steps)))
+
+    -- by a whole program
+    program_taken : (w : World S) (turns : List Turn) (outcome : Outcome) (w' : World S)
+        → ExecutesProgram rules program w turns outcome w' → Taken rules w turns (instructions_of outcome) w'
+    program_taken w turns outcome w' (before, v, path, ends) = by outcome.ending ends
+      where
+        by : (o : Option Ending) → MatchOption o ((turns ≡ before) × (w' ≡ v))
+            (λ ending. (more : List Turn) × StepsAt rules program outcome.place v more (Err ending) w'
+            × (turns ≡ before ++ more))
+            → Taken rules w turns (outcome.executed + option_map_or last_instruction o 0) w'
+        by None (are, same) =
+            let n = outcome.executed in
+            let next : n ≡ n + 0 = omega arith in
+            subst (λ k. Taken rules w turns k w') next
+            (subst (λ ts. Taken rules w ts n w') (sym are)
+            (subst (λ u. Taken rules w before n u) (sym same)
+            (reached_taken w n outcome.place before v path)))
+        by (Some ending) (more, steps, are) =
+            subst (λ ts. Taken rules w ts (outcome.executed + last_instruction ending) w') (sym are)
+            (taken_more w before outcome.executed v (reached_taken w outcome.executed outcome.place before v path) more
+            (last_instruction ending) w' (step_taken outcome.place v more (Err ending) w' steps))
+
+-- so what was left is spent
+taken_spent : {S : Type 0} (rules : Rules S) → FuelBoundsWriting rules → (w : World S) (turns : List Turn)
+    (outcome : Outcome) (w' : World S) → Taken rules w turns (instructions_of outcome) w'
+    → PaysProgramFuel w.state.meter turns outcome w'.state.meter
+taken_spent rules bounds w turns outcome w' taken left on =
+    let rate = w.state.meter.costs.bytes_copied_per_fuel in
+    let s = taken.spent left on in (
+      s.0,
+      s.1,
+      record {
+        charged = omega (arith, s.2);
+        written = λ rated.
+            let bound = (bounds w left on rated taken.all w' taken.run).by_charges in
+            let pays : rate * charges_for_writing taken.all ≡ rate * charges_for_writing turns =
+            ap (λ k. rate * k) taken.written.charged in
+            let excess : writing_turns taken.all * (rate - 1) ≡ writing_turns turns * (rate - 1) =
+            ap (λ k. k * (rate - 1)) taken.written.number in
+            let most : rate * charges_for_writing turns ≤ rate * (left - (s.0 + instructions_of outcome)) =
+            mul-le-mul_left rate (omega (arith, writing_within turns, s.2)) in
+            omega (arith, bound, taken.written.bytes, pays, excess, most);
+      },
+    )
+
+module _ {S : Type 0} (rules : Rules S) (joins : RunsJoin rules) (spends : ChargesAreSpent rules)
+    (bounds : FuelBoundsWriting rules) (program : List Instruction) (w : World S) (turns : List Turn)
+    (outcome : Outcome) (w' : World S) (executes : ExecutesProgram rules program w turns outcome w') where
+  -- a program has turns, and takes fuel
+  pub execution : (turns : List Turn) × ExecutesProgram rules program w turns outcome w'
+      × PaysProgramFuel w.state.meter turns outcome w'.state.meter
+  execution = (
+    turns,
+    executes,
+    taken_spent rules bounds w turns outcome w'
+        (program_taken rules joins spends program w turns outcome w' executes),
+  )
+
+  -- what it did is a run
+  pub execution_run : HasRun rules w w'
+  execution_run =
+      let taken = program_taken rules joins spends program w turns outcome w' executes in
+      (map Turn.call taken.all, map Turn.reply taken.all, (taken.all, refl, refl, taken.run))

@@ -1,0 +1,452 @@
+-- What a line adds is told by its words: what is said after it is a function of them and of what was said before.
+use Rattle.std.proofs.Common.{ℕ, ◌≡◌, ◌∙◌, ◌++◌, List, [], ◌∷◌, Option, Some, None, bytes_eq, cond, codes, map, drop}
+use Rattle.std.proofs.Common.{inl, inr, refl, sym, ap}
+use Rattle.std.specs.Option.{option_map, option_map_or, option_and_then}
+use Rattle.std.proofs.lemmas.List.{map-append}
+use Rattle.wasmi_raw.specs.declared.raw.RawVal.{RawVal}
+use Rattle.wasmi_raw.specs.RawVal.{raw_of}
+use Rattle.wasmi_types.specs.contracts.value.RefType as reference_type
+use Rattle.wasmi_types.specs.contracts.value.ValType as value_type
+use Rattle.wasmi_typed.specs.contracts.global.Mutability as mutability
+use Rattle.wasmi_ops.specs.contracts.scalar.access.LoadOp as load
+use Rattle.wasmi_ops.specs.contracts.scalar.access.StoreOp as store
+use Rattle.wasmi_ops.specs.contracts.vector.make.MakeOp as make
+use Rattle.wasmi_ops.specs.contracts.vector.unary.UnaryOp as unary
+use Rattle.wasmi_ops.specs.contracts.vector.binary.BinaryOp as binary
+use Rattle.wasmi_ops.specs.contracts.vector.ternary.TernaryOp as ternary
+use Rattle.wasmi_ops.specs.contracts.vector.shift.ShiftOp as shift
+use Rattle.wasmi_ops.specs.contracts.vector.test.TestOp as test
+use Rattle.wasmi_ops.specs.contracts.vector.access.VectorLoadOp as vector_load
+use Rattle.wasmi_ops.specs.contracts.vector.lane_kind.ExtractKind as extract
+use Rattle.wasmi_ops.specs.contracts.vector.lane_kind.ReplaceKind as replace
+use Rattle.wasmi_ops.specs.contracts.vector.lane_kind.LoadLaneKind as load_lane
+use Rattle.wasmi_ops.specs.contracts.vector.lane_kind.StoreLaneKind as store_lane
+use Rattle.wasmi_ops.specs.ScalarAccessOps.{load_name, store_name}
+use Rattle.wasmi_ops.specs.MakeOps.{make_name}
+use Rattle.wasmi_ops.specs.UnaryOps.{unary_name}
+use Rattle.wasmi_ops.specs.BinaryOps.{binary_name}
+use Rattle.wasmi_ops.specs.TernaryOps.{ternary_name}
+use Rattle.wasmi_ops.specs.ShiftOps.{shift_name}
+use Rattle.wasmi_ops.specs.TestOps.{test_name}
+use Rattle.wasmi_ops.specs.VectorAccessOps.{vector_load_name}
+use Rattle.wasmi_ops.specs.LaneKinds.{extract_name, extract_op, replace_name, replace_op, load_lane_name, load_lane_op, store_lane_name, store_lane_op}
+use Rattle.wasmi_core.specs.declared.calls.Call.{Call}
+use Rattle.wasmi_core.specs.declared.calls.Call.TheVariants.{SetFuel, GetFuel, NewMemory, NewLentMemory, GrowMemory}
+use Rattle.wasmi_core.specs.declared.calls.Call.TheVariants.{DropMemory}
+use Rattle.wasmi_core.specs.declared.calls.Call.TheVariants.{Read, Write, Load, Store, NewTable, GrowTable, DropTable}
+use Rattle.wasmi_core.specs.declared.calls.Call.TheVariants.{GetElement, SetElement, InitTable, CopyTable, FillTable}
+use Rattle.wasmi_core.specs.declared.calls.Call.TheVariants.{NewSegment, DropItems, NewGlobal, SetGlobal, GetGlobal}
+use Rattle.wasmi_core.specs.declared.calls.Call.TheVariants.{SetRegister, GetRegister, Make, Unary, Binary, Ternary}
+use Rattle.wasmi_core.specs.declared.calls.Call.TheVariants.{Shift}
+use Rattle.wasmi_core.specs.declared.calls.Call.TheVariants.{Test, Extract, Replace, Shuffle, VectorLoad, LoadLane}
+use Rattle.wasmi_core.specs.declared.calls.Call.TheVariants.{VectorStore, StoreLane}
+use Rattle.wasmi_grammar.specs.declared.script.Line.{Line}
+use Rattle.wasmi_grammar.specs.declared.script.Line.TheVariants.{Meter, Limiter, Region, As, Call as Command}
+use Rattle.wasmi_grammar.specs.Parts.{TenantRun, PartsValue}
+use Rattle.wasmi_grammar.specs.declared.script.Script.{Script}
+use Rattle.wasmi_grammar.specs.declared.header.Header.{Header}
+use Rattle.wasmi_grammar.specs.declared.header.MeterLine.{MeterLine}
+use Rattle.wasmi_grammar.specs.declared.header.MeterLine.TheVariants.{Off, On}
+use Rattle.wasmi_grammar.specs.declared.header.LimiterLine.{LimiterLine}
+use Rattle.wasmi_grammar.specs.declared.header.LimiterLine.TheVariants.{Quota, Answers, Tenants}
+use Rattle.wasmi_grammar.specs.declared.header.RegionLine.{RegionLine}
+use Rattle.wasmi_operands.specs.LineWords.{LineWords, WritesEach, word_at}
+use Rattle.wasmi_operands.specs.Decimal.{WritesNumber, decimal_value}
+use Rattle.wasmi_operands.specs.Names.{IsName}
+use Rattle.wasmi_operands.specs.TypeWords.{reference_word, value_word, mutability_word}
+use Rattle.wasmi_grammar.specs.Commands.{command_word, WritesOperands}
+use Rattle.wasmi_grammar.specs.Headers.{WritesMeter, WritesLimiter, WritesRegion, limiter_word}
+use Rattle.wasmi_grammar.specs.Lines.{NamesLine, AddsLine, AddsWords}
+use Rattle.wasmi_grammar.specs.Meanings.{CallMeaning, WriteMeaning, SegmentMeaning, OtherCall as Other, call_meaning, LimiterMeaning}
+use Rattle.wasmi_grammar.specs.Meanings.{AnswersMeaning}
+use Rattle.wasmi_grammar.specs.Meanings.{OtherLimiter, limiter_meaning, PartMeaning, part_meaning}
+use Rattle.wasmi_operands.proofs.NamesLemmas.{named, named_is}
+use Rattle.wasmi_operands.proofs.WordsLemmas.{each_named}
+use Rattle.wasmi_operands.proofs.TypeWordsLemmas.{reference_named, reference_is}
+use Rattle.wasmi_operands.proofs.LaneNamesLemmas.{lane_named, lane_is}
+use Rattle.wasmi_grammar.proofs.MemoryWordsLemmas.{memory_named, memory_is}
+use Rattle.wasmi_grammar.proofs.TableWordsLemmas.{table_named, table_is}
+use Rattle.wasmi_grammar.proofs.AnswersLemmas.{answers_named, answers_is}
+
+-- what a list has beside a word, or something else
+abbrev found_or : {A : Type 0} → List (List ℕ × A) → List ℕ → A → A
+found_or [] word other = other
+found_or (entry ∷ entries) word other = cond (bytes_eq entry.0 word) entry.1 (found_or entries word other)
+
+-- the same of a list that has a thing or none
+abbrev beside : {A : Type 0} → List (List ℕ × Option A) → List ℕ → Option A
+beside entries word = found_or entries word None
+
+-- what a line says, with its lists as lists
+pub data LineMeaning : Type 0 where
+  MeterMeaning : MeterLine → LineMeaning
+  LimiterTold : LimiterMeaning → LineMeaning
+  RegionMeaning : RegionLine → LineMeaning
+  TenantMeaning : ℕ → LineMeaning
+  CallTold : CallMeaning → LineMeaning
+
+-- what a line says
+abbrev pub line_meaning : Line → LineMeaning
+line_meaning (Meter line) = MeterMeaning line
+line_meaning (Limiter line) = LimiterTold (limiter_meaning line)
+line_meaning (Region line) = RegionMeaning line
+line_meaning (As tenant) = TenantMeaning tenant
+line_meaning (Command call) = CallTold (call_meaning call)
+
+abbrev numbers_in : LineWords → List ℕ
+numbers_in words = map decimal_value (map (λ word. word.now) words)
+
+-- words that write numbers give those numbers
+numbers_is : (bits : ℕ) (words : LineWords) (numbers : List ℕ) → WritesEach (WritesNumber bits) words numbers
+    → numbers_in words ≡ numbers
+numbers_is bits = each_named (WritesNumber bits) decimal_value (λ word number writes. sym writes.1)
+
+-- what words write
+module _ (words : LineWords) where
+  abbrev word : ℕ → List ℕ
+  word k = word_at words k
+
+  abbrev number : ℕ → ℕ
+  number k = decimal_value (word_at words k)
+
+  abbrev raw : ℕ → ℕ → RawVal
+  raw k l = record { lo = number k; hi = number l }
+
+  -- what is dropped, by the word after
+  abbrev drops_named : List (List ℕ × Option CallMeaning)
+  drops_named =
+      (codes "memory", Some (Other (DropMemory (number 1)))) ∷ (codes "table", Some (Other (DropTable (number 1)))) ∷ []
+
+  -- the call that operands write, by the word before them
+  abbrev calls_named : List (List ℕ × Option CallMeaning)
+  calls_named =
+      (codes "fuel", Some (Other (SetFuel (number 0)))) ∷
+      (codes "left", Some (Other GetFuel)) ∷
+      (codes "memory", option_map (λ ty. Other (NewMemory ty)) (memory_named (word 0) (word 1) (word 2) (word 3))) ∷
+      (codes "lent", option_map (λ ty. Other (NewLentMemory ty)) (memory_named (word 0) (word 1) (word 2) (word 3))) ∷
+      (codes "grow", Some (Other (GrowMemory (number 0) (number 1)))) ∷
+      (codes "read", Some (Other (Read (number 0) (number 1) (number 2)))) ∷
+      (codes "write", Some (WriteMeaning (number 0) (number 1) (numbers_in (drop 2 words)))) ∷ (
+        codes "load",
+        option_map (λ op. Other (Load op (number 1) (number 2) (number 3))) (named load.enum tt load_name (word 0)),
+      ) ∷ (
+        codes "store",
+        option_map (λ op. Other (Store op (number 1) (number 2) (number 3) (raw_of (number 4))))
+            (named store.enum tt store_name (word 0)),
+      ) ∷ (
+        codes "table",
+        option_and_then
+            (λ ty. option_map (λ init. Other (NewTable ty init)) (reference_named (word 4) (word 5)))
+            (table_named (word 0) (word 1) (word 2) (word 3)),
+      ) ∷ (
+        codes "tgrow",
+        option_map (λ init. Other (GrowTable (number 0) (number 1) init))
+            (reference_named (word 2) (word 3)),
+      ) ∷
+      (codes "get", Some (Other (GetElement (number 0) (number 1)))) ∷ (
+        codes "tset",
+        option_map (λ value. Other (SetElement (number 0) (number 1) value))
+            (reference_named (word 2) (word 3)),
+      ) ∷
+      (codes "init", Some (Other (InitTable (number 0) (number 1) (number 2) (number 3) (number 4)))) ∷
+      (codes "copy", Some (Other (CopyTable (number 0) (number 1) (number 2) (number 3) (number 4)))) ∷ (
+        codes "fill",
+        option_map (λ value. Other (FillTable (number 0) (number 1) value (number 4)))
+            (reference_named (word 2) (word 3)),
+      ) ∷ (
+        codes "segment",
+        option_map (λ ty. SegmentMeaning ty (numbers_in (drop 1 words)))
+            (named reference_type.enum tt reference_word (word 0)),
+      ) ∷
+      (codes "empty", Some (Other (DropItems (number 0)))) ∷ (
+        codes "global",
+        option_and_then
+            (λ content. option_map
+            (λ mutability. Other (NewGlobal (raw 2 3) (record { content = content; mutability = mutability })))
+            (named mutability.enum tt mutability_word (word 1))) (named value_type.enum tt value_word (word 0)),
+      ) ∷ (
+        codes "gset",
+        option_map (λ ty. Other (SetGlobal (number 0) (record { ty = ty; raw = raw 2 3 })))
+            (named value_type.enum tt value_word (word 1)),
+      ) ∷
+      (codes "gget", Some (Other (GetGlobal (number 0)))) ∷
+      (codes "set", Some (Other (SetRegister (number 0) (raw 1 2)))) ∷
+      (codes "show", Some (Other (GetRegister (number 0)))) ∷
+      (codes "make", option_map (λ op. Other (Make op (number 1) (number 2))) (named make.enum tt make_name (word 0)))
+      ∷ (
+        codes "unary",
+        option_map (λ op. Other (Unary op (number 1) (number 2))) (named unary.enum tt unary_name (word 0)),
+      ) ∷ (
+        codes "binary",
+        option_map (λ op. Other (Binary op (number 1) (number 2) (number 3)))
+            (named binary.enum tt binary_name (word 0)),
+      )
+      ∷ (
+        codes "ternary",
+        option_map (λ op. Other (Ternary op (number 1) (number 2) (number 3) (number 4)))
+            (named ternary.enum tt ternary_name (word 0)),
+      ) ∷ (
+        codes "shift",
+        option_map (λ op. Other (Shift op (number 1) (number 2) (number 3)))
+            (named shift.enum tt shift_name (word 0)),
+      ) ∷
+      (codes "test", option_map (λ op. Other (Test op (number 1))) (named test.enum tt test_name (word 0))) ∷ (
+        codes "extract",
+        option_map (λ op. Other (Extract op (number 1)))
+            (lane_named extract.enum tt extract_name extract_op (word 0) (word 2)),
+      ) ∷ (
+        codes "replace",
+        option_map (λ op. Other (Replace op (number 1) (number 2) (number 4)))
+            (lane_named replace.enum tt replace_name replace_op (word 0) (word 3)),
+      ) ∷
+      (codes "shuffle", Some (Other (Shuffle (number 0) (number 1) (number 2) (numbers_in (drop 3 words))))) ∷ (
+        codes "vload",
+        option_map (λ op. Other (VectorLoad op (number 1) (number 2) (number 3) (number 4)))
+            (named vector_load.enum tt vector_load_name (word 0)),
+      ) ∷ (
+        codes "vloadlane",
+        option_map
+            (λ op. Other (LoadLane op (number 1) (number 2) (number 4) (number 5) (number 6)))
+            (lane_named load_lane.enum tt load_lane_name load_lane_op (word 0) (word 3)),
+      ) ∷
+      (codes "vstore", Some (Other (VectorStore (number 0) (number 1) (number 2) (number 3)))) ∷ (
+        codes "vstorelane",
+        option_map (λ op. Other (StoreLane op (number 1) (number 3) (number 4) (number 5)))
+            (lane_named store_lane.enum tt store_lane_name store_lane_op (word 0) (word 2)),
+      ) ∷
+      (codes "drop", beside drops_named (word 0)) ∷
+      []
+
+  -- operands that write a call give what the call says, beside its word
+  call_is : (call : Call) → WritesOperands words call → beside calls_named (command_word call) ≡ Some (call_meaning call)
+  unfolding IsName
+  call_is (SetFuel fuel) w = λ i. Some (Other (SetFuel (sym w.1.1 i)))
+  call_is GetFuel w = refl
+  call_is (NewMemory ty) w = λ i.
+      option_map (λ ty. Other (NewMemory ty)) (memory_is (word 0) (word 1) (word 2) (word 3) ty w.1 i)
+  call_is (NewLentMemory ty) w = λ i.
+      option_map (λ ty. Other (NewLentMemory ty)) (memory_is (word 0) (word 1) (word 2) (word 3) ty w.1 i)
+  call_is (GrowMemory memory pages) w = λ i. Some (Other (GrowMemory (sym w.1.1 i) (sym w.2.1 i)))
+  call_is (Read memory offset len) w = λ i. Some (Other (Read (sym w.1.1 i) (sym w.2.1 i) (sym w.3.1 i)))
+  call_is (Write memory offset bytes) w = λ i.
+      Some (WriteMeaning (sym w.0.1.1 i) (sym w.0.2.1 i) (numbers_is 8 (drop 2 words) bytes.items w.1 i))
+  call_is (Load op memory ptr offset) w = λ i.
+      option_map (λ op. Other (Load op (sym w.2.1 i) (sym w.3.1 i) (sym w.4.1 i)))
+      (named_is load.enum tt load_name refl (word 0) op w.1 i)
+  call_is (Store op memory ptr offset value) w = λ i.
+      option_map (λ op. Other (Store op (sym w.2.1 i) (sym w.3.1 i) (sym w.4.1 i) (sym (w.7 ∙ ap raw_of w.6.1) i)))
+      (named_is store.enum tt store_name refl (word 0) op w.1 i)
+  call_is (NewTable ty init) w = λ i.
+      option_and_then
+      (λ ty. option_map (λ init. Other (NewTable ty init)) (reference_is (word 4) (word 5) init w.2 i))
+      (table_is (word 0) (word 1) (word 2) (word 3) ty w.1 i)
+  call_is (GrowTable table delta init) w = λ i.
+      option_map (λ init. Other (GrowTable (sym w.1.1 i) (sym w.2.1 i) init))
+      (reference_is (word 2) (word 3) init w.3 i)
+  call_is (GetElement table index) w = λ i. Some (Other (GetElement (sym w.1.1 i) (sym w.2.1 i)))
+  call_is (SetElement table index value) w = λ i.
+      option_map (λ value. Other (SetElement (sym w.1.1 i) (sym w.2.1 i) value))
+      (reference_is (word 2) (word 3) value w.3 i)
+  call_is (InitTable table segment dst src len) w = λ i.
+      Some (Other (InitTable (sym w.1.1 i) (sym w.2.1 i) (sym w.3.1 i) (sym w.4.1 i) (sym w.5.1 i)))
+  call_is (CopyTable dst_table dst src_table src len) w = λ i.
+      Some (Other (CopyTable (sym w.1.1 i) (sym w.2.1 i) (sym w.3.1 i) (sym w.4.1 i) (sym w.5.1 i)))
+  call_is (FillTable table dst value len) w = λ i.
+      option_map (λ value. Other (FillTable (sym w.1.1 i) (sym w.2.1 i) value (sym w.4.1 i)))
+      (reference_is (word 2) (word 3) value w.3 i)
+  call_is (NewSegment ty items) w =
+      λ i. option_map (λ ty. SegmentMeaning ty (numbers_is 32 (drop 1 words) items.items w.1 i))
+      (named_is reference_type.enum tt reference_word refl (word 0) ty w.0.1 i)
+  call_is (DropItems segment) w = λ i. Some (Other (DropItems (sym w.1.1 i)))
+  call_is (NewGlobal value ty) w =
+      let lo = sym w.3.1 in
+      let hi = sym w.4.1 in
+      λ i. option_and_then (λ content. option_map (λ mutability.
+      Other (NewGlobal (record { lo = lo i; hi = hi i }) (record { content = content; mutability = mutability })))
+      (named_is mutability.enum tt mutability_word refl (word 1) ty.mutability w.2 i))
+      (named_is value_type.enum tt value_word refl (word 0) ty.content w.1 i)
+  call_is (SetGlobal global value) w =
+      let lo = sym w.3.1 in
+      let hi = sym w.4.1 in
+      λ i. option_map (λ ty. Other
+      (SetGlobal (sym w.1.1 i) (record { ty = ty; raw = record { lo = lo i; hi = hi i } })))
+      (named_is value_type.enum tt value_word refl (word 1) value.ty w.2 i)
+  call_is (GetGlobal global) w = λ i. Some (Other (GetGlobal (sym w.1.1 i)))
+  call_is (SetRegister dst value) w = λ i.
+      Some (Other (SetRegister (sym w.1.1 i) (record { lo = sym w.2.1 i; hi = sym w.3.1 i })))
+  call_is (GetRegister a) w = λ i. Some (Other (GetRegister (sym w.1.1 i)))
+  call_is (Make op dst a) w = λ i.
+      option_map (λ op. Other (Make op (sym w.2.1 i) (sym w.3.1 i)))
+      (named_is make.enum tt make_name refl (word 0) op w.1 i)
+  call_is (Unary op dst a) w = λ i.
+      option_map (λ op. Other (Unary op (sym w.2.1 i) (sym w.3.1 i)))
+      (named_is unary.enum tt unary_name refl (word 0) op w.1 i)
+  call_is (Binary op dst a b) w = λ i.
+      option_map (λ op. Other (Binary op (sym w.2.1 i) (sym w.3.1 i) (sym w.4.1 i)))
+      (named_is binary.enum tt binary_name refl (word 0) op w.1 i)
+  call_is (Ternary op dst a b c) w = λ i.
+      option_map (λ op. Other (Ternary op (sym w.2.1 i) (sym w.3.1 i) (sym w.4.1 i) (sym w.5.1 i)))
+      (named_is ternary.enum tt ternary_name refl (word 0) op w.1 i)
+  call_is (Shift op dst a amount) w = λ i.
+      option_map (λ op. Other (Shift op (sym w.2.1 i) (sym w.3.1 i) (sym w.4.1 i)))
+      (named_is shift.enum tt shift_name refl (word 0) op w.1 i)
+  call_is (Test op a) w =
+      λ i. option_map (λ op. Other (Test op (sym w.2.1 i))) (named_is test.enum tt test_name refl (word 0) op w.1 i)
+  call_is (Extract op a) w = λ i.
+      option_map (λ op. Other (Extract op (sym w.2.1 i)))
+      (lane_is extract.enum tt extract_name extract_op (word 0) (word 2) refl op w.1 i)
+  call_is (Replace op dst a item) w = λ i.
+      option_map (λ op. Other (Replace op (sym w.2.1 i) (sym w.3.1 i) (sym w.4.1 i)))
+      (lane_is replace.enum tt replace_name replace_op (word 0) (word 3) refl op w.1 i)
+  call_is (Shuffle dst a b lanes) w = λ i.
+      Some (Other (Shuffle (sym w.0.1.1 i) (sym w.0.2.1 i) (sym w.0.3.1 i)
+      (numbers_is 5 (drop 3 words) lanes w.1.written i)))
+  call_is (VectorLoad op dst memory ptr offset) w = λ i.
+      option_map (λ op. Other (VectorLoad op (sym w.2.1 i) (sym w.3.1 i) (sym w.4.1 i) (sym w.5.1 i)))
+      (named_is vector_load.enum tt vector_load_name refl (word 0) op w.1 i)
+  call_is (LoadLane op dst a memory ptr offset) w = λ i.
+      option_map (λ op. Other (LoadLane op (sym w.2.1 i) (sym w.3.1 i) (sym w.4.1 i) (sym w.5.1 i) (sym w.6.1 i)))
+      (lane_is load_lane.enum tt load_lane_name load_lane_op (word 0) (word 3) refl op w.1 i)
+  call_is (VectorStore a memory ptr offset) w = λ i.
+      Some (Other (VectorStore (sym w.1.1 i) (sym w.2.1 i) (sym w.3.1 i) (sym w.4.1 i)))
+  call_is (StoreLane op a memory ptr offset) w = λ i.
+      option_map (λ op. Other (StoreLane op (sym w.2.1 i) (sym w.3.1 i) (sym w.4.1 i) (sym w.5.1 i)))
+      (lane_is store_lane.enum tt store_lane_name store_lane_op (word 0) (word 2) refl op w.1 i)
+  call_is (DropMemory memory) w = ap (beside drops_named) w.1 ∙ (λ i. Some (Other (DropMemory (sym w.2.1 i))))
+  call_is (DropTable table) w = ap (beside drops_named) w.1 ∙ (λ i. Some (Other (DropTable (sym w.2.1 i))))
+
+  -- what the operands of each header line say, and those of `as`
+  abbrev meter_named : MeterLine
+  meter_named = cond (bytes_eq (word 0) (codes "off")) Off (On (number 1))
+
+  abbrev quota_named : LimiterMeaning
+  quota_named = OtherLimiter (Quota (record { bytes = number 0; elements = number 1 }))
+
+  abbrev tenants_named : LimiterMeaning
+  tenants_named =
+      OtherLimiter (Tenants (record { count = number 0; caps = record { bytes = number 1; elements = number 2 } }))
+
+  abbrev region_named : RegionLine
+  region_named = record { len = number 0; byte = number 1 }
+
+  -- the line that operands write, by the word before them
+  abbrev lines_named : List (List ℕ × Option LineMeaning)
+  lines_named =
+      (codes "meter", Some (MeterMeaning meter_named)) ∷
+      (codes "quota", Some (LimiterTold quota_named)) ∷
+      (codes "answers", Some (LimiterTold (AnswersMeaning (answers_named words)))) ∷
+      (codes "tenants", Some (LimiterTold tenants_named)) ∷
+      (codes "region", Some (RegionMeaning region_named)) ∷
+      (codes "as", Some (TenantMeaning (number 0))) ∷
+      []
+
+  abbrev line_named : List ℕ → Option LineMeaning
+  line_named name = found_or lines_named name (option_map CallTold (beside calls_named name))
+
+  -- operands that write a meter line give it
+  meter_is : (line : MeterLine) → WritesMeter words line → meter_named ≡ line
+  meter_is Off w = λ i. cond (bytes_eq (w.1 i) (codes "off")) Off (On (number 1))
+  meter_is (On bytes) w =
+      (λ i. cond (bytes_eq (w.1 i) (codes "off")) Off (On (number 1))) ∙ (λ i. On (sym w.2.1 i))
+
+  -- operands that write a region line give it
+  region_is : (line : RegionLine) → WritesRegion words line → region_named ≡ line
+  region_is line w = λ i. record { len = sym w.1.1 i; byte = sym w.2.1 i }
+
+  -- operands that write a limiter line give what the line says, beside its word
+  limiter_is : (line : LimiterLine) → WritesLimiter words line
+      → line_named (limiter_word line) ≡ Some (LimiterTold (limiter_meaning line))
+  limiter_is (Quota caps) w =
+      λ i. Some (LimiterTold (OtherLimiter (Quota (record { bytes = sym w.1.1 i; elements = sym w.2.1 i }))))
+  limiter_is (Answers answers) w = λ i. Some (LimiterTold (AnswersMeaning (answers_is words answers.items w i)))
+  limiter_is (Tenants line) w =
+      let count = sym w.1.1 in
+      let bytes = sym w.4.1 in
+      let elements = sym w.5.1 in
+      λ i. Some (LimiterTold (OtherLimiter
+      (Tenants (record { count = count i; caps = record { bytes = bytes i; elements = elements i } }))))
+
+  -- a command's word is the word of no other line
+  told_by_call : (call : Call) (other : Option LineMeaning) → found_or lines_named (command_word call) other ≡ other
+  told_by_call GetFuel other = refl
+  told_by_call call other = refl
+
+  -- a first word and operands that say a line give what it says
+  pub line_is : (name : List ℕ) (line : Line) → NamesLine name words line → line_named name ≡ Some (line_meaning line)
+  line_is name (Meter line) w = ap line_named w.0 ∙ ap (λ m. Some (MeterMeaning m)) (meter_is line w.1)
+  line_is name (Limiter line) w = ap line_named (sym w.0) ∙ limiter_is line w.1
+  line_is name (Region line) w = ap line_named w.0 ∙ ap (λ r. Some (RegionMeaning r)) (region_is line w.1)
+  line_is name (As tenant) w = ap line_named w.0 ∙ ap (λ t. Some (TenantMeaning t)) (sym w.1.1.1)
+  line_is name (Command call) w =
+      ap line_named (sym w.0) ∙ told_by_call call (option_map CallTold (beside calls_named (command_word call)))
+      ∙ ap (option_map CallTold) (call_is call w.1)
+
+-- what lines say: the header lines, the parts before the last `as` line, the last tenant and its calls
+pub record LinesMeaning : Type 0 where
+  pub meter : Option MeterLine
+  pub limiter : Option LimiterMeaning
+  pub region : Option RegionLine
+  pub earlier : List PartMeaning
+  pub tenant : ℕ
+  pub calls : List CallMeaning
+
+-- what a header and parts say
+abbrev pub meaning_of : Header → PartsValue → LinesMeaning
+meaning_of header parts = record {
+  meter = header.meter;
+  limiter = option_map limiter_meaning header.limiter;
+  region = header.region;
+  earlier = map part_meaning parts.earlier;
+  tenant = parts.tenant;
+  calls = map call_meaning parts.calls;
+}
+
+-- what the lines of a script say
+abbrev pub lines_meaning : Script → LinesMeaning
+lines_meaning script = meaning_of script.header script.parts
+
+-- the lines of two scripts say the same
+abbrev pub LinesHaveSameMeaning : Script → Script → Type 0
+LinesHaveSameMeaning script script' = lines_meaning script ≡ lines_meaning script'
+
+-- what is said after a line
+abbrev meaning_with : LinesMeaning → LineMeaning → LinesMeaning
+meaning_with said (MeterMeaning line) = record said { meter = Some line }
+meaning_with said (LimiterTold line) = record said { limiter = Some line }
+meaning_with said (RegionMeaning line) = record said { region = Some line }
+meaning_with said (TenantMeaning tenant) = record said {
+  earlier = said.earlier ++ (record { tenant = said.tenant; calls = said.calls }) ∷ [];
+  tenant = tenant;
+  calls = [];
+}
+meaning_with said (CallTold call) = record said { calls = said.calls ++ call ∷ [] }
+
+-- what is said after words
+pub meaning_after : LineWords → LinesMeaning → LinesMeaning
+meaning_after words said = option_map_or (meaning_with said) (line_named (drop 1 words) (word_at words 0)) said
+
+-- a line leads from what is said before it to what is said after it
+line_added : (old : Script) (line : Line) (new : Script) → AddsLine old line new
+    → lines_meaning new ≡ meaning_with (lines_meaning old) (line_meaning line)
+line_added old (Meter line) new a = λ i. meaning_of (a.header i) (a.parts i)
+line_added old (Limiter line) new a = λ i. meaning_of (a.header i) (a.parts i)
+line_added old (Region line) new a = λ i. meaning_of (a.header i) (a.parts i)
+line_added old (As tenant) new a =
+    let part : TenantRun = record { tenant = old.parts.tenant; calls = old.parts.calls } in
+    let said = meaning_of old.header (record { earlier = []; tenant = tenant; calls = [] }) in
+    (λ i. meaning_of (a.header i) (a.parts i))
+    ∙ ap (λ parts. record said { earlier = parts }) (map-append part_meaning old.parts.earlier (part ∷ []))
+line_added old (Command call) new a =
+    (λ i. meaning_of (a.header i) (a.parts i))
+    ∙ ap (λ calls. record (lines_meaning old) { calls = calls }) (map-append call_meaning old.parts.calls (call ∷ []))
+
+-- and so do words
+pub added : (old : Script) (words : LineWords) (new : Script) → AddsWords old words new
+    → lines_meaning new ≡ meaning_after words (lines_meaning old)
+unfolding meaning_after
+added old words new (inl a) = ap lines_meaning a.1 ∙ ap (λ ws. meaning_after ws (lines_meaning old)) (sym a.0)
+added old words new (inr (line, names, adds)) =
+    let said = lines_meaning old in
+    line_added old line new adds
+    ∙ ap (λ told. option_map_or (meaning_with said) told said)
+    (sym (line_is (drop 1 words) (word_at words 0) line names))

@@ -1,0 +1,25 @@
+use Rattle.std.proofs.Common.{refl}
+use Rattle.wasmi_law_callers.proofs.runs.call_refused.Goals as goal
+
+pub returns-clause-contents : goal.returns-clause-contents
+returns-clause-contents g c =
+    λ refused. (c.refusals_keep_contents.ensures.turn _ _ _ c.step_lending.ensures.step.2 refused).contents
+
+pub returns-clause-spare : goal.returns-clause-spare
+returns-clause-spare g c =
+    λ refused. (c.refusals_keep_contents.ensures.turn _ _ _ c.step_lending.ensures.step.2 refused).spare
+
+pub returns-clause-meter : goal.returns-clause-meter
+returns-clause-meter g c =
+    let step = c.step_lending.ensures.step in
+    λ refused. (
+      record {
+        call = c.args.call.now;
+        reply = c.step_lending.result;
+        charge = c.step_lending.ensures.step.0;
+        written = c.step_lending.ensures.step.1;
+      },
+      record { calls_of = refl; replies_of = refl },
+      step.2,
+      (c.refusals_keep_contents.ensures.turn _ _ _ step.2 refused).meter,
+    )

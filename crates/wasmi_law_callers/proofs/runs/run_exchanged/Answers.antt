@@ -1,0 +1,25 @@
+use Rattle.std.proofs.Common.{sym, subst}
+use Rattle.std.specs.Prelude.{All}
+use Rattle.wasmi_meter.specs.Limiter.{optional_rules}
+use Rattle.wasmi_core.specs.Permission.{TellsNoDenial}
+use Rattle.wasmi_law_callers.proofs.RunsLemmas.{if_ok_too}
+use Rattle.wasmi_law_callers.proofs.LentGrowthLemmas.{grows_in_regions}
+use Rattle.wasmi_law_callers.proofs.runs.run_exchanged.Goals as goal
+
+pub returns-clause-exchanged : goal.returns-clause-exchanged
+returns-clause-exchanged g c =
+    if_ok_too c.run_lending.result c.run_lending.ensures.run (λ replies ran.
+    (ran.0, record { calls_of = ran.1; replies_of = ran.2 }, c.growths_are_permitted.ensures.run _ ran.0 _ ran.3))
+
+pub returns-clause-regions : goal.returns-clause-regions
+returns-clause-regions g c =
+    if_ok_too c.run_lending.result c.run_lending.ensures.run (λ replies ran. (
+      ran.0,
+      record { calls_of = ran.1; replies_of = ran.2 },
+      grows_in_regions (optional_rules g.L.ResourceLimiter.rules) c.lent_growths_succeed.ensures _ ran.0 _ ran.3,
+    ))
+
+pub returns-clause-permitted : goal.returns-clause-permitted
+returns-clause-permitted g c =
+    if_ok_too c.run_lending.result c.run_lending.ensures.run (λ replies ran shown.
+    (ran.0, ran.1, ran.2, c.replies_permit.ensures _ ran.0 _ (subst (All TellsNoDenial) (sym ran.2) shown) ran.3))

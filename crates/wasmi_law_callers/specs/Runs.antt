@@ -1,0 +1,161 @@
+-- What a caller says of runs.
+use Rattle.std.specs.Prelude.{◌≡◌, ◌⊎◌, ◌<◌, ◌≤◌, ◌+◌, ◌*◌, ℕ, true, Option, Some, List, [], ◌∷◌, ◌++◌, length, slice_set, All}
+use Rattle.wasmi_meter.specs.Attempt.{Request, optional_due, covers}
+use Rattle.wasmi_meter.specs.Limiter.{Rules, Question, Answer, IsDenial}
+use Rattle.wasmi_meter.specs.Meter.{Meter}
+use Rattle.wasmi_store.specs.Buffer.{Lent, fits_room}
+use Rattle.wasmi_store.specs.Memory.{MemoryValue, pages_of, growth_of}
+use Rattle.wasmi_store.specs.MemoryType.{MemoryTypeValue, minimum_bytes, page_bytes, in_bounds}
+use Rattle.wasmi_core.specs.declared.calls.Call.{Call}
+use Rattle.wasmi_core.specs.declared.calls.Call.TheVariants.{GrowMemory}
+use Rattle.wasmi_core.specs.declared.calls.Reply.{Reply}
+use Rattle.wasmi_core.specs.declared.calls.Reply.TheVariants.{Number}
+use Rattle.wasmi_core.specs.World.{World, Turn}
+use Rattle.wasmi_core.specs.Exchange.{Exchanges}
+use Rattle.wasmi_core.specs.Steps.{Step}
+use Rattle.wasmi_core.specs.Runs.{Sequence, Run, AreTurns, IsRunOf}
+use Rattle.wasmi_core.specs.declared.slots.Slot.TheVariants.{Live}
+use Rattle.wasmi_core.specs.State.{State, live_at}
+use Rattle.wasmi_core.specs.Account.{opened, account_after, Balances}
+use Rattle.wasmi_core.specs.Determinism.{IsNotOutOfMemory}
+use Rattle.wasmi_core.specs.Laws.{IsRefusal, Keeps, KeepsMeter}
+use Rattle.wasmi_core.specs.LentMemory.{FitsRegions}
+use Rattle.wasmi_core.specs.Validity.{IsValid}
+use Rattle.wasmi_core.specs.Writing.{IsBounded, IsSpent}
+use Rattle.wasmi_meter.specs.declared.quota.Quota.{Quota}
+use Rattle.wasmi_laws.specs.Runs.{IsRunInTwo, IsWithinCapsOf}
+use Rattle.wasmi_laws.specs.Meters.{world_with_more}
+
+-- calls are run with these replies, by turns of which a fact holds
+abbrev pub RunsBy : {S : Type 0} → Rules S → (List Turn → Type 0) → List Call → World S → List Reply → World S → Type 0
+RunsBy rules Holds calls w replies w' =
+    (turns : List Turn) × AreTurns calls replies turns × Run rules w turns w' × Holds turns
+
+-- calls are run with these replies, and of each of their turns a fact holds, with the world before it and after it
+abbrev pub RunsByTurns : {S : Type 0} → Rules S → (World S → Turn → World S → Type 0) → List Call → World S → List Reply
+    → World S → Type 0
+RunsByTurns rules Holds calls w replies w' =
+    (turns : List Turn) × AreTurns calls replies turns
+    × Sequence (λ v turn v'. Step rules v turn v' × Holds v turn v') w turns w'
+
+-- Where metering was on, what is left and what a run was charged are what was left before, or was set since.
+abbrev pub IsBilled : {S : Type 0} → Rules S → List Call → World S → List Reply → World S → Type 0
+IsBilled rules calls w replies w' =
+    RunsBy rules (λ turns. (left : ℕ) → w.state.meter.left ≡ Some left
+    → Balances (account_after (opened left) turns) w'.state.meter) calls w replies w'
+
+-- Where metering was on at a rate above 0, what a run was charged and what was left before bound the bytes that it has
+-- written.
+abbrev pub IsBoundedBy : {S : Type 0} → Rules S → List Call → World S → List Reply → World S → Type 0
+IsBoundedBy rules calls w replies w' =
+    RunsBy rules (λ turns. (left : ℕ) → w.state.meter.left ≡ Some left
+    → 0 < w.state.meter.costs.bytes_copied_per_fuel
+    → IsBounded w.state.meter.costs.bytes_copied_per_fuel left turns) calls w replies w'
+
+-- a call that fits the regions of any machine
+abbrev pub FitsAnyRegions : Call → Type 0
+FitsAnyRegions call = (s : State) → FitsRegions s call
+
+-- turns of calls, and then turns of other calls, are one run
+abbrev pub IsRunOfBoth : {S : Type 0} → Rules S → List Call → List Call → World S → List Reply → List Reply → World S
+    → Type 0
+IsRunOfBoth rules calls calls' w replies replies' w' =
+    (turns : List Turn) × (turns' : List Turn) × AreTurns calls replies turns × AreTurns calls' replies' turns'
+    × Run rules w (turns ++ turns') w'
+
+-- The step by a call with this reply keeps the meter as a refused turn does.
+abbrev pub IsMeterKept : {S : Type 0} → Rules S → Call → World S → Reply → World S → Type 0
+IsMeterKept rules call w reply w' = (turn : Turn) × AreTurns (call ∷ []) (reply ∷ []) (turn ∷ []) × Step rules w turn w'
+    × KeepsMeter rules w turn w'
+
+-- each turn that is refused keeps what a refused turn keeps
+abbrev pub KeepsWhereRefused : {S : Type 0} → Rules S → List Call → World S → List Reply → World S → Type 0
+KeepsWhereRefused rules calls w replies w' =
+    RunsByTurns rules (λ v turn v'. IsRefusal turn.reply → Keeps rules v turn v') calls w replies w'
+
+-- no reply of two lists is that memory ran out
+abbrev pub NeitherIsOutOfMemory : List Reply → List Reply → Type 0
+NeitherIsOutOfMemory replies replies' = All IsNotOutOfMemory replies × All IsNotOutOfMemory replies'
+
+-- two runs of the same turns
+abbrev pub AreSameTurns : {S : Type 0} → Rules S → World S → World S → World S → Type 0
+AreSameTurns rules w v v' = (turns : List Turn) × Run rules w turns v × Run rules w turns v'
+
+-- the memory lies in a lent region
+abbrev pub IsLent : MemoryValue → Type 0
+IsLent x = (rest : List ℕ) × (x.room ≡ Lent rest)
+
+-- so much is left, or no meter is there, that a request can be paid
+abbrev pub CanPay : {V E : Type 0} → Option Meter → Request V E → Type 0
+CanPay m request = covers m (optional_due m request.price) ≡ true
+
+-- a limiter was asked a question, and denied it
+abbrev pub IsDenied : {S : Type 0} → Rules S → Question → S → S → Type 0
+IsDenied rules question l l' = (answer : Answer) × IsDenial answer × rules.asked l question answer l'
+
+-- a memory can grow by so many pages in the lent region that it lies in: its type and its region have place for them,
+-- and a meter can pay them
+pub record CanGrowInRegion (m : Option Meter) (pages : ℕ) (x : MemoryValue) : Type 0 where
+  pub lent : IsLent x
+  pub inside : in_bounds x.ty (pages_of x + pages) ≡ true
+  pub place : fits_room x.room (pages * page_bytes x.ty.page) ≡ true
+  pub paid : CanPay m (growth_of x pages)
+
+-- in the place of a memory is one that is so many pages longer, and each other memory is the same
+abbrev pub HasMorePages : ℕ → ℕ → MemoryValue → State → State → Type 0
+HasMorePages k pages x s s' = (x' : MemoryValue) × (s'.memories ≡ slice_set s.memories k (Live x'))
+    × (length x'.bytes ≡ length x.bytes + pages * page_bytes x.ty.page)
+
+-- a memory has grown by so many pages, and the reply tells how many it had; or the reply is a refusal, and the limiter
+-- has denied the growth
+abbrev pub IsGrownOrDenied : {S : Type 0} → Rules S → ℕ → ℕ → MemoryValue → World S → Reply → World S → Type 0
+IsGrownOrDenied rules k pages x w reply w' =
+    ((reply ≡ Number (pages_of x)) × HasMorePages k pages x w.state w'.state)
+    ⊎ (IsRefusal reply × IsDenied rules (growth_of x pages).question w.limiter w'.limiter)
+
+-- where a turn grows a memory in a lent region that has place for it, the memory has grown, or the limiter has denied
+-- the growth
+abbrev pub GrowsInRegion : {S : Type 0} → Rules S → World S → Turn → World S → Type 0
+GrowsInRegion rules w turn w' = (k pages : ℕ) (x : MemoryValue) → turn.call ≡ GrowMemory k pages
+    → live_at w.state.memories k ≡ Some x → CanGrowInRegion (Some w.state.meter) pages x
+    → IsGrownOrDenied rules k pages x w turn.reply w'
+
+-- in each turn that grows a memory in a lent region that has place for it, the memory has grown, or the limiter has
+-- denied the growth
+abbrev pub GrowsInRegions : {S : Type 0} → Rules S → List Call → World S → List Reply → World S → Type 0
+GrowsInRegions rules calls w replies w' = RunsByTurns rules (GrowsInRegion rules) calls w replies w'
+
+-- the spare region is there, and no shorter than the minimum of a type
+abbrev pub HasRegionFor : MemoryTypeValue → State → Type 0
+HasRegionFor ty s = (region : List ℕ) × (s.spare ≡ Some region) × (minimum_bytes ty ≤ length region)
+
+-- Where metering was on, what was left is what is left and what a run was charged, and that bounds what it has written.
+abbrev pub IsSpentBy : {S : Type 0} → Rules S → List Call → World S → List Reply → World S → Type 0
+IsSpentBy rules calls w replies w' =
+    RunsBy rules (λ turns. (left : ℕ) → w.state.meter.left ≡ Some left
+    → (left' : ℕ) × (w'.state.meter.left ≡ Some left')
+    × IsSpent w.state.meter.costs.bytes_copied_per_fuel left left' turns) calls w replies w'
+
+-- each turn of a run leads to a valid state
+abbrev pub StaysValid : {S : Type 0} → Rules S → List Call → World S → List Reply → World S → Type 0
+StaysValid rules calls w replies w' = RunsByTurns rules (λ v turn v'. IsValid v'.state) calls w replies w'
+
+-- in each turn a permission is followed by exactly the growth that was asked for, or by just one notice, and a denial
+-- by neither
+abbrev pub IsExchanged : {S : Type 0} → Rules S → List Call → World S → List Reply → World S → Type 0
+IsExchanged rules calls w replies w' = RunsByTurns rules (Exchanges rules) calls w replies w'
+
+-- wherever calls are cut, they are two runs in a row
+abbrev pub IsRunInParts : {S : Type 0} → Rules S → List Call → World S → List Reply → World S → Type 0
+IsRunInParts rules calls w replies w' =
+    (first : List Call) (rest : List Call) → calls ≡ first ++ rest → IsRunInTwo rules first rest w replies w'
+
+-- after each turn of a run the machine is within the caps of a quota
+abbrev pub StaysWithin : {S : Type 0} → Rules S → Quota → List Call → World S → List Reply → World S → Type 0
+StaysWithin rules quota calls w replies w' =
+    RunsByTurns rules (λ v turn v'. IsWithinCapsOf quota v'.state) calls w replies w'
+
+-- the replies are those of a run of the calls with any more fuel, all of which is left at its end
+abbrev pub RunsWithMore : {S : Type 0} → Rules S → List Call → World S → List Reply → World S → Type 0
+RunsWithMore rules calls w replies w' =
+    (more : ℕ) → IsRunOf rules calls (world_with_more more w) replies (world_with_more more w')
