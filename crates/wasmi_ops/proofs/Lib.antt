@@ -1,1 +1,2 @@
 mod WideLemmas
+mod ScalarAccessLemmas

@@ -53,8 +53,15 @@ impl LoadOp {
         if address > memory.len() {
             return Err(TrapCode::MemoryOutOfBounds);
         }
-        let rest = &memory[address..];
-        Ok(loads!(calls! self(rest, 0, 0)))
+        self.load_front(&memory[address..])
+    }
+
+    /// Loads from the front of some bytes.
+    #[inline(always)]
+    fn load_front(self, bytes: &[u8]) -> Result<RawVal, TrapCode>
+        ensures { result ≡ loaded_raw self bytes.now 0 }
+    {
+        Ok(loads!(calls! self(bytes, 0, 0)))
     }
 }
 
