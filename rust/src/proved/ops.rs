@@ -133,8 +133,19 @@ mod scalar {
                 if address > memory.len() {
                     return Err(TrapCode::MemoryOutOfBounds);
                 }
-                let rest = &memory[address..];
-                Ok(loads!(calls! self(rest, 0, 0)))
+                self.load_front(&memory[address..])
+            }
+
+            /// Loads from the front of some bytes.
+            ///
+            /// # Contract
+            ///
+            /// <span></span><pre><code>ensures: result ≡ [loaded_raw] self bytes.now 0</code></pre>
+            ///
+            /// [loaded_raw]: crate::specs::ops::ScalarAccessOps#loaded_raw "the load of each instruction"
+            #[inline(always)]
+            fn load_front(self, bytes: &[u8]) -> Result<RawVal, TrapCode> {
+                Ok(loads!(calls! self(bytes, 0, 0)))
             }
         }
 
