@@ -1,23 +1,64 @@
-//! Tells the programs the version of the crate. With the feature `library` it links libwasmi_core.a, of which WASMI_CORE names
-//! the folder, and the C part of the kit, of which RATTLE_C does. It links anew if that library has a later date, or the
-//! variable WASMI_LIBRARY another text.
+//! Writes the functions of instructions, by the names of include/numbers.tsv. With the feature `library` it links the static library of C,
+//! which is in crates/*/out, or else in the folder that WASMI_ARCHIVES names, and the C part of the kit, of which RATTLE_C names the folder.
+//! It links anew if the variable WASMI_LIBRARY has another text.
 use std::env::var;
+use std::fmt::Write;
+use std::{fs, path};
+
+/// The kinds of the rows that are instructions; others are statuses, kinds of calls, types, answers and functions.
+const INSTRUCTIONS: [&str; 9] =
+    ["unary", "binary", "ternary", "extract_lane", "replace_lane", "load", "store", "load_lane", "store_lane"];
+
+/// Names of instructions that the Rust crate has no function for.
+const LACKING: [&str; 0] = [];
 
 fn main() {
-    let manifest = std::fs::read_to_string("wasmi_core/Cargo.toml").expect("wasmi_core: a copy of the crate");
-    let version = manifest.lines().find_map(|line| line.strip_prefix("version = "));
-    println!("cargo:rustc-env=CRATE_VERSION={}", version.expect("a version").trim_matches('"'));
-    println!("cargo:rerun-if-changed=wasmi_core/Cargo.toml");
-    if var("CARGO_FEATURE_LIBRARY").is_err() {
-        return;
+    let numbers = "../../include/numbers.tsv";
+    println!("cargo:rerun-if-changed={numbers}");
+    let rows = fs::read_to_string(numbers).expect("the numbers of instructions");
+    let folder = var("OUT_DIR").expect("a folder");
+    let [functions, types] = tables(&rows);
+    fs::write(path::Path::new(&folder).join("functions.rs"), functions).expect("a file");
+    fs::write(path::Path::new(&folder).join("types.rs"), types).expect("a file");
+    if var("CARGO_FEATURE_LIBRARY").is_ok() {
+        link();
     }
-    for name in ["WASMI_CORE", "RATTLE_C"] {
-        let folder = var(name).unwrap_or_else(|_| panic!("{name} has to name a folder"));
-        println!("cargo:rustc-link-search=native={folder}");
+}
+
+/// The functions on operands, for each library; and the types of the functions of both libraries, also of those that take an address.
+fn tables(rows: &str) -> [String; 2] {
+    let (mut functions, mut types) = (String::from("vec![\n"), String::from("vec![\n"));
+    for row in rows.lines() {
+        let [kind, number, name] = row.split('\t').collect::<Vec<_>>()[..] else { continue };
+        if !INSTRUCTIONS.contains(&kind) || LACKING.contains(&name) {
+            continue;
+        }
+        let is_scalar = ["i32_", "i64_", "load_", "store"].iter().any(|front| name.starts_with(front));
+        let function = format!("{}::{name}", if is_scalar { "wasm" } else { "simd" });
+        let shape = if name.ends_with("128") { "binary_128" } else { kind };
+        let has_address = kind.starts_with("load") || kind.starts_with("store");
+        let at = if has_address { format!("{function}_at, ") } else { String::new() };
+        let row = format!("kind: \"{kind}\", number: {number}, name: \"{name}\"");
+        writeln!(functions, "Row {{ {row}, function: |it| {shape}({function}, {at}it) }},").expect("text");
+        for (name, end) in [(name.into(), ""), (format!("{name}_at"), "_at")].iter().take(1 + usize::from(has_address))
+        {
+            let [theirs, here] = ["theirs", "here"].map(|library| format!("{shape}{end}({library}::{function}{end})"));
+            writeln!(types, "(\"{name}\", {theirs}, {here}),").expect("text");
+        }
+    }
+    [functions + "]", types + "]"]
+}
+
+fn link() {
+    let kit = var("RATTLE_C").expect("RATTLE_C has to name a folder");
+    let archives = var("WASMI_ARCHIVES").unwrap_or_else(|_| "../../crates/wasmi_c_lib/out".into());
+    for folder in [&archives, &kit] {
+        println!("cargo:rustc-link-search=native={}", fs::canonicalize(folder).expect("a folder").display());
+    }
+    for name in ["WASMI_ARCHIVES", "WASMI_LIBRARY", "RATTLE_C"] {
         println!("cargo:rerun-if-env-changed={name}");
     }
-    println!("cargo:rerun-if-changed={}/libwasmi_core.a", var("WASMI_CORE").expect("a folder"));
-    println!("cargo:rerun-if-env-changed=WASMI_LIBRARY");
-    println!("cargo:rustc-link-lib=static=wasmi_core");
-    println!("cargo:rustc-link-lib=static=libc_c");
+    for library in ["wasmi_core", "libc_c"] {
+        println!("cargo:rustc-link-lib=static={library}");
+    }
 }

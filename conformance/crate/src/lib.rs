@@ -1,8 +1,11 @@
 //! The language of scripts (docs/SCRIPT.md) over the Rust crate's own memories, tables, instructions and meter, and random scripts.
-//! Nothing here knows the proved library but `bin/compare.rs`, which has `comparison` run both.
+//! `instructions` has the functions of the Rust crate and of the proved one by name, and `archives` the calls of the proved library.
+#[cfg(feature = "library")]
+pub mod archives;
 pub mod calls;
 pub mod comparison;
 pub mod generator;
+pub mod instructions;
 pub mod limits;
 pub mod machine;
 pub mod mutants;

@@ -1,9 +1,9 @@
 //! Random calls on a machine of the static library, by its handle, and on `Machine` of the Rust crate: the same replies, and the same state at the end.
-use crate::archives::*;
 use crate::calls::call_of;
 use crate::draw::{self, Draw};
 use crate::limiters::{Limiter, Listed};
 use crate::{Tally, replies};
+use conformance::archives::*;
 use conformance::random::Random;
 use wasmi_core_proved::machine::{Call, Machine, Reply, ResourceLimiterRef};
 use wasmi_core_proved::{CustomFuelCosts, Fuel, FuelCostsProvider, RawRef};
@@ -151,8 +151,7 @@ impl Both {
     fn same_state(&mut self) -> bool {
         // SAFETY: the handle has a machine; the pointer and the length are those of one list.
         let totals = unsafe { wasmi_machine_totals(&mut self.handle) };
-        let words = |number: u128| Words { lo: number as u64, hi: (number >> 64) as u64 };
-        let (bytes, elements) = (words(self.machine.total_bytes()), words(self.machine.total_elements()));
+        let (bytes, elements) = (Words::new(self.machine.total_bytes()), Words::new(self.machine.total_elements()));
         let mut same = totals == Totals { bytes, elements, status: 0 };
         for index in 0..8 {
             let Some(memory) = self.machine.memory(index) else { continue };

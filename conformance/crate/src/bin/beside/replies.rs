@@ -1,5 +1,5 @@
 //! Replies and errors of the Rust crate by the numbers of include/wasmi_machine.h.
-use crate::archives::PlainReply;
+use conformance::archives::PlainReply;
 use wasmi_core_proved::machine::{Reply, SegmentError};
 use wasmi_core_proved::{FuelError, GlobalError, MemoryError, RefType, TableError};
 

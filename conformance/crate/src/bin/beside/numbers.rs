@@ -1,23 +1,24 @@
 //! Each instruction by its number: the static library beside the Rust crate's functions of its name, at `ptr + offset` and at an address, and beside its
 //! instructions as values.
-use crate::Tally;
-use crate::archives::*;
-use crate::shapes::{self, Answer, Answers, Operands};
+use crate::{Tally, draw};
+use conformance::archives::*;
+use conformance::instructions::{Answer, Operands, Row, Words, here};
 use conformance::random::Random;
 use wasmi_core_proved::ops::*;
-use wasmi_core_proved::{RawVal, V128, simd, wasm};
+use wasmi_core_proved::{RawVal, TrapCode, V128, simd};
 
-/// The kinds of the rows that are instructions; others are statuses, kinds of calls, types, answers and functions.
-const INSTRUCTIONS: [&str; 9] =
-    ["unary", "binary", "ternary", "extract_lane", "replace_lane", "load", "store", "load_lane", "store_lane"];
+const MEMORY: usize = 40;
 
-/// The instructions of include/numbers.tsv: a kind, a number and a name.
-pub fn rows() -> impl Iterator<Item = (&'static str, u16, &'static str)> {
-    let rows = include_str!("../../../include/numbers.tsv");
-    rows.lines().filter_map(|row| {
-        let [kind, number, name] = row.split('\t').collect::<Vec<_>>()[..] else { return None };
-        INSTRUCTIONS.contains(&kind).then(|| (kind, number.parse().expect("a number"), name))
-    })
+fn operands(random: &mut Random) -> Operands<MEMORY> {
+    let (ptr, offset) = draw::address(random, MEMORY as u64);
+    Operands {
+        words: std::array::from_fn(|_| draw::words(random)),
+        lane: random.below(18) as u8,
+        lanes: [0; 16],
+        memory: std::array::from_fn(|_| random.next() as u8),
+        ptr,
+        offset,
+    }
 }
 
 /// The instruction of a name in a list, if it is there.
@@ -26,9 +27,9 @@ pub fn listed<T: Copy>(list: &[(&str, T)], name: &str) -> Option<T> {
 }
 
 /// The status, the value and the memory that a call of the static library leaves.
-type Left = (u8, Words, [u8; 40]);
+type Left = (u8, Words, [u8; MEMORY]);
 
-fn in_library(kind: &str, number: u16, it: &Operands) -> Left {
+fn in_library(kind: &str, number: u16, it: &Operands<MEMORY>) -> Left {
     let [a, b, c] = it.words;
     let (mut value, mut bytes) = (Words::default(), it.memory);
     let (memory, len) = (bytes.as_mut_ptr(), bytes.len());
@@ -50,13 +51,8 @@ fn in_library(kind: &str, number: u16, it: &Operands) -> Left {
     (status, value, bytes)
 }
 
-/// What the functions of the name give; none if there is no such lane.
-fn by_name(kind: &str, name: &str, operands: &mut Operands) -> Answers {
-    include!(concat!(env!("OUT_DIR"), "/by_name.rs"))
-}
-
 /// What the instruction as a value gives; none if there is no such lane.
-fn by_value(kind: &str, name: &str, it: &mut Operands) -> Option<Answer> {
+fn by_value(kind: &str, name: &str, it: &mut Operands<MEMORY>) -> Option<Result<RawVal, TrapCode>> {
     let [a, b, c] = it.words.map(RawVal::from);
     let vectors = [a, b, c].map(V128::from);
     let lane = it.lane;
@@ -103,12 +99,12 @@ fn unary(name: &str, a: RawVal, vector: V128) -> RawVal {
 }
 
 /// Whether the library left what an answer of the crate and its memory are. A lane that there isn't has no answer: any status but 0 stands for that.
-fn agree(left: &Left, answer: Option<Answer>, memory: &[u8; 40]) -> bool {
+fn agree(left: &Left, answer: Option<Answer>, memory: &[u8; MEMORY]) -> bool {
     let (status, value, bytes) = left;
     bytes == memory
         && match answer {
-            Some(Ok(answer)) => *status == 0 && Words::from(answer) == *value,
-            Some(Err(trap)) => *status == u8::from(trap),
+            Some(Ok(answer)) => *status == 0 && answer == *value,
+            Some(Err(trap)) => *status == trap,
             None => *status != 0,
         }
 }
@@ -116,21 +112,20 @@ fn agree(left: &Left, answer: Option<Answer>, memory: &[u8; 40]) -> bool {
 /// Tries each instruction on so many operands.
 pub fn compare(seed: u64, count: u64) -> Tally {
     let mut random = Random::new(seed);
-    let (mut tally, mut instructions) = (Tally::default(), 0);
-    for (kind, number, name) in rows() {
-        instructions += 1;
+    let (mut tally, rows) = (Tally::default(), here::functions());
+    for Row { kind, number, name, function } in &rows {
         for _ in 0..count {
-            let operands = Operands::new(&mut random);
+            let operands = operands(&mut random);
             let (mut named, mut valued) = (operands.clone(), operands.clone());
-            let left = in_library(kind, number, &operands);
-            let names = by_name(kind, name, &mut named);
-            let value = by_value(kind, name, &mut valued);
+            let left = in_library(kind, *number, &operands);
+            let names = function(&mut named);
+            let value = by_value(kind, name, &mut valued).map(|it| it.map(Words::from).map_err(u8::from));
             let [first, second] = names.map_or([None; 2], |both| both.map(Some));
             let same = agree(&left, first, &named.memory) && agree(&left, second, &named.memory);
             let same = same && agree(&left, value, &valued.memory);
             tally.add(same, || format!("{name} {operands:?}: {left:?}, here {names:?} and {value:?}"));
         }
     }
-    println!("numbers, seed {seed}: {instructions} instructions, {} trials, {} differ", tally.tried, tally.differ);
+    println!("numbers, seed {seed}: {} instructions, {} trials, {} differ", rows.len(), tally.tried, tally.differ);
     tally
 }

@@ -1,24 +1,16 @@
-//! The calls of the proved static libraries, as include/*.h declare them.
+//! The calls of the proved static library, as include/*.h declare them.
+pub use crate::instructions::Words;
 use wasmi_core_proved::{RawVal, V128};
-
-/// Two words of a value.
-#[derive(Clone, Copy, Debug, Default, PartialEq, Eq)]
-#[repr(C)]
-pub struct Words {
-    pub lo: u64,
-    pub hi: u64,
-}
 
 impl From<RawVal> for Words {
     fn from(value: RawVal) -> Self {
-        let bits = V128::from(value).as_u128();
-        Self { lo: bits as u64, hi: (bits >> 64) as u64 }
+        Self::new(V128::from(value).as_u128())
     }
 }
 
 impl From<Words> for RawVal {
     fn from(words: Words) -> Self {
-        V128::from(u128::from(words.lo) | u128::from(words.hi) << 64).into()
+        V128::from(words.bits()).into()
     }
 }
 
@@ -198,4 +190,21 @@ unsafe extern "C" {
     pub fn wasmi_table_copy(table: &PlainTable, elements: *mut u32, elements_len: usize, range: &Range, meter: &mut Meter, number: &mut u64) -> u8;
     pub fn wasmi_table_copy_from(table: &PlainTable, elements: *mut u32, elements_len: usize, source: &PlainTable, source_elements: *const u32, source_len: usize, range: &Range, meter: &mut Meter, number: &mut u64) -> u8;
     pub fn wasmi_table_init(table: &PlainTable, elements: *mut u32, elements_len: usize, items: *const u32, items_len: usize, range: &Range, meter: &mut Meter, number: &mut u64) -> u8;
+}
+
+const TEXT_TOO_SHORT: u8 = 5;
+
+/// What the library prints for a script, written over a text, and its status.
+pub fn run_script(script: &[u8], text: &mut Vec<u8>) -> u8 {
+    text.resize(1 << 12, 0);
+    loop {
+        let mut needed = 0;
+        let (from, to) = (script.as_ptr(), text.as_mut_ptr());
+        // SAFETY: pointers and lengths are those of one list each.
+        let status = unsafe { wasmi_script_run(from, script.len(), to, text.len(), &mut needed) };
+        text.resize(needed, 0);
+        if status != TEXT_TOO_SHORT {
+            return status;
+        }
+    }
 }

@@ -1,7 +1,7 @@
 //! A meter of the static library beside two of the Rust crate, and quotas.
-use crate::archives::*;
 use crate::draw::Draw;
 use crate::replies;
+use conformance::archives::*;
 use conformance::random::Random;
 use wasmi_core_proved::machine::Quota;
 use wasmi_core_proved::{CustomFuelCosts, Fuel, FuelCostsProvider};

@@ -1,7 +1,8 @@
 //! The call of the Rust crate's machine that the numbers of a call of include/wasmi_machine.h stand for.
-use crate::archives::PlainCall;
-use crate::numbers::{listed, rows};
+use crate::numbers::listed;
 use crate::replies::reference_type;
+use conformance::archives::PlainCall;
+use conformance::instructions::here;
 use std::collections::HashMap;
 use std::sync::LazyLock;
 use wasmi_core_proved::machine::Call;
@@ -12,7 +13,7 @@ use wasmi_core_proved::{
 
 /// The names of instructions by their kinds and numbers.
 static NAMES: LazyLock<HashMap<(&str, u16), &str>> =
-    LazyLock::new(|| rows().map(|(kind, number, name)| ((kind, number), name)).collect());
+    LazyLock::new(|| here::functions::<0>().iter().map(|it| ((it.kind, it.number), it.name)).collect());
 
 /// The instruction in a list that has the number of a kind.
 fn op_at<T: Copy>(kind: &str, number: u16, list: &[(&str, T)]) -> Option<T> {

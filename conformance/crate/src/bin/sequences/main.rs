@@ -1,15 +1,18 @@
 //! Compares the Rust crate and the proved one: the types of the functions of instructions, and what random sequences of
 //! calls on memories, tables and meters give under a limiter of random answers.
 //!
-//! It prints what differs. The exit status is 0 if nothing does, 1 if something does, and 2 if nothing was compared. The
-//! argument is how many sequences are tried, 2,000 if there is none.
+//! usage: sequences [COUNT]: how many sequences are tried, 2,000 if there is no number. It prints what differs. The exit status is 0 if
+//! nothing does, 1 if something does, and 2 if nothing was compared.
 use std::any::type_name;
 use std::env;
 use std::process::ExitCode;
 use wasmi_core as theirs;
 use wasmi_core_proved as here;
 
-include!(concat!(env!("OUT_DIR"), "/rows.rs"));
+/// Each function of an instruction, and its type in both crates.
+fn rows() -> Vec<(&'static str, String, String)> {
+    include!(concat!(env!("OUT_DIR"), "/types.rs"))
+}
 
 mod calls_of_theirs {
     use wasmi_core as library;
@@ -44,7 +47,7 @@ fn ternary<A, B, C, R>(_: fn(A, B, C) -> R) -> String {
     format!("({}, {}, {}) -> {}", named::<A>(), named::<B>(), named::<C>(), named::<R>())
 }
 
-fn wide<R>(_: fn(i64, i64, i64, i64) -> R) -> String {
+fn binary_128<R>(_: fn(i64, i64, i64, i64) -> R) -> String {
     named::<R>()
 }
 

@@ -1,4 +1,4 @@
-//! Does works of the Rust crate of ../../rust again and again, and refuses each of their requests for memory in turn.
+//! Does works of the Rust crate in the folder rust again and again, and refuses each of their requests for memory in turn.
 //!
 //! usage: refused SEED SCRIPTS
 //!

@@ -1,10 +1,10 @@
 //! Memories whose state lies with the caller, in the static library; beside `Memory` of the Rust crate on a borrowed buffer, under its limiter behind `dyn`;
 //! and beside its `region::memory` on a region of the same length.
-use crate::archives::*;
 use crate::draw::Draw;
 use crate::limiters::Asked;
 use crate::meters::{Meters, quotas};
 use crate::{Tally, replies};
+use conformance::archives::*;
 use conformance::random::Random;
 use wasmi_core_proved::machine::{self, Quota};
 use wasmi_core_proved::{Memory, MemoryError, MemoryType, ResourceLimiter, ResourceLimiterRef, region};

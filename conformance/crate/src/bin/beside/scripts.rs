@@ -1,24 +1,13 @@
 //! Random scripts and mutants of them: what the static library prints beside what the Rust crate's `script::replay` does, and the status.
 use crate::Tally;
-use crate::archives::wasmi_script_run;
+use conformance::archives::run_script;
 use conformance::generator::{Generator, PROFILES};
 use conformance::mutants::mutant;
 use wasmi_core_proved::script::replay;
 
-const TEXT_TOO_SHORT: u8 = 5;
-
 fn in_library(script: &[u8]) -> (u8, Vec<u8>) {
-    let mut text = vec![0; 1 << 12];
-    loop {
-        let mut needed = 0;
-        let (from, to) = (script.as_ptr(), text.as_mut_ptr());
-        // SAFETY: pointers and lengths are those of one list each.
-        let status = unsafe { wasmi_script_run(from, script.len(), to, text.len(), &mut needed) };
-        text.resize(needed, 0);
-        if status != TEXT_TOO_SHORT {
-            return (status, text);
-        }
-    }
+    let mut text = Vec::new();
+    (run_script(script, &mut text), text)
 }
 
 fn here(mut script: &[u8]) -> (u8, Vec<u8>) {

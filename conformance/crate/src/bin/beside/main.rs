@@ -4,7 +4,6 @@
 //!
 //! NUMBERS operands for each instruction, CALLS calls on machines, SEQUENCES of calls on memories and as many on tables, SCRIPTS of each kind and a mutant of
 //! each; a 0 leaves the part out. Each part prints its counts. The exit status is 1 where something differs, and where nothing was compared.
-mod archives;
 mod calls;
 mod draw;
 mod limiters;
@@ -14,7 +13,6 @@ mod meters;
 mod numbers;
 mod replies;
 mod scripts;
-mod shapes;
 mod tables;
 
 use std::process::exit;

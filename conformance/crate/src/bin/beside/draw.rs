@@ -1,6 +1,6 @@
 //! Random operands of calls: mostly small ones that fit, and some at the ends of their types. None makes a machine take much memory.
-use crate::archives::{Limits, PlainCall};
-use crate::shapes::{address, words};
+use conformance::archives::{Limits, PlainCall};
+use conformance::instructions::Words;
 use conformance::random::Random;
 
 /// What no machine has room for: bytes or pages of 64 KiB from 2^63 bytes on.
@@ -16,6 +16,29 @@ pub fn limits(random: &mut Random) -> Limits {
         fuel_per_bytes_validated: 2,
         is_metered: random.pick(&[0, 1]),
         is_unlimited: random.pick(&[0, 0, 1, 255]),
+    }
+}
+
+/// The words of a vector, or of a number that is likely at an edge.
+pub fn words(random: &mut Random) -> Words {
+    let (lo, hi) = match random.below(3) {
+        0 => (random.lane(32), 0),
+        1 => (random.lane(64), random.lane(64)),
+        _ => random.vector(),
+    };
+    Words { lo, hi }
+}
+
+/// An address and an offset, mostly within a memory of a length.
+pub fn address(random: &mut Random, len: u64) -> (u64, u64) {
+    match random.below(8) {
+        0 => (random.edge(), random.edge()),
+        1 => (random.below(60).wrapping_neg(), random.below(120)),
+        _ => {
+            let sum = random.below(len + 20);
+            let offset = random.below(sum + 1);
+            (sum - offset, offset)
+        }
     }
 }
 

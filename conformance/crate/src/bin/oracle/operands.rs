@@ -1,16 +1,19 @@
 //! Operands: random ones, and those on which instructions tend to go wrong.
-use crate::values::Words;
+use conformance::instructions::{Operands, Words};
 
 /// How many operands are tried at once.
 pub const BATCH: usize = 1000;
 /// The bytes of the memory that loads and stores are tried on.
 pub const MEMORY: usize = 64;
 
-/// A generator of operands: xorshift, with the seed of its state.
-pub struct Operands(pub u64);
+/// The most lanes that a vector has.
+const LANES: usize = 16;
 
-impl Operands {
-    pub fn bits(&mut self) -> u64 {
+/// A generator of operands: xorshift, with the seed of its state.
+pub struct Draw(pub u64);
+
+impl Draw {
+    fn bits(&mut self) -> u64 {
         self.0 ^= self.0 << 13;
         self.0 ^= self.0 >> 7;
         self.0 ^= self.0 << 17;
@@ -55,16 +58,46 @@ impl Operands {
         word
     }
 
-    pub fn words(&mut self) -> Words {
+    fn words(&mut self) -> Words {
         Words { lo: self.word(), hi: self.word() }
     }
 
-    pub fn batch(&mut self) -> Vec<Words> {
+    fn batch(&mut self) -> Vec<Words> {
         (0..BATCH).map(|_| self.words()).collect()
     }
 
+    /// Operands of values, shuffles and accesses, and others of accesses to one lane. A batch has operands for each lane, and several offsets.
+    pub fn operands(&mut self) -> [Vec<Operands<MEMORY>>; 2] {
+        let (a, b, c) = (self.batch(), self.batch(), self.batch());
+        let lanes: Vec<[u8; LANES]> = a.iter().map(|_| self.lanes()).collect();
+        let [mut all, mut of_lanes] = [Vec::new(), Vec::new()];
+        for start in (0..BATCH).step_by(BATCH / LANES) {
+            let range = start..BATCH.min(start + BATCH / LANES);
+            let lane = (start / (BATCH / LANES) % LANES) as u8;
+            let (memory, ptrs) = (self.memory(), range.clone().map(|_| self.pointer()).collect::<Vec<_>>());
+            let offset = self.offset();
+            let of = |index| Operands {
+                words: [a[index], b[index], c[index]],
+                lane,
+                lanes: lanes[index],
+                memory,
+                ptr: 0,
+                offset,
+            };
+            all.extend(range.clone().zip(ptrs).map(|(index, ptr)| Operands { ptr, ..of(index) }));
+            let memory = self.memory();
+            of_lanes.extend(range.map(|index| Operands {
+                memory,
+                ptr: self.pointer(),
+                offset: self.offset(),
+                ..of(index)
+            }));
+        }
+        [all, of_lanes]
+    }
+
     /// A pointer that is mostly near the memory's end or in it.
-    pub fn pointer(&mut self) -> u64 {
+    fn pointer(&mut self) -> u64 {
         match self.bits() % 16 {
             0 => self.bits(),
             1 => u64::MAX - self.bits() % 32,
@@ -73,7 +106,7 @@ impl Operands {
     }
 
     /// An offset that is mostly small, and else past what 32 bits or 64 reach with a pointer.
-    pub fn offset(&mut self) -> u64 {
+    fn offset(&mut self) -> u64 {
         let small = self.bits() % 80;
         match self.bits() % 16 {
             0 => (1 << 32) + small,
@@ -83,7 +116,7 @@ impl Operands {
     }
 
     /// A memory of random bytes.
-    pub fn memory(&mut self) -> [u8; MEMORY] {
+    fn memory(&mut self) -> [u8; MEMORY] {
         let mut memory = [0; MEMORY];
         for word in memory.chunks_mut(8) {
             word.copy_from_slice(&self.bits().to_le_bytes());
@@ -92,7 +125,7 @@ impl Operands {
     }
 
     /// The indices of a shuffle, each below 32.
-    pub fn lanes(&mut self) -> [u8; 16] {
+    fn lanes(&mut self) -> [u8; 16] {
         std::array::from_fn(|_| (self.bits() % 32) as u8)
     }
 }
