@@ -70,7 +70,8 @@ def write_program(crate, to):
     """Writes the program and its rows."""
     shutil.copytree(f"{HERE}/program", to, dirs_exist_ok=True)
     manifest = read(f"{HERE}/program/Cargo.toml.in").replace("CRATE", os.path.realpath(crate))
-    write(f"{to}/Cargo.toml", manifest.replace("HERE", f"{os.path.dirname(HERE)}/rust"))
+    top = os.path.dirname(HERE)
+    write(f"{to}/Cargo.toml", manifest.replace("HERE", f"{top}/rust").replace("CONFORMANCE", f"{top}/conformance/crate"))
     kinds = {"vector_rows": "x, y, kept, first, low, high", "load_rows": "memory, y, low, high", "store_rows": "memory, x, first, low, high"}
     tables = {"lanewise": rows.lanewise(), "widening": rows.widening(), "loads": rows.loads(), "stores": rows.stores()}
     tables |= {"number_loads": rows.number_loads(), "number_stores": rows.number_stores()}

@@ -15,8 +15,6 @@
 unsafe extern "C" {}
 
 mod machine;
-#[cfg(feature = "rust")]
-mod machine_here;
 mod timing;
 mod vectors;
 mod works;

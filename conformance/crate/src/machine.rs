@@ -5,14 +5,45 @@ use wasmi_core::{
     ResourceLimiterRef, Table, V128, simd,
 };
 
-enum MemorySlot {
-    Live { memory: Memory, region: Option<usize> },
+/// A memory, and the length of the region that is lent to it.
+struct Lent {
+    memory: Memory,
+    region: Option<usize>,
+}
+
+enum Slot<T> {
+    Live(T),
     Gone,
 }
 
-enum TableSlot {
-    Live(Table),
-    Gone,
+/// The live value of a slot, or the reply that there is none.
+macro_rules! live {
+    ($slot:expr) => {
+        match $slot {
+            Some(Slot::Live(value)) => value,
+            _ => return NoSuch,
+        }
+    };
+}
+
+/// The value of an index, or the reply that there is none.
+macro_rules! found {
+    ($value:expr) => {
+        match $value {
+            Some(value) => value,
+            None => return NoSuch,
+        }
+    };
+}
+
+/// What is given, or the reply of its error.
+macro_rules! given {
+    ($result:expr) => {
+        match $result {
+            Ok(value) => value,
+            Err(error) => return error.into(),
+        }
+    };
 }
 
 /// What there is of a memory.
@@ -26,8 +57,8 @@ pub struct LiveMemory {
 
 pub struct Machine {
     pub fuel: Fuel,
-    memories: Vec<MemorySlot>,
-    tables: Vec<TableSlot>,
+    memories: Vec<Slot<Lent>>,
+    tables: Vec<Slot<Table>>,
     segments: Vec<ElementSegment>,
     globals: Vec<Global>,
     registers: [RawVal; 16],
@@ -68,13 +99,13 @@ impl Machine {
 
     pub fn live_memories(&self) -> Vec<LiveMemory> {
         let live = self.memories.iter().enumerate().filter_map(|(index, slot)| match slot {
-            MemorySlot::Live { memory, region } => Some(LiveMemory {
+            Slot::Live(Lent { memory, region }) => Some(LiveMemory {
                 index: index as u64,
                 len: memory.data_size() as u64,
                 page_size: u64::from(memory.ty().page_size()),
                 is_lent: region.is_some(),
             }),
-            MemorySlot::Gone => None,
+            Slot::Gone => None,
         });
         live.collect()
     }
@@ -82,11 +113,11 @@ impl Machine {
     /// The index, size and element type of each live table.
     pub fn live_tables(&self) -> Vec<(u64, u64, &'static str)> {
         let live = self.tables.iter().enumerate().filter_map(|(index, slot)| match slot {
-            TableSlot::Live(table) => {
+            Slot::Live(table) => {
                 let kind = if table.ty().element() == RefType::Func { "func" } else { "extern" };
                 Some((index as u64, table.size(), kind))
             }
-            TableSlot::Gone => None,
+            Slot::Gone => None,
         });
         live.collect()
     }
@@ -101,159 +132,132 @@ impl Machine {
         match *call {
             Call::NewMemory(ty) => u128::from(ty.minimum()) * u128::from(ty.page_size()),
             Call::GrowMemory { memory, pages } => match self.memories.get(memory) {
-                Some(MemorySlot::Live { memory, region: None }) => {
+                Some(Slot::Live(Lent { memory, region: None })) => {
                     u128::from(pages) * u128::from(memory.ty().page_size()) + memory.data_size() as u128
                 }
                 _ => 0,
             },
             Call::NewTable { ref ty, .. } => u128::from(ty.minimum()) * 4,
             Call::GrowTable { table, delta, .. } => match self.tables.get(table) {
-                Some(TableSlot::Live(table)) => (u128::from(delta) + u128::from(table.size())) * 4,
+                Some(Slot::Live(table)) => (u128::from(delta) + u128::from(table.size())) * 4,
                 _ => 0,
             },
             _ => 0,
         }
     }
 
-    fn memory(&mut self, i: usize) -> Result<&mut Memory, Reply> {
-        match self.memories.get_mut(i) {
-            Some(MemorySlot::Live { memory, .. }) => Ok(memory),
-            _ => Err(NoSuch),
-        }
+    fn register(&self, r: u8) -> Option<RawVal> {
+        self.registers.get(usize::from(r)).copied()
     }
-    fn table(&mut self, i: usize) -> Result<&mut Table, Reply> {
-        match self.tables.get_mut(i) {
-            Some(TableSlot::Live(table)) => Ok(table),
-            _ => Err(NoSuch),
-        }
+
+    fn vector(&self, r: u8) -> Option<V128> {
+        self.register(r).map(|value| value.read_as())
     }
-    fn register(&self, r: u8) -> Result<RawVal, Reply> {
-        self.registers.get(usize::from(r)).copied().ok_or(NoSuch)
-    }
-    fn vector(&self, r: u8) -> Result<V128, Reply> {
-        self.register(r).map(|v| v.read_as())
-    }
+
     fn put(&mut self, r: u8, value: impl Into<RawVal>) -> Reply {
         self.registers[usize::from(r)] = value.into();
         Done
     }
 
-    /// Two different live tables, the first one to be changed.
-    fn two_tables(&mut self, dst: usize, src: usize) -> Result<(&mut Table, &Table), Reply> {
-        let [dst, src] = self.tables.get_disjoint_mut([dst, src]).map_err(|_| NoSuch)?;
-        match (dst, src) {
-            (TableSlot::Live(dst), TableSlot::Live(src)) => Ok((dst, src)),
-            _ => Err(NoSuch),
-        }
-    }
-
+    #[inline(always)]
     pub fn step(&mut self, call: &Call, limiter: Option<&mut dyn ResourceLimiter>) -> Reply {
-        self.try_step(call, limiter).unwrap_or_else(|refusal| refusal)
-    }
-
-    fn try_step(&mut self, call: &Call, limiter: Option<&mut dyn ResourceLimiter>) -> Result<Reply, Reply> {
         let mut limiter = limiter_ref(limiter);
-        Ok(match *call {
+        match *call {
             Call::SetFuel(n) => {
-                self.fuel.set_fuel(n)?;
+                given!(self.fuel.set_fuel(n));
                 Done
             }
-            Call::GetFuel => Number(self.fuel.get_fuel()?),
+            Call::GetFuel => Number(given!(self.fuel.get_fuel())),
             Call::NewMemory(ty) => {
-                let memory = Memory::new(growable(ty), &mut limiter)?;
-                self.memories.push(MemorySlot::Live { memory, region: None });
+                let memory = given!(Memory::new(growable(ty), &mut limiter));
+                self.memories.push(Slot::Live(Lent { memory, region: None }));
                 Made("memory", self.memories.len() - 1)
             }
             Call::NewLentMemory(ty) => {
-                let region = self.region.take().ok_or(NoRegion)?;
+                let Some(region) = self.region.take() else { return NoRegion };
                 let len = region.len();
-                let memory = Memory::new_static(growable(ty), &mut limiter, region)?;
-                self.memories.push(MemorySlot::Live { memory, region: Some(len) });
+                let memory = given!(Memory::new_static(growable(ty), &mut limiter, region));
+                self.memories.push(Slot::Live(Lent { memory, region: Some(len) }));
                 Made("memory", self.memories.len() - 1)
             }
             Call::GrowMemory { memory, pages } => {
-                let Some(MemorySlot::Live { memory, region }) = self.memories.get_mut(memory) else {
-                    return Err(NoSuch);
-                };
+                let Lent { memory, region } = live!(self.memories.get_mut(memory));
                 // A lent region that is too short is met after the permission and before the charge here, and after the
                 // charge in the crate (docs/DIFFERENCES.md). Without a meter the crate comes to that refusal too.
-                let desired = (u128::from(memory.size()) + u128::from(pages)) * u128::from(memory.ty().page_size());
-                let short = region.is_some_and(|len| desired > len as u128);
+                let desired = || (u128::from(memory.size()) + u128::from(pages)) * u128::from(memory.ty().page_size());
+                let short = region.is_some_and(|len| desired() > len as u128);
                 let fuel = (!short).then_some(&mut self.fuel);
-                Number(memory.grow(pages, fuel, &mut limiter)?)
+                Number(given!(memory.grow(pages, fuel, &mut limiter)))
             }
             Call::DropMemory(i) => {
-                self.memory(i)?;
-                self.memories[i] = MemorySlot::Gone;
+                let slot = found!(self.memories.get_mut(i).filter(|slot| matches!(slot, Slot::Live(_))));
+                *slot = Slot::Gone;
                 Done
             }
             Call::Read { memory, offset, len } => {
-                let memory = self.memory(memory)?;
-                if offset.checked_add(len).is_none_or(|end| end > memory.data_size()) {
-                    return Err(Memory(MemoryError::OutOfBoundsAccess));
+                let data = live!(self.memories.get(memory)).memory.data();
+                if offset.checked_add(len).is_none_or(|end| end > data.len()) {
+                    return Memory(MemoryError::OutOfBoundsAccess);
                 }
-                let mut buffer = Vec::new();
-                buffer.try_reserve_exact(len).map_err(|_| NoRoom)?;
-                buffer.resize(len, 0);
-                memory.read(offset, &mut buffer)?;
-                Bytes(buffer)
+                let mut bytes = Vec::new();
+                if bytes.try_reserve_exact(len).is_err() {
+                    return NoRoom;
+                }
+                bytes.extend_from_slice(&data[offset..offset + len]);
+                Bytes(bytes)
             }
             Call::Write { memory, offset, ref bytes } => {
-                self.memory(memory)?.write(offset, bytes)?;
+                given!(live!(self.memories.get_mut(memory)).memory.write(offset, bytes));
                 Done
             }
-            Call::Load { op, memory, ptr, offset } => Value(op(self.memory(memory)?.data(), ptr, offset)?),
+            Call::Load { op, memory, ptr, offset } => {
+                Value(given!(op.load(live!(self.memories.get(memory)).memory.data(), ptr, offset)))
+            }
             Call::Store { op, memory, ptr, offset, value } => {
-                op(self.memory(memory)?.data_mut(), ptr, offset, value)?;
+                given!(op.store(live!(self.memories.get_mut(memory)).memory.data_mut(), ptr, offset, value));
                 Done
             }
             Call::NewTable { ty, init } => {
-                let table = Table::new(ty, init, &mut limiter)?;
-                self.tables.push(TableSlot::Live(table));
+                let table = given!(Table::new(ty, init, &mut limiter));
+                self.tables.push(Slot::Live(table));
                 Made("table", self.tables.len() - 1)
             }
             Call::GrowTable { table, delta, init } => {
-                let Some(TableSlot::Live(table)) = self.tables.get_mut(table) else {
-                    return Err(NoSuch);
-                };
-                Number(table.grow(delta, init, Some(&mut self.fuel), &mut limiter)?)
+                let table = live!(self.tables.get_mut(table));
+                Number(given!(table.grow(delta, init, Some(&mut self.fuel), &mut limiter)))
             }
             Call::DropTable(i) => {
-                self.table(i)?;
-                self.tables[i] = TableSlot::Gone;
+                let slot = found!(self.tables.get_mut(i).filter(|slot| matches!(slot, Slot::Live(_))));
+                *slot = Slot::Gone;
                 Done
             }
-            Call::GetElement { table, index } => Reference(self.table(table)?.get(index)),
+            Call::GetElement { table, index } => Reference(live!(self.tables.get(table)).get(index)),
             Call::SetElement { table, index, value } => {
-                self.table(table)?.set(index, value)?;
+                given!(live!(self.tables.get_mut(table)).set(index, value));
                 Done
             }
             Call::InitTable { table, segment, dst, src, len } => {
-                let Some(TableSlot::Live(table)) = self.tables.get_mut(table) else {
-                    return Err(NoSuch);
-                };
-                let segment = self.segments.get(segment).ok_or(NoSuch)?;
-                table.init(segment.as_ref(), dst, src, len, Some(&mut self.fuel))?;
+                let table = live!(self.tables.get_mut(table));
+                let segment = found!(self.segments.get(segment));
+                given!(table.init(segment.as_ref(), dst, src, len, Some(&mut self.fuel)));
                 Done
             }
             Call::CopyTable { dst_table, dst, src_table, src, len } => {
-                let mut fuel = std::mem::replace(&mut self.fuel, Fuel::new(false, Default::default()));
-                let result = if dst_table == src_table {
-                    self.table(dst_table)
-                        .and_then(|table| table.copy_within(dst, src, len, Some(&mut fuel)).map_err(Reply::from))
+                let fuel = Some(&mut self.fuel);
+                given!(if dst_table == src_table {
+                    live!(self.tables.get_mut(dst_table)).copy_within(dst, src, len, fuel)
                 } else {
-                    self.two_tables(dst_table, src_table)
-                        .and_then(|(d, s)| Table::copy(d, dst, s, src, len, Some(&mut fuel)).map_err(Reply::from))
-                };
-                self.fuel = fuel;
-                result?;
+                    let Ok([Slot::Live(to), Slot::Live(from)]) = self.tables.get_disjoint_mut([dst_table, src_table])
+                    else {
+                        return NoSuch;
+                    };
+                    Table::copy(to, dst, from, src, len, fuel)
+                });
                 Done
             }
             Call::FillTable { table, dst, value, len } => {
-                let Some(TableSlot::Live(table)) = self.tables.get_mut(table) else {
-                    return Err(NoSuch);
-                };
-                table.fill(dst, value, len, Some(&mut self.fuel))?;
+                let table = live!(self.tables.get_mut(table));
+                given!(table.fill(dst, value, len, Some(&mut self.fuel)));
                 Done
             }
             Call::NewSegment { ty, ref items } => {
@@ -261,7 +265,7 @@ impl Machine {
                 Made("segment", self.segments.len() - 1)
             }
             Call::DropItems(i) => {
-                self.segments.get_mut(i).ok_or(NoSuch)?.drop_items();
+                found!(self.segments.get_mut(i)).drop_items();
                 Done
             }
             Call::NewGlobal { value, ty } => {
@@ -269,74 +273,86 @@ impl Machine {
                 Made("global", self.globals.len() - 1)
             }
             Call::SetGlobal { global, value } => {
-                self.globals.get_mut(global).ok_or(NoSuch)?.set(value)?;
+                given!(found!(self.globals.get_mut(global)).set(value));
                 Done
             }
-            Call::GetGlobal(i) => Value(*self.globals.get(i).ok_or(NoSuch)?.get_raw()),
+            Call::GetGlobal(i) => Value(*found!(self.globals.get(i)).get_raw()),
             Call::SetRegister { dst, value } => {
-                self.register(dst)?;
+                found!(self.register(dst));
                 self.put(dst, value)
             }
-            Call::GetRegister(a) => Value(self.register(a)?),
+            Call::GetRegister(a) => Value(found!(self.register(a))),
             Call::Make { op, dst, a } => {
-                self.register(dst)?;
-                let value = op(self.register(a)?);
+                found!(self.register(dst));
+                let value = op(found!(self.register(a)));
                 self.put(dst, value)
             }
             Call::Unary { op, dst, a } => {
-                self.register(dst)?;
-                let value = op(self.vector(a)?);
+                found!(self.register(dst));
+                let value = op(found!(self.vector(a)));
                 self.put(dst, value)
             }
             Call::Binary { op, dst, a, b } => {
-                self.register(dst)?;
-                let value = op(self.vector(a)?, self.vector(b)?);
+                found!(self.register(dst));
+                let value = op(found!(self.vector(a)), found!(self.vector(b)));
                 self.put(dst, value)
             }
             Call::Ternary { op, dst, a, b, c } => {
-                self.register(dst)?;
-                let value = op(self.vector(a)?, self.vector(b)?, self.vector(c)?);
+                found!(self.register(dst));
+                let value = op(found!(self.vector(a)), found!(self.vector(b)), found!(self.vector(c)));
                 self.put(dst, value)
             }
             Call::Shift { op, dst, a, amount } => {
-                self.register(dst)?;
-                let value = op(self.vector(a)?, amount);
+                found!(self.register(dst));
+                let value = op(found!(self.vector(a)), amount);
                 self.put(dst, value)
             }
-            Call::Test { op, a } => Value(op(self.vector(a)?)),
-            Call::Extract { op, a, lane } => Value(op(self.vector(a)?, lane).expect("a tested lane")),
+            Call::Test { op, a } => Value(op(found!(self.vector(a)))),
+            Call::Extract { op, a, lane } => Value(op(found!(self.vector(a)), lane).expect("a tested lane")),
             Call::Replace { op, dst, a, lane, item } => {
-                self.register(dst)?;
-                let value = op(self.vector(a)?, lane, self.register(item)?).expect("a tested lane");
+                found!(self.register(dst));
+                let value = op(found!(self.vector(a)), lane, found!(self.register(item))).expect("a tested lane");
                 self.put(dst, value)
             }
             Call::Shuffle { dst, a, b, lanes } => {
-                self.register(dst)?;
+                found!(self.register(dst));
                 let lanes = lanes.map(|l| l.try_into().ok().expect("a tested lane"));
-                let value = simd::i8x16_shuffle(self.vector(a)?, self.vector(b)?, lanes);
+                let value = simd::i8x16_shuffle(found!(self.vector(a)), found!(self.vector(b)), lanes);
                 self.put(dst, value)
             }
             Call::VectorLoad { op, dst, memory, ptr, offset } => {
-                self.register(dst)?;
-                let value = op(self.memory(memory)?.data(), ptr, offset)?;
+                found!(self.register(dst));
+                let value = given!(op(live!(self.memories.get(memory)).memory.data(), ptr, offset));
                 self.put(dst, value)
             }
             Call::LoadLane { op, dst, a, lane, memory, ptr, offset } => {
-                self.register(dst)?;
-                let old = self.vector(a)?;
-                let value = op(self.memory(memory)?.data(), ptr, offset, old, lane).expect("a tested lane")?;
+                found!(self.register(dst));
+                let old = found!(self.vector(a));
+                let value = given!(
+                    op(live!(self.memories.get(memory)).memory.data(), ptr, offset, old, lane).expect("a tested lane")
+                );
                 self.put(dst, value)
             }
             Call::VectorStore { a, memory, ptr, offset } => {
-                let value = self.vector(a)?;
-                simd::v128_store(self.memory(memory)?.data_mut(), ptr, offset, value)?;
+                let value = found!(self.vector(a));
+                given!(simd::v128_store(live!(self.memories.get_mut(memory)).memory.data_mut(), ptr, offset, value));
                 Done
             }
             Call::StoreLane { op, a, lane, memory, ptr, offset } => {
-                let value = self.vector(a)?;
-                op(self.memory(memory)?.data_mut(), ptr, offset, value, lane).expect("a tested lane")?;
+                let value = found!(self.vector(a));
+                let data = live!(self.memories.get_mut(memory)).memory.data_mut();
+                given!(op(data, ptr, offset, value, lane).expect("a tested lane"));
                 Done
             }
-        })
+        }
     }
+}
+
+/// The replies to calls in turn, under no limiter.
+pub fn run(machine: &mut Machine, calls: &[Call]) -> Vec<Reply> {
+    let mut replies = Vec::with_capacity(calls.len());
+    for call in calls {
+        replies.push(machine.step(call, None));
+    }
+    replies
 }

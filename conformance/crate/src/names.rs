@@ -7,8 +7,6 @@ macro_rules! direct {
     };
 }
 
-pub type Load = fn(&[u8], u64, u64) -> Result<RawVal, TrapCode>;
-pub type Store = fn(&mut [u8], u64, u64, RawVal) -> Result<(), TrapCode>;
 pub type Make = fn(RawVal) -> V128;
 pub type Unary = fn(V128) -> V128;
 pub type Binary = fn(V128, V128) -> V128;
@@ -21,14 +19,37 @@ pub type VectorLoad = fn(&[u8], u64, u64) -> Result<V128, TrapCode>;
 pub type LoadLane = fn(&[u8], u64, u64, V128, u8) -> Option<Result<V128, TrapCode>>;
 pub type StoreLane = fn(&mut [u8], u64, u64, V128, u8) -> Option<Result<(), TrapCode>>;
 
+// The bench times loads and stores, which a machine would have as values and not behind pointers.
 macro_rules! loads { ($($n:ident)*) => {
-    pub const LOAD: &[(&str, Load)] = &[$((stringify!($n), |m, p, o| wasm::$n(m, p, o).map(RawVal::from))),*];
+    #[allow(non_camel_case_types)]
+    #[derive(Copy, Clone)]
+    pub enum Load { $($n),* }
+
+    impl Load {
+        #[inline(always)]
+        pub fn load(self, memory: &[u8], ptr: u64, offset: u64) -> Result<RawVal, TrapCode> {
+            match self { $(Self::$n => wasm::$n(memory, ptr, offset).map(RawVal::from)),* }
+        }
+    }
+
+    pub const LOAD: &[(&str, Load)] = &[$((stringify!($n), Load::$n)),*];
 }}
 loads! { i32_load8_s i32_load8_u i32_load16_s i32_load16_u i64_load8_s i64_load8_u i64_load16_s
 i64_load16_u i64_load32_s i64_load32_u load_u32 load_u64 }
 
 macro_rules! stores { ($($n:ident)*) => {
-    pub const STORE: &[(&str, Store)] = &[$((stringify!($n), |m, p, o, v| wasm::$n(m, p, o, v.read_as()))),*];
+    #[allow(non_camel_case_types)]
+    #[derive(Copy, Clone)]
+    pub enum Store { $($n),* }
+
+    impl Store {
+        #[inline(always)]
+        pub fn store(self, memory: &mut [u8], ptr: u64, offset: u64, value: RawVal) -> Result<(), TrapCode> {
+            match self { $(Self::$n => wasm::$n(memory, ptr, offset, value.read_as())),* }
+        }
+    }
+
+    pub const STORE: &[(&str, Store)] = &[$((stringify!($n), Store::$n)),*];
 }}
 stores! { i32_store8 i32_store16 i64_store8 i64_store16 i64_store32 store32 store64 }
 
