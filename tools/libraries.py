@@ -1,10 +1,9 @@
-"""What tools/archive and tools/callers pass to the kit's rattle: the crates of crates.txt, and the libraries that `rt ci` or
-`rt all check` built of them."""
+"""The crates of crates.txt, and the words by which the kit's rattle takes the libraries that `rt ci` or `rt all check` built of them."""
 import os
 import shutil
 
 TOP = os.path.dirname(os.path.dirname(os.path.abspath(__file__)))
-KIT = os.path.dirname(os.path.dirname(os.path.realpath(shutil.which("rt"))))
+KIT = os.path.dirname(os.path.dirname(os.path.realpath(shutil.which("rt") or "")))
 RATTLE = f"{KIT}/bin/rattle"
 
 

@@ -27,7 +27,8 @@ FIELDS = {
 }
 # The enums that the docs of an enum's variants name the variants of.
 NAMED_BY = {"Call": {"Reply"}}
-EXAMPLES = pathlib.Path(__file__).parent / "examples"       # for each item that one begins with, a file by its path
+# By the path of an item, the lines of its example.
+EXAMPLES = dict(re.findall(r"(?ms)^## (\S+)\n\n(.*?)\n(?=\n## |\Z)", (pathlib.Path(__file__).parent / "examples.md").read_text()))
 FUNCTIONS = ("accesses/wasm.rs", "scalar/wasm.rs", "lanewise/simd", "widening/simd", "vector_access/simd")
 
 
@@ -61,8 +62,8 @@ class Sentences:
             text = LONG.sub(lambda link: f"[`{'::'.join(link[1].split('::')[-2:])}`](crate::proved::{link[1]})", "\n".join(lines))
             if text != "\n".join(source.lines):
                 source.path.write_text(text)
-        if lost := set(EXAMPLES.glob("*.md")) - self.shown:
-            raise Unknown(f"an example of no item: {sorted(path.name for path in lost)}")
+        if lost := EXAMPLES.keys() - self.shown:
+            raise Unknown(f"an example of no item: {sorted(lost)}")
 
     # Variants and fields.
 
@@ -104,10 +105,10 @@ class Sentences:
 
     def with_examples(self, source, lines):
         """The lines with the examples of the items that have them, before the section of a contract or model."""
-        for path in sorted(EXAMPLES.glob("*.md")):
-            crate, *within, name = path.stem.split(".")
+        for path, example in EXAMPLES.items():
+            crate, *within, name = path.split(".")
             if source.crate == crate and (not within or source.module.split("::")[1:] == within) and name in source.items:
-                lines = with_example(lines, name, path.read_text().strip().split("\n"))
+                lines = with_example(lines, name, example.split("\n"))
                 self.shown.add(path)
         return lines
 
