@@ -47,7 +47,7 @@ impl Error for FuncTypeError {}
 /// assert!(matches!(long, Err(FuncTypeError::TooManyFunctionParams)));
 /// # Ok::<(), FuncTypeError>(())
 /// ```
-#[doc = include_str!("proved/docs/types/FuncType.contract.md")]
+#[doc = docs!(types FuncType.contract)]
 #[derive(PartialOrd, Ord, PartialEq, Eq, Hash)]
 pub struct FuncType {
     inner: Proved,
@@ -69,7 +69,7 @@ impl FuncType {
     /// If there are more than 21 types and the system refuses memory for them. The clauses below are
     /// of the function that this one calls, which returns an error in place of this panic.
     ///
-    #[doc = include_str!("proved/docs/types/FuncType.new.contract.md")]
+    #[doc = docs!(types FuncType.new.contract)]
     #[inline]
     pub fn new<P, R>(params: P, results: R) -> Result<Self, FuncTypeError>
     where
@@ -87,31 +87,31 @@ impl FuncType {
         }
     }
 
-    #[doc = include_str!("proved/docs/types/FuncType.params.md")]
+    #[doc = docs!(types FuncType.params)]
     #[inline]
     pub fn params(&self) -> &[ValType] {
         self.inner.params()
     }
 
-    #[doc = include_str!("proved/docs/types/FuncType.results.md")]
+    #[doc = docs!(types FuncType.results)]
     #[inline]
     pub fn results(&self) -> &[ValType] {
         self.inner.results()
     }
 
-    #[doc = include_str!("proved/docs/types/FuncType.len_params.md")]
+    #[doc = docs!(types FuncType.len_params)]
     #[inline]
     pub fn len_params(&self) -> u16 {
         self.inner.len_params()
     }
 
-    #[doc = include_str!("proved/docs/types/FuncType.len_results.md")]
+    #[doc = docs!(types FuncType.len_results)]
     #[inline]
     pub fn len_results(&self) -> u16 {
         self.inner.len_results()
     }
 
-    #[doc = include_str!("proved/docs/types/FuncType.params_results.md")]
+    #[doc = docs!(types FuncType.params_results)]
     #[inline]
     pub fn params_results(&self) -> (&[ValType], &[ValType]) {
         self.inner.params_results()

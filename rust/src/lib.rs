@@ -120,6 +120,10 @@ extern crate alloc;
 #[cfg(any(feature = "std", test))]
 extern crate std;
 
+#[macro_use]
+#[path = "proved/docs.rs"]
+mod docs;
+
 mod convert;
 mod debug;
 mod float;

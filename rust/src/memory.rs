@@ -39,7 +39,7 @@ use core::panic::UnwindSafe;
 /// assert_eq!(memory.size(), 2);
 /// # Ok::<(), MemoryError>(())
 /// ```
-#[doc = include_str!("proved/docs/store/LinearMemory.contract.md")]
+#[doc = docs!(store LinearMemory.contract)]
 #[derive(Debug)]
 pub struct Memory(Proved<'static>);
 
@@ -47,13 +47,13 @@ pub struct Memory(Proved<'static>);
 impl UnwindSafe for Memory {}
 
 impl Memory {
-    #[doc = include_str!("proved/docs/store/LinearMemory.new.md")]
+    #[doc = docs!(store LinearMemory.new)]
     #[inline]
     pub fn new(ty: MemoryType, limiter: &mut ResourceLimiterRef<'_>) -> Result<Self, MemoryError> {
         with!(limiter => Proved::new(ty, limiter)).map(Self)
     }
 
-    #[doc = include_str!("proved/docs/store/LinearMemory.new_static.md")]
+    #[doc = docs!(store LinearMemory.new_static)]
     #[inline]
     pub fn new_static(
         ty: MemoryType,
@@ -63,25 +63,25 @@ impl Memory {
         with!(limiter => Proved::new_static(ty, limiter, region)).map(Self)
     }
 
-    #[doc = include_str!("proved/docs/store/LinearMemory.ty.md")]
+    #[doc = docs!(store LinearMemory.ty)]
     #[inline]
     pub fn ty(&self) -> MemoryType {
         self.0.ty()
     }
 
-    #[doc = include_str!("proved/docs/store/LinearMemory.dynamic_ty.md")]
+    #[doc = docs!(store LinearMemory.dynamic_ty)]
     #[inline]
     pub fn dynamic_ty(&self) -> MemoryType {
         self.0.dynamic_ty()
     }
 
-    #[doc = include_str!("proved/docs/store/LinearMemory.size.md")]
+    #[doc = docs!(store LinearMemory.size)]
     #[inline]
     pub fn size(&self) -> u64 {
         self.0.size()
     }
 
-    #[doc = include_str!("proved/docs/store/LinearMemory.grow.md")]
+    #[doc = docs!(store LinearMemory.grow)]
     ///
     /// # Differences
     ///
@@ -97,13 +97,13 @@ impl Memory {
         with!(limiter => self.0.grow(additional, fuel, limiter))
     }
 
-    #[doc = include_str!("proved/docs/store/LinearMemory.data.md")]
+    #[doc = docs!(store LinearMemory.data)]
     #[inline]
     pub fn data(&self) -> &[u8] {
         self.0.data()
     }
 
-    #[doc = include_str!("proved/docs/store/LinearMemory.data_mut.md")]
+    #[doc = docs!(store LinearMemory.data_mut)]
     #[inline]
     pub fn data_mut(&mut self) -> &mut [u8] {
         self.0.data_mut()
@@ -118,25 +118,25 @@ impl Memory {
         self.0.data().as_ptr().cast_mut()
     }
 
-    #[doc = include_str!("proved/docs/store/LinearMemory.data_size.md")]
+    #[doc = docs!(store LinearMemory.data_size)]
     #[inline]
     pub fn data_size(&self) -> usize {
         self.0.data_size()
     }
 
-    #[doc = include_str!("proved/docs/store/LinearMemory.read.md")]
+    #[doc = docs!(store LinearMemory.read)]
     #[inline]
     pub fn read(&self, offset: usize, buffer: &mut [u8]) -> Result<(), MemoryError> {
         self.0.read(offset, buffer)
     }
 
-    #[doc = include_str!("proved/docs/store/LinearMemory.write.md")]
+    #[doc = docs!(store LinearMemory.write)]
     #[inline]
     pub fn write(&mut self, offset: usize, buffer: &[u8]) -> Result<(), MemoryError> {
         self.0.write(offset, buffer)
     }
 
-    #[doc = include_str!("proved/docs/store/LinearMemory.fill.md")]
+    #[doc = docs!(store LinearMemory.fill)]
     ///
     /// # Examples
     ///
@@ -172,7 +172,7 @@ impl Memory {
         self.0.fill(dst, value, len, fuel)
     }
 
-    #[doc = include_str!("proved/docs/store/LinearMemory.copy_within.md")]
+    #[doc = docs!(store LinearMemory.copy_within)]
     #[inline]
     pub fn copy_within(
         &mut self,
@@ -184,7 +184,7 @@ impl Memory {
         self.0.copy_within(dst, src, len, fuel)
     }
 
-    #[doc = include_str!("proved/docs/store/LinearMemory.copy.md")]
+    #[doc = docs!(store LinearMemory.copy)]
     #[inline]
     pub fn copy(
         dst_memory: &mut Self,
@@ -197,7 +197,7 @@ impl Memory {
         Proved::copy(&mut dst_memory.0, dst, &src_memory.0, src, len, fuel)
     }
 
-    #[doc = include_str!("proved/docs/store/LinearMemory.init.md")]
+    #[doc = docs!(store LinearMemory.init)]
     #[inline]
     pub fn init(
         &mut self,

@@ -13,7 +13,7 @@ pub trait IntoShiftAmount {
     /// It is never `None`, as in the Rust crate. The proved function returns `None` if the remainder
     /// is 0, and else the same amount:
     ///
-    #[doc = include_str!("proved/docs/typed/IntoShiftAmount.into_shift_amount.contract.md")]
+    #[doc = docs!(typed IntoShiftAmount.into_shift_amount.contract)]
     fn into_shift_amount(source: Self::ShiftSource) -> Option<ShiftAmount>;
 }
 

@@ -88,8 +88,8 @@ mod proved {
 }
 
 macro_rules! lanes {
-    ($docs:literal; $($name:ident($($arg:ident: $ty:ty),*; $lane:ident: $index:ty $(, $item:ident: $item_ty:ty)?) -> $result:ty;)*) => { $(
-        #[doc = include_str!(concat!("proved/docs/", $docs, "/", stringify!($name), ".md"))]
+    ($docs:tt; $($name:ident($($arg:ident: $ty:ty),*; $lane:ident: $index:ty $(, $item:ident: $item_ty:ty)?) -> $result:ty;)*) => { $(
+        #[doc = docs!($docs $name)]
         #[inline]
         pub fn $name($($arg: $ty,)* $lane: $index $(, $item: $item_ty)?) -> $result {
             proved::$name($($arg,)* $lane.proved() $(, $item)?)
@@ -97,7 +97,7 @@ macro_rules! lanes {
     )* };
 }
 lanes! {
-    "lanewise";
+    lanewise;
     i8x16_extract_lane_s(v: V128; lane: ImmLaneIdx16) -> i32;
     i8x16_extract_lane_u(v: V128; lane: ImmLaneIdx16) -> u32;
     i8x16_replace_lane(v: V128; lane: ImmLaneIdx16, item: i8) -> V128;
@@ -110,7 +110,7 @@ lanes! {
     i64x2_replace_lane(v: V128; lane: ImmLaneIdx2, item: i64) -> V128;
 }
 lanes! {
-    "vector_access";
+    vector_access;
     v128_load8_lane(memory: &[u8], ptr: u64, offset: u64, v: V128; lane: ImmLaneIdx16) -> Result<V128, TrapCode>;
     v128_load8_lane_at(memory: &[u8], address: usize, v: V128; lane: ImmLaneIdx16) -> Result<V128, TrapCode>;
     v128_store8_lane(memory: &mut [u8], ptr: u64, offset: u64, v: V128; lane: ImmLaneIdx16) -> Result<(), TrapCode>;
@@ -129,7 +129,7 @@ lanes! {
     v128_store64_lane_at(memory: &mut [u8], address: usize, v: V128; lane: ImmLaneIdx2) -> Result<(), TrapCode>;
 }
 
-#[doc = include_str!("proved/docs/lanewise/i8x16_shuffle.md")]
+#[doc = docs!(lanewise i8x16_shuffle)]
 #[inline]
 pub fn i8x16_shuffle(a: V128, b: V128, s: [ImmLaneIdx32; 16]) -> V128 {
     proved::i8x16_shuffle(a, b, s.map(ImmLaneIdx32::proved))

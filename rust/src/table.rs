@@ -36,12 +36,12 @@ use crate::{
 /// assert!(matches!(refused, Err(TableError::GrowOutOfBounds)));
 /// # Ok::<(), TableError>(())
 /// ```
-#[doc = include_str!("proved/docs/store/Table.contract.md")]
+#[doc = docs!(store Table.contract)]
 #[derive(Debug)]
 pub struct Table(Proved);
 
 impl Table {
-    #[doc = include_str!("proved/docs/store/Table.new.md")]
+    #[doc = docs!(store Table.new)]
     #[inline]
     pub fn new(
         ty: TableType,
@@ -51,25 +51,25 @@ impl Table {
         with!(limiter => Proved::new(ty, init, limiter)).map(Self)
     }
 
-    #[doc = include_str!("proved/docs/store/Table.ty.md")]
+    #[doc = docs!(store Table.ty)]
     #[inline]
     pub fn ty(&self) -> TableType {
         self.0.ty()
     }
 
-    #[doc = include_str!("proved/docs/store/Table.dynamic_ty.md")]
+    #[doc = docs!(store Table.dynamic_ty)]
     #[inline]
     pub fn dynamic_ty(&self) -> TableType {
         self.0.dynamic_ty()
     }
 
-    #[doc = include_str!("proved/docs/store/Table.size.md")]
+    #[doc = docs!(store Table.size)]
     #[inline]
     pub fn size(&self) -> u64 {
         self.0.size()
     }
 
-    #[doc = include_str!("proved/docs/store/Table.grow.md")]
+    #[doc = docs!(store Table.grow)]
     #[inline]
     pub fn grow(
         &mut self,
@@ -81,7 +81,7 @@ impl Table {
         with!(limiter => self.0.grow(delta, init, fuel, limiter))
     }
 
-    #[doc = include_str!("proved/docs/store/Table.grow_raw.md")]
+    #[doc = docs!(store Table.grow_raw)]
     #[inline]
     pub fn grow_raw(
         &mut self,
@@ -93,25 +93,25 @@ impl Table {
         with!(limiter => self.0.grow_raw(delta, init, fuel, limiter))
     }
 
-    #[doc = include_str!("proved/docs/store/Table.get.md")]
+    #[doc = docs!(store Table.get)]
     #[inline]
     pub fn get(&self, index: u64) -> Option<TypedRawRef> {
         self.0.get(index)
     }
 
-    #[doc = include_str!("proved/docs/store/Table.set.md")]
+    #[doc = docs!(store Table.set)]
     #[inline]
     pub fn set(&mut self, index: u64, value: TypedRawRef) -> Result<(), TableError> {
         self.0.set(index, value)
     }
 
-    #[doc = include_str!("proved/docs/store/Table.set_raw.md")]
+    #[doc = docs!(store Table.set_raw)]
     #[inline]
     pub fn set_raw(&mut self, index: u64, value: RawRef) -> Result<(), TableError> {
         self.0.set_raw(index, value)
     }
 
-    #[doc = include_str!("proved/docs/store/Table.init.md")]
+    #[doc = docs!(store Table.init)]
     #[inline]
     pub fn init(
         &mut self,
@@ -124,7 +124,7 @@ impl Table {
         self.0.init(element, dst, src, len, fuel)
     }
 
-    #[doc = include_str!("proved/docs/store/Table.copy.md")]
+    #[doc = docs!(store Table.copy)]
     #[inline]
     pub fn copy(
         dst_table: &mut Self,
@@ -137,7 +137,7 @@ impl Table {
         Proved::copy(&mut dst_table.0, dst, &src_table.0, src, len, fuel)
     }
 
-    #[doc = include_str!("proved/docs/store/Table.copy_within.md")]
+    #[doc = docs!(store Table.copy_within)]
     #[inline]
     pub fn copy_within(
         &mut self,
@@ -149,7 +149,7 @@ impl Table {
         self.0.copy_within(dst, src, len, fuel)
     }
 
-    #[doc = include_str!("proved/docs/store/Table.fill.md")]
+    #[doc = docs!(store Table.fill)]
     #[inline]
     pub fn fill(
         &mut self,
@@ -161,7 +161,7 @@ impl Table {
         self.0.fill(dst, val, len, fuel)
     }
 
-    #[doc = include_str!("proved/docs/store/Table.fill_raw.md")]
+    #[doc = docs!(store Table.fill_raw)]
     #[inline]
     pub fn fill_raw(
         &mut self,
@@ -178,7 +178,7 @@ impl Table {
 ///
 /// Its methods are those of [`machine::ElementSegment`](crate::machine::ElementSegment), and have
 /// their contracts.
-#[doc = include_str!("proved/docs/store/ElementSegment.contract.md")]
+#[doc = docs!(store ElementSegment.contract)]
 #[derive(Debug)]
 pub struct ElementSegment(ProvedSegment);
 
@@ -204,32 +204,32 @@ impl ElementSegment {
         }
     }
 
-    #[doc = include_str!("proved/docs/store/ElementSegment.as_ref.md")]
+    #[doc = docs!(store ElementSegment.as_ref)]
     #[allow(clippy::should_implement_trait)]
     #[inline]
     pub fn as_ref(&self) -> ElementSegmentRef<'_> {
         self.0.as_ref()
     }
 
-    #[doc = include_str!("proved/docs/store/ElementSegment.ty.md")]
+    #[doc = docs!(store ElementSegment.ty)]
     #[inline]
     pub fn ty(&self) -> RefType {
         self.0.ty()
     }
 
-    #[doc = include_str!("proved/docs/store/ElementSegment.items.md")]
+    #[doc = docs!(store ElementSegment.items)]
     #[inline]
     pub fn items(&self) -> &[RawRef] {
         self.0.items()
     }
 
-    #[doc = include_str!("proved/docs/store/ElementSegment.size.md")]
+    #[doc = docs!(store ElementSegment.size)]
     #[inline]
     pub fn size(&self) -> u32 {
         self.0.size()
     }
 
-    #[doc = include_str!("proved/docs/store/ElementSegment.drop_items.md")]
+    #[doc = docs!(store ElementSegment.drop_items)]
     #[inline]
     pub fn drop_items(&mut self) {
         self.0.drop_items();

@@ -88,11 +88,11 @@ impl Plain for Host {}
 /// assert_eq!(trap.trap_code(), Some(TrapCode::IntegerDivisionByZero));
 /// assert_eq!(Trap::i32_exit(3).i32_exit_status(), Some(3));
 /// ```
-#[doc = include_str!("proved/docs/types/Trap.contract.md")]
+#[doc = docs!(types Trap.contract)]
 pub struct Trap(Box<Proved<Host>>);
 
 impl Trap {
-    #[doc = include_str!("proved/docs/types/Trap.new.md")]
+    #[doc = docs!(types Trap.new)]
     #[cold]
     pub fn new<T>(message: T) -> Self
     where
@@ -105,7 +105,7 @@ impl Trap {
     ///
     /// The contract is of an error of any type; the comparison of types is Rust's [`Any`].
     ///
-    #[doc = include_str!("proved/docs/types/Trap.downcast_ref.contract.md")]
+    #[doc = docs!(types Trap.downcast_ref.contract)]
     #[inline]
     pub fn downcast_ref<T>(&self) -> Option<&T>
     where
@@ -120,7 +120,7 @@ impl Trap {
     ///
     /// The contract is of an error of any type; the comparison of types is Rust's [`Any`].
     ///
-    #[doc = include_str!("proved/docs/types/Trap.downcast_mut.contract.md")]
+    #[doc = docs!(types Trap.downcast_mut.contract)]
     #[inline]
     pub fn downcast_mut<T>(&mut self) -> Option<&mut T>
     where
@@ -135,7 +135,7 @@ impl Trap {
     ///
     /// The contract is of an error of any type; the comparison of types is Rust's [`Any`].
     ///
-    #[doc = include_str!("proved/docs/types/Trap.downcast.contract.md")]
+    #[doc = docs!(types Trap.downcast.contract)]
     #[inline]
     pub fn downcast<T>(self) -> Option<T>
     where
@@ -147,19 +147,19 @@ impl Trap {
             .map(|error| *error)
     }
 
-    #[doc = include_str!("proved/docs/types/Trap.i32_exit.md")]
+    #[doc = docs!(types Trap.i32_exit)]
     #[cold]
     pub fn i32_exit(status: i32) -> Self {
         Self(Box::new(Proved::i32_exit(status)))
     }
 
-    #[doc = include_str!("proved/docs/types/Trap.i32_exit_status.md")]
+    #[doc = docs!(types Trap.i32_exit_status)]
     #[inline]
     pub fn i32_exit_status(&self) -> Option<i32> {
         self.0.i32_exit_status()
     }
 
-    #[doc = include_str!("proved/docs/types/Trap.trap_code.md")]
+    #[doc = docs!(types Trap.trap_code)]
     #[inline]
     pub fn trap_code(&self) -> Option<TrapCode> {
         self.0.trap_code()

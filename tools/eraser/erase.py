@@ -21,7 +21,7 @@ What it changes beside leaving things out:
 | a label, an import or a parameter that only contracts use | nothing, nothing, `let _ = ..` |
 | `-> X` for `X<'a>` | `-> X<'_>` |
 | `laws.rt`, and functions that laws alone call | under `cfg(any(doc, test))` |
-| a crate | a module of `crate::proved` |
+| a crate | a module of `crate::proved`, which tools/rust makes one file |
 | `std::` | `core::` or `alloc::`, except in the crates that need `std::io` |
 | a text of the table `TEXTS` | its other form |
 

@@ -1,15 +1,17 @@
-"""The docs of proved items as files, which the API in rust/src includes for what it calls; and the links of definitions to types of
-Rust, whose pages the API decides."""
+"""The docs of proved items as arms of a macro, which the API in rust/src names for what it calls; and the links of definitions to types
+of Rust, whose pages the API decides."""
 
 import re
 
+from .definitions import write
 from .generated import all_generated, brought_in, passed_on
 from .tokens import Unknown
 
-INCLUDED = re.compile(r'include_str!\("proved/docs/(\w+)/([\w.]+)\.md"\)')
+NAMED = re.compile(r"docs!\((\w+) ([\w.]+)\)")
+INCLUDED = re.compile(r'include_str!\("proved/docs/(\w+)/([\w.]+)\.md"\)')    # of the root, whose docs no macro of its own can write
 # A macro that documents each of its rows by its name, and the rows of a call.
-PATTERN = re.compile(r'include_str!\(concat!\("proved/docs/", \$\w+, "/", stringify!\(\$\w+\), "\.md"\)\)')
-ROWS = re.compile(r'^ +"(\w+)";\n((?:    \w.*\n)+)', re.M)
+PATTERN = re.compile(r"docs!\(\$\w+ \$\w+\)")
+ROWS = re.compile(r"^ +(\w+);\n((?:    \w.*\n)+)", re.M)
 DEFINITION = re.compile(r"\[(?P<label>(?:[^\[\]\\]|\\.)+)\]: (?P<kind>\w+@)?(?P<path>\w[\w:]*)(?P<rest>.*)$")
 TYPE = re.compile(r'<a href="rust:(crate::proved::(\w+)::(\w+))(?:::(\w+))?">([^<]*)</a>')
 SECTION, CLAUSES = ".contract", ".clauses"     # how the name of a file ends that has this section alone, and that has it without its heading
@@ -62,17 +64,25 @@ class Fragments:
         self.folder = folder
         self.sources = all_generated(folder)
         self.passed_on = passed_on(self.sources)
+        self.docs = {}
 
     def include(self, api):
-        """Writes a file for each of the docs that the files of the API include."""
+        """Writes the docs that the files of the API name: an arm of the macro for each, and a file for one that is included."""
         for path in sorted(api.glob("*.rs")):
             text = path.read_text()
-            for found in INCLUDED.finditer(text):
-                self.write(found[1], found[2], parameters(text[found.end():], found[2].removesuffix(SECTION).split(".")[-1]))
+            for found in NAMED.finditer(text):
+                self.add(found[1], found[2], parameters(text[found.end():], found[2].removesuffix(SECTION).split(".")[-1]))
             for place, rows in ROWS.findall(text) if PATTERN.search(text) else ():
                 for row in rows.splitlines():
                     name = row.strip().partition("(")[0]
-                    self.write(place, name, parameters(f"fn {row.strip()}", name))
+                    self.add(place, name, parameters(f"fn {row.strip()}", name))
+            for place, name in INCLUDED.findall(text):
+                write(self.folder / "docs" / place / f"{name}.md", self.said(place, name, []))
+        arms = "".join(f'    ({place} {name}) => {{ r####"{said}"#### }};\n' for (place, name), said in sorted(self.docs.items()))
+        write(self.folder / "docs.rs", f"//! The docs of proved items, by the module and the item.\nmacro_rules! docs {{\n{arms}}}\n")
+
+    def add(self, place, name, names):
+        self.docs[place, name] = self.said(place, name, names)
 
     def link_types(self, api):
         """Gives the types of Rust in pages of definitions their links, or none if users don't see them."""
@@ -110,8 +120,8 @@ class Fragments:
     def source_of(self, place, name):
         return next((it for it in self.sources if it.crate == place and name in it.items), None)
 
-    def write(self, place, name, names):
-        """Writes the docs of an item for a function of the API with these parameters, or for something else without any."""
+    def said(self, place, name, names):
+        """The docs of an item for a function of the API with these parameters, or for something else without any."""
         item, part = name, ""
         for ending in (SECTION, CLAUSES):
             if name.endswith(ending):
@@ -122,9 +132,7 @@ class Fragments:
         own = parameters("\n".join(source.lines[source.items[item]:]), item.split(".")[-1])
         if names and own and names != own:
             raise Unknown(f"{place}/{item} is documented in rust/src with the parameters {', '.join(names)} for {', '.join(own)}")
-        target = self.folder / "docs" / place / f"{name}.md"
-        target.parent.mkdir(parents=True, exist_ok=True)
-        target.write_text(fragment(source, item, part, self.passed_on))
+        return fragment(source, item, part, self.passed_on)
 
 
 def include(folder, api):

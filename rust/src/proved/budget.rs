@@ -1,0 +1,627 @@
+//! Pools of machines whose memories and tables stay, all together, within one cap of each kind.
+//! Own: upstream has no pool.
+mod error {
+    //! Why a pool refuses.
+
+    use crate::rattle::alloc::AllocError;
+    use core::fmt;
+
+    /// Why a machine isn't added to a pool, in the order of the tests.
+    #[derive(Debug, PartialEq, Eq)]
+    pub enum AddError {
+        /// The machine has bytes or elements, or had some that it dropped.
+        NotEmpty,
+        /// Memory for one more tenant was refused.
+        NoRoom,
+    }
+
+    /// # Contract
+    ///
+    /// <span></span><pre><code>output = λ error. [Some] ([add_error_text] error)</code></pre>
+    ///
+    /// [Some]: crate::specs::library#Some "the value x, of an \`Option\`"
+    /// [add_error_text]: crate::specs::budget::Texts#add_error_text "the text of why a machine isn\'t added to a pool"
+    impl fmt::Display for AddError {
+        #[inline]
+        fn fmt(&self, f: &mut fmt::Formatter<'_>) -> fmt::Result {
+            f.write_str(match self {
+                Self::NotEmpty => "tried to add a machine that has or had bytes or elements",
+                Self::NoRoom => "out of memory for one more tenant",
+            })
+        }
+    }
+
+    impl core::error::Error for AddError {}
+
+    /// Why a pool doesn't run a tenant's calls, in the order of the tests.
+    ///
+    /// Own: upstream has no pool.
+    #[derive(Debug, PartialEq, Eq)]
+    pub enum PoolError {
+        /// No tenant has the index.
+        NoTenant,
+        /// Memory for the replies, one for each call, was refused. No call was executed.
+        OutOfMemory,
+    }
+
+    /// # Contract
+    ///
+    /// <span></span><pre><code>output = λ error. [Some] ([pool_error_text] error)</code></pre>
+    ///
+    /// [Some]: crate::specs::library#Some "the value x, of an \`Option\`"
+    /// [pool_error_text]: crate::specs::budget::Texts#pool_error_text "the text of why a pool makes no run"
+    impl fmt::Display for PoolError {
+        #[inline]
+        fn fmt(&self, f: &mut fmt::Formatter<'_>) -> fmt::Result {
+            f.write_str(match self {
+                Self::NoTenant => "tried to run a tenant that is not in the pool",
+                Self::OutOfMemory => "out of memory for the replies",
+            })
+        }
+    }
+
+    impl core::error::Error for PoolError {}
+
+    /// # Contract
+    ///
+    /// <span></span><pre><code>from_gives = λ \_ error. error ≡ [OutOfMemory]</code></pre>
+    ///
+    /// [OutOfMemory]: crate::proved::budget::PoolError::OutOfMemory
+    impl From<AllocError> for PoolError {
+        #[inline]
+        fn from(_: AllocError) -> Self {
+            PoolError::OutOfMemory
+        }
+    }
+}
+#[cfg(any(doc, test))]
+pub mod laws {
+    //! What holds of all pools. These functions do nothing: each states a law as its contract.
+
+    /// From a pool whose machines are within its caps, as a new one's are, all calls lead to one whose
+    /// machines are within the same caps.
+    ///
+    /// # Contract
+    ///
+    /// <span></span><pre><code>ensures: [CapsHold]</code></pre>
+    ///
+    /// [CapsHold]: crate::specs::budget::Laws#CapsHold "after all calls the caps are the same, and all machines together are within them"
+    #[inline]
+    pub fn caps_hold() {}
+
+    /// What the other tenants hold doesn't matter to a run that is never denied: beside tenants that
+    /// hold nothing there is a run with the same turns and the same machine.
+    ///
+    /// # Contract
+    ///
+    /// <span></span><pre><code>ensures: [OthersDontShow]</code></pre>
+    ///
+    /// [OthersDontShow]: crate::specs::budget::Laws#OthersDontShow "a run in which each question is permitted is one, with the same turns and the same machine, where the others hold nothing"
+    #[inline]
+    pub fn others_do_not_show() {}
+
+    /// A tenant that is never denied gets, run after run, what it gets in a pool of its own with the
+    /// same caps, whatever the others do in between.
+    ///
+    /// # Contract
+    ///
+    /// <span></span><pre><code>ensures: [RunsAsAlone]</code></pre>
+    ///
+    /// [RunsAsAlone]: crate::specs::budget::Laws#RunsAsAlone "a tenant that is never denied gets, run after run, what it gets alone under the same caps"
+    #[inline]
+    pub fn permitted_runs_as_alone() {}
+
+    /// If no reply of a run of a tenant reports a denial, each question was permitted: so what
+    /// `Pool::run` promises leads to `permitted_runs_as_alone`.
+    ///
+    /// # Contract
+    ///
+    /// <span></span><pre><code>ensures: [RepliesPermit]</code></pre>
+    ///
+    /// [RepliesPermit]: crate::specs::budget::Laws#RepliesPermit "an accepted run of a tenant in which no reply reports a denial is one in which each question was permitted"
+    #[inline]
+    pub fn replies_permit() {}
+
+    /// A tenant's limiter is deterministic.
+    ///
+    /// # Contract
+    ///
+    /// <span></span><pre><code>ensures: [IsDeterministic] [tenant_rules]</code></pre>
+    ///
+    /// [IsDeterministic]: crate::specs::machine::Determinism#IsDeterministic "each question and each notice has one answer, and leaves one state"
+    /// [tenant_rules]: crate::specs::budget::Tenant#tenant_rules "the rules of a tenant"
+    #[inline]
+    pub fn tenants_leave_no_choice() {}
+
+    /// A tenant's limiter accepts each notice.
+    ///
+    /// # Contract
+    ///
+    /// <span></span><pre><code>ensures: [AcceptsNotices] [tenant_rules]</code></pre>
+    ///
+    /// [AcceptsNotices]: crate::specs::machine::Determinism#AcceptsNotices "each notice is accepted"
+    /// [tenant_rules]: crate::specs::budget::Tenant#tenant_rules "the rules of a tenant"
+    #[inline]
+    pub fn tenants_accept_notices() {}
+}
+mod pool {
+    //! The pool.
+
+    use crate::proved::budget::error::{AddError, PoolError};
+    use crate::proved::budget::tenant::{CountedMachine, Tenant};
+    use crate::proved::machine::{Call, Machine, Reply};
+    use crate::proved::meter::Amounts;
+    use crate::rattle::Vec;
+
+    /// Machines that share a cap on the bytes of their memories, and one on the elements of their
+    /// tables: what all of them have, with what they dropped, stays within both. Each machine is a
+    /// tenant; the indices of tenants count from 0. No tenant is ever removed, and what it dropped
+    /// counts for ever.
+    ///
+    /// Own: upstream has no pool.
+    ///
+    /// # Examples
+    ///
+    /// ```
+    /// use wasmi_core_proved::machine::{Call, Fuel, FuelCostsProvider, Machine, MemoryType, Reply};
+    /// use wasmi_core_proved::pool::Pool;
+    ///
+    /// // A page for both tenants together, and no tables.
+    /// let mut pool = Pool::new(65_536, 0);
+    /// for _ in 0..2 {
+    ///     let machine = Machine::new(Fuel::new(false, FuelCostsProvider::default()));
+    ///     assert!(pool.add(machine).is_ok());
+    /// }
+    /// let mut builder = MemoryType::builder();
+    /// builder.min(1);
+    /// let ty = builder.build()?;
+    /// let replies = pool.run(0, &[Call::NewMemory(ty)])?;
+    /// assert!(matches!(replies[0], Reply::Made(0)));
+    /// let replies = pool.run(1, &[Call::NewMemory(ty)])?;
+    /// assert!(matches!(replies[0], Reply::Memory(_)));
+    /// assert_eq!((pool.held_bytes(0), pool.held_bytes(1)), (Some(65_536), Some(0)));
+    /// # Ok::<(), Box<dyn std::error::Error>>(())
+    /// ```
+    ///
+    /// # Model
+    ///
+    /// <span></span><pre><code>Value = [PoolValue]
+    /// view = λ p. record { caps = p.caps; machines = p.machines.items }
+    /// invariant = λ p.
+    /// &#32;&#32;&#32;&#32;[IsKept] (record { caps = p.caps; machines = p.machines.items }) p.held_by_all</code></pre>
+    ///
+    /// [PoolValue]: crate::specs::budget::Pool#PoolValue "a pool: its caps, and the machines of its tenants by their indices"
+    /// [IsKept]: crate::specs::budget::Pool#IsKept "all machines together are within the caps, which are numbers of 64 bits, and have these amounts"
+    #[derive(Debug)]
+    pub struct Pool<'r> {
+        caps: Amounts,
+        held_by_all: Amounts,
+        machines: Vec<CountedMachine<'r>>,
+    }
+
+    impl<'r> Pool<'r> {
+        /// A pool with these caps and no tenant. It takes no memory.
+        ///
+        /// # Contract
+        ///
+        /// <span></span><pre><code>ensures made: result
+        /// &#32;&#32;&#32;&#32;≡ record { caps = record { bytes = bytes; elements = elements }; machines = \[\] }
+        /// ensures within: [IsWithinCaps] result</code></pre>
+        ///
+        /// [IsWithinCaps]: crate::specs::budget::Pool#IsWithinCaps "all machines together are within the caps"
+        #[inline]
+        pub fn new(bytes: u64, elements: u64) -> Pool<'r> {
+            Pool {
+                caps: Amounts { bytes, elements },
+                held_by_all: Amounts::default(),
+                machines: Vec::new(),
+            }
+        }
+
+        /// How many tenants there are.
+        ///
+        /// # Contract
+        ///
+        /// <span></span><pre><code>ensures value: result ≡ [length] self.now.machines
+        /// ensures within: [IsWithinCaps] self.now</code></pre>
+        ///
+        /// [length]: crate::specs::library#length "the number of elements of a list"
+        /// [IsWithinCaps]: crate::specs::budget::Pool#IsWithinCaps "all machines together are within the caps"
+        #[inline]
+        pub fn len(&self) -> usize {
+            self.machines.len()
+        }
+
+        /// Whether there is no tenant.
+        ///
+        /// # Contract
+        ///
+        /// <span></span><pre><code>ensures: [IsTrue] result ↔ (self.now.machines ≡ \[\])</code></pre>
+        ///
+        /// [IsTrue]: crate::specs::library#IsTrue "b is true"
+        #[inline]
+        pub fn is_empty(&self) -> bool {
+            self.machines.is_empty()
+        }
+
+        /// Adds a machine that has nothing yet, and returns its index. If it is refused, the machine is
+        /// handed back with the error.
+        ///
+        /// It costs what `Machine::total_bytes` and `total_elements` cost on the added machine, which
+        /// is nothing for a new one, and a place in a vector. What the other tenants have isn't looked
+        /// at.
+        ///
+        /// # Contract
+        ///
+        /// <span></span><pre><code>ensures added: [IfOk] result
+        /// &#32;&#32;&#32;&#32;(λ index. (index ≡ [length] self.old.machines)
+        /// &#32;&#32;&#32;&#32;× [AddsTenant] self.old machine.entry self.new)
+        /// ensures refused: [IfErr] result (λ refusal. [IsAddRefusal] machine.entry refusal.0)
+        /// ensures same: [IfErr] result
+        /// &#32;&#32;&#32;&#32;(λ refusal. (refusal.1 ≡ machine.entry) × (self.new ≡ self.old))
+        /// ensures within: [IsWithinCaps] self.new</code></pre>
+        ///
+        /// [IfOk]: crate::specs::library#IfOk "P of the value, if r is a value"
+        /// [length]: crate::specs::library#length "the number of elements of a list"
+        /// [AddsTenant]: crate::specs::budget::Pool#AddsTenant "a machine that has nothing is added as it is"
+        /// [IfErr]: crate::specs::library#IfErr "P of the error, if r is an error"
+        /// [IsAddRefusal]: crate::specs::budget::Pool#IsAddRefusal "why a machine isn\'t added"
+        /// [IsWithinCaps]: crate::specs::budget::Pool#IsWithinCaps "all machines together are within the caps"
+        #[inline]
+        pub fn add(&mut self, machine: Machine<'r>) -> Result<usize, (AddError, Machine<'r>)> {
+            let index = self.machines.len();
+            if machine.total_bytes() > 0 || machine.total_elements() > 0 {
+                return Err((AddError::NotEmpty, machine));
+            }
+            if self.machines.try_reserve(1).is_err() {
+                return Err((AddError::NoRoom, machine));
+            }
+            self.machines.push_reserved(CountedMachine::empty(machine));
+            Ok(index)
+        }
+
+        /// Executes calls on the machine of a tenant, under a limiter that permits what keeps
+        /// all tenants together within the caps.
+        ///
+        /// It costs memory for the replies, and what the calls cost. That depends neither on how many
+        /// tenants there are, nor on how much they made or dropped before.
+        ///
+        /// # Contract
+        ///
+        /// <span></span><pre><code>ensures ran: [IfOk] result
+        /// &#32;&#32;&#32;&#32;(λ replies. [RunsTenant] self.old index calls.now replies.items self.new)
+        /// ensures no_tenant: [IsErrOf] result [PoolError.NoTenant] ↔ ([length] self.old.machines ≤ index)
+        /// ensures refused: [OnErr] result (self.new ≡ self.old)
+        /// ensures within: [IsWithinCaps] self.new</code></pre>
+        ///
+        /// [IfOk]: crate::specs::library#IfOk "P of the value, if r is a value"
+        /// [RunsTenant]: crate::specs::budget::Pool#RunsTenant "the machine of an index has run these calls under its limiter by a tenant\'s rules, and all else is the same"
+        /// [IsErrOf]: crate::specs::library#IsErrOf "r is the error e"
+        /// [PoolError.NoTenant]: crate::proved::budget::PoolError::NoTenant
+        /// [length]: crate::specs::library#length "the number of elements of a list"
+        /// [OnErr]: crate::specs::library#OnErr "P, if r is an error"
+        /// [IsWithinCaps]: crate::specs::budget::Pool#IsWithinCaps "all machines together are within the caps"
+        #[inline]
+        pub fn run(&mut self, index: usize, calls: &[Call]) -> Result<Vec<Reply>, PoolError> {
+            let Some(mut tenant) = self.tenant(index) else {
+                return Err(PoolError::NoTenant);
+            };
+            let machine = &mut self.machines[index];
+            let replies = machine.run(calls, &mut tenant)?;
+            self.held_by_all = tenant.held_by_all();
+            Ok(replies)
+        }
+
+        /// The machine of a tenant, if one has the index.
+        ///
+        /// # Contract
+        ///
+        /// <span></span><pre><code>ensures machine: [option_copied] result ≡ [slice_get] self.now.machines index
+        /// ensures within: [IsWithinCaps] self.now</code></pre>
+        ///
+        /// [option_copied]: crate::specs::library#option_copied "the value behind an optional reference, if there is one"
+        /// [slice_get]: crate::specs::library#slice_get "element i, if there is one"
+        /// [IsWithinCaps]: crate::specs::budget::Pool#IsWithinCaps "all machines together are within the caps"
+        #[inline]
+        pub fn machine(&self, index: usize) -> Option<&Machine<'r>> {
+            let machine = self.machines.get(index)?;
+            Some(machine.machine())
+        }
+
+        /// The bytes of a tenant's memories, including those that it dropped. They fit a `u64`, since
+        /// the cap does.
+        ///
+        /// The cost is constant: the numbers are kept.
+        ///
+        /// # Contract
+        ///
+        /// <span></span><pre><code>ensures: result ≡ [option_map] (λ s. [total] s [Bytes]) ([slice_get] self.now.machines index)</code></pre>
+        ///
+        /// [option_map]: crate::specs::library#option_map "f of the value, if there is one"
+        /// [total]: crate::specs::machine::Totals#total "their sum"
+        /// [Bytes]: crate::proved::meter::Kind::Bytes
+        /// [slice_get]: crate::specs::library#slice_get "element i, if there is one"
+        #[inline]
+        pub fn held_bytes(&self, index: usize) -> Option<u64> {
+            Some(self.held(index)?.bytes)
+        }
+
+        /// The elements of a tenant's tables, including those that it dropped. They fit a `u64`, since
+        /// the cap does.
+        ///
+        /// The cost is constant, as that of `held_bytes`.
+        ///
+        /// # Contract
+        ///
+        /// <span></span><pre><code>ensures: result ≡ [option_map] (λ s. [total] s [Elements]) ([slice_get] self.now.machines index)</code></pre>
+        ///
+        /// [option_map]: crate::specs::library#option_map "f of the value, if there is one"
+        /// [total]: crate::specs::machine::Totals#total "their sum"
+        /// [Elements]: crate::proved::meter::Kind::Elements
+        /// [slice_get]: crate::specs::library#slice_get "element i, if there is one"
+        #[inline]
+        pub fn held_elements(&self, index: usize) -> Option<u64> {
+            Some(self.held(index)?.elements)
+        }
+
+        /// What a tenant's machine has.
+        ///
+        /// # Contract
+        ///
+        /// <span></span><pre><code>ensures: result
+        /// &#32;&#32;&#32;&#32;≡ [option_map] (λ s. [amounts_of] ([total] s)) ([slice_get] self.now.machines index)</code></pre>
+        ///
+        /// [option_map]: crate::specs::library#option_map "f of the value, if there is one"
+        /// [amounts_of]: crate::specs::meter::Amounts#amounts_of "the amounts by kind"
+        /// [total]: crate::specs::machine::Totals#total "their sum"
+        /// [slice_get]: crate::specs::library#slice_get "element i, if there is one"
+        #[inline]
+        fn held(&self, index: usize) -> Option<Amounts> {
+            let machine = self.machines.get(index)?;
+            Some(machine.held())
+        }
+
+        /// The limiter under which a tenant's machine runs.
+        ///
+        /// # Contract
+        ///
+        /// <span></span><pre><code>ensures: result
+        /// &#32;&#32;&#32;&#32;≡ [option_map] ([tenant_at] self.now index) ([slice_get] self.now.machines index)</code></pre>
+        ///
+        /// [option_map]: crate::specs::library#option_map "f of the value, if there is one"
+        /// [tenant_at]: crate::specs::budget::Pool#tenant_at "the limiter of the machine s of an index: it holds what the machine has, beside what the others have"
+        /// [slice_get]: crate::specs::library#slice_get "element i, if there is one"
+        #[inline]
+        fn tenant(&self, index: usize) -> Option<Tenant> {
+            let held = self.held(index)?;
+            let others = Amounts {
+                bytes: self.held_by_all.bytes - held.bytes,
+                elements: self.held_by_all.elements - held.elements,
+            };
+            Some(Tenant::new(self.caps, others, held))
+        }
+    }
+}
+mod tenant {
+    //! One machine of a pool, with what it has, and its limiter.
+
+    use crate::proved::machine::{Call, Machine, Reply, run_reserving};
+    use crate::proved::meter::{Amounts, Holdings, Kind, LimiterByKind, LimiterError, Reserving};
+    use crate::rattle::Vec;
+    use crate::rattle::alloc::AllocError;
+
+    /// The limiter of one machine of a pool: it permits what keeps all tenants together within the
+    /// caps, and denies the rest. It counts each difference that it permitted. At a notice it takes
+    /// back the last one if that is of the same kind, once. What the others hold stays the same while
+    /// its machine runs.
+    ///
+    /// Own: upstream has no pool.
+    #[derive(Clone, Copy, Debug)]
+    pub struct Tenant {
+        caps: Amounts,
+        others: Amounts,
+        holdings: Holdings,
+    }
+
+    impl Tenant {
+        /// A tenant that has these holdings, beside the others', under the caps.
+        ///
+        /// # Contract
+        ///
+        /// <span></span><pre><code>ensures: result ≡ record
+        /// &#32;&#32;&#32;&#32;{ caps = caps; others = others; [holdings] = record { held = held; last = [None] } }</code></pre>
+        ///
+        /// [holdings]: crate::specs::budget::Tenant#holdings "what a tenant holds"
+        /// [None]: crate::specs::library#None "no value, of an \`Option\`"
+        #[inline]
+        pub(crate) fn new(caps: Amounts, others: Amounts, held: Amounts) -> Self {
+            Tenant {
+                caps,
+                others,
+                holdings: Holdings::new(held),
+            }
+        }
+
+        /// What the tenant holds.
+        ///
+        /// # Contract
+        ///
+        /// <span></span><pre><code>ensures: result ≡ self.now.holdings.held</code></pre>
+        #[inline]
+        pub(crate) fn held(&self) -> Amounts {
+            self.holdings.held()
+        }
+
+        /// What all tenants hold.
+        ///
+        /// # Contract
+        ///
+        /// <span></span><pre><code>requires fits: (kind : [Kind]) → [held_together] [capped_tenant] self.now kind < 2 ^ 64
+        /// ensures value: result ≡ [amounts_of] ([held_together] [capped_tenant] self.now)</code></pre>
+        ///
+        /// [Kind]: crate::proved::meter::Kind
+        /// [held_together]: crate::specs::meter::Capped#held_together "what all together hold of a kind"
+        /// [capped_tenant]: crate::specs::budget::Tenant#capped_tenant "tenants as limiters with caps"
+        /// [amounts_of]: crate::specs::meter::Amounts#amounts_of "the amounts by kind"
+        #[inline]
+        pub(crate) fn held_by_all(&self) -> Amounts {
+            let held = self.held();
+            Amounts {
+                bytes: self.others.bytes + held.bytes,
+                elements: self.others.elements + held.elements,
+            }
+        }
+
+        /// Takes `difference` more of a kind, if all tenants together stay within the cap.
+        ///
+        /// # Contract
+        ///
+        /// <span></span><pre><code>ensures: [TakesMore] [capped_tenant] self.old kind difference result self.new</code></pre>
+        ///
+        /// [TakesMore]: crate::specs::meter::Capped#TakesMore "so many more of a kind are taken, or not, and all but the holdings stays"
+        /// [capped_tenant]: crate::specs::budget::Tenant#capped_tenant "tenants as limiters with caps"
+        #[inline]
+        fn take(&mut self, kind: Kind, difference: u64) -> bool {
+            self.holdings
+                .take(kind, difference, self.others.of(kind), self.caps.of(kind))
+        }
+    }
+
+    /// # Contract
+    ///
+    /// <span></span><pre><code>kind_rules = [tenant_rules]</code></pre>
+    ///
+    /// [tenant_rules]: crate::specs::budget::Tenant#tenant_rules "the rules of a tenant"
+    impl LimiterByKind for Tenant {
+        #[inline]
+        fn growing(
+            &mut self,
+            kind: Kind,
+            current: usize,
+            desired: usize,
+        ) -> Result<bool, LimiterError> {
+            assert!(
+                current <= desired,
+                "the desired size is below the current one"
+            );
+            Ok(self.take(kind, (desired - current) as u64))
+        }
+
+        #[inline]
+        fn grow_failed(&mut self, kind: Kind) -> Result<(), LimiterError> {
+            self.holdings.give_back(kind);
+            Ok(())
+        }
+    }
+
+    /// # Contract
+    ///
+    /// <span></span><pre><code>holdings = [holdings]</code></pre>
+    ///
+    /// [holdings]: crate::specs::budget::Tenant#holdings "what a tenant holds"
+    impl Reserving for Tenant {
+        #[inline]
+        fn held_bytes(&self) -> u64 {
+            self.holdings.held().bytes
+        }
+
+        #[inline]
+        fn held_elements(&self) -> u64 {
+            self.holdings.held().elements
+        }
+    }
+
+    /// A machine, with what its memories and tables have, dropped ones with their last size. So what
+    /// it has is known without a walk over them.
+    ///
+    /// # Model
+    ///
+    /// <span></span><pre><code>Value = [State]
+    /// view = λ m. m.machine
+    /// invariant = λ m. m.held ≡ [amounts_of] ([total] m.machine)</code></pre>
+    ///
+    /// [State]: crate::specs::machine::State#State "the memories, tables, element segments and globals that were made, each kind in its order, the registers, the meter, and the bytes of the spare region, if there is one"
+    /// [amounts_of]: crate::specs::meter::Amounts#amounts_of "the amounts by kind"
+    /// [total]: crate::specs::machine::Totals#total "their sum"
+    #[derive(Debug)]
+    pub(crate) struct CountedMachine<'r> {
+        machine: Machine<'r>,
+        held: Amounts,
+    }
+
+    impl<'r> CountedMachine<'r> {
+        /// The machine, which has nothing yet.
+        ///
+        /// # Contract
+        ///
+        /// <span></span><pre><code>requires nothing: [HasNothing] machine
+        /// ensures value: result ≡ machine.entry</code></pre>
+        ///
+        /// [HasNothing]: crate::specs::budget::Pool#HasNothing "the machine has no bytes and no elements, and dropped none"
+        #[inline]
+        pub(crate) fn empty(machine: Machine<'r>) -> Self {
+            CountedMachine {
+                machine,
+                held: Amounts::default(),
+            }
+        }
+
+        /// The machine.
+        ///
+        /// # Contract
+        ///
+        /// <span></span><pre><code>ensures: result.now ≡ self.now</code></pre>
+        #[inline]
+        pub(crate) fn machine(&self) -> &Machine<'r> {
+            &self.machine
+        }
+
+        /// What the machine has.
+        ///
+        /// # Contract
+        ///
+        /// <span></span><pre><code>ensures: result ≡ [amounts_of] ([total] self.now)</code></pre>
+        ///
+        /// [amounts_of]: crate::specs::meter::Amounts#amounts_of "the amounts by kind"
+        /// [total]: crate::specs::machine::Totals#total "their sum"
+        #[inline]
+        pub(crate) fn held(&self) -> Amounts {
+            self.held
+        }
+
+        /// Executes calls under a tenant that holds what the machine has: it does so again
+        /// afterwards, and what it holds is taken over from it.
+        ///
+        /// # Contract
+        ///
+        /// <span></span><pre><code>requires totals: [HoldsTotals] ([holdings] tenant.old) self.old
+        /// ensures run: [IfOk] result (λ replies. [IsRunOf] ([optional_rules] [tenant_rules]) calls.now
+        /// &#32;&#32;&#32;&#32;([world] self.old ([Some] tenant.old)) replies.items ([world] self.new ([Some] tenant.new)))
+        /// ensures err: [OnErr] result ((self.new ≡ self.old) × (tenant.new ≡ tenant.old))
+        /// ensures held: [HoldsTotals] ([holdings] tenant.new) self.new</code></pre>
+        ///
+        /// [HoldsTotals]: crate::specs::machine::Totals#HoldsTotals "exactly these totals are held"
+        /// [holdings]: crate::specs::budget::Tenant#holdings "what a tenant holds"
+        /// [IfOk]: crate::specs::library#IfOk "P of the value, if r is a value"
+        /// [IsRunOf]: crate::specs::machine::Runs#IsRunOf "the replies are those of a run of the calls, from one world to another"
+        /// [optional_rules]: crate::specs::meter::Limiter#optional_rules "the rules of a limiter that may be absent"
+        /// [tenant_rules]: crate::specs::budget::Tenant#tenant_rules "the rules of a tenant"
+        /// [world]: crate::specs::machine::World#world "a machine in this state with this limiter"
+        /// [Some]: crate::specs::library#Some "the value x, of an \`Option\`"
+        /// [OnErr]: crate::specs::library#OnErr "P, if r is an error"
+        #[inline]
+        pub(crate) fn run(
+            &mut self,
+            calls: &[Call],
+            tenant: &mut Tenant,
+        ) -> Result<Vec<Reply>, AllocError> {
+            let replies = run_reserving(&mut self.machine, calls, tenant)?;
+            self.held = tenant.held();
+            Ok(replies)
+        }
+    }
+}
+
+pub use error::{AddError, PoolError};
+pub use pool::Pool;
+pub use tenant::Tenant;

@@ -1,0 +1,1634 @@
+//! The text of a script: what its lines say, and the script that they write.
+mod command {
+    //! The commands of a script, each of which is one call: what the words after its first say.
+
+    pub mod access {
+        //! Commands that load from a memory or store to it.
+
+        use crate::proved::machine::{Call, RawVal};
+        use crate::proved::operands::LineError;
+        use crate::proved::operands::names::lane::{load_lane_op, store_lane_op};
+        use crate::proved::operands::operand::{self, Operand};
+
+        /// `load NAME K PTR OFFSET`.
+        ///
+        /// # Contract
+        ///
+        /// <span></span><pre><code>ensures: [Accepts] result ([NamesAfter] ([codes] \"load\") operands.now)</code></pre>
+        ///
+        /// [Accepts]: crate::specs::operands::Acceptance#Accepts "what is accepted is meant, and what is refused is a bad command: nothing is meant"
+        /// [NamesAfter]: crate::specs::grammar::Commands#NamesAfter "the word that a command begins with, and the words after it, name this call"
+        /// [codes]: crate::specs::library#codes "the characters of a text, by their numbers"
+        #[inline]
+        pub fn load(operands: &[&str]) -> Result<Call, LineError> {
+            let (op, memory, ptr, offset) = operand::four(operands)?;
+            Ok(Call::Load {
+                op,
+                memory,
+                ptr,
+                offset,
+            })
+        }
+
+        /// `store NAME K PTR OFFSET LO`.
+        ///
+        /// # Contract
+        ///
+        /// <span></span><pre><code>ensures: [Accepts] result ([NamesAfter] ([codes] \"store\") operands.now)</code></pre>
+        ///
+        /// [Accepts]: crate::specs::operands::Acceptance#Accepts "what is accepted is meant, and what is refused is a bad command: nothing is meant"
+        /// [NamesAfter]: crate::specs::grammar::Commands#NamesAfter "the word that a command begins with, and the words after it, name this call"
+        /// [codes]: crate::specs::library#codes "the characters of a text, by their numbers"
+        #[inline]
+        pub fn store(operands: &[&str]) -> Result<Call, LineError> {
+            let (op, memory, ptr, offset, lo) = operand::five(operands)?;
+            Ok(Call::Store {
+                op,
+                memory,
+                ptr,
+                offset,
+                value: RawVal::from_bits64(lo),
+            })
+        }
+
+        /// `vload NAME D K PTR OFFSET`.
+        ///
+        /// # Contract
+        ///
+        /// <span></span><pre><code>ensures: [Accepts] result ([NamesAfter] ([codes] \"vload\") operands.now)</code></pre>
+        ///
+        /// [Accepts]: crate::specs::operands::Acceptance#Accepts "what is accepted is meant, and what is refused is a bad command: nothing is meant"
+        /// [NamesAfter]: crate::specs::grammar::Commands#NamesAfter "the word that a command begins with, and the words after it, name this call"
+        /// [codes]: crate::specs::library#codes "the characters of a text, by their numbers"
+        #[inline]
+        pub fn vector_load(operands: &[&str]) -> Result<Call, LineError> {
+            let (op, dst, memory, ptr, offset) = operand::five(operands)?;
+            Ok(Call::VectorLoad {
+                op,
+                dst,
+                memory,
+                ptr,
+                offset,
+            })
+        }
+
+        /// `vloadlane NAME D A LANE K PTR OFFSET`.
+        ///
+        /// # Contract
+        ///
+        /// <span></span><pre><code>ensures: [Accepts] result ([NamesAfter] ([codes] \"vloadlane\") operands.now)</code></pre>
+        ///
+        /// [Accepts]: crate::specs::operands::Acceptance#Accepts "what is accepted is meant, and what is refused is a bad command: nothing is meant"
+        /// [NamesAfter]: crate::specs::grammar::Commands#NamesAfter "the word that a command begins with, and the words after it, name this call"
+        /// [codes]: crate::specs::library#codes "the characters of a text, by their numbers"
+        #[inline]
+        pub fn load_lane(operands: &[&str]) -> Result<Call, LineError> {
+            let [name, dst, a, lane, place @ ..] = operands else {
+                return Err(LineError::BadCommand);
+            };
+            let (memory, ptr, offset) = operand::three(place)?;
+            Ok(Call::LoadLane {
+                op: load_lane_op(name, lane)?,
+                dst: Operand::from_word(dst)?,
+                a: Operand::from_word(a)?,
+                memory,
+                ptr,
+                offset,
+            })
+        }
+
+        /// `vstore A K PTR OFFSET`.
+        ///
+        /// # Contract
+        ///
+        /// <span></span><pre><code>ensures: [Accepts] result ([NamesAfter] ([codes] \"vstore\") operands.now)</code></pre>
+        ///
+        /// [Accepts]: crate::specs::operands::Acceptance#Accepts "what is accepted is meant, and what is refused is a bad command: nothing is meant"
+        /// [NamesAfter]: crate::specs::grammar::Commands#NamesAfter "the word that a command begins with, and the words after it, name this call"
+        /// [codes]: crate::specs::library#codes "the characters of a text, by their numbers"
+        #[inline]
+        pub fn vector_store(operands: &[&str]) -> Result<Call, LineError> {
+            let (a, memory, ptr, offset) = operand::four(operands)?;
+            Ok(Call::VectorStore {
+                a,
+                memory,
+                ptr,
+                offset,
+            })
+        }
+
+        /// `vstorelane NAME A LANE K PTR OFFSET`.
+        ///
+        /// # Contract
+        ///
+        /// <span></span><pre><code>ensures: [Accepts] result ([NamesAfter] ([codes] \"vstorelane\") operands.now)</code></pre>
+        ///
+        /// [Accepts]: crate::specs::operands::Acceptance#Accepts "what is accepted is meant, and what is refused is a bad command: nothing is meant"
+        /// [NamesAfter]: crate::specs::grammar::Commands#NamesAfter "the word that a command begins with, and the words after it, name this call"
+        /// [codes]: crate::specs::library#codes "the characters of a text, by their numbers"
+        #[inline]
+        pub fn store_lane(operands: &[&str]) -> Result<Call, LineError> {
+            let [name, a, lane, place @ ..] = operands else {
+                return Err(LineError::BadCommand);
+            };
+            let (memory, ptr, offset) = operand::three(place)?;
+            Ok(Call::StoreLane {
+                op: store_lane_op(name, lane)?,
+                a: Operand::from_word(a)?,
+                memory,
+                ptr,
+                offset,
+            })
+        }
+    }
+    pub mod memory {
+        //! Commands of memories, and those that drop a memory or a table.
+
+        use crate::proved::machine::{Call, IndexType, MemoryType};
+        use crate::proved::operands::operand::{self, list_of};
+        use crate::proved::operands::{LineError, index_ty, number, number_or_none};
+
+        /// `memory MIN MAX LOG2 WIDTH`.
+        ///
+        /// # Contract
+        ///
+        /// <span></span><pre><code>ensures: [Accepts] result ([NamesAfter] ([codes] \"memory\") operands.now)</code></pre>
+        ///
+        /// [Accepts]: crate::specs::operands::Acceptance#Accepts "what is accepted is meant, and what is refused is a bad command: nothing is meant"
+        /// [NamesAfter]: crate::specs::grammar::Commands#NamesAfter "the word that a command begins with, and the words after it, name this call"
+        /// [codes]: crate::specs::library#codes "the characters of a text, by their numbers"
+        #[inline]
+        pub fn new_memory(operands: &[&str]) -> Result<Call, LineError> {
+            let [min, max, log2, width] = operands else {
+                return Err(LineError::BadCommand);
+            };
+            Ok(Call::NewMemory(memory_type(min, max, log2, width)?))
+        }
+
+        /// `lent MIN MAX LOG2 WIDTH`.
+        ///
+        /// # Contract
+        ///
+        /// <span></span><pre><code>ensures: [Accepts] result ([NamesAfter] ([codes] \"lent\") operands.now)</code></pre>
+        ///
+        /// [Accepts]: crate::specs::operands::Acceptance#Accepts "what is accepted is meant, and what is refused is a bad command: nothing is meant"
+        /// [NamesAfter]: crate::specs::grammar::Commands#NamesAfter "the word that a command begins with, and the words after it, name this call"
+        /// [codes]: crate::specs::library#codes "the characters of a text, by their numbers"
+        #[inline]
+        pub fn new_lent_memory(operands: &[&str]) -> Result<Call, LineError> {
+            let [min, max, log2, width] = operands else {
+                return Err(LineError::BadCommand);
+            };
+            Ok(Call::NewLentMemory(memory_type(min, max, log2, width)?))
+        }
+
+        /// `grow K PAGES`.
+        ///
+        /// # Contract
+        ///
+        /// <span></span><pre><code>ensures: [Accepts] result ([NamesAfter] ([codes] \"grow\") operands.now)</code></pre>
+        ///
+        /// [Accepts]: crate::specs::operands::Acceptance#Accepts "what is accepted is meant, and what is refused is a bad command: nothing is meant"
+        /// [NamesAfter]: crate::specs::grammar::Commands#NamesAfter "the word that a command begins with, and the words after it, name this call"
+        /// [codes]: crate::specs::library#codes "the characters of a text, by their numbers"
+        #[inline]
+        pub fn grow(operands: &[&str]) -> Result<Call, LineError> {
+            let (memory, pages) = operand::two(operands)?;
+            Ok(Call::GrowMemory { memory, pages })
+        }
+
+        /// `read K OFFSET LEN`.
+        ///
+        /// # Contract
+        ///
+        /// <span></span><pre><code>ensures: [Accepts] result ([NamesAfter] ([codes] \"read\") operands.now)</code></pre>
+        ///
+        /// [Accepts]: crate::specs::operands::Acceptance#Accepts "what is accepted is meant, and what is refused is a bad command: nothing is meant"
+        /// [NamesAfter]: crate::specs::grammar::Commands#NamesAfter "the word that a command begins with, and the words after it, name this call"
+        /// [codes]: crate::specs::library#codes "the characters of a text, by their numbers"
+        #[inline]
+        pub fn read(operands: &[&str]) -> Result<Call, LineError> {
+            let (memory, offset, len) = operand::three(operands)?;
+            Ok(Call::Read {
+                memory,
+                offset,
+                len,
+            })
+        }
+
+        /// `write K OFFSET BYTE ...`, which may have no byte.
+        ///
+        /// # Contract
+        ///
+        /// <span></span><pre><code>ensures: [AcceptsWithMemory] result ([NamesAfter] ([codes] \"write\") operands.now)</code></pre>
+        ///
+        /// [AcceptsWithMemory]: crate::specs::operands::Acceptance#AcceptsWithMemory "the words are read as a value that means this, or they mean nothing of the kind, or memory was refused"
+        /// [NamesAfter]: crate::specs::grammar::Commands#NamesAfter "the word that a command begins with, and the words after it, name this call"
+        /// [codes]: crate::specs::library#codes "the characters of a text, by their numbers"
+        #[inline]
+        pub fn write(operands: &[&str]) -> Result<Call, LineError> {
+            let [memory, offset, bytes @ ..] = operands else {
+                return Err(LineError::BadCommand);
+            };
+            Ok(Call::Write {
+                memory: number(memory)?,
+                offset: number(offset)?,
+                bytes: list_of(bytes)?,
+            })
+        }
+
+        /// `drop memory K` and `drop table K`.
+        ///
+        /// # Contract
+        ///
+        /// <span></span><pre><code>ensures: [Accepts] result ([NamesAfter] ([codes] \"drop\") operands.now)</code></pre>
+        ///
+        /// [Accepts]: crate::specs::operands::Acceptance#Accepts "what is accepted is meant, and what is refused is a bad command: nothing is meant"
+        /// [NamesAfter]: crate::specs::grammar::Commands#NamesAfter "the word that a command begins with, and the words after it, name this call"
+        /// [codes]: crate::specs::library#codes "the characters of a text, by their numbers"
+        #[inline]
+        pub fn drop_live(operands: &[&str]) -> Result<Call, LineError> {
+            let [kind, index] = operands else {
+                return Err(LineError::BadCommand);
+            };
+            let index = number(index)?;
+            match *kind {
+                "memory" => Ok(Call::DropMemory(index)),
+                "table" => Ok(Call::DropTable(index)),
+                _ => Err(LineError::BadCommand),
+            }
+        }
+
+        /// The memory type of these words, if there is such a type.
+        ///
+        /// # Contract
+        ///
+        /// <span></span><pre><code>ensures: [Accepts] result ([NamesType] min.now max.now log2.now width.now)</code></pre>
+        ///
+        /// [Accepts]: crate::specs::operands::Acceptance#Accepts "what is accepted is meant, and what is refused is a bad command: nothing is meant"
+        /// [NamesType]: crate::specs::grammar::MemoryWords#NamesType "four words name this memory type, which there is: its minimum, its maximum, its page size and the width of its addresses"
+        #[inline]
+        fn memory_type(
+            min: &str,
+            max: &str,
+            log2: &str,
+            width: &str,
+        ) -> Result<MemoryType, LineError> {
+            let minimum = number(min)?;
+            let maximum = number_or_none(max)?;
+            let page_size_log2 = number(log2)?;
+            let index = index_ty(width)?;
+            type_of(index, minimum, maximum, page_size_log2)
+        }
+
+        /// The memory type of these settings, if there is such a type.
+        ///
+        /// # Contract
+        ///
+        /// <span></span><pre><code>ensures: [Accepts] result ([HasSettings]
+        /// &#32;&#32;&#32;&#32;(record { index = index; minimum = minimum; maximum = maximum }) page_size_log2)</code></pre>
+        ///
+        /// [Accepts]: crate::specs::operands::Acceptance#Accepts "what is accepted is meant, and what is refused is a bad command: nothing is meant"
+        /// [HasSettings]: crate::specs::grammar::MemoryWords#HasSettings "a memory type, which there is, of these limits and this page size"
+        #[inline]
+        fn type_of(
+            index: IndexType,
+            minimum: u64,
+            maximum: Option<u64>,
+            page_size_log2: u8,
+        ) -> Result<MemoryType, LineError> {
+            let mut builder = MemoryType::builder();
+            builder
+                .min(minimum)
+                .max(maximum)
+                .page_size_log2(page_size_log2)
+                .memory64(matches!(index, IndexType::I64));
+            match builder.build() {
+                Ok(ty) => Ok(ty),
+                Err(_) => Err(LineError::BadCommand),
+            }
+        }
+    }
+    pub mod table {
+        //! Commands of tables and element segments.
+
+        use crate::proved::machine::{Call, IndexType, RefType, TableType, TypedRawRef};
+        use crate::proved::operands::operand::{self, list_of};
+        use crate::proved::operands::{
+            LineError, index_ty, number, number_or_none, ref_type, reference,
+        };
+
+        /// `table T MIN X WIDTH T N`.
+        ///
+        /// # Contract
+        ///
+        /// <span></span><pre><code>ensures: [Accepts] result ([NamesAfter] ([codes] \"table\") operands.now)</code></pre>
+        ///
+        /// [Accepts]: crate::specs::operands::Acceptance#Accepts "what is accepted is meant, and what is refused is a bad command: nothing is meant"
+        /// [NamesAfter]: crate::specs::grammar::Commands#NamesAfter "the word that a command begins with, and the words after it, name this call"
+        /// [codes]: crate::specs::library#codes "the characters of a text, by their numbers"
+        #[inline]
+        pub fn new_table(operands: &[&str]) -> Result<Call, LineError> {
+            let [element, min, max, width, ty, raw] = operands else {
+                return Err(LineError::BadCommand);
+            };
+            Ok(Call::NewTable {
+                ty: table_type(element, min, max, width)?,
+                init: reference(ty, raw)?,
+            })
+        }
+
+        /// `tgrow K DELTA T N`.
+        ///
+        /// # Contract
+        ///
+        /// <span></span><pre><code>ensures: [Accepts] result ([NamesAfter] ([codes] \"tgrow\") operands.now)</code></pre>
+        ///
+        /// [Accepts]: crate::specs::operands::Acceptance#Accepts "what is accepted is meant, and what is refused is a bad command: nothing is meant"
+        /// [NamesAfter]: crate::specs::grammar::Commands#NamesAfter "the word that a command begins with, and the words after it, name this call"
+        /// [codes]: crate::specs::library#codes "the characters of a text, by their numbers"
+        #[inline]
+        pub fn grow(operands: &[&str]) -> Result<Call, LineError> {
+            let (table, delta, ty, raw) = operand::four(operands)?;
+            Ok(Call::GrowTable {
+                table,
+                delta,
+                init: TypedRawRef::new(raw, ty),
+            })
+        }
+
+        /// `get K I`.
+        ///
+        /// # Contract
+        ///
+        /// <span></span><pre><code>ensures: [Accepts] result ([NamesAfter] ([codes] \"get\") operands.now)</code></pre>
+        ///
+        /// [Accepts]: crate::specs::operands::Acceptance#Accepts "what is accepted is meant, and what is refused is a bad command: nothing is meant"
+        /// [NamesAfter]: crate::specs::grammar::Commands#NamesAfter "the word that a command begins with, and the words after it, name this call"
+        /// [codes]: crate::specs::library#codes "the characters of a text, by their numbers"
+        #[inline]
+        pub fn get(operands: &[&str]) -> Result<Call, LineError> {
+            let (table, index) = operand::two(operands)?;
+            Ok(Call::GetElement { table, index })
+        }
+
+        /// `tset K I T N`.
+        ///
+        /// # Contract
+        ///
+        /// <span></span><pre><code>ensures: [Accepts] result ([NamesAfter] ([codes] \"tset\") operands.now)</code></pre>
+        ///
+        /// [Accepts]: crate::specs::operands::Acceptance#Accepts "what is accepted is meant, and what is refused is a bad command: nothing is meant"
+        /// [NamesAfter]: crate::specs::grammar::Commands#NamesAfter "the word that a command begins with, and the words after it, name this call"
+        /// [codes]: crate::specs::library#codes "the characters of a text, by their numbers"
+        #[inline]
+        pub fn set(operands: &[&str]) -> Result<Call, LineError> {
+            let (table, index, ty, raw) = operand::four(operands)?;
+            Ok(Call::SetElement {
+                table,
+                index,
+                value: TypedRawRef::new(raw, ty),
+            })
+        }
+
+        /// `init K SEGMENT DST SRC LEN`.
+        ///
+        /// # Contract
+        ///
+        /// <span></span><pre><code>ensures: [Accepts] result ([NamesAfter] ([codes] \"init\") operands.now)</code></pre>
+        ///
+        /// [Accepts]: crate::specs::operands::Acceptance#Accepts "what is accepted is meant, and what is refused is a bad command: nothing is meant"
+        /// [NamesAfter]: crate::specs::grammar::Commands#NamesAfter "the word that a command begins with, and the words after it, name this call"
+        /// [codes]: crate::specs::library#codes "the characters of a text, by their numbers"
+        #[inline]
+        pub fn init(operands: &[&str]) -> Result<Call, LineError> {
+            let (table, segment, dst, src, len) = operand::five(operands)?;
+            Ok(Call::InitTable {
+                table,
+                segment,
+                dst,
+                src,
+                len,
+            })
+        }
+
+        /// `copy K DST K SRC LEN`.
+        ///
+        /// # Contract
+        ///
+        /// <span></span><pre><code>ensures: [Accepts] result ([NamesAfter] ([codes] \"copy\") operands.now)</code></pre>
+        ///
+        /// [Accepts]: crate::specs::operands::Acceptance#Accepts "what is accepted is meant, and what is refused is a bad command: nothing is meant"
+        /// [NamesAfter]: crate::specs::grammar::Commands#NamesAfter "the word that a command begins with, and the words after it, name this call"
+        /// [codes]: crate::specs::library#codes "the characters of a text, by their numbers"
+        #[inline]
+        pub fn copy(operands: &[&str]) -> Result<Call, LineError> {
+            let (dst_table, dst, src_table, src, len) = operand::five(operands)?;
+            Ok(Call::CopyTable {
+                dst_table,
+                dst,
+                src_table,
+                src,
+                len,
+            })
+        }
+
+        /// `fill K DST T N LEN`.
+        ///
+        /// # Contract
+        ///
+        /// <span></span><pre><code>ensures: [Accepts] result ([NamesAfter] ([codes] \"fill\") operands.now)</code></pre>
+        ///
+        /// [Accepts]: crate::specs::operands::Acceptance#Accepts "what is accepted is meant, and what is refused is a bad command: nothing is meant"
+        /// [NamesAfter]: crate::specs::grammar::Commands#NamesAfter "the word that a command begins with, and the words after it, name this call"
+        /// [codes]: crate::specs::library#codes "the characters of a text, by their numbers"
+        #[inline]
+        pub fn fill(operands: &[&str]) -> Result<Call, LineError> {
+            let (table, dst, ty, raw, len) = operand::five(operands)?;
+            Ok(Call::FillTable {
+                table,
+                dst,
+                value: TypedRawRef::new(raw, ty),
+                len,
+            })
+        }
+
+        /// `segment T N ...`, which may have no reference.
+        ///
+        /// # Contract
+        ///
+        /// <span></span><pre><code>ensures: [AcceptsWithMemory] result ([NamesAfter] ([codes] \"segment\") operands.now)</code></pre>
+        ///
+        /// [AcceptsWithMemory]: crate::specs::operands::Acceptance#AcceptsWithMemory "the words are read as a value that means this, or they mean nothing of the kind, or memory was refused"
+        /// [NamesAfter]: crate::specs::grammar::Commands#NamesAfter "the word that a command begins with, and the words after it, name this call"
+        /// [codes]: crate::specs::library#codes "the characters of a text, by their numbers"
+        #[inline]
+        pub fn new_segment(operands: &[&str]) -> Result<Call, LineError> {
+            let [ty, items @ ..] = operands else {
+                return Err(LineError::BadCommand);
+            };
+            Ok(Call::NewSegment {
+                ty: ref_type(ty)?,
+                items: list_of(items)?,
+            })
+        }
+
+        /// `empty K`.
+        ///
+        /// # Contract
+        ///
+        /// <span></span><pre><code>ensures: [Accepts] result ([NamesAfter] ([codes] \"empty\") operands.now)</code></pre>
+        ///
+        /// [Accepts]: crate::specs::operands::Acceptance#Accepts "what is accepted is meant, and what is refused is a bad command: nothing is meant"
+        /// [NamesAfter]: crate::specs::grammar::Commands#NamesAfter "the word that a command begins with, and the words after it, name this call"
+        /// [codes]: crate::specs::library#codes "the characters of a text, by their numbers"
+        #[inline]
+        pub fn empty(operands: &[&str]) -> Result<Call, LineError> {
+            let [segment] = operands else {
+                return Err(LineError::BadCommand);
+            };
+            Ok(Call::DropItems(number(segment)?))
+        }
+
+        /// The table type of these words, if there is such a type.
+        ///
+        /// # Contract
+        ///
+        /// <span></span><pre><code>ensures: [Accepts] result ([NamesTableType] element.now min.now max.now width.now)</code></pre>
+        ///
+        /// [Accepts]: crate::specs::operands::Acceptance#Accepts "what is accepted is meant, and what is refused is a bad command: nothing is meant"
+        /// [NamesTableType]: crate::specs::grammar::TableWords#NamesTableType "four words name this table type, which there is: the type of its elements, its minimum, its maximum and the width of its indices"
+        #[inline]
+        fn table_type(
+            element: &str,
+            min: &str,
+            max: &str,
+            width: &str,
+        ) -> Result<TableType, LineError> {
+            let element = ref_type(element)?;
+            let minimum = number(min)?;
+            let maximum = number_or_none(max)?;
+            let index = index_ty(width)?;
+            type_of(index, element, minimum, maximum)
+        }
+
+        /// The table type of these limits, if there is such a type.
+        ///
+        /// # Contract
+        ///
+        /// <span></span><pre><code>ensures: [Accepts] result ([HasLimits]
+        /// &#32;&#32;&#32;&#32;(record { index = index; minimum = minimum; maximum = maximum }) element)</code></pre>
+        ///
+        /// [Accepts]: crate::specs::operands::Acceptance#Accepts "what is accepted is meant, and what is refused is a bad command: nothing is meant"
+        /// [HasLimits]: crate::specs::grammar::TableWords#HasLimits "a table type, which there is, of these limits and this type of elements"
+        #[inline]
+        fn type_of(
+            index: IndexType,
+            element: RefType,
+            minimum: u64,
+            maximum: Option<u64>,
+        ) -> Result<TableType, LineError> {
+            if let Some(most) = maximum {
+                if most < minimum {
+                    return Err(LineError::BadCommand);
+                }
+            }
+            match index {
+                IndexType::I32 => {
+                    let minimum = index32(minimum)?;
+                    let maximum = match maximum {
+                        Some(most) => Some(index32(most)?),
+                        None => None,
+                    };
+                    Ok(TableType::new(element, minimum, maximum))
+                }
+                IndexType::I64 => Ok(TableType::new64(element, minimum, maximum)),
+            }
+        }
+
+        /// The limit of a table whose indices have 32 bits.
+        ///
+        /// # Contract
+        ///
+        /// <span></span><pre><code>ensures value: [OkIff] result (limit < 2 ^ 32) limit
+        /// ensures refused: [IfErr] result (λ error. error ≡ [LineError.BadCommand])</code></pre>
+        ///
+        /// [OkIff]: crate::specs::library#OkIff "if P, r is the value x; else it is an error"
+        /// [IfErr]: crate::specs::library#IfErr "P of the error, if r is an error"
+        /// [LineError.BadCommand]: crate::proved::operands::LineError::BadCommand
+        #[inline]
+        fn index32(limit: u64) -> Result<u32, LineError> {
+            match u32::try_from(limit) {
+                Ok(limit) => Ok(limit),
+                Err(_) => Err(LineError::BadCommand),
+            }
+        }
+    }
+    pub mod values {
+        //! Commands of the meter, of globals and of registers.
+
+        use crate::proved::machine::{Call, GlobalType, RawVal, TypedRawVal};
+        use crate::proved::operands::{LineError, number, operand};
+
+        /// `fuel N`.
+        ///
+        /// # Contract
+        ///
+        /// <span></span><pre><code>ensures: [Accepts] result ([NamesAfter] ([codes] \"fuel\") operands.now)</code></pre>
+        ///
+        /// [Accepts]: crate::specs::operands::Acceptance#Accepts "what is accepted is meant, and what is refused is a bad command: nothing is meant"
+        /// [NamesAfter]: crate::specs::grammar::Commands#NamesAfter "the word that a command begins with, and the words after it, name this call"
+        /// [codes]: crate::specs::library#codes "the characters of a text, by their numbers"
+        #[inline]
+        pub fn set_fuel(operands: &[&str]) -> Result<Call, LineError> {
+            let [fuel] = operands else {
+                return Err(LineError::BadCommand);
+            };
+            Ok(Call::SetFuel(number(fuel)?))
+        }
+
+        /// `left`.
+        ///
+        /// # Contract
+        ///
+        /// <span></span><pre><code>ensures: [Accepts] result ([NamesAfter] ([codes] \"left\") operands.now)</code></pre>
+        ///
+        /// [Accepts]: crate::specs::operands::Acceptance#Accepts "what is accepted is meant, and what is refused is a bad command: nothing is meant"
+        /// [NamesAfter]: crate::specs::grammar::Commands#NamesAfter "the word that a command begins with, and the words after it, name this call"
+        /// [codes]: crate::specs::library#codes "the characters of a text, by their numbers"
+        #[inline]
+        pub fn get_fuel(operands: &[&str]) -> Result<Call, LineError> {
+            if operands.is_empty() {
+                Ok(Call::GetFuel)
+            } else {
+                Err(LineError::BadCommand)
+            }
+        }
+
+        /// `global V const|var LO HI`.
+        ///
+        /// # Contract
+        ///
+        /// <span></span><pre><code>ensures: [Accepts] result ([NamesAfter] ([codes] \"global\") operands.now)</code></pre>
+        ///
+        /// [Accepts]: crate::specs::operands::Acceptance#Accepts "what is accepted is meant, and what is refused is a bad command: nothing is meant"
+        /// [NamesAfter]: crate::specs::grammar::Commands#NamesAfter "the word that a command begins with, and the words after it, name this call"
+        /// [codes]: crate::specs::library#codes "the characters of a text, by their numbers"
+        #[inline]
+        pub fn new_global(operands: &[&str]) -> Result<Call, LineError> {
+            let (content, mutability, lo, hi) = operand::four(operands)?;
+            Ok(Call::NewGlobal {
+                value: RawVal { lo, hi },
+                ty: GlobalType::new(content, mutability),
+            })
+        }
+
+        /// `gset K V LO HI`.
+        ///
+        /// # Contract
+        ///
+        /// <span></span><pre><code>ensures: [Accepts] result ([NamesAfter] ([codes] \"gset\") operands.now)</code></pre>
+        ///
+        /// [Accepts]: crate::specs::operands::Acceptance#Accepts "what is accepted is meant, and what is refused is a bad command: nothing is meant"
+        /// [NamesAfter]: crate::specs::grammar::Commands#NamesAfter "the word that a command begins with, and the words after it, name this call"
+        /// [codes]: crate::specs::library#codes "the characters of a text, by their numbers"
+        #[inline]
+        pub fn set_global(operands: &[&str]) -> Result<Call, LineError> {
+            let (global, ty, lo, hi) = operand::four(operands)?;
+            Ok(Call::SetGlobal {
+                global,
+                value: TypedRawVal::new(ty, RawVal { lo, hi }),
+            })
+        }
+
+        /// `gget K`.
+        ///
+        /// # Contract
+        ///
+        /// <span></span><pre><code>ensures: [Accepts] result ([NamesAfter] ([codes] \"gget\") operands.now)</code></pre>
+        ///
+        /// [Accepts]: crate::specs::operands::Acceptance#Accepts "what is accepted is meant, and what is refused is a bad command: nothing is meant"
+        /// [NamesAfter]: crate::specs::grammar::Commands#NamesAfter "the word that a command begins with, and the words after it, name this call"
+        /// [codes]: crate::specs::library#codes "the characters of a text, by their numbers"
+        #[inline]
+        pub fn get_global(operands: &[&str]) -> Result<Call, LineError> {
+            let [global] = operands else {
+                return Err(LineError::BadCommand);
+            };
+            Ok(Call::GetGlobal(number(global)?))
+        }
+
+        /// `set D LO HI`.
+        ///
+        /// # Contract
+        ///
+        /// <span></span><pre><code>ensures: [Accepts] result ([NamesAfter] ([codes] \"set\") operands.now)</code></pre>
+        ///
+        /// [Accepts]: crate::specs::operands::Acceptance#Accepts "what is accepted is meant, and what is refused is a bad command: nothing is meant"
+        /// [NamesAfter]: crate::specs::grammar::Commands#NamesAfter "the word that a command begins with, and the words after it, name this call"
+        /// [codes]: crate::specs::library#codes "the characters of a text, by their numbers"
+        #[inline]
+        pub fn set_register(operands: &[&str]) -> Result<Call, LineError> {
+            let (dst, lo, hi) = operand::three(operands)?;
+            Ok(Call::SetRegister {
+                dst,
+                value: RawVal { lo, hi },
+            })
+        }
+
+        /// `show A`.
+        ///
+        /// # Contract
+        ///
+        /// <span></span><pre><code>ensures: [Accepts] result ([NamesAfter] ([codes] \"show\") operands.now)</code></pre>
+        ///
+        /// [Accepts]: crate::specs::operands::Acceptance#Accepts "what is accepted is meant, and what is refused is a bad command: nothing is meant"
+        /// [NamesAfter]: crate::specs::grammar::Commands#NamesAfter "the word that a command begins with, and the words after it, name this call"
+        /// [codes]: crate::specs::library#codes "the characters of a text, by their numbers"
+        #[inline]
+        pub fn get_register(operands: &[&str]) -> Result<Call, LineError> {
+            let [a] = operands else {
+                return Err(LineError::BadCommand);
+            };
+            Ok(Call::GetRegister(number(a)?))
+        }
+    }
+    pub mod vector {
+        //! Commands of vector instructions whose operands are registers and indices of lanes.
+
+        use crate::proved::machine::Call;
+        use crate::proved::machine::simd::ImmLaneIdx32;
+        use crate::proved::operands::LineError;
+        use crate::proved::operands::names::lane::{extract_op, index, replace_op};
+        use crate::proved::operands::operand::{self, Operand};
+        use crate::rattle::ArrayExt;
+
+        /// `make NAME D A`.
+        ///
+        /// # Contract
+        ///
+        /// <span></span><pre><code>ensures: [Accepts] result ([NamesAfter] ([codes] \"make\") operands.now)</code></pre>
+        ///
+        /// [Accepts]: crate::specs::operands::Acceptance#Accepts "what is accepted is meant, and what is refused is a bad command: nothing is meant"
+        /// [NamesAfter]: crate::specs::grammar::Commands#NamesAfter "the word that a command begins with, and the words after it, name this call"
+        /// [codes]: crate::specs::library#codes "the characters of a text, by their numbers"
+        #[inline]
+        pub fn make(operands: &[&str]) -> Result<Call, LineError> {
+            let (op, dst, a) = operand::three(operands)?;
+            Ok(Call::Make { op, dst, a })
+        }
+
+        /// `unary NAME D A`.
+        ///
+        /// # Contract
+        ///
+        /// <span></span><pre><code>ensures: [Accepts] result ([NamesAfter] ([codes] \"unary\") operands.now)</code></pre>
+        ///
+        /// [Accepts]: crate::specs::operands::Acceptance#Accepts "what is accepted is meant, and what is refused is a bad command: nothing is meant"
+        /// [NamesAfter]: crate::specs::grammar::Commands#NamesAfter "the word that a command begins with, and the words after it, name this call"
+        /// [codes]: crate::specs::library#codes "the characters of a text, by their numbers"
+        #[inline]
+        pub fn unary(operands: &[&str]) -> Result<Call, LineError> {
+            let (op, dst, a) = operand::three(operands)?;
+            Ok(Call::Unary { op, dst, a })
+        }
+
+        /// `binary NAME D A B`.
+        ///
+        /// # Contract
+        ///
+        /// <span></span><pre><code>ensures: [Accepts] result ([NamesAfter] ([codes] \"binary\") operands.now)</code></pre>
+        ///
+        /// [Accepts]: crate::specs::operands::Acceptance#Accepts "what is accepted is meant, and what is refused is a bad command: nothing is meant"
+        /// [NamesAfter]: crate::specs::grammar::Commands#NamesAfter "the word that a command begins with, and the words after it, name this call"
+        /// [codes]: crate::specs::library#codes "the characters of a text, by their numbers"
+        #[inline]
+        pub fn binary(operands: &[&str]) -> Result<Call, LineError> {
+            let (op, dst, a, b) = operand::four(operands)?;
+            Ok(Call::Binary { op, dst, a, b })
+        }
+
+        /// `ternary NAME D A B C`.
+        ///
+        /// # Contract
+        ///
+        /// <span></span><pre><code>ensures: [Accepts] result ([NamesAfter] ([codes] \"ternary\") operands.now)</code></pre>
+        ///
+        /// [Accepts]: crate::specs::operands::Acceptance#Accepts "what is accepted is meant, and what is refused is a bad command: nothing is meant"
+        /// [NamesAfter]: crate::specs::grammar::Commands#NamesAfter "the word that a command begins with, and the words after it, name this call"
+        /// [codes]: crate::specs::library#codes "the characters of a text, by their numbers"
+        #[inline]
+        pub fn ternary(operands: &[&str]) -> Result<Call, LineError> {
+            let (op, dst, a, b, c) = operand::five(operands)?;
+            Ok(Call::Ternary { op, dst, a, b, c })
+        }
+
+        /// `shift NAME D A N`.
+        ///
+        /// # Contract
+        ///
+        /// <span></span><pre><code>ensures: [Accepts] result ([NamesAfter] ([codes] \"shift\") operands.now)</code></pre>
+        ///
+        /// [Accepts]: crate::specs::operands::Acceptance#Accepts "what is accepted is meant, and what is refused is a bad command: nothing is meant"
+        /// [NamesAfter]: crate::specs::grammar::Commands#NamesAfter "the word that a command begins with, and the words after it, name this call"
+        /// [codes]: crate::specs::library#codes "the characters of a text, by their numbers"
+        #[inline]
+        pub fn shift(operands: &[&str]) -> Result<Call, LineError> {
+            let (op, dst, a, amount) = operand::four(operands)?;
+            Ok(Call::Shift { op, dst, a, amount })
+        }
+
+        /// `test NAME A`.
+        ///
+        /// # Contract
+        ///
+        /// <span></span><pre><code>ensures: [Accepts] result ([NamesAfter] ([codes] \"test\") operands.now)</code></pre>
+        ///
+        /// [Accepts]: crate::specs::operands::Acceptance#Accepts "what is accepted is meant, and what is refused is a bad command: nothing is meant"
+        /// [NamesAfter]: crate::specs::grammar::Commands#NamesAfter "the word that a command begins with, and the words after it, name this call"
+        /// [codes]: crate::specs::library#codes "the characters of a text, by their numbers"
+        #[inline]
+        pub fn test(operands: &[&str]) -> Result<Call, LineError> {
+            let (op, a) = operand::two(operands)?;
+            Ok(Call::Test { op, a })
+        }
+
+        /// `extract NAME A LANE`.
+        ///
+        /// # Contract
+        ///
+        /// <span></span><pre><code>ensures: [Accepts] result ([NamesAfter] ([codes] \"extract\") operands.now)</code></pre>
+        ///
+        /// [Accepts]: crate::specs::operands::Acceptance#Accepts "what is accepted is meant, and what is refused is a bad command: nothing is meant"
+        /// [NamesAfter]: crate::specs::grammar::Commands#NamesAfter "the word that a command begins with, and the words after it, name this call"
+        /// [codes]: crate::specs::library#codes "the characters of a text, by their numbers"
+        #[inline]
+        pub fn extract(operands: &[&str]) -> Result<Call, LineError> {
+            let [name, a, lane] = operands else {
+                return Err(LineError::BadCommand);
+            };
+            Ok(Call::Extract {
+                op: extract_op(name, lane)?,
+                a: Operand::from_word(a)?,
+            })
+        }
+
+        /// `replace NAME D A LANE B`.
+        ///
+        /// # Contract
+        ///
+        /// <span></span><pre><code>ensures: [Accepts] result ([NamesAfter] ([codes] \"replace\") operands.now)</code></pre>
+        ///
+        /// [Accepts]: crate::specs::operands::Acceptance#Accepts "what is accepted is meant, and what is refused is a bad command: nothing is meant"
+        /// [NamesAfter]: crate::specs::grammar::Commands#NamesAfter "the word that a command begins with, and the words after it, name this call"
+        /// [codes]: crate::specs::library#codes "the characters of a text, by their numbers"
+        #[inline]
+        pub fn replace(operands: &[&str]) -> Result<Call, LineError> {
+            let [name, dst, a, lane, item] = operands else {
+                return Err(LineError::BadCommand);
+            };
+            Ok(Call::Replace {
+                op: replace_op(name, lane)?,
+                dst: Operand::from_word(dst)?,
+                a: Operand::from_word(a)?,
+                item: Operand::from_word(item)?,
+            })
+        }
+
+        /// `shuffle D A B LANE ...`, with sixteen lanes.
+        ///
+        /// # Contract
+        ///
+        /// <span></span><pre><code>ensures: [Accepts] result ([NamesAfter] ([codes] \"shuffle\") operands.now)</code></pre>
+        ///
+        /// [Accepts]: crate::specs::operands::Acceptance#Accepts "what is accepted is meant, and what is refused is a bad command: nothing is meant"
+        /// [NamesAfter]: crate::specs::grammar::Commands#NamesAfter "the word that a command begins with, and the words after it, name this call"
+        /// [codes]: crate::specs::library#codes "the characters of a text, by their numbers"
+        #[inline]
+        pub fn shuffle(operands: &[&str]) -> Result<Call, LineError> {
+            let [dst, a, b, lanes @ ..] = operands else {
+                return Err(LineError::BadCommand);
+            };
+            Ok(Call::Shuffle {
+                dst: Operand::from_word(dst)?,
+                a: Operand::from_word(a)?,
+                b: Operand::from_word(b)?,
+                lanes: lanes_of(lanes)?,
+            })
+        }
+
+        /// The indices of lanes that sixteen words write, one each.
+        ///
+        /// # Contract
+        ///
+        /// <span></span><pre><code>ensures: [Accepts] result ([WritesLanes] words.now)</code></pre>
+        ///
+        /// [Accepts]: crate::specs::operands::Acceptance#Accepts "what is accepted is meant, and what is refused is a bad command: nothing is meant"
+        /// [WritesLanes]: crate::specs::operands::LaneNames#WritesLanes "sixteen words write the lanes of a shuffle, of which there are 32 to choose from"
+        #[inline]
+        fn lanes_of(words: &[&str]) -> Result<[ImmLaneIdx32; 16], LineError> {
+            let Ok(words) = <&[&str; 16]>::try_from(words) else {
+                return Err(LineError::BadCommand);
+            };
+            words.try_map_all(|word| index(word))
+        }
+    }
+}
+mod error {
+    //! Why a text isn't parsed.
+
+    use crate::rattle::alloc::AllocError;
+
+    /// Why a text isn't parsed.
+    #[derive(Clone, Copy, Debug, PartialEq, Eq)]
+    pub enum ParseError {
+        /// The first line that is no command, counted from 1.
+        BadCommand {
+            /// The number of the line, from 1 on.
+            line: usize,
+        },
+        /// There wasn't enough memory for the script.
+        OutOfMemory,
+    }
+
+    /// # Contract
+    ///
+    /// <span></span><pre><code>from_gives = λ \_ error. error ≡ [OutOfMemory]</code></pre>
+    ///
+    /// [OutOfMemory]: crate::proved::grammar::ParseError::OutOfMemory
+    impl From<AllocError> for ParseError {
+        #[inline]
+        fn from(_: AllocError) -> Self {
+            ParseError::OutOfMemory
+        }
+    }
+}
+mod header {
+    //! The header lines of a script.
+
+    use crate::proved::meter::{Amounts, LimiterAnswer};
+    use crate::proved::operands::operand::{self, list_of};
+    use crate::proved::operands::{LineError, number};
+    use crate::rattle::Vec;
+
+    /// The most tenants that a script may have.
+    const MOST_TENANTS: usize = 1024;
+
+    /// What a `meter` line says.
+    #[derive(Clone, Copy)]
+    pub enum MeterLine {
+        /// `meter off`: no fuel is counted.
+        Off,
+        /// `meter on R`: R bytes are copied for one fuel.
+        On(u32),
+    }
+
+    /// What a limiter line says. A script has at most one, of whatever kind.
+    pub enum LimiterLine {
+        /// `quota B E`: the most bytes and the most elements that the limiter permits, of all memories
+        /// and of all tables together.
+        Quota(Amounts),
+        /// `answers W ...`, which may have no word: one for each question, in order.
+        Answers(Vec<LimiterAnswer>),
+        /// `tenants N B E`.
+        Tenants(TenantsLine),
+    }
+
+    /// What a `tenants` line says: a pool of so many machines.
+    #[derive(Clone, Copy)]
+    pub struct TenantsLine {
+        /// How many machines there are, from 1 to 1,024.
+        pub count: usize,
+        /// The most bytes and the most elements that all of them have together.
+        pub caps: Amounts,
+    }
+
+    /// What a `region` line says: a lent region of so many bytes, all the same.
+    #[derive(Clone, Copy)]
+    pub struct RegionLine {
+        /// How many bytes it has.
+        pub len: usize,
+        /// Each of its bytes.
+        pub byte: u8,
+    }
+
+    /// The header lines that a script has.
+    #[derive(Default)]
+    pub struct Header {
+        /// The `meter` line, if there is one. Without it the meter is off.
+        pub meter: Option<MeterLine>,
+        /// The limiter line, if there is one. Without it no limiter is given.
+        pub limiter: Option<LimiterLine>,
+        /// The `region` line, if there is one. Without it no region is lent.
+        pub region: Option<RegionLine>,
+    }
+
+    impl Header {
+        /// How many tenants the script has: none without a `tenants` line.
+        ///
+        /// # Contract
+        ///
+        /// <span></span><pre><code>ensures: result ≡ [tenants_of] self.now.limiter</code></pre>
+        ///
+        /// [tenants_of]: crate::specs::grammar::Headers#tenants_of "how many tenants a limiter line asks for"
+        #[inline]
+        pub fn tenants(&self) -> usize {
+            match &self.limiter {
+                Some(LimiterLine::Tenants(line)) => line.count,
+                _ => 0,
+            }
+        }
+    }
+
+    /// What the words after `meter` say.
+    ///
+    /// # Contract
+    ///
+    /// <span></span><pre><code>ensures: [Accepts] result ([WritesMeter] operands.now)</code></pre>
+    ///
+    /// [Accepts]: crate::specs::operands::Acceptance#Accepts "what is accepted is meant, and what is refused is a bad command: nothing is meant"
+    /// [WritesMeter]: crate::specs::grammar::Headers#WritesMeter "the words after the first write what the meter line says"
+    #[inline]
+    pub(crate) fn meter_line(operands: &[&str]) -> Result<MeterLine, LineError> {
+        match operands {
+            ["off"] => Ok(MeterLine::Off),
+            ["on", bytes_per_fuel] => Ok(MeterLine::On(number(bytes_per_fuel)?)),
+            _ => Err(LineError::BadCommand),
+        }
+    }
+
+    /// What the words after `region` say.
+    ///
+    /// # Contract
+    ///
+    /// <span></span><pre><code>ensures: [Accepts] result ([WritesRegion] operands.now)</code></pre>
+    ///
+    /// [Accepts]: crate::specs::operands::Acceptance#Accepts "what is accepted is meant, and what is refused is a bad command: nothing is meant"
+    /// [WritesRegion]: crate::specs::grammar::Headers#WritesRegion "the words after the first write what the region line says"
+    #[inline]
+    pub(crate) fn region_line(operands: &[&str]) -> Result<RegionLine, LineError> {
+        let (len, byte) = operand::two(operands)?;
+        Ok(RegionLine { len, byte })
+    }
+
+    /// `quota B E`.
+    ///
+    /// # Contract
+    ///
+    /// <span></span><pre><code>ensures: [Accepts] result ([NamesLimiterAfter] ([codes] \"quota\") operands.now)</code></pre>
+    ///
+    /// [Accepts]: crate::specs::operands::Acceptance#Accepts "what is accepted is meant, and what is refused is a bad command: nothing is meant"
+    /// [NamesLimiterAfter]: crate::specs::grammar::Headers#NamesLimiterAfter "the word that a limiter line begins with, and the words after it, name this line"
+    /// [codes]: crate::specs::library#codes "the characters of a text, by their numbers"
+    #[inline]
+    pub(crate) fn quota(operands: &[&str]) -> Result<LimiterLine, LineError> {
+        let (bytes, elements) = operand::two(operands)?;
+        Ok(LimiterLine::Quota(Amounts { bytes, elements }))
+    }
+
+    /// `tenants N B E`.
+    ///
+    /// # Contract
+    ///
+    /// <span></span><pre><code>ensures: [Accepts] result ([NamesLimiterAfter] ([codes] \"tenants\") operands.now)</code></pre>
+    ///
+    /// [Accepts]: crate::specs::operands::Acceptance#Accepts "what is accepted is meant, and what is refused is a bad command: nothing is meant"
+    /// [NamesLimiterAfter]: crate::specs::grammar::Headers#NamesLimiterAfter "the word that a limiter line begins with, and the words after it, name this line"
+    /// [codes]: crate::specs::library#codes "the characters of a text, by their numbers"
+    #[inline]
+    pub(crate) fn tenants(operands: &[&str]) -> Result<LimiterLine, LineError> {
+        let (count, bytes, elements) = operand::three(operands)?;
+        if !(1..=MOST_TENANTS).contains(&count) {
+            return Err(LineError::BadCommand);
+        }
+        Ok(LimiterLine::Tenants(TenantsLine {
+            count,
+            caps: Amounts { bytes, elements },
+        }))
+    }
+
+    /// `answers W ...`, which may have no word.
+    ///
+    /// # Contract
+    ///
+    /// <span></span><pre><code>ensures: [AcceptsWithMemory] result ([NamesLimiterAfter] ([codes] \"answers\") operands.now)</code></pre>
+    ///
+    /// [AcceptsWithMemory]: crate::specs::operands::Acceptance#AcceptsWithMemory "the words are read as a value that means this, or they mean nothing of the kind, or memory was refused"
+    /// [NamesLimiterAfter]: crate::specs::grammar::Headers#NamesLimiterAfter "the word that a limiter line begins with, and the words after it, name this line"
+    /// [codes]: crate::specs::library#codes "the characters of a text, by their numbers"
+    #[inline]
+    pub(crate) fn listed(operands: &[&str]) -> Result<LimiterLine, LineError> {
+        Ok(LimiterLine::Answers(list_of(operands)?))
+    }
+}
+#[cfg(any(doc, test))]
+pub mod laws {
+    //! What holds of all texts and of the scripts that they write. These functions do nothing: each
+    //! states a law as its contract.
+
+    /// Two scripts that one text writes say the same: the same header lines, the same parts, the same
+    /// last tenant and the same calls. A list counts by its items, however it is held.
+    ///
+    /// # Contract
+    ///
+    /// <span></span><pre><code>ensures: [TextsWriteOneScript]</code></pre>
+    ///
+    /// [TextsWriteOneScript]: crate::specs::grammar::Sayings#TextsWriteOneScript "two scripts that one text writes say the same"
+    #[inline]
+    pub fn texts_write_one_script() {}
+
+    /// The first bad line of a text is one number.
+    ///
+    /// # Contract
+    ///
+    /// <span></span><pre><code>ensures: [FirstBadLinesAreOne]</code></pre>
+    ///
+    /// [FirstBadLinesAreOne]: crate::specs::grammar::Sayings#FirstBadLinesAreOne "the first bad line of a text is one number"
+    #[inline]
+    pub fn first_bad_lines_are_one() {}
+
+    /// A text that writes a script has no bad line.
+    ///
+    /// # Contract
+    ///
+    /// <span></span><pre><code>ensures: [WrittenTextsHaveNoBadLine]</code></pre>
+    ///
+    /// [WrittenTextsHaveNoBadLine]: crate::specs::grammar::Sayings#WrittenTextsHaveNoBadLine "a text that writes a script has no bad line"
+    #[inline]
+    pub fn written_texts_have_no_bad_line() {}
+}
+mod script {
+    //! The script's lines: header lines, and then commands.
+
+    use crate::proved::grammar::command::{access, memory, table, values, vector};
+    use crate::proved::grammar::error::ParseError;
+    use crate::proved::grammar::header::{
+        Header, LimiterLine, MeterLine, RegionLine, listed, meter_line, quota, region_line, tenants,
+    };
+    use crate::proved::machine::Call;
+    use crate::proved::operands::{LineError, number, read_words};
+    use crate::rattle::Vec;
+    use crate::rattle::alloc::AllocError;
+    use std::str;
+
+    /// What a script asks for: what its lines say that were taken in.
+    pub struct Script {
+        /// What its header lines say.
+        pub header: Header,
+        /// Its calls by parts.
+        pub parts: Parts,
+    }
+
+    /// Calls by parts, which `as` lines separate: without one there is one part, tenant 0's. All calls
+    /// stand in one list, so that a part takes no list of its own.
+    ///
+    /// # Model
+    ///
+    /// <span></span><pre><code>Value = [PartsValue]
+    /// view = λ p. record {
+    /// &#32;&#32;&#32;&#32;earlier = [map] ([part_at] p.calls.items) p.earlier.items;
+    /// &#32;&#32;&#32;&#32;tenant = p.tenant;
+    /// &#32;&#32;&#32;&#32;calls = [drop] p.start p.calls.items;
+    /// &#32;&#32;&#32;&#32;}
+    /// invariant = λ p. [AreCut] p.earlier.items p.start p.calls.items</code></pre>
+    ///
+    /// [PartsValue]: crate::specs::grammar::Parts#PartsValue "the parts before the last \`as\` line; after it, the tenant that it names and the calls so far"
+    /// [map]: crate::specs::library#map "f of each element"
+    /// [part_at]: crate::specs::grammar::Parts#part_at "the part whose calls stand at these places of a list"
+    /// [drop]: crate::specs::library#drop "all but the first n elements"
+    /// [AreCut]: crate::specs::grammar::Parts#AreCut "the earlier parts have the calls up to a place of a list, one after another"
+    pub struct Parts {
+        /// The call of each command, in order.
+        calls: Vec<Call>,
+        /// The parts before the last `as` line.
+        earlier: Vec<Span>,
+        /// Whose calls the last part has, from 0.
+        tenant: usize,
+        /// Where the last part begins.
+        start: usize,
+    }
+
+    /// Whose calls a part has, and the places where they stand.
+    #[derive(Clone, Copy)]
+    struct Span {
+        tenant: usize,
+        start: usize,
+        end: usize,
+    }
+
+    impl Parts {
+        /// One part without calls.
+        ///
+        /// # Contract
+        ///
+        /// <span></span><pre><code>ensures: result ≡ record { earlier = \[\]; tenant = 0; calls = \[\] }</code></pre>
+        #[inline]
+        fn new() -> Self {
+            Parts {
+                calls: Vec::new(),
+                earlier: Vec::new(),
+                tenant: 0,
+                start: 0,
+            }
+        }
+
+        /// Whether there is no call, and no part but the first.
+        ///
+        /// # Contract
+        ///
+        /// <span></span><pre><code>ensures: [IsTrue] result ↔ ((self.now.calls ≡ \[\]) × (self.now.earlier ≡ \[\]))</code></pre>
+        ///
+        /// [IsTrue]: crate::specs::library#IsTrue "b is true"
+        #[inline]
+        fn is_empty(&self) -> bool {
+            self.calls.is_empty() && self.earlier.is_empty()
+        }
+
+        /// Adds a call to the last part.
+        ///
+        /// # Contract
+        ///
+        /// <span></span><pre><code>ensures: [OnOk] result
+        /// &#32;&#32;&#32;&#32;(self.new ≡ record self.old { calls = self.old.calls ++ call ∷ \[\] })</code></pre>
+        ///
+        /// [OnOk]: crate::specs::library#OnOk "P, if r is a value"
+        #[inline]
+        fn push(&mut self, call: Call) -> Result<(), AllocError> {
+            self.calls.push(call)?;
+            Ok(())
+        }
+
+        /// Adds a part of a tenant, which has no call yet.
+        ///
+        /// # Contract
+        ///
+        /// <span></span><pre><code>ensures: [OnOk] result
+        /// &#32;&#32;&#32;&#32;(self.new ≡ record { earlier = [parts_in] self.old; tenant = tenant; calls = \[\] })</code></pre>
+        ///
+        /// [OnOk]: crate::specs::library#OnOk "P, if r is a value"
+        /// [parts_in]: crate::specs::grammar::Parts#parts_in "all parts, in order: without an \`as\` line there is one"
+        #[inline]
+        fn begin(&mut self, tenant: usize) -> Result<(), AllocError> {
+            let end = self.calls.len();
+            let span = Span {
+                tenant: self.tenant,
+                start: self.start,
+                end,
+            };
+            self.earlier.push(span)?;
+            self.tenant = tenant;
+            self.start = end;
+            Ok(())
+        }
+
+        /// How many parts there are, one at least.
+        ///
+        /// # Contract
+        ///
+        /// <span></span><pre><code>ensures: result ≡ [length] ([parts_in] self.now)</code></pre>
+        ///
+        /// [length]: crate::specs::library#length "the number of elements of a list"
+        /// [parts_in]: crate::specs::grammar::Parts#parts_in "all parts, in order: without an \`as\` line there is one"
+        #[inline]
+        pub fn len(&self) -> usize {
+            self.earlier.len() + 1
+        }
+
+        /// The tenant and the calls of a part, by its index from 0.
+        ///
+        /// # Contract
+        ///
+        /// <span></span><pre><code>ensures: [option_map] (λ part. record { tenant = part.0; calls = part.1.now }) result
+        /// &#32;&#32;&#32;&#32;≡ [slice_get] ([parts_in] self.now) index</code></pre>
+        ///
+        /// [option_map]: crate::specs::library#option_map "f of the value, if there is one"
+        /// [slice_get]: crate::specs::library#slice_get "element i, if there is one"
+        /// [parts_in]: crate::specs::grammar::Parts#parts_in "all parts, in order: without an \`as\` line there is one"
+        #[inline]
+        pub fn get(&self, index: usize) -> Option<(usize, &[Call])> {
+            if index < self.earlier.len() {
+                let span = self.earlier[index];
+                Some((span.tenant, calls_at(&self.calls, span.start, span.end)))
+            } else if index == self.earlier.len() {
+                Some((
+                    self.tenant,
+                    calls_at(&self.calls, self.start, self.calls.len()),
+                ))
+            } else {
+                None
+            }
+        }
+
+        /// The calls of all parts, in order.
+        ///
+        /// # Contract
+        ///
+        /// <span></span><pre><code>ensures: result.now ≡ [calls_in] ([parts_in] self.now)</code></pre>
+        ///
+        /// [calls_in]: crate::specs::grammar::Parts#calls_in "the calls of parts, in order"
+        /// [parts_in]: crate::specs::grammar::Parts#parts_in "all parts, in order: without an \`as\` line there is one"
+        #[inline]
+        pub fn calls(&self) -> &[Call] {
+            &self.calls
+        }
+    }
+
+    /// The calls from one place to another.
+    ///
+    /// # Contract
+    ///
+    /// <span></span><pre><code>requires order: start ≤ end
+    /// requires within: end ≤ [length] calls.now
+    /// ensures calls: result.now ≡ [take] (end - start) ([drop] start calls.now)</code></pre>
+    ///
+    /// [length]: crate::specs::library#length "the number of elements of a list"
+    /// [take]: crate::specs::library#take "the first n elements"
+    /// [drop]: crate::specs::library#drop "all but the first n elements"
+    #[inline]
+    fn calls_at(calls: &[Call], start: usize, end: usize) -> &[Call] {
+        &calls[start..end]
+    }
+
+    impl Script {
+        /// A script without lines.
+        ///
+        /// # Contract
+        ///
+        /// <span></span><pre><code>ensures: [IsNewScript] result</code></pre>
+        ///
+        /// [IsNewScript]: crate::specs::grammar::Lines#IsNewScript "no line was taken yet"
+        #[inline]
+        fn new() -> Self {
+            Script {
+                header: Header::default(),
+                parts: Parts::new(),
+            }
+        }
+
+        /// Takes in one line's words. Header lines stand before all commands, at most one `meter` line,
+        /// one limiter line and one `region` line, and a line without words is skipped.
+        ///
+        /// # Contract
+        ///
+        /// <span></span><pre><code>ensures ok: [OnOk] result ([AddsWords] self.old words.now self.new)
+        /// ensures refused: [IfErr] result (λ error. error ≡ [LineError.BadCommand]
+        /// &#32;&#32;&#32;&#32;→ (new : Script) → ¬ ([AddsWords] self.old words.now new))</code></pre>
+        ///
+        /// [OnOk]: crate::specs::library#OnOk "P, if r is a value"
+        /// [AddsWords]: crate::specs::grammar::Lines#AddsWords "the words of a line add what they say, and no words add nothing"
+        /// [IfErr]: crate::specs::library#IfErr "P of the error, if r is an error"
+        /// [LineError.BadCommand]: crate::proved::operands::LineError::BadCommand
+        #[inline]
+        fn take_line(&mut self, words: &[&str]) -> Result<(), LineError> {
+            let [name, operands @ ..] = words else {
+                return Ok(());
+            };
+            let line = line_of(name, operands)?;
+            self.take(line)
+        }
+
+        /// Takes in what a line says.
+        ///
+        /// # Contract
+        ///
+        /// <span></span><pre><code>ensures ok: [OnOk] result ([AddsLine] self.old line self.new)
+        /// ensures refused: [IfErr] result (λ error. error ≡ [LineError.BadCommand]
+        /// &#32;&#32;&#32;&#32;→ (new : Script) → ¬ ([AddsLine] self.old line new))</code></pre>
+        ///
+        /// [OnOk]: crate::specs::library#OnOk "P, if r is a value"
+        /// [AddsLine]: crate::specs::grammar::Lines#AddsLine "what a line says, added to the lines before"
+        /// [IfErr]: crate::specs::library#IfErr "P of the error, if r is an error"
+        /// [LineError.BadCommand]: crate::proved::operands::LineError::BadCommand
+        #[inline]
+        fn take(&mut self, line: Line) -> Result<(), LineError> {
+            match line {
+                Line::Meter(line) => self.take_meter(line),
+                Line::Limiter(line) => self.take_limiter(line),
+                Line::Region(line) => self.take_region(line),
+                Line::As(tenant) => self.take_part(tenant),
+                Line::Call(call) => self.take_call(call),
+            }
+        }
+
+        /// Takes in a `meter` line, of which a script has at most one.
+        ///
+        /// # Contract
+        ///
+        /// <span></span><pre><code>ensures ok: [OnOk] result ([AddsMeter] self.old line self.new)
+        /// ensures err: [OnErr] result (self.new ≡ self.old)
+        /// ensures bad: [IfErr] result (λ error. error ≡ [LineError.BadCommand])
+        /// ensures refused: [OnErr] result ((new : Script) → ¬ ([AddsMeter] self.old line new))</code></pre>
+        ///
+        /// [OnOk]: crate::specs::library#OnOk "P, if r is a value"
+        /// [AddsMeter]: crate::specs::grammar::Lines#AddsMeter "a \`meter\` line, the first one and before all commands"
+        /// [OnErr]: crate::specs::library#OnErr "P, if r is an error"
+        /// [IfErr]: crate::specs::library#IfErr "P of the error, if r is an error"
+        /// [LineError.BadCommand]: crate::proved::operands::LineError::BadCommand
+        #[inline]
+        fn take_meter(&mut self, line: MeterLine) -> Result<(), LineError> {
+            self.expect_no_commands()?;
+            if self.header.meter.is_some() {
+                return Err(LineError::BadCommand);
+            }
+            self.header.meter = Some(line);
+            Ok(())
+        }
+
+        /// Takes in a limiter line, of which a script has at most one. A pool has no region.
+        ///
+        /// # Contract
+        ///
+        /// <span></span><pre><code>ensures ok: [OnOk] result ([AddsLimiter] self.old line self.new)
+        /// ensures err: [OnErr] result (self.new ≡ self.old)
+        /// ensures bad: [IfErr] result (λ error. error ≡ [LineError.BadCommand])
+        /// ensures refused: [OnErr] result ((new : Script) → ¬ ([AddsLimiter] self.old line new))</code></pre>
+        ///
+        /// [OnOk]: crate::specs::library#OnOk "P, if r is a value"
+        /// [AddsLimiter]: crate::specs::grammar::Lines#AddsLimiter "a limiter line, the first one of any kind and before all commands"
+        /// [OnErr]: crate::specs::library#OnErr "P, if r is an error"
+        /// [IfErr]: crate::specs::library#IfErr "P of the error, if r is an error"
+        /// [LineError.BadCommand]: crate::proved::operands::LineError::BadCommand
+        #[inline]
+        fn take_limiter(&mut self, line: LimiterLine) -> Result<(), LineError> {
+            self.expect_no_commands()?;
+            if self.header.limiter.is_some() {
+                return Err(LineError::BadCommand);
+            }
+            if self.header.region.is_some() && matches!(line, LimiterLine::Tenants(_)) {
+                return Err(LineError::BadCommand);
+            }
+            self.header.limiter = Some(line);
+            Ok(())
+        }
+
+        /// Takes in a `region` line, of which a script has at most one, and none beside a pool.
+        ///
+        /// # Contract
+        ///
+        /// <span></span><pre><code>ensures ok: [OnOk] result ([AddsRegion] self.old line self.new)
+        /// ensures err: [OnErr] result (self.new ≡ self.old)
+        /// ensures bad: [IfErr] result (λ error. error ≡ [LineError.BadCommand])
+        /// ensures refused: [OnErr] result ((new : Script) → ¬ ([AddsRegion] self.old line new))</code></pre>
+        ///
+        /// [OnOk]: crate::specs::library#OnOk "P, if r is a value"
+        /// [AddsRegion]: crate::specs::grammar::Lines#AddsRegion "a \`region\` line, the first one and before all commands"
+        /// [OnErr]: crate::specs::library#OnErr "P, if r is an error"
+        /// [IfErr]: crate::specs::library#IfErr "P of the error, if r is an error"
+        /// [LineError.BadCommand]: crate::proved::operands::LineError::BadCommand
+        #[inline]
+        fn take_region(&mut self, line: RegionLine) -> Result<(), LineError> {
+            self.expect_no_commands()?;
+            if self.header.region.is_some()
+                || matches!(self.header.limiter, Some(LimiterLine::Tenants(_)))
+            {
+                return Err(LineError::BadCommand);
+            }
+            self.header.region = Some(line);
+            Ok(())
+        }
+
+        /// Header lines stand before all commands.
+        ///
+        /// # Contract
+        ///
+        /// <span></span><pre><code>ensures ok: [OnOk] result ([HasNoCommands] self.now)
+        /// ensures err: [IfErr] result
+        /// &#32;&#32;&#32;&#32;(λ error. (error ≡ [LineError.BadCommand]) × ¬ ([HasNoCommands] self.now))</code></pre>
+        ///
+        /// [OnOk]: crate::specs::library#OnOk "P, if r is a value"
+        /// [HasNoCommands]: crate::specs::grammar::Lines#HasNoCommands "no command was taken yet"
+        /// [IfErr]: crate::specs::library#IfErr "P of the error, if r is an error"
+        /// [LineError.BadCommand]: crate::proved::operands::LineError::BadCommand
+        #[inline]
+        fn expect_no_commands(&self) -> Result<(), LineError> {
+            if self.parts.is_empty() {
+                Ok(())
+            } else {
+                Err(LineError::BadCommand)
+            }
+        }
+
+        /// Takes in a command's call.
+        ///
+        /// # Contract
+        ///
+        /// <span></span><pre><code>ensures ok: [OnOk] result ([AddsCall] self.old call self.new)
+        /// ensures memory: [IfErr] result (λ error. error ≡ [LineError.OutOfMemory])</code></pre>
+        ///
+        /// [OnOk]: crate::specs::library#OnOk "P, if r is a value"
+        /// [AddsCall]: crate::specs::grammar::Lines#AddsCall "a command, whose call comes after those of the lines before"
+        /// [IfErr]: crate::specs::library#IfErr "P of the error, if r is an error"
+        /// [LineError.OutOfMemory]: crate::proved::operands::LineError::OutOfMemory
+        #[inline]
+        fn take_call(&mut self, call: Call) -> Result<(), LineError> {
+            self.parts.push(call)?;
+            Ok(())
+        }
+
+        /// Takes in an `as` line: what follows are the calls of another tenant, of whom there is one.
+        ///
+        /// # Contract
+        ///
+        /// <span></span><pre><code>ensures ok: [OnOk] result ([AddsPart] self.old tenant self.new)
+        /// ensures refused: [IfErr] result (λ error. error ≡ [LineError.BadCommand]
+        /// &#32;&#32;&#32;&#32;→ (new : Script) → ¬ ([AddsPart] self.old tenant new))</code></pre>
+        ///
+        /// [OnOk]: crate::specs::library#OnOk "P, if r is a value"
+        /// [AddsPart]: crate::specs::grammar::Lines#AddsPart "an \`as\` line: the calls before it are a part, and those after it are another tenant\'s, of whom there is one"
+        /// [IfErr]: crate::specs::library#IfErr "P of the error, if r is an error"
+        /// [LineError.BadCommand]: crate::proved::operands::LineError::BadCommand
+        #[inline]
+        fn take_part(&mut self, tenant: usize) -> Result<(), LineError> {
+            if tenant >= self.header.tenants() {
+                return Err(LineError::BadCommand);
+            }
+            self.parts.begin(tenant)?;
+            Ok(())
+        }
+    }
+
+    /// What a line with words says.
+    enum Line {
+        /// A `meter` line.
+        Meter(MeterLine),
+        /// A limiter line.
+        Limiter(LimiterLine),
+        /// A `region` line.
+        Region(RegionLine),
+        /// An `as` line, with its tenant.
+        As(usize),
+        /// A command, with its call.
+        Call(Call),
+    }
+
+    /// What a line's first word and the words after it say.
+    ///
+    /// # Contract
+    ///
+    /// <span></span><pre><code>ensures: [AcceptsWithMemory] result ([NamesLine] name.now operands.now)</code></pre>
+    ///
+    /// [AcceptsWithMemory]: crate::specs::operands::Acceptance#AcceptsWithMemory "the words are read as a value that means this, or they mean nothing of the kind, or memory was refused"
+    /// [NamesLine]: crate::specs::grammar::Lines#NamesLine "the first word of a line and the words after it say this"
+    #[inline]
+    fn line_of(name: &str, operands: &[&str]) -> Result<Line, LineError> {
+        match name {
+            "meter" => Ok(Line::Meter(meter_line(operands)?)),
+            "quota" => Ok(Line::Limiter(quota(operands)?)),
+            "answers" => Ok(Line::Limiter(listed(operands)?)),
+            "tenants" => Ok(Line::Limiter(tenants(operands)?)),
+            "region" => Ok(Line::Region(region_line(operands)?)),
+            "as" => Ok(Line::As(tenant_named(operands)?)),
+            _ => Ok(Line::Call(command(name, operands)?)),
+        }
+    }
+
+    /// The tenant that the words after `as` say.
+    ///
+    /// # Contract
+    ///
+    /// <span></span><pre><code>ensures: [Accepts] result ([WritesTenant] operands.now)</code></pre>
+    ///
+    /// [Accepts]: crate::specs::operands::Acceptance#Accepts "what is accepted is meant, and what is refused is a bad command: nothing is meant"
+    /// [WritesTenant]: crate::specs::grammar::Headers#WritesTenant "the words after the first write which tenant the \`as\` line means"
+    #[inline]
+    fn tenant_named(operands: &[&str]) -> Result<usize, LineError> {
+        let [tenant] = operands else {
+            return Err(LineError::BadCommand);
+        };
+        number(tenant)
+    }
+
+    /// The call of a command with this name and these operands.
+    ///
+    /// # Contract
+    ///
+    /// <span></span><pre><code>ensures: [AcceptsWithMemory] result ([NamesAfter] name.now operands.now)</code></pre>
+    ///
+    /// [AcceptsWithMemory]: crate::specs::operands::Acceptance#AcceptsWithMemory "the words are read as a value that means this, or they mean nothing of the kind, or memory was refused"
+    /// [NamesAfter]: crate::specs::grammar::Commands#NamesAfter "the word that a command begins with, and the words after it, name this call"
+    #[inline]
+    fn command(name: &str, operands: &[&str]) -> Result<Call, LineError> {
+        match name {
+            "fuel" => values::set_fuel(operands),
+            "left" => values::get_fuel(operands),
+            "memory" => memory::new_memory(operands),
+            "lent" => memory::new_lent_memory(operands),
+            "grow" => memory::grow(operands),
+            "drop" => memory::drop_live(operands),
+            "read" => memory::read(operands),
+            "write" => memory::write(operands),
+            "load" => access::load(operands),
+            "store" => access::store(operands),
+            "table" => table::new_table(operands),
+            "tgrow" => table::grow(operands),
+            "get" => table::get(operands),
+            "tset" => table::set(operands),
+            "init" => table::init(operands),
+            "copy" => table::copy(operands),
+            "fill" => table::fill(operands),
+            "segment" => table::new_segment(operands),
+            "empty" => table::empty(operands),
+            "global" => values::new_global(operands),
+            "gset" => values::set_global(operands),
+            "gget" => values::get_global(operands),
+            "set" => values::set_register(operands),
+            "show" => values::get_register(operands),
+            "make" => vector::make(operands),
+            "unary" => vector::unary(operands),
+            "binary" => vector::binary(operands),
+            "ternary" => vector::ternary(operands),
+            "shift" => vector::shift(operands),
+            "test" => vector::test(operands),
+            "extract" => vector::extract(operands),
+            "replace" => vector::replace(operands),
+            "shuffle" => vector::shuffle(operands),
+            "vload" => access::vector_load(operands),
+            "vloadlane" => access::load_lane(operands),
+            "vstore" => access::vector_store(operands),
+            "vstorelane" => access::store_lane(operands),
+            _ => Err(LineError::BadCommand),
+        }
+    }
+
+    /// The script that the bytes write. Of several bad lines the first is named.
+    ///
+    /// # Contract
+    ///
+    /// <span></span><pre><code>ensures script: [IfOk] result ([WritesScript] bytes.now)
+    /// ensures calls: [IfOk] result (λ script. [length] ([calls_of] script) ≤ [length] bytes.now + 1)
+    /// ensures refused: [IfErr] result ([IsParseError] bytes.now)
+    /// ensures line: [IfErr] result
+    /// &#32;&#32;&#32;&#32;(λ error. (line : [ℕ]) → error ≡ [ParseError.BadCommand] line
+    /// &#32;&#32;&#32;&#32;→ (0 < line) × (line ≤ [length] bytes.now + 1))</code></pre>
+    ///
+    /// [IfOk]: crate::specs::library#IfOk "P of the value, if r is a value"
+    /// [WritesScript]: crate::specs::grammar::Lines#WritesScript "the script that a text writes: what its lines make"
+    /// [length]: crate::specs::library#length "the number of elements of a list"
+    /// [calls_of]: crate::specs::grammar::Lines#calls_of "all calls of a script, in order"
+    /// [IfErr]: crate::specs::library#IfErr "P of the error, if r is an error"
+    /// [IsParseError]: crate::specs::grammar::Refusals#IsParseError "why a text isn\'t parsed"
+    /// [ℕ]: crate::specs::library#%E2%84%95 "the whole numbers from 0 on"
+    /// [ParseError.BadCommand]: crate::proved::grammar::ParseError::BadCommand
+    #[inline]
+    pub fn parse(bytes: &[u8]) -> Result<Script, ParseError> {
+        let mut script = Script::new();
+        let mut words = Vec::new();
+        for (index, bytes) in bytes.split(|byte| *byte == b'\n').enumerate() {
+            let line = index + 1;
+            let Ok(text) = str::from_utf8(bytes) else {
+                return Err(ParseError::BadCommand { line });
+            };
+            read_words(text, &mut words)?;
+            match script.take_line(words.as_slice()) {
+                Ok(()) => {}
+                Err(LineError::BadCommand) => return Err(ParseError::BadCommand { line }),
+                Err(LineError::OutOfMemory) => return Err(ParseError::OutOfMemory),
+            }
+        }
+        Ok(script)
+    }
+}
+
+pub use error::ParseError;
+pub use header::{Header, LimiterLine, MeterLine, RegionLine, TenantsLine};
+pub use script::{Parts, Script, parse};

@@ -1,0 +1,2197 @@
+//! The vector instructions of WebAssembly that work lane by lane.
+pub mod simd {
+    //! The vector instructions that work lane by lane, with the lane types and indices.
+    //!
+    //! Each function is the instruction of its name: `i8x16_add` is `i8x16.add`, of 16 lanes of 8 bits;
+    //! lane 0 is the lowest. `i8x16_mul` is no instruction of WebAssembly. Core specification: vector
+    //! instructions; what each gives stands in `specs/VectorTable.antt`. Upstream: `wasmi_core::simd`.
+
+    mod binary {
+        //! Binary instructions.
+
+        use crate::proved::lanes::{
+            I8x16, I16x8, U8x16, U16x8, U32x4, clamped_i8, clamped_i16, on_vectors,
+        };
+        use crate::proved::lanewise::simd::{order, q15, words};
+        use crate::proved::raw::V128;
+
+        /// The sums of the lanes, modulo 2 to the power 8.
+        ///
+        /// # Contract
+        ///
+        /// <span></span><pre><code>ensures: result ≡ [vector.add] [w8] lhs rhs</code></pre>
+        ///
+        /// [vector.add]: crate::specs::lanewise::VectorTable#add "modulo 2 ^ w"
+        /// [w8]: crate::specs::library#w8 "the widths of integers in bits"
+        #[inline]
+        pub fn i8x16_add(lhs: V128, rhs: V128) -> V128 {
+            words::sums::<u8>(lhs, rhs)
+        }
+
+        /// The sums of the lanes, modulo 2 to the power 16.
+        ///
+        /// # Contract
+        ///
+        /// <span></span><pre><code>ensures: result ≡ [vector.add] [w16] lhs rhs</code></pre>
+        ///
+        /// [vector.add]: crate::specs::lanewise::VectorTable#add "modulo 2 ^ w"
+        /// [w16]: crate::specs::library#w16 "the widths of integers in bits"
+        #[inline]
+        pub fn i16x8_add(lhs: V128, rhs: V128) -> V128 {
+            words::sums::<u16>(lhs, rhs)
+        }
+
+        /// The sums of the lanes, modulo 2 to the power 32.
+        ///
+        /// # Contract
+        ///
+        /// <span></span><pre><code>ensures: result ≡ [vector.add] [w32] lhs rhs</code></pre>
+        ///
+        /// [vector.add]: crate::specs::lanewise::VectorTable#add "modulo 2 ^ w"
+        /// [w32]: crate::specs::library#w32 "the widths of integers in bits"
+        #[inline]
+        pub fn i32x4_add(lhs: V128, rhs: V128) -> V128 {
+            words::sums::<u32>(lhs, rhs)
+        }
+
+        /// The sums of the lanes, modulo 2 to the power 64.
+        ///
+        /// # Contract
+        ///
+        /// <span></span><pre><code>ensures: result ≡ [vector.add] [w64] lhs rhs</code></pre>
+        ///
+        /// [vector.add]: crate::specs::lanewise::VectorTable#add "modulo 2 ^ w"
+        /// [w64]: crate::specs::library#w64 "the widths of integers in bits"
+        #[inline]
+        pub fn i64x2_add(lhs: V128, rhs: V128) -> V128 {
+            words::sums::<u64>(lhs, rhs)
+        }
+
+        /// The differences of the lanes, modulo 2 to the power 8.
+        ///
+        /// # Contract
+        ///
+        /// <span></span><pre><code>ensures: result ≡ [vector.sub] [w8] lhs rhs</code></pre>
+        ///
+        /// [vector.sub]: crate::specs::lanewise::VectorTable#sub "the differences modulo 2 to the width"
+        /// [w8]: crate::specs::library#w8 "the widths of integers in bits"
+        #[inline]
+        pub fn i8x16_sub(lhs: V128, rhs: V128) -> V128 {
+            words::differences::<u8>(lhs, rhs)
+        }
+
+        /// The differences of the lanes, modulo 2 to the power 16.
+        ///
+        /// # Contract
+        ///
+        /// <span></span><pre><code>ensures: result ≡ [vector.sub] [w16] lhs rhs</code></pre>
+        ///
+        /// [vector.sub]: crate::specs::lanewise::VectorTable#sub "the differences modulo 2 to the width"
+        /// [w16]: crate::specs::library#w16 "the widths of integers in bits"
+        #[inline]
+        pub fn i16x8_sub(lhs: V128, rhs: V128) -> V128 {
+            words::differences::<u16>(lhs, rhs)
+        }
+
+        /// The differences of the lanes, modulo 2 to the power 32.
+        ///
+        /// # Contract
+        ///
+        /// <span></span><pre><code>ensures: result ≡ [vector.sub] [w32] lhs rhs</code></pre>
+        ///
+        /// [vector.sub]: crate::specs::lanewise::VectorTable#sub "the differences modulo 2 to the width"
+        /// [w32]: crate::specs::library#w32 "the widths of integers in bits"
+        #[inline]
+        pub fn i32x4_sub(lhs: V128, rhs: V128) -> V128 {
+            words::differences::<u32>(lhs, rhs)
+        }
+
+        /// The differences of the lanes, modulo 2 to the power 64.
+        ///
+        /// # Contract
+        ///
+        /// <span></span><pre><code>ensures: result ≡ [vector.sub] [w64] lhs rhs</code></pre>
+        ///
+        /// [vector.sub]: crate::specs::lanewise::VectorTable#sub "the differences modulo 2 to the width"
+        /// [w64]: crate::specs::library#w64 "the widths of integers in bits"
+        #[inline]
+        pub fn i64x2_sub(lhs: V128, rhs: V128) -> V128 {
+            words::differences::<u64>(lhs, rhs)
+        }
+
+        /// The products of the lanes, modulo 2 to the power 8: upstream's alone, no instruction of
+        /// WebAssembly.
+        ///
+        /// # Contract
+        ///
+        /// <span></span><pre><code>ensures: result ≡ [vector.mul] [w8] lhs rhs</code></pre>
+        ///
+        /// [vector.mul]: crate::specs::lanewise::VectorTable#mul "the products modulo 2 to the width"
+        /// [w8]: crate::specs::library#w8 "the widths of integers in bits"
+        #[inline]
+        pub fn i8x16_mul(lhs: V128, rhs: V128) -> V128 {
+            on_vectors::binary::<U8x16, _>(lhs, rhs, |x, y| x.wrapping_mul(y))
+        }
+
+        /// The products of the lanes, modulo 2 to the power 16.
+        ///
+        /// # Contract
+        ///
+        /// <span></span><pre><code>ensures: result ≡ [vector.mul] [w16] lhs rhs</code></pre>
+        ///
+        /// [vector.mul]: crate::specs::lanewise::VectorTable#mul "the products modulo 2 to the width"
+        /// [w16]: crate::specs::library#w16 "the widths of integers in bits"
+        #[inline]
+        pub fn i16x8_mul(lhs: V128, rhs: V128) -> V128 {
+            on_vectors::binary::<U16x8, _>(lhs, rhs, |x, y| x.wrapping_mul(y))
+        }
+
+        /// The products of the lanes, modulo 2 to the power 32.
+        ///
+        /// # Contract
+        ///
+        /// <span></span><pre><code>ensures: result ≡ [vector.mul] [w32] lhs rhs</code></pre>
+        ///
+        /// [vector.mul]: crate::specs::lanewise::VectorTable#mul "the products modulo 2 to the width"
+        /// [w32]: crate::specs::library#w32 "the widths of integers in bits"
+        #[inline]
+        pub fn i32x4_mul(lhs: V128, rhs: V128) -> V128 {
+            on_vectors::binary::<U32x4, _>(lhs, rhs, |x, y| x.wrapping_mul(y))
+        }
+
+        /// The products of the lanes, modulo 2 to the power 64.
+        ///
+        /// # Contract
+        ///
+        /// <span></span><pre><code>ensures: result ≡ [vector.mul] [w64] lhs rhs</code></pre>
+        ///
+        /// [vector.mul]: crate::specs::lanewise::VectorTable#mul "the products modulo 2 to the width"
+        /// [w64]: crate::specs::library#w64 "the widths of integers in bits"
+        #[inline]
+        pub fn i64x2_mul(lhs: V128, rhs: V128) -> V128 {
+            let (a_low, a_high) = lhs.words();
+            let (b_low, b_high) = rhs.words();
+            V128::from_word_pair(a_low.wrapping_mul(b_low), product_by_u128(a_high, b_high))
+        }
+
+        // The product modulo 2 to the power 64, as the high word of one of 128 bits. Beside a product of
+        // two words LLVM doesn't take it for a lane of the same vector, whose product (three of `pmuludq`)
+        // is slower than two of words.
+        /// # Contract
+        ///
+        /// <span></span><pre><code>ensures: result ≡ x \* y % 2 ^ 64</code></pre>
+        #[inline(always)]
+        fn product_by_u128(x: u64, y: u64) -> u64 {
+            ((u128::from(x) << 64).wrapping_mul(u128::from(y)) >> 64) as u64
+        }
+
+        /// The sums of the lanes, read signed and clamped to the signed range of 8 bits.
+        ///
+        /// # Contract
+        ///
+        /// <span></span><pre><code>ensures: result ≡ [vector.add_sat_s] [w8] lhs rhs</code></pre>
+        ///
+        /// [vector.add_sat_s]: crate::specs::lanewise::VectorTable#add_sat_s "clamped to the signed range, or to the unsigned range"
+        /// [w8]: crate::specs::library#w8 "the widths of integers in bits"
+        #[inline]
+        pub fn i8x16_add_sat_s(lhs: V128, rhs: V128) -> V128 {
+            on_vectors::binary::<I8x16, _>(lhs, rhs, |x, y| clamped_i8(sum_i8(x, y)))
+        }
+
+        /// The sums of the lanes, read unsigned and clamped to the unsigned range of 8 bits.
+        ///
+        /// # Contract
+        ///
+        /// <span></span><pre><code>ensures: result ≡ [vector.add_sat_u] [w8] lhs rhs</code></pre>
+        ///
+        /// [vector.add_sat_u]: crate::specs::lanewise::VectorTable#add_sat_u "the sums of lanes read unsigned, clamped to the unsigned range"
+        /// [w8]: crate::specs::library#w8 "the widths of integers in bits"
+        #[inline]
+        pub fn i8x16_add_sat_u(lhs: V128, rhs: V128) -> V128 {
+            on_vectors::binary::<U8x16, _>(lhs, rhs, |x, y| x.saturating_add(y))
+        }
+
+        /// The sums of the lanes, read signed and clamped to the signed range of 16 bits.
+        ///
+        /// # Contract
+        ///
+        /// <span></span><pre><code>ensures: result ≡ [vector.add_sat_s] [w16] lhs rhs</code></pre>
+        ///
+        /// [vector.add_sat_s]: crate::specs::lanewise::VectorTable#add_sat_s "clamped to the signed range, or to the unsigned range"
+        /// [w16]: crate::specs::library#w16 "the widths of integers in bits"
+        #[inline]
+        pub fn i16x8_add_sat_s(lhs: V128, rhs: V128) -> V128 {
+            on_vectors::binary::<I16x8, _>(lhs, rhs, |x, y| clamped_i16(sum_i16(x, y)))
+        }
+
+        /// The sums of the lanes, read unsigned and clamped to the unsigned range of 16 bits.
+        ///
+        /// # Contract
+        ///
+        /// <span></span><pre><code>ensures: result ≡ [vector.add_sat_u] [w16] lhs rhs</code></pre>
+        ///
+        /// [vector.add_sat_u]: crate::specs::lanewise::VectorTable#add_sat_u "the sums of lanes read unsigned, clamped to the unsigned range"
+        /// [w16]: crate::specs::library#w16 "the widths of integers in bits"
+        #[inline]
+        pub fn i16x8_add_sat_u(lhs: V128, rhs: V128) -> V128 {
+            on_vectors::binary::<U16x8, _>(lhs, rhs, |x, y| x.saturating_add(y))
+        }
+
+        /// The differences of the lanes, read signed and clamped to the signed range of 8 bits.
+        ///
+        /// # Contract
+        ///
+        /// <span></span><pre><code>ensures: result ≡ [vector.sub_sat_s] [w8] lhs rhs</code></pre>
+        ///
+        /// [vector.sub_sat_s]: crate::specs::lanewise::VectorTable#sub_sat_s "the differences of lanes read signed, clamped to the signed range"
+        /// [w8]: crate::specs::library#w8 "the widths of integers in bits"
+        #[inline]
+        pub fn i8x16_sub_sat_s(lhs: V128, rhs: V128) -> V128 {
+            on_vectors::binary::<I8x16, _>(lhs, rhs, |x, y| clamped_i8(difference_i8(x, y)))
+        }
+
+        /// The differences of the lanes, read unsigned and clamped to the unsigned range of 8 bits.
+        ///
+        /// # Contract
+        ///
+        /// <span></span><pre><code>ensures: result ≡ [vector.sub_sat_u] [w8] lhs rhs</code></pre>
+        ///
+        /// [vector.sub_sat_u]: crate::specs::lanewise::VectorTable#sub_sat_u "the differences of lanes read unsigned, clamped to the unsigned range"
+        /// [w8]: crate::specs::library#w8 "the widths of integers in bits"
+        #[inline]
+        pub fn i8x16_sub_sat_u(lhs: V128, rhs: V128) -> V128 {
+            on_vectors::binary::<U8x16, _>(lhs, rhs, |x, y| x.saturating_sub(y))
+        }
+
+        /// The differences of the lanes, read signed and clamped to the signed range of 16 bits.
+        ///
+        /// # Contract
+        ///
+        /// <span></span><pre><code>ensures: result ≡ [vector.sub_sat_s] [w16] lhs rhs</code></pre>
+        ///
+        /// [vector.sub_sat_s]: crate::specs::lanewise::VectorTable#sub_sat_s "the differences of lanes read signed, clamped to the signed range"
+        /// [w16]: crate::specs::library#w16 "the widths of integers in bits"
+        #[inline]
+        pub fn i16x8_sub_sat_s(lhs: V128, rhs: V128) -> V128 {
+            on_vectors::binary::<I16x8, _>(lhs, rhs, |x, y| clamped_i16(difference_i16(x, y)))
+        }
+
+        /// The differences of the lanes, read unsigned and clamped to the unsigned range of 16 bits.
+        ///
+        /// # Contract
+        ///
+        /// <span></span><pre><code>ensures: result ≡ [vector.sub_sat_u] [w16] lhs rhs</code></pre>
+        ///
+        /// [vector.sub_sat_u]: crate::specs::lanewise::VectorTable#sub_sat_u "the differences of lanes read unsigned, clamped to the unsigned range"
+        /// [w16]: crate::specs::library#w16 "the widths of integers in bits"
+        #[inline]
+        pub fn i16x8_sub_sat_u(lhs: V128, rhs: V128) -> V128 {
+            on_vectors::binary::<U16x8, _>(lhs, rhs, |x, y| x.saturating_sub(y))
+        }
+
+        /// The products of the lanes as q15 numbers (signed, over 2 to the power 15), rounded and clamped
+        /// to the signed range.
+        ///
+        /// # Contract
+        ///
+        /// <span></span><pre><code>ensures: result ≡ [vector.q15mulr_sat_s] lhs rhs</code></pre>
+        ///
+        /// [vector.q15mulr_sat_s]: crate::specs::lanewise::VectorTable#q15mulr_sat_s "the rounded products of q15 numbers, clamped to the signed range"
+        #[inline]
+        pub fn i16x8_q15mulr_sat_s(lhs: V128, rhs: V128) -> V128 {
+            q15::rounded_products(lhs, rhs)
+        }
+
+        /// The smaller ones of the lanes, read signed.
+        ///
+        /// # Contract
+        ///
+        /// <span></span><pre><code>ensures: result ≡ [vector.min_s] [w8] lhs rhs</code></pre>
+        ///
+        /// [vector.min_s]: crate::specs::lanewise::VectorTable#min_s "the smaller of each two lanes read signed"
+        /// [w8]: crate::specs::library#w8 "the widths of integers in bits"
+        #[inline]
+        pub fn i8x16_min_s(lhs: V128, rhs: V128) -> V128 {
+            order::smaller_s::<u8>(lhs, rhs)
+        }
+
+        /// The smaller ones of the lanes, read unsigned.
+        ///
+        /// # Contract
+        ///
+        /// <span></span><pre><code>ensures: result ≡ [vector.min_u] [w8] lhs rhs</code></pre>
+        ///
+        /// [vector.min_u]: crate::specs::lanewise::VectorTable#min_u "the smaller of each two lanes read unsigned"
+        /// [w8]: crate::specs::library#w8 "the widths of integers in bits"
+        #[inline]
+        pub fn i8x16_min_u(lhs: V128, rhs: V128) -> V128 {
+            order::smaller_u::<u8>(lhs, rhs)
+        }
+
+        /// The smaller ones of the lanes, read signed.
+        ///
+        /// # Contract
+        ///
+        /// <span></span><pre><code>ensures: result ≡ [vector.min_s] [w16] lhs rhs</code></pre>
+        ///
+        /// [vector.min_s]: crate::specs::lanewise::VectorTable#min_s "the smaller of each two lanes read signed"
+        /// [w16]: crate::specs::library#w16 "the widths of integers in bits"
+        #[inline]
+        pub fn i16x8_min_s(lhs: V128, rhs: V128) -> V128 {
+            order::smaller_s::<u16>(lhs, rhs)
+        }
+
+        /// The smaller ones of the lanes, read unsigned.
+        ///
+        /// # Contract
+        ///
+        /// <span></span><pre><code>ensures: result ≡ [vector.min_u] [w16] lhs rhs</code></pre>
+        ///
+        /// [vector.min_u]: crate::specs::lanewise::VectorTable#min_u "the smaller of each two lanes read unsigned"
+        /// [w16]: crate::specs::library#w16 "the widths of integers in bits"
+        #[inline]
+        pub fn i16x8_min_u(lhs: V128, rhs: V128) -> V128 {
+            order::smaller_u::<u16>(lhs, rhs)
+        }
+
+        /// The smaller ones of the lanes, read signed.
+        ///
+        /// # Contract
+        ///
+        /// <span></span><pre><code>ensures: result ≡ [vector.min_s] [w32] lhs rhs</code></pre>
+        ///
+        /// [vector.min_s]: crate::specs::lanewise::VectorTable#min_s "the smaller of each two lanes read signed"
+        /// [w32]: crate::specs::library#w32 "the widths of integers in bits"
+        #[inline]
+        pub fn i32x4_min_s(lhs: V128, rhs: V128) -> V128 {
+            order::smaller_s::<u32>(lhs, rhs)
+        }
+
+        /// The smaller ones of the lanes, read unsigned.
+        ///
+        /// # Contract
+        ///
+        /// <span></span><pre><code>ensures: result ≡ [vector.min_u] [w32] lhs rhs</code></pre>
+        ///
+        /// [vector.min_u]: crate::specs::lanewise::VectorTable#min_u "the smaller of each two lanes read unsigned"
+        /// [w32]: crate::specs::library#w32 "the widths of integers in bits"
+        #[inline]
+        pub fn i32x4_min_u(lhs: V128, rhs: V128) -> V128 {
+            order::smaller_u::<u32>(lhs, rhs)
+        }
+
+        /// The larger ones of the lanes, read signed.
+        ///
+        /// # Contract
+        ///
+        /// <span></span><pre><code>ensures: result ≡ [vector.max_s] [w8] lhs rhs</code></pre>
+        ///
+        /// [vector.max_s]: crate::specs::lanewise::VectorTable#max_s "the greater of each two lanes read signed"
+        /// [w8]: crate::specs::library#w8 "the widths of integers in bits"
+        #[inline]
+        pub fn i8x16_max_s(lhs: V128, rhs: V128) -> V128 {
+            order::larger_s::<u8>(lhs, rhs)
+        }
+
+        /// The larger ones of the lanes, read unsigned.
+        ///
+        /// # Contract
+        ///
+        /// <span></span><pre><code>ensures: result ≡ [vector.max_u] [w8] lhs rhs</code></pre>
+        ///
+        /// [vector.max_u]: crate::specs::lanewise::VectorTable#max_u "the greater of each two lanes read unsigned"
+        /// [w8]: crate::specs::library#w8 "the widths of integers in bits"
+        #[inline]
+        pub fn i8x16_max_u(lhs: V128, rhs: V128) -> V128 {
+            order::larger_u::<u8>(lhs, rhs)
+        }
+
+        /// The larger ones of the lanes, read signed.
+        ///
+        /// # Contract
+        ///
+        /// <span></span><pre><code>ensures: result ≡ [vector.max_s] [w16] lhs rhs</code></pre>
+        ///
+        /// [vector.max_s]: crate::specs::lanewise::VectorTable#max_s "the greater of each two lanes read signed"
+        /// [w16]: crate::specs::library#w16 "the widths of integers in bits"
+        #[inline]
+        pub fn i16x8_max_s(lhs: V128, rhs: V128) -> V128 {
+            order::larger_s::<u16>(lhs, rhs)
+        }
+
+        /// The larger ones of the lanes, read unsigned.
+        ///
+        /// # Contract
+        ///
+        /// <span></span><pre><code>ensures: result ≡ [vector.max_u] [w16] lhs rhs</code></pre>
+        ///
+        /// [vector.max_u]: crate::specs::lanewise::VectorTable#max_u "the greater of each two lanes read unsigned"
+        /// [w16]: crate::specs::library#w16 "the widths of integers in bits"
+        #[inline]
+        pub fn i16x8_max_u(lhs: V128, rhs: V128) -> V128 {
+            order::larger_u::<u16>(lhs, rhs)
+        }
+
+        /// The larger ones of the lanes, read signed.
+        ///
+        /// # Contract
+        ///
+        /// <span></span><pre><code>ensures: result ≡ [vector.max_s] [w32] lhs rhs</code></pre>
+        ///
+        /// [vector.max_s]: crate::specs::lanewise::VectorTable#max_s "the greater of each two lanes read signed"
+        /// [w32]: crate::specs::library#w32 "the widths of integers in bits"
+        #[inline]
+        pub fn i32x4_max_s(lhs: V128, rhs: V128) -> V128 {
+            order::larger_s::<u32>(lhs, rhs)
+        }
+
+        /// The larger ones of the lanes, read unsigned.
+        ///
+        /// # Contract
+        ///
+        /// <span></span><pre><code>ensures: result ≡ [vector.max_u] [w32] lhs rhs</code></pre>
+        ///
+        /// [vector.max_u]: crate::specs::lanewise::VectorTable#max_u "the greater of each two lanes read unsigned"
+        /// [w32]: crate::specs::library#w32 "the widths of integers in bits"
+        #[inline]
+        pub fn i32x4_max_u(lhs: V128, rhs: V128) -> V128 {
+            order::larger_u::<u32>(lhs, rhs)
+        }
+
+        /// The averages of the lanes, read unsigned, halves rounded up.
+        ///
+        /// # Contract
+        ///
+        /// <span></span><pre><code>ensures: result ≡ [vector.avgr_u] [w8] lhs rhs</code></pre>
+        ///
+        /// [vector.avgr_u]: crate::specs::lanewise::VectorTable#avgr_u "the averages of lanes read unsigned, rounded up"
+        /// [w8]: crate::specs::library#w8 "the widths of integers in bits"
+        #[inline]
+        pub fn i8x16_avgr_u(lhs: V128, rhs: V128) -> V128 {
+            words::averages::<u8>(lhs, rhs)
+        }
+
+        /// The averages of the lanes, read unsigned, halves rounded up.
+        ///
+        /// # Contract
+        ///
+        /// <span></span><pre><code>ensures: result ≡ [vector.avgr_u] [w16] lhs rhs</code></pre>
+        ///
+        /// [vector.avgr_u]: crate::specs::lanewise::VectorTable#avgr_u "the averages of lanes read unsigned, rounded up"
+        /// [w16]: crate::specs::library#w16 "the widths of integers in bits"
+        #[inline]
+        pub fn i16x8_avgr_u(lhs: V128, rhs: V128) -> V128 {
+            words::averages::<u16>(lhs, rhs)
+        }
+
+        /// # Contract
+        ///
+        /// <span></span><pre><code>ensures: result ≡ x +ℤ y</code></pre>
+        #[inline]
+        fn sum_i8(x: i8, y: i8) -> i16 {
+            i16::from(x) + i16::from(y)
+        }
+
+        /// # Contract
+        ///
+        /// <span></span><pre><code>ensures: result ≡ x -ℤ y</code></pre>
+        #[inline]
+        fn difference_i8(x: i8, y: i8) -> i16 {
+            i16::from(x) - i16::from(y)
+        }
+
+        /// # Contract
+        ///
+        /// <span></span><pre><code>ensures: result ≡ x +ℤ y</code></pre>
+        #[inline]
+        fn sum_i16(x: i16, y: i16) -> i32 {
+            i32::from(x) + i32::from(y)
+        }
+
+        /// # Contract
+        ///
+        /// <span></span><pre><code>ensures: result ≡ x -ℤ y</code></pre>
+        #[inline]
+        fn difference_i16(x: i16, y: i16) -> i32 {
+            i32::from(x) - i32::from(y)
+        }
+    }
+    mod bitwise {
+        //! Instructions that work bit by bit on whole vectors.
+
+        use crate::proved::lanes::{from_u64x2, u64x2_of};
+        use crate::proved::raw::V128;
+
+        /// Bitwise and.
+        ///
+        /// # Contract
+        ///
+        /// <span></span><pre><code>ensures: result ≡ [vector.v128_and] lhs rhs</code></pre>
+        ///
+        /// [vector.v128_and]: crate::specs::lanewise::VectorTable#v128_and "each bit is set where it is set in both"
+        #[inline]
+        pub fn v128_and(lhs: V128, rhs: V128) -> V128 {
+            let (a_low, a_high) = lhs.words();
+            let (b_low, b_high) = rhs.words();
+            V128::from_word_pair(a_low & b_low, a_high & b_high)
+        }
+
+        /// Bitwise or.
+        ///
+        /// # Contract
+        ///
+        /// <span></span><pre><code>ensures: result ≡ [vector.v128_or] lhs rhs</code></pre>
+        ///
+        /// [vector.v128_or]: crate::specs::lanewise::VectorTable#v128_or "each bit is set where it is set in one or both"
+        #[inline]
+        pub fn v128_or(lhs: V128, rhs: V128) -> V128 {
+            let (a_low, a_high) = lhs.words();
+            let (b_low, b_high) = rhs.words();
+            V128::from_word_pair(a_low | b_low, a_high | b_high)
+        }
+
+        /// Bitwise exclusive or.
+        ///
+        /// # Contract
+        ///
+        /// <span></span><pre><code>ensures: result ≡ [vector.v128_xor] lhs rhs</code></pre>
+        ///
+        /// [vector.v128_xor]: crate::specs::lanewise::VectorTable#v128_xor "each bit is set where it is set in exactly one"
+        #[inline]
+        pub fn v128_xor(lhs: V128, rhs: V128) -> V128 {
+            let (a_low, a_high) = lhs.words();
+            let (b_low, b_high) = rhs.words();
+            V128::from_word_pair(a_low ^ b_low, a_high ^ b_high)
+        }
+
+        /// The bits of `v` inverted.
+        ///
+        /// # Contract
+        ///
+        /// <span></span><pre><code>ensures: result ≡ [vector.v128_not] v</code></pre>
+        ///
+        /// [vector.v128_not]: crate::specs::lanewise::VectorTable#v128_not "each bit is inverted"
+        #[inline]
+        pub fn v128_not(v: V128) -> V128 {
+            let (low, high) = v.words();
+            V128::from_word_pair(!low, !high)
+        }
+
+        /// The bits of `lhs` where `rhs` has zeros.
+        ///
+        /// # Contract
+        ///
+        /// <span></span><pre><code>ensures: result ≡ [vector.v128_andnot] lhs rhs</code></pre>
+        ///
+        /// [vector.v128_andnot]: crate::specs::lanewise::VectorTable#v128_andnot "each bit is set where it is set in the first and not in the second"
+        #[inline]
+        pub fn v128_andnot(lhs: V128, rhs: V128) -> V128 {
+            v128_and(lhs, v128_not(rhs))
+        }
+
+        /// The bits of `v1` where `c` has ones, those of `v2` where it has zeros.
+        ///
+        /// # Contract
+        ///
+        /// <span></span><pre><code>ensures: result ≡ [vector.v128_bitselect] v1 v2 c</code></pre>
+        ///
+        /// [vector.v128_bitselect]: crate::specs::lanewise::VectorTable#v128_bitselect "the bits of a where c has ones, those of b where it has zeros"
+        #[inline]
+        pub fn v128_bitselect(v1: V128, v2: V128, c: V128) -> V128 {
+            let ones = u64x2_of(c);
+            from_u64x2((u64x2_of(v1) & ones) | (u64x2_of(v2) & !ones))
+        }
+    }
+    mod comparison {
+        //! Comparisons.
+
+        use crate::proved::lanewise::simd::{order, words};
+        use crate::proved::raw::V128;
+
+        /// All ones in the lanes that are equal, else all zeros.
+        ///
+        /// # Contract
+        ///
+        /// <span></span><pre><code>ensures: result ≡ [vector.eq] [w8] lhs rhs</code></pre>
+        ///
+        /// [vector.eq]: crate::specs::lanewise::VectorTable#eq "all ones in the lanes that are equal, else all zeros"
+        /// [w8]: crate::specs::library#w8 "the widths of integers in bits"
+        #[inline]
+        pub fn i8x16_eq(lhs: V128, rhs: V128) -> V128 {
+            words::equal::<u8>(lhs, rhs)
+        }
+
+        /// All ones in the lanes that are equal, else all zeros.
+        ///
+        /// # Contract
+        ///
+        /// <span></span><pre><code>ensures: result ≡ [vector.eq] [w16] lhs rhs</code></pre>
+        ///
+        /// [vector.eq]: crate::specs::lanewise::VectorTable#eq "all ones in the lanes that are equal, else all zeros"
+        /// [w16]: crate::specs::library#w16 "the widths of integers in bits"
+        #[inline]
+        pub fn i16x8_eq(lhs: V128, rhs: V128) -> V128 {
+            words::equal::<u16>(lhs, rhs)
+        }
+
+        /// All ones in the lanes that are equal, else all zeros.
+        ///
+        /// # Contract
+        ///
+        /// <span></span><pre><code>ensures: result ≡ [vector.eq] [w32] lhs rhs</code></pre>
+        ///
+        /// [vector.eq]: crate::specs::lanewise::VectorTable#eq "all ones in the lanes that are equal, else all zeros"
+        /// [w32]: crate::specs::library#w32 "the widths of integers in bits"
+        #[inline]
+        pub fn i32x4_eq(lhs: V128, rhs: V128) -> V128 {
+            words::equal::<u32>(lhs, rhs)
+        }
+
+        /// All ones in the lanes that are equal, else all zeros.
+        ///
+        /// # Contract
+        ///
+        /// <span></span><pre><code>ensures: result ≡ [vector.eq] [w64] lhs rhs</code></pre>
+        ///
+        /// [vector.eq]: crate::specs::lanewise::VectorTable#eq "all ones in the lanes that are equal, else all zeros"
+        /// [w64]: crate::specs::library#w64 "the widths of integers in bits"
+        #[inline]
+        pub fn i64x2_eq(lhs: V128, rhs: V128) -> V128 {
+            words::equal_words(lhs, rhs)
+        }
+
+        /// All ones in the lanes that are different, else all zeros.
+        ///
+        /// # Contract
+        ///
+        /// <span></span><pre><code>ensures: result ≡ [vector.ne] [w8] lhs rhs</code></pre>
+        ///
+        /// [vector.ne]: crate::specs::lanewise::VectorTable#ne "all ones in the lanes that differ, else all zeros"
+        /// [w8]: crate::specs::library#w8 "the widths of integers in bits"
+        #[inline]
+        pub fn i8x16_ne(lhs: V128, rhs: V128) -> V128 {
+            words::different::<u8>(lhs, rhs)
+        }
+
+        /// All ones in the lanes that are different, else all zeros.
+        ///
+        /// # Contract
+        ///
+        /// <span></span><pre><code>ensures: result ≡ [vector.ne] [w16] lhs rhs</code></pre>
+        ///
+        /// [vector.ne]: crate::specs::lanewise::VectorTable#ne "all ones in the lanes that differ, else all zeros"
+        /// [w16]: crate::specs::library#w16 "the widths of integers in bits"
+        #[inline]
+        pub fn i16x8_ne(lhs: V128, rhs: V128) -> V128 {
+            words::different::<u16>(lhs, rhs)
+        }
+
+        /// All ones in the lanes that are different, else all zeros.
+        ///
+        /// # Contract
+        ///
+        /// <span></span><pre><code>ensures: result ≡ [vector.ne] [w32] lhs rhs</code></pre>
+        ///
+        /// [vector.ne]: crate::specs::lanewise::VectorTable#ne "all ones in the lanes that differ, else all zeros"
+        /// [w32]: crate::specs::library#w32 "the widths of integers in bits"
+        #[inline]
+        pub fn i32x4_ne(lhs: V128, rhs: V128) -> V128 {
+            words::different::<u32>(lhs, rhs)
+        }
+
+        /// All ones in the lanes that are different, else all zeros.
+        ///
+        /// # Contract
+        ///
+        /// <span></span><pre><code>ensures: result ≡ [vector.ne] [w64] lhs rhs</code></pre>
+        ///
+        /// [vector.ne]: crate::specs::lanewise::VectorTable#ne "all ones in the lanes that differ, else all zeros"
+        /// [w64]: crate::specs::library#w64 "the widths of integers in bits"
+        #[inline]
+        pub fn i64x2_ne(lhs: V128, rhs: V128) -> V128 {
+            words::different_words(lhs, rhs)
+        }
+
+        /// All ones where the lane of `lhs` is less than that of `rhs`, both read signed, else all zeros.
+        ///
+        /// # Contract
+        ///
+        /// <span></span><pre><code>ensures: result ≡ [vector.lt_s] [w8] lhs rhs</code></pre>
+        ///
+        /// [vector.lt_s]: crate::specs::lanewise::VectorTable#lt_s "of lanes read signed"
+        /// [w8]: crate::specs::library#w8 "the widths of integers in bits"
+        #[inline]
+        pub fn i8x16_lt_s(lhs: V128, rhs: V128) -> V128 {
+            order::less_s::<u8>(lhs, rhs)
+        }
+
+        /// All ones where the lane of `lhs` is less than that of `rhs`, both read signed, else all zeros.
+        ///
+        /// # Contract
+        ///
+        /// <span></span><pre><code>ensures: result ≡ [vector.lt_s] [w16] lhs rhs</code></pre>
+        ///
+        /// [vector.lt_s]: crate::specs::lanewise::VectorTable#lt_s "of lanes read signed"
+        /// [w16]: crate::specs::library#w16 "the widths of integers in bits"
+        #[inline]
+        pub fn i16x8_lt_s(lhs: V128, rhs: V128) -> V128 {
+            order::less_s::<u16>(lhs, rhs)
+        }
+
+        /// All ones where the lane of `lhs` is less than that of `rhs`, both read signed, else all zeros.
+        ///
+        /// # Contract
+        ///
+        /// <span></span><pre><code>ensures: result ≡ [vector.lt_s] [w32] lhs rhs</code></pre>
+        ///
+        /// [vector.lt_s]: crate::specs::lanewise::VectorTable#lt_s "of lanes read signed"
+        /// [w32]: crate::specs::library#w32 "the widths of integers in bits"
+        #[inline]
+        pub fn i32x4_lt_s(lhs: V128, rhs: V128) -> V128 {
+            order::less_s::<u32>(lhs, rhs)
+        }
+
+        /// All ones where the lane of `lhs` is less than that of `rhs`, both read signed, else all zeros.
+        ///
+        /// # Contract
+        ///
+        /// <span></span><pre><code>ensures: result ≡ [vector.lt_s] [w64] lhs rhs</code></pre>
+        ///
+        /// [vector.lt_s]: crate::specs::lanewise::VectorTable#lt_s "of lanes read signed"
+        /// [w64]: crate::specs::library#w64 "the widths of integers in bits"
+        #[inline]
+        pub fn i64x2_lt_s(lhs: V128, rhs: V128) -> V128 {
+            order::less_s::<u64>(lhs, rhs)
+        }
+
+        /// All ones where the lane of `lhs` is less than that of `rhs`, both read unsigned, else all zeros.
+        ///
+        /// # Contract
+        ///
+        /// <span></span><pre><code>ensures: result ≡ [vector.lt_u] [w8] lhs rhs</code></pre>
+        ///
+        /// [vector.lt_u]: crate::specs::lanewise::VectorTable#lt_u "of lanes read as they are"
+        /// [w8]: crate::specs::library#w8 "the widths of integers in bits"
+        #[inline]
+        pub fn i8x16_lt_u(lhs: V128, rhs: V128) -> V128 {
+            order::less_u::<u8>(lhs, rhs)
+        }
+
+        /// All ones where the lane of `lhs` is less than that of `rhs`, both read unsigned, else all zeros.
+        ///
+        /// # Contract
+        ///
+        /// <span></span><pre><code>ensures: result ≡ [vector.lt_u] [w16] lhs rhs</code></pre>
+        ///
+        /// [vector.lt_u]: crate::specs::lanewise::VectorTable#lt_u "of lanes read as they are"
+        /// [w16]: crate::specs::library#w16 "the widths of integers in bits"
+        #[inline]
+        pub fn i16x8_lt_u(lhs: V128, rhs: V128) -> V128 {
+            order::less_u::<u16>(lhs, rhs)
+        }
+
+        /// All ones where the lane of `lhs` is less than that of `rhs`, both read unsigned, else all zeros.
+        ///
+        /// # Contract
+        ///
+        /// <span></span><pre><code>ensures: result ≡ [vector.lt_u] [w32] lhs rhs</code></pre>
+        ///
+        /// [vector.lt_u]: crate::specs::lanewise::VectorTable#lt_u "of lanes read as they are"
+        /// [w32]: crate::specs::library#w32 "the widths of integers in bits"
+        #[inline]
+        pub fn i32x4_lt_u(lhs: V128, rhs: V128) -> V128 {
+            order::less_u::<u32>(lhs, rhs)
+        }
+
+        /// All ones where the lane of `lhs` is at most that of `rhs`, both read signed, else all zeros.
+        ///
+        /// # Contract
+        ///
+        /// <span></span><pre><code>ensures: result ≡ [vector.le_s] [w8] lhs rhs</code></pre>
+        ///
+        /// [vector.le_s]: crate::specs::lanewise::VectorTable#le_s "all ones in the lanes that are at most the other, read signed, else all zeros"
+        /// [w8]: crate::specs::library#w8 "the widths of integers in bits"
+        #[inline]
+        pub fn i8x16_le_s(lhs: V128, rhs: V128) -> V128 {
+            order::at_most_s::<u8>(lhs, rhs)
+        }
+
+        /// All ones where the lane of `lhs` is at most that of `rhs`, both read signed, else all zeros.
+        ///
+        /// # Contract
+        ///
+        /// <span></span><pre><code>ensures: result ≡ [vector.le_s] [w16] lhs rhs</code></pre>
+        ///
+        /// [vector.le_s]: crate::specs::lanewise::VectorTable#le_s "all ones in the lanes that are at most the other, read signed, else all zeros"
+        /// [w16]: crate::specs::library#w16 "the widths of integers in bits"
+        #[inline]
+        pub fn i16x8_le_s(lhs: V128, rhs: V128) -> V128 {
+            order::at_most_s::<u16>(lhs, rhs)
+        }
+
+        /// All ones where the lane of `lhs` is at most that of `rhs`, both read signed, else all zeros.
+        ///
+        /// # Contract
+        ///
+        /// <span></span><pre><code>ensures: result ≡ [vector.le_s] [w32] lhs rhs</code></pre>
+        ///
+        /// [vector.le_s]: crate::specs::lanewise::VectorTable#le_s "all ones in the lanes that are at most the other, read signed, else all zeros"
+        /// [w32]: crate::specs::library#w32 "the widths of integers in bits"
+        #[inline]
+        pub fn i32x4_le_s(lhs: V128, rhs: V128) -> V128 {
+            order::at_most_s::<u32>(lhs, rhs)
+        }
+
+        /// All ones where the lane of `lhs` is at most that of `rhs`, both read signed, else all zeros.
+        ///
+        /// # Contract
+        ///
+        /// <span></span><pre><code>ensures: result ≡ [vector.le_s] [w64] lhs rhs</code></pre>
+        ///
+        /// [vector.le_s]: crate::specs::lanewise::VectorTable#le_s "all ones in the lanes that are at most the other, read signed, else all zeros"
+        /// [w64]: crate::specs::library#w64 "the widths of integers in bits"
+        #[inline]
+        pub fn i64x2_le_s(lhs: V128, rhs: V128) -> V128 {
+            order::at_most_s::<u64>(lhs, rhs)
+        }
+
+        /// All ones where the lane of `lhs` is at most that of `rhs`, both read unsigned, else all zeros.
+        ///
+        /// # Contract
+        ///
+        /// <span></span><pre><code>ensures: result ≡ [vector.le_u] [w8] lhs rhs</code></pre>
+        ///
+        /// [vector.le_u]: crate::specs::lanewise::VectorTable#le_u "all ones in the lanes that are at most the other, read unsigned, else all zeros"
+        /// [w8]: crate::specs::library#w8 "the widths of integers in bits"
+        #[inline]
+        pub fn i8x16_le_u(lhs: V128, rhs: V128) -> V128 {
+            order::at_most_u::<u8>(lhs, rhs)
+        }
+
+        /// All ones where the lane of `lhs` is at most that of `rhs`, both read unsigned, else all zeros.
+        ///
+        /// # Contract
+        ///
+        /// <span></span><pre><code>ensures: result ≡ [vector.le_u] [w16] lhs rhs</code></pre>
+        ///
+        /// [vector.le_u]: crate::specs::lanewise::VectorTable#le_u "all ones in the lanes that are at most the other, read unsigned, else all zeros"
+        /// [w16]: crate::specs::library#w16 "the widths of integers in bits"
+        #[inline]
+        pub fn i16x8_le_u(lhs: V128, rhs: V128) -> V128 {
+            order::at_most_u::<u16>(lhs, rhs)
+        }
+
+        /// All ones where the lane of `lhs` is at most that of `rhs`, both read unsigned, else all zeros.
+        ///
+        /// # Contract
+        ///
+        /// <span></span><pre><code>ensures: result ≡ [vector.le_u] [w32] lhs rhs</code></pre>
+        ///
+        /// [vector.le_u]: crate::specs::lanewise::VectorTable#le_u "all ones in the lanes that are at most the other, read unsigned, else all zeros"
+        /// [w32]: crate::specs::library#w32 "the widths of integers in bits"
+        #[inline]
+        pub fn i32x4_le_u(lhs: V128, rhs: V128) -> V128 {
+            order::at_most_u::<u32>(lhs, rhs)
+        }
+
+        /// All ones where the lane of `lhs` is greater than that of `rhs`, both read signed, else all
+        /// zeros.
+        ///
+        /// # Contract
+        ///
+        /// <span></span><pre><code>ensures: result ≡ [vector.gt_s] [w8] lhs rhs</code></pre>
+        ///
+        /// [vector.gt_s]: crate::specs::lanewise::VectorTable#gt_s "all ones in the lanes that are greater, read signed, else all zeros"
+        /// [w8]: crate::specs::library#w8 "the widths of integers in bits"
+        #[inline]
+        pub fn i8x16_gt_s(lhs: V128, rhs: V128) -> V128 {
+            order::greater_s::<u8>(lhs, rhs)
+        }
+
+        /// All ones where the lane of `lhs` is greater than that of `rhs`, both read signed, else all
+        /// zeros.
+        ///
+        /// # Contract
+        ///
+        /// <span></span><pre><code>ensures: result ≡ [vector.gt_s] [w16] lhs rhs</code></pre>
+        ///
+        /// [vector.gt_s]: crate::specs::lanewise::VectorTable#gt_s "all ones in the lanes that are greater, read signed, else all zeros"
+        /// [w16]: crate::specs::library#w16 "the widths of integers in bits"
+        #[inline]
+        pub fn i16x8_gt_s(lhs: V128, rhs: V128) -> V128 {
+            order::greater_s::<u16>(lhs, rhs)
+        }
+
+        /// All ones where the lane of `lhs` is greater than that of `rhs`, both read signed, else all
+        /// zeros.
+        ///
+        /// # Contract
+        ///
+        /// <span></span><pre><code>ensures: result ≡ [vector.gt_s] [w32] lhs rhs</code></pre>
+        ///
+        /// [vector.gt_s]: crate::specs::lanewise::VectorTable#gt_s "all ones in the lanes that are greater, read signed, else all zeros"
+        /// [w32]: crate::specs::library#w32 "the widths of integers in bits"
+        #[inline]
+        pub fn i32x4_gt_s(lhs: V128, rhs: V128) -> V128 {
+            order::greater_s::<u32>(lhs, rhs)
+        }
+
+        /// All ones where the lane of `lhs` is greater than that of `rhs`, both read signed, else all
+        /// zeros.
+        ///
+        /// # Contract
+        ///
+        /// <span></span><pre><code>ensures: result ≡ [vector.gt_s] [w64] lhs rhs</code></pre>
+        ///
+        /// [vector.gt_s]: crate::specs::lanewise::VectorTable#gt_s "all ones in the lanes that are greater, read signed, else all zeros"
+        /// [w64]: crate::specs::library#w64 "the widths of integers in bits"
+        #[inline]
+        pub fn i64x2_gt_s(lhs: V128, rhs: V128) -> V128 {
+            order::greater_s::<u64>(lhs, rhs)
+        }
+
+        /// All ones where the lane of `lhs` is greater than that of `rhs`, both read unsigned, else all
+        /// zeros.
+        ///
+        /// # Contract
+        ///
+        /// <span></span><pre><code>ensures: result ≡ [vector.gt_u] [w8] lhs rhs</code></pre>
+        ///
+        /// [vector.gt_u]: crate::specs::lanewise::VectorTable#gt_u "all ones in the lanes that are greater, read unsigned, else all zeros"
+        /// [w8]: crate::specs::library#w8 "the widths of integers in bits"
+        #[inline]
+        pub fn i8x16_gt_u(lhs: V128, rhs: V128) -> V128 {
+            order::greater_u::<u8>(lhs, rhs)
+        }
+
+        /// All ones where the lane of `lhs` is greater than that of `rhs`, both read unsigned, else all
+        /// zeros.
+        ///
+        /// # Contract
+        ///
+        /// <span></span><pre><code>ensures: result ≡ [vector.gt_u] [w16] lhs rhs</code></pre>
+        ///
+        /// [vector.gt_u]: crate::specs::lanewise::VectorTable#gt_u "all ones in the lanes that are greater, read unsigned, else all zeros"
+        /// [w16]: crate::specs::library#w16 "the widths of integers in bits"
+        #[inline]
+        pub fn i16x8_gt_u(lhs: V128, rhs: V128) -> V128 {
+            order::greater_u::<u16>(lhs, rhs)
+        }
+
+        /// All ones where the lane of `lhs` is greater than that of `rhs`, both read unsigned, else all
+        /// zeros.
+        ///
+        /// # Contract
+        ///
+        /// <span></span><pre><code>ensures: result ≡ [vector.gt_u] [w32] lhs rhs</code></pre>
+        ///
+        /// [vector.gt_u]: crate::specs::lanewise::VectorTable#gt_u "all ones in the lanes that are greater, read unsigned, else all zeros"
+        /// [w32]: crate::specs::library#w32 "the widths of integers in bits"
+        #[inline]
+        pub fn i32x4_gt_u(lhs: V128, rhs: V128) -> V128 {
+            order::greater_u::<u32>(lhs, rhs)
+        }
+
+        /// All ones where the lane of `lhs` is at least that of `rhs`, both read signed, else all zeros.
+        ///
+        /// # Contract
+        ///
+        /// <span></span><pre><code>ensures: result ≡ [vector.ge_s] [w8] lhs rhs</code></pre>
+        ///
+        /// [vector.ge_s]: crate::specs::lanewise::VectorTable#ge_s "all ones in the lanes that are at least the other, read signed, else all zeros"
+        /// [w8]: crate::specs::library#w8 "the widths of integers in bits"
+        #[inline]
+        pub fn i8x16_ge_s(lhs: V128, rhs: V128) -> V128 {
+            order::at_least_s::<u8>(lhs, rhs)
+        }
+
+        /// All ones where the lane of `lhs` is at least that of `rhs`, both read signed, else all zeros.
+        ///
+        /// # Contract
+        ///
+        /// <span></span><pre><code>ensures: result ≡ [vector.ge_s] [w16] lhs rhs</code></pre>
+        ///
+        /// [vector.ge_s]: crate::specs::lanewise::VectorTable#ge_s "all ones in the lanes that are at least the other, read signed, else all zeros"
+        /// [w16]: crate::specs::library#w16 "the widths of integers in bits"
+        #[inline]
+        pub fn i16x8_ge_s(lhs: V128, rhs: V128) -> V128 {
+            order::at_least_s::<u16>(lhs, rhs)
+        }
+
+        /// All ones where the lane of `lhs` is at least that of `rhs`, both read signed, else all zeros.
+        ///
+        /// # Contract
+        ///
+        /// <span></span><pre><code>ensures: result ≡ [vector.ge_s] [w32] lhs rhs</code></pre>
+        ///
+        /// [vector.ge_s]: crate::specs::lanewise::VectorTable#ge_s "all ones in the lanes that are at least the other, read signed, else all zeros"
+        /// [w32]: crate::specs::library#w32 "the widths of integers in bits"
+        #[inline]
+        pub fn i32x4_ge_s(lhs: V128, rhs: V128) -> V128 {
+            order::at_least_s::<u32>(lhs, rhs)
+        }
+
+        /// All ones where the lane of `lhs` is at least that of `rhs`, both read signed, else all zeros.
+        ///
+        /// # Contract
+        ///
+        /// <span></span><pre><code>ensures: result ≡ [vector.ge_s] [w64] lhs rhs</code></pre>
+        ///
+        /// [vector.ge_s]: crate::specs::lanewise::VectorTable#ge_s "all ones in the lanes that are at least the other, read signed, else all zeros"
+        /// [w64]: crate::specs::library#w64 "the widths of integers in bits"
+        #[inline]
+        pub fn i64x2_ge_s(lhs: V128, rhs: V128) -> V128 {
+            order::at_least_s::<u64>(lhs, rhs)
+        }
+
+        /// All ones where the lane of `lhs` is at least that of `rhs`, both read unsigned, else all zeros.
+        ///
+        /// # Contract
+        ///
+        /// <span></span><pre><code>ensures: result ≡ [vector.ge_u] [w8] lhs rhs</code></pre>
+        ///
+        /// [vector.ge_u]: crate::specs::lanewise::VectorTable#ge_u "all ones in the lanes that are at least the other, read unsigned, else all zeros"
+        /// [w8]: crate::specs::library#w8 "the widths of integers in bits"
+        #[inline]
+        pub fn i8x16_ge_u(lhs: V128, rhs: V128) -> V128 {
+            order::at_least_u::<u8>(lhs, rhs)
+        }
+
+        /// All ones where the lane of `lhs` is at least that of `rhs`, both read unsigned, else all zeros.
+        ///
+        /// # Contract
+        ///
+        /// <span></span><pre><code>ensures: result ≡ [vector.ge_u] [w16] lhs rhs</code></pre>
+        ///
+        /// [vector.ge_u]: crate::specs::lanewise::VectorTable#ge_u "all ones in the lanes that are at least the other, read unsigned, else all zeros"
+        /// [w16]: crate::specs::library#w16 "the widths of integers in bits"
+        #[inline]
+        pub fn i16x8_ge_u(lhs: V128, rhs: V128) -> V128 {
+            order::at_least_u::<u16>(lhs, rhs)
+        }
+
+        /// All ones where the lane of `lhs` is at least that of `rhs`, both read unsigned, else all zeros.
+        ///
+        /// # Contract
+        ///
+        /// <span></span><pre><code>ensures: result ≡ [vector.ge_u] [w32] lhs rhs</code></pre>
+        ///
+        /// [vector.ge_u]: crate::specs::lanewise::VectorTable#ge_u "all ones in the lanes that are at least the other, read unsigned, else all zeros"
+        /// [w32]: crate::specs::library#w32 "the widths of integers in bits"
+        #[inline]
+        pub fn i32x4_ge_u(lhs: V128, rhs: V128) -> V128 {
+            order::at_least_u::<u32>(lhs, rhs)
+        }
+    }
+    mod lane_access {
+        //! Vectors of one item, and one lane of a vector: `splat`, `extract_lane` and `replace_lane`.
+
+        use crate::proved::lanes::{
+            I8x16, I32x4, ImmLaneIdx2, ImmLaneIdx4, ImmLaneIdx8, ImmLaneIdx16, SimdLane,
+            VariableLane, from_bytes, on_vectors,
+        };
+        use crate::proved::raw::V128;
+        use crate::rattle::simd::prelude::*;
+
+        /// The item in every lane.
+        ///
+        /// # Contract
+        ///
+        /// <span></span><pre><code>ensures: result ≡ [vector.splat] [w8] item</code></pre>
+        ///
+        /// [vector.splat]: crate::specs::lanewise::VectorTable#splat "each lane is the number modulo 2 to the width"
+        /// [w8]: crate::specs::library#w8 "the widths of integers in bits"
+        #[inline]
+        pub fn i8x16_splat(item: i8) -> V128 {
+            on_vectors::splat::<I8x16>(item)
+        }
+
+        /// The item in every lane.
+        ///
+        /// # Contract
+        ///
+        /// <span></span><pre><code>ensures: result ≡ [vector.splat] [w16] item</code></pre>
+        ///
+        /// [vector.splat]: crate::specs::lanewise::VectorTable#splat "each lane is the number modulo 2 to the width"
+        /// [w16]: crate::specs::library#w16 "the widths of integers in bits"
+        #[inline]
+        pub fn i16x8_splat(item: i16) -> V128 {
+            same_lanes(item.cast_unsigned())
+        }
+
+        // By a `core::simd` vector: LLVM puts eight plain lanes together by shifts.
+        /// # Contract
+        ///
+        /// <span></span><pre><code>ensures: result ≡ [splat_of] [w16] item</code></pre>
+        ///
+        /// [splat_of]: crate::specs::lanes::Vector#splat_of "n in each lane"
+        /// [w16]: crate::specs::library#w16 "the widths of integers in bits"
+        #[inline(always)]
+        fn same_lanes(item: u16) -> V128 {
+            u16::vector_of(u16::splat(item))
+        }
+
+        /// The item in every lane.
+        ///
+        /// # Contract
+        ///
+        /// <span></span><pre><code>ensures: result ≡ [vector.splat] [w32] item</code></pre>
+        ///
+        /// [vector.splat]: crate::specs::lanewise::VectorTable#splat "each lane is the number modulo 2 to the width"
+        /// [w32]: crate::specs::library#w32 "the widths of integers in bits"
+        #[inline]
+        pub fn i32x4_splat(item: i32) -> V128 {
+            on_vectors::splat::<I32x4>(item)
+        }
+
+        /// The item in every lane.
+        ///
+        /// # Contract
+        ///
+        /// <span></span><pre><code>ensures: result ≡ [vector.splat] [w64] item</code></pre>
+        ///
+        /// [vector.splat]: crate::specs::lanewise::VectorTable#splat "each lane is the number modulo 2 to the width"
+        /// [w64]: crate::specs::library#w64 "the widths of integers in bits"
+        #[inline]
+        pub fn i64x2_splat(item: i64) -> V128 {
+            same_words(item.cast_unsigned())
+        }
+
+        // Both words the same, by lanes of 32 bits: of one word in two places LLVM makes two stores.
+        /// # Contract
+        ///
+        /// <span></span><pre><code>ensures: result ≡ [splat_of] [w64] word</code></pre>
+        ///
+        /// [splat_of]: crate::specs::lanes::Vector#splat_of "n in each lane"
+        /// [w64]: crate::specs::library#w64 "the widths of integers in bits"
+        #[inline(always)]
+        fn same_words(word: u64) -> V128 {
+            from_bytes(lower_half_twice(V128::from_word_pair(word, 0)).to_le_bytes())
+        }
+
+        // The lanes of 32 bits of the lower half, twice.
+        /// # Contract
+        ///
+        /// <span></span><pre><code>ensures: result ≡ [lane] [w32] v 0 ∷ [lane] [w32] v 1 ∷ [lane] [w32] v 0 ∷ [lane] [w32] v 1 ∷ \[\]</code></pre>
+        ///
+        /// [lane]: crate::specs::lanes::Lane#lane "lane i of the vector v"
+        /// [w32]: crate::specs::library#w32 "the widths of integers in bits"
+        #[inline(always)]
+        fn lower_half_twice(v: V128) -> u32x4 {
+            let items = u32::lanes_of(v);
+            items.shuffle(items, [0, 1, 0, 1])
+        }
+
+        /// One lane, read signed.
+        ///
+        /// # Contract
+        ///
+        /// <span></span><pre><code>ensures: result ≡ [vector.extract_lane_s] [w8] v [lane]</code></pre>
+        ///
+        /// [vector.extract_lane_s]: crate::specs::lanewise::VectorTable#extract_lane_s "a lane read signed"
+        /// [w8]: crate::specs::library#w8 "the widths of integers in bits"
+        /// [lane]: crate::specs::lanes::Lane#lane "lane i of the vector v"
+        #[inline]
+        pub fn i8x16_extract_lane_s(v: V128, lane: ImmLaneIdx16) -> i32 {
+            i32::from(u8::lane_at(v, lane).cast_signed())
+        }
+
+        /// One lane, read unsigned.
+        ///
+        /// # Contract
+        ///
+        /// <span></span><pre><code>ensures: result ≡ [vector.extract_lane_u] [w8] v [lane]</code></pre>
+        ///
+        /// [vector.extract_lane_u]: crate::specs::lanewise::VectorTable#extract_lane_u "a lane read unsigned"
+        /// [w8]: crate::specs::library#w8 "the widths of integers in bits"
+        /// [lane]: crate::specs::lanes::Lane#lane "lane i of the vector v"
+        #[inline]
+        pub fn i8x16_extract_lane_u(v: V128, lane: ImmLaneIdx16) -> u32 {
+            u32::from(u8::lane_at(v, lane))
+        }
+
+        /// One lane, read signed.
+        ///
+        /// # Contract
+        ///
+        /// <span></span><pre><code>ensures: result ≡ [vector.extract_lane_s] [w16] v [lane]</code></pre>
+        ///
+        /// [vector.extract_lane_s]: crate::specs::lanewise::VectorTable#extract_lane_s "a lane read signed"
+        /// [w16]: crate::specs::library#w16 "the widths of integers in bits"
+        /// [lane]: crate::specs::lanes::Lane#lane "lane i of the vector v"
+        #[inline]
+        pub fn i16x8_extract_lane_s(v: V128, lane: ImmLaneIdx8) -> i32 {
+            i32::from(u16::lane_at(v, lane).cast_signed())
+        }
+
+        /// One lane, read unsigned.
+        ///
+        /// # Contract
+        ///
+        /// <span></span><pre><code>ensures: result ≡ [vector.extract_lane_u] [w16] v [lane]</code></pre>
+        ///
+        /// [vector.extract_lane_u]: crate::specs::lanewise::VectorTable#extract_lane_u "a lane read unsigned"
+        /// [w16]: crate::specs::library#w16 "the widths of integers in bits"
+        /// [lane]: crate::specs::lanes::Lane#lane "lane i of the vector v"
+        #[inline]
+        pub fn i16x8_extract_lane_u(v: V128, lane: ImmLaneIdx8) -> u32 {
+            u32::from(u16::lane_at(v, lane))
+        }
+
+        /// One lane, read signed.
+        ///
+        /// # Contract
+        ///
+        /// <span></span><pre><code>ensures: result ≡ [vector.extract_lane_s] [w32] v [lane]</code></pre>
+        ///
+        /// [vector.extract_lane_s]: crate::specs::lanewise::VectorTable#extract_lane_s "a lane read signed"
+        /// [w32]: crate::specs::library#w32 "the widths of integers in bits"
+        /// [lane]: crate::specs::lanes::Lane#lane "lane i of the vector v"
+        #[inline]
+        pub fn i32x4_extract_lane(v: V128, lane: ImmLaneIdx4) -> i32 {
+            u32::lane_at(v, lane).cast_signed()
+        }
+
+        /// One lane, read signed.
+        ///
+        /// # Contract
+        ///
+        /// <span></span><pre><code>ensures: result ≡ [vector.extract_lane_s] [w64] v [lane]</code></pre>
+        ///
+        /// [vector.extract_lane_s]: crate::specs::lanewise::VectorTable#extract_lane_s "a lane read signed"
+        /// [w64]: crate::specs::library#w64 "the widths of integers in bits"
+        /// [lane]: crate::specs::lanes::Lane#lane "lane i of the vector v"
+        #[inline]
+        pub fn i64x2_extract_lane(v: V128, lane: ImmLaneIdx2) -> i64 {
+            u64::lane_at(v, lane).cast_signed()
+        }
+
+        /// `v` with the item in one lane.
+        ///
+        /// # Contract
+        ///
+        /// <span></span><pre><code>ensures: result ≡ [vector.replace_lane] [w8] v [lane] item</code></pre>
+        ///
+        /// [vector.replace_lane]: crate::specs::lanewise::VectorTable#replace_lane "one lane is the number modulo 2 to the width, and the others stay"
+        /// [w8]: crate::specs::library#w8 "the widths of integers in bits"
+        /// [lane]: crate::specs::lanes::Lane#lane "lane i of the vector v"
+        #[inline]
+        pub fn i8x16_replace_lane(v: V128, lane: ImmLaneIdx16, item: i8) -> V128 {
+            u8::with_lane(v, lane, item.cast_unsigned())
+        }
+
+        /// `v` with the item in one lane.
+        ///
+        /// # Contract
+        ///
+        /// <span></span><pre><code>ensures: result ≡ [vector.replace_lane] [w16] v [lane] item</code></pre>
+        ///
+        /// [vector.replace_lane]: crate::specs::lanewise::VectorTable#replace_lane "one lane is the number modulo 2 to the width, and the others stay"
+        /// [w16]: crate::specs::library#w16 "the widths of integers in bits"
+        /// [lane]: crate::specs::lanes::Lane#lane "lane i of the vector v"
+        #[inline]
+        pub fn i16x8_replace_lane(v: V128, lane: ImmLaneIdx8, item: i16) -> V128 {
+            u16::with_lane(v, lane, item.cast_unsigned())
+        }
+
+        /// `v` with the item in one lane.
+        ///
+        /// # Contract
+        ///
+        /// <span></span><pre><code>ensures: result ≡ [vector.replace_lane] [w32] v [lane] item</code></pre>
+        ///
+        /// [vector.replace_lane]: crate::specs::lanewise::VectorTable#replace_lane "one lane is the number modulo 2 to the width, and the others stay"
+        /// [w32]: crate::specs::library#w32 "the widths of integers in bits"
+        /// [lane]: crate::specs::lanes::Lane#lane "lane i of the vector v"
+        #[inline]
+        pub fn i32x4_replace_lane(v: V128, lane: ImmLaneIdx4, item: i32) -> V128 {
+            u32::with_lane(v, lane, item.cast_unsigned())
+        }
+
+        /// `v` with the item in one lane.
+        ///
+        /// # Contract
+        ///
+        /// <span></span><pre><code>ensures: result ≡ [vector.replace_lane] [w64] v [lane] item</code></pre>
+        ///
+        /// [vector.replace_lane]: crate::specs::lanewise::VectorTable#replace_lane "one lane is the number modulo 2 to the width, and the others stay"
+        /// [w64]: crate::specs::library#w64 "the widths of integers in bits"
+        /// [lane]: crate::specs::lanes::Lane#lane "lane i of the vector v"
+        #[inline]
+        pub fn i64x2_replace_lane(v: V128, lane: ImmLaneIdx2, item: i64) -> V128 {
+            u64::with_lane(v, lane, item.cast_unsigned())
+        }
+    }
+    mod order {
+        //! Order of lanes, and what is chosen by it, on vectors of `core::simd`.
+        //!
+        //! Lanes that are read signed are moved by half of their range, and then compared as unsigned ones.
+
+        use crate::proved::lanes::SimdLane;
+        use crate::proved::raw::V128;
+
+        /// All ones where the lane of `lhs` is less than that of `rhs`, read unsigned, else all zeros.
+        ///
+        /// # Contract
+        ///
+        /// <span></span><pre><code>ensures: result ≡ [vector.lt_u] [T.width] lhs rhs</code></pre>
+        ///
+        /// [vector.lt_u]: crate::specs::lanewise::VectorTable#lt_u "of lanes read as they are"
+        /// [T.width]: trait@SimdLane#contract
+        #[inline(always)]
+        pub(super) fn less_u<T: SimdLane>(lhs: V128, rhs: V128) -> V128 {
+            ones_if_less::<T>(T::lanes_of(lhs), T::lanes_of(rhs))
+        }
+
+        /// All ones where the lane of `lhs` is greater than that of `rhs`, read unsigned, else all zeros.
+        ///
+        /// # Contract
+        ///
+        /// <span></span><pre><code>ensures: result ≡ [vector.gt_u] [T.width] lhs rhs</code></pre>
+        ///
+        /// [vector.gt_u]: crate::specs::lanewise::VectorTable#gt_u "all ones in the lanes that are greater, read unsigned, else all zeros"
+        /// [T.width]: trait@SimdLane#contract
+        #[inline(always)]
+        pub(super) fn greater_u<T: SimdLane>(lhs: V128, rhs: V128) -> V128 {
+            less_u::<T>(rhs, lhs)
+        }
+
+        /// All ones where the lane of `lhs` is at most that of `rhs`, read unsigned, else all zeros.
+        ///
+        /// # Contract
+        ///
+        /// <span></span><pre><code>ensures: result ≡ [vector.le_u] [T.width] lhs rhs</code></pre>
+        ///
+        /// [vector.le_u]: crate::specs::lanewise::VectorTable#le_u "all ones in the lanes that are at most the other, read unsigned, else all zeros"
+        /// [T.width]: trait@SimdLane#contract
+        #[inline(always)]
+        pub(super) fn at_most_u<T: SimdLane>(lhs: V128, rhs: V128) -> V128 {
+            zeros_if_less::<T>(T::lanes_of(rhs), T::lanes_of(lhs))
+        }
+
+        /// All ones where the lane of `lhs` is at least that of `rhs`, read unsigned, else all zeros.
+        ///
+        /// # Contract
+        ///
+        /// <span></span><pre><code>ensures: result ≡ [vector.ge_u] [T.width] lhs rhs</code></pre>
+        ///
+        /// [vector.ge_u]: crate::specs::lanewise::VectorTable#ge_u "all ones in the lanes that are at least the other, read unsigned, else all zeros"
+        /// [T.width]: trait@SimdLane#contract
+        #[inline(always)]
+        pub(super) fn at_least_u<T: SimdLane>(lhs: V128, rhs: V128) -> V128 {
+            at_most_u::<T>(rhs, lhs)
+        }
+
+        /// All ones where the lane of `lhs` is less than that of `rhs`, read signed, else all zeros.
+        ///
+        /// # Contract
+        ///
+        /// <span></span><pre><code>ensures: result ≡ [vector.lt_s] [T.width] lhs rhs</code></pre>
+        ///
+        /// [vector.lt_s]: crate::specs::lanewise::VectorTable#lt_s "of lanes read signed"
+        /// [T.width]: trait@SimdLane#contract
+        #[inline(always)]
+        pub(super) fn less_s<T: SimdLane>(lhs: V128, rhs: V128) -> V128 {
+            ones_if_less::<T>(T::biased(T::lanes_of(lhs)), T::biased(T::lanes_of(rhs)))
+        }
+
+        /// All ones where the lane of `lhs` is greater than that of `rhs`, read signed, else all zeros.
+        ///
+        /// # Contract
+        ///
+        /// <span></span><pre><code>ensures: result ≡ [vector.gt_s] [T.width] lhs rhs</code></pre>
+        ///
+        /// [vector.gt_s]: crate::specs::lanewise::VectorTable#gt_s "all ones in the lanes that are greater, read signed, else all zeros"
+        /// [T.width]: trait@SimdLane#contract
+        #[inline(always)]
+        pub(super) fn greater_s<T: SimdLane>(lhs: V128, rhs: V128) -> V128 {
+            less_s::<T>(rhs, lhs)
+        }
+
+        /// All ones where the lane of `lhs` is at most that of `rhs`, read signed, else all zeros.
+        ///
+        /// # Contract
+        ///
+        /// <span></span><pre><code>ensures: result ≡ [vector.le_s] [T.width] lhs rhs</code></pre>
+        ///
+        /// [vector.le_s]: crate::specs::lanewise::VectorTable#le_s "all ones in the lanes that are at most the other, read signed, else all zeros"
+        /// [T.width]: trait@SimdLane#contract
+        #[inline(always)]
+        pub(super) fn at_most_s<T: SimdLane>(lhs: V128, rhs: V128) -> V128 {
+            zeros_if_less::<T>(T::biased(T::lanes_of(rhs)), T::biased(T::lanes_of(lhs)))
+        }
+
+        /// All ones where the lane of `lhs` is at least that of `rhs`, read signed, else all zeros.
+        ///
+        /// # Contract
+        ///
+        /// <span></span><pre><code>ensures: result ≡ [vector.ge_s] [T.width] lhs rhs</code></pre>
+        ///
+        /// [vector.ge_s]: crate::specs::lanewise::VectorTable#ge_s "all ones in the lanes that are at least the other, read signed, else all zeros"
+        /// [T.width]: trait@SimdLane#contract
+        #[inline(always)]
+        pub(super) fn at_least_s<T: SimdLane>(lhs: V128, rhs: V128) -> V128 {
+            at_most_s::<T>(rhs, lhs)
+        }
+
+        /// The smaller ones of the lanes, read unsigned.
+        ///
+        /// # Contract
+        ///
+        /// <span></span><pre><code>ensures: result ≡ [vector.min_u] [T.width] lhs rhs</code></pre>
+        ///
+        /// [vector.min_u]: crate::specs::lanewise::VectorTable#min_u "the smaller of each two lanes read unsigned"
+        /// [T.width]: trait@SimdLane#contract
+        #[inline(always)]
+        pub(super) fn smaller_u<T: SimdLane>(lhs: V128, rhs: V128) -> V128 {
+            let (a, b) = (T::lanes_of(lhs), T::lanes_of(rhs));
+            T::vector_of(T::choose_if_less(b, a, b, a))
+        }
+
+        /// The larger ones of the lanes, read unsigned.
+        ///
+        /// # Contract
+        ///
+        /// <span></span><pre><code>ensures: result ≡ [vector.max_u] [T.width] lhs rhs</code></pre>
+        ///
+        /// [vector.max_u]: crate::specs::lanewise::VectorTable#max_u "the greater of each two lanes read unsigned"
+        /// [T.width]: trait@SimdLane#contract
+        #[inline(always)]
+        pub(super) fn larger_u<T: SimdLane>(lhs: V128, rhs: V128) -> V128 {
+            let (a, b) = (T::lanes_of(lhs), T::lanes_of(rhs));
+            T::vector_of(T::choose_if_less(b, a, a, b))
+        }
+
+        /// The smaller ones of the lanes, read signed.
+        ///
+        /// # Contract
+        ///
+        /// <span></span><pre><code>ensures: result ≡ [vector.min_s] [T.width] lhs rhs</code></pre>
+        ///
+        /// [vector.min_s]: crate::specs::lanewise::VectorTable#min_s "the smaller of each two lanes read signed"
+        /// [T.width]: trait@SimdLane#contract
+        #[inline(always)]
+        pub(super) fn smaller_s<T: SimdLane>(lhs: V128, rhs: V128) -> V128 {
+            let (a, b) = (T::lanes_of(lhs), T::lanes_of(rhs));
+            T::vector_of(T::choose_if_less(T::biased(b), T::biased(a), b, a))
+        }
+
+        /// The larger ones of the lanes, read signed.
+        ///
+        /// # Contract
+        ///
+        /// <span></span><pre><code>ensures: result ≡ [vector.max_s] [T.width] lhs rhs</code></pre>
+        ///
+        /// [vector.max_s]: crate::specs::lanewise::VectorTable#max_s "the greater of each two lanes read signed"
+        /// [T.width]: trait@SimdLane#contract
+        #[inline(always)]
+        pub(super) fn larger_s<T: SimdLane>(lhs: V128, rhs: V128) -> V128 {
+            let (a, b) = (T::lanes_of(lhs), T::lanes_of(rhs));
+            T::vector_of(T::choose_if_less(T::biased(b), T::biased(a), a, b))
+        }
+
+        /// # Contract
+        ///
+        /// <span></span><pre><code>ensures lanes: (i : [ℕ]) → i < [lane_count] [T.width]
+        /// &#32;&#32;&#32;&#32;→ [lane] [T.width] result i
+        /// &#32;&#32;&#32;&#32;≡ (if [nat_lt] ([T.at] a i) ([T.at] b i) then 2 ^ [bits] [T.width] - 1 else 0)
+        /// ensures in_range: result < 2 ^ 128</code></pre>
+        ///
+        /// [ℕ]: crate::specs::library#%E2%84%95 "the whole numbers from 0 on"
+        /// [lane_count]: crate::specs::lanes::Lane#lane_count "how many lanes of a width a vector has"
+        /// [T.width]: trait@SimdLane#contract
+        /// [lane]: crate::specs::lanes::Lane#lane "lane i of the vector v"
+        /// [nat_lt]: crate::specs::library#nat_lt "whether m is below n, as a Boolean"
+        /// [T.at]: trait@SimdLane#contract
+        /// [bits]: crate::specs::library#bits "the number of bits of a width"
+        #[inline(always)]
+        fn ones_if_less<T: SimdLane>(a: T::Vector, b: T::Vector) -> V128 {
+            T::vector_of(T::choose_if_less(a, b, ones::<T>(), zeros::<T>()))
+        }
+
+        /// # Contract
+        ///
+        /// <span></span><pre><code>ensures lanes: (i : [ℕ]) → i < [lane_count] [T.width]
+        /// &#32;&#32;&#32;&#32;→ [lane] [T.width] result i
+        /// &#32;&#32;&#32;&#32;≡ (if [nat_lt] ([T.at] a i) ([T.at] b i) then 0 else 2 ^ [bits] [T.width] - 1)
+        /// ensures in_range: result < 2 ^ 128</code></pre>
+        ///
+        /// [ℕ]: crate::specs::library#%E2%84%95 "the whole numbers from 0 on"
+        /// [lane_count]: crate::specs::lanes::Lane#lane_count "how many lanes of a width a vector has"
+        /// [T.width]: trait@SimdLane#contract
+        /// [lane]: crate::specs::lanes::Lane#lane "lane i of the vector v"
+        /// [nat_lt]: crate::specs::library#nat_lt "whether m is below n, as a Boolean"
+        /// [T.at]: trait@SimdLane#contract
+        /// [bits]: crate::specs::library#bits "the number of bits of a width"
+        #[inline(always)]
+        fn zeros_if_less<T: SimdLane>(a: T::Vector, b: T::Vector) -> V128 {
+            T::vector_of(T::choose_if_less(a, b, zeros::<T>(), ones::<T>()))
+        }
+
+        // All ones in each lane.
+        /// # Contract
+        ///
+        /// <span></span><pre><code>ensures lanes: (i : [ℕ]) → i < [lane_count] [T.width] → [T.at] result i ≡ 2 ^ [bits] [T.width] - 1</code></pre>
+        ///
+        /// [ℕ]: crate::specs::library#%E2%84%95 "the whole numbers from 0 on"
+        /// [lane_count]: crate::specs::lanes::Lane#lane_count "how many lanes of a width a vector has"
+        /// [T.width]: trait@SimdLane#contract
+        /// [T.at]: trait@SimdLane#contract
+        /// [bits]: crate::specs::library#bits "the number of bits of a width"
+        #[inline(always)]
+        fn ones<T: SimdLane>() -> T::Vector {
+            T::splat(T::ALL_ONES)
+        }
+
+        // All zeros in each lane.
+        /// # Contract
+        ///
+        /// <span></span><pre><code>ensures lanes: (i : [ℕ]) → i < [lane_count] [T.width] → [T.at] result i ≡ 0</code></pre>
+        ///
+        /// [ℕ]: crate::specs::library#%E2%84%95 "the whole numbers from 0 on"
+        /// [lane_count]: crate::specs::lanes::Lane#lane_count "how many lanes of a width a vector has"
+        /// [T.width]: trait@SimdLane#contract
+        /// [T.at]: trait@SimdLane#contract
+        #[inline(always)]
+        fn zeros<T: SimdLane>() -> T::Vector {
+            T::splat(T::ALL_ZEROS)
+        }
+    }
+    mod q15 {
+        //! Products of lanes of 16 bits as q15 numbers (signed, over 2 to the power 15), on vectors of
+        //! `core::simd`.
+
+        use crate::proved::lanes::SimdLane;
+        use crate::proved::raw::V128;
+        use crate::rattle::simd::prelude::*;
+
+        /// The products of the lanes, halves rounded up, clamped to the signed range.
+        ///
+        /// Twice the upper half of a product and its rounded lower half: each half is one instruction.
+        ///
+        /// # Contract
+        ///
+        /// <span></span><pre><code>ensures: result ≡ [vector.q15mulr_sat_s] a b</code></pre>
+        ///
+        /// [vector.q15mulr_sat_s]: crate::specs::lanewise::VectorTable#q15mulr_sat_s "the rounded products of q15 numbers, clamped to the signed range"
+        #[inline(always)]
+        pub(super) fn rounded_products(a: V128, b: V128) -> V128 {
+            let x = u16::lanes_of(a);
+            let y = u16::lanes_of(b);
+            let upper = upper_halves(x, y);
+            u16::vector_of(sums(twice(upper), rounded_quotients(lower_halves(x, y))))
+        }
+
+        // The lanes, read signed, at twice their width.
+        /// # Contract
+        ///
+        /// <span></span><pre><code>ensures lanes: (i : [ℕ]) → i < 8
+        /// &#32;&#32;&#32;&#32;→ [slice_index] result i ≡ [cast_unsigned] [w32] ([signed] [w16] ([slice_index] items i))</code></pre>
+        ///
+        /// [ℕ]: crate::specs::library#%E2%84%95 "the whole numbers from 0 on"
+        /// [slice_index]: crate::specs::library#slice_index "element i of a list of numbers; 0 past its end"
+        /// [cast_unsigned]: crate::specs::library#cast_unsigned "the signed number as one from 0 up to 2 ^ w, in two\'s complement"
+        /// [w32]: crate::specs::library#w32 "the widths of integers in bits"
+        /// [signed]: crate::specs::library#cast_signed "the number from 0 up to 2 ^ w read as signed, in two\'s complement"
+        /// [w16]: crate::specs::library#w16 "the widths of integers in bits"
+        #[inline(always)]
+        fn sign_copied(items: u16x8) -> u32x8 {
+            let tops = u32x8::splat(0x8000);
+            (items.cast::<u32>() ^ tops) - tops
+        }
+
+        // The upper halves of the products of lanes that are read signed.
+        /// # Contract
+        ///
+        /// <span></span><pre><code>ensures lanes: (i : [ℕ]) → i < 8 → [slice_index] result i
+        /// &#32;&#32;&#32;&#32;≡ [cast_unsigned] [w32] ([signed] [w16] ([slice_index] x i)) \* [cast_unsigned] [w32]
+        /// &#32;&#32;&#32;&#32;([signed] [w16] ([slice_index] y i)) % 2 ^ 32 / 2 ^ 16</code></pre>
+        ///
+        /// [ℕ]: crate::specs::library#%E2%84%95 "the whole numbers from 0 on"
+        /// [slice_index]: crate::specs::library#slice_index "element i of a list of numbers; 0 past its end"
+        /// [cast_unsigned]: crate::specs::library#cast_unsigned "the signed number as one from 0 up to 2 ^ w, in two\'s complement"
+        /// [w32]: crate::specs::library#w32 "the widths of integers in bits"
+        /// [signed]: crate::specs::library#cast_signed "the number from 0 up to 2 ^ w read as signed, in two\'s complement"
+        /// [w16]: crate::specs::library#w16 "the widths of integers in bits"
+        #[inline(always)]
+        fn upper_halves(x: u16x8, y: u16x8) -> u16x8 {
+            let products = sign_copied(x) * sign_copied(y);
+            (products >> u32x8::splat(16)).cast::<u16>()
+        }
+
+        // The lower halves of the products of lanes, the same for signed and unsigned ones.
+        /// # Contract
+        ///
+        /// <span></span><pre><code>ensures lanes: (i : [ℕ]) → i < 8
+        /// &#32;&#32;&#32;&#32;→ [slice_index] result i ≡ [slice_index] x i \* [slice_index] y i % 2 ^ 16</code></pre>
+        ///
+        /// [ℕ]: crate::specs::library#%E2%84%95 "the whole numbers from 0 on"
+        /// [slice_index]: crate::specs::library#slice_index "element i of a list of numbers; 0 past its end"
+        #[inline(always)]
+        fn lower_halves(x: u16x8, y: u16x8) -> u16x8 {
+            x * y
+        }
+
+        // Twice the lanes, read signed, and the largest number in the place of the one double that doesn't
+        // fit, that of 2 to the power 14.
+        /// # Contract
+        ///
+        /// <span></span><pre><code>ensures lanes: (i : [ℕ]) → i < 8 → [slice_index] result i
+        /// &#32;&#32;&#32;&#32;≡ ([slice_index] items i +
+        /// &#32;&#32;&#32;&#32;(if [nat_lt] (([slice_index] items i + 0x8000) % 2 ^ 16) 0xbfff then [slice_index] items i
+        /// &#32;&#32;&#32;&#32;else 0x3fff)) % 2 ^ 16</code></pre>
+        ///
+        /// [ℕ]: crate::specs::library#%E2%84%95 "the whole numbers from 0 on"
+        /// [slice_index]: crate::specs::library#slice_index "element i of a list of numbers; 0 past its end"
+        /// [nat_lt]: crate::specs::library#nat_lt "whether m is below n, as a Boolean"
+        #[inline(always)]
+        fn twice(items: u16x8) -> u16x8 {
+            let most = u16::splat(0x3fff);
+            items + u16::choose_if_less(u16::biased(items), u16::biased(most), items, most)
+        }
+
+        // The lanes divided by 2 to the power 15, halves rounded up.
+        /// # Contract
+        ///
+        /// <span></span><pre><code>ensures lanes: (i : [ℕ]) → i < 8
+        /// &#32;&#32;&#32;&#32;→ [slice_index] result i ≡ ([slice_index] items i / 2 + 0x2000) % 2 ^ 16 / 2 ^ 14</code></pre>
+        ///
+        /// [ℕ]: crate::specs::library#%E2%84%95 "the whole numbers from 0 on"
+        /// [slice_index]: crate::specs::library#slice_index "element i of a list of numbers; 0 past its end"
+        #[inline(always)]
+        fn rounded_quotients(items: u16x8) -> u16x8 {
+            ((items >> u16x8::splat(1)) + u16x8::splat(0x2000)) >> u16x8::splat(14)
+        }
+
+        /// # Contract
+        ///
+        /// <span></span><pre><code>ensures lanes: (i : [ℕ]) → i < 8
+        /// &#32;&#32;&#32;&#32;→ [slice_index] result i ≡ ([slice_index] x i + [slice_index] y i) % 2 ^ 16</code></pre>
+        ///
+        /// [ℕ]: crate::specs::library#%E2%84%95 "the whole numbers from 0 on"
+        /// [slice_index]: crate::specs::library#slice_index "element i of a list of numbers; 0 past its end"
+        #[inline(always)]
+        fn sums(x: u16x8, y: u16x8) -> u16x8 {
+            x + y
+        }
+    }
+    mod shuffle {
+        //! Bytes chosen by their indices, by `core::simd`: an array of the bytes is slower (docs/SPEED.md).
+
+        use crate::proved::lanes::{ImmLaneIdx32, bytes_of, from_bytes};
+        use crate::proved::raw::V128;
+        use crate::rattle::simd::prelude::*;
+
+        /// Lane i is lane `s[i]` of `a`, or lane `s[i] - 16` of `b` where `s[i]` is above 15.
+        ///
+        /// # Contract
+        ///
+        /// <span></span><pre><code>ensures: result ≡ [vector.shuffle] a b s</code></pre>
+        ///
+        /// [vector.shuffle]: crate::specs::lanewise::VectorTable#shuffle "of the 32 bytes of a and b, those at the indices s"
+        #[inline]
+        pub fn i8x16_shuffle(a: V128, b: V128, s: [ImmLaneIdx32; 16]) -> V128 {
+            let indices = bytes_of_indices(s);
+            let low = picked(bytes_of(a), indices);
+            let high = picked(bytes_of(b), indices);
+            from_bytes(low_or_high(indices, low, high))
+        }
+
+        /// Lane i is the lane of `a` at the index that lane i of `s` is, and 0 where that is above 15.
+        ///
+        /// # Contract
+        ///
+        /// <span></span><pre><code>ensures: result ≡ [vector.swizzle] a s</code></pre>
+        ///
+        /// [vector.swizzle]: crate::specs::lanewise::VectorTable#swizzle "of the 16 bytes of a, those at the indices that the lanes of s are, and 0 where one is above 15"
+        #[inline]
+        pub fn i8x16_swizzle(a: V128, s: V128) -> V128 {
+            from_bytes(picked_or_zero(bytes_of(a), bytes_of(s)))
+        }
+
+        // The lanes of `table` at the indices, and 0 where an index is above 15: such an index becomes 128,
+        // at which the processor's instruction gives 0. LLVM leaves the last mask out, since that
+        // instruction reads no other bits.
+        /// # Contract
+        ///
+        /// <span></span><pre><code>ensures lanes: (i : [ℕ]) → i < 16 → [slice_index] result i
+        /// &#32;&#32;&#32;&#32;≡ (if [nat_lt] ([slice_index] indices i) 16 then [slice_index] table
+        /// &#32;&#32;&#32;&#32;([slice_index] indices i) else 0)</code></pre>
+        ///
+        /// [ℕ]: crate::specs::library#%E2%84%95 "the whole numbers from 0 on"
+        /// [slice_index]: crate::specs::library#slice_index "element i of a list of numbers; 0 past its end"
+        /// [nat_lt]: crate::specs::library#nat_lt "whether m is below n, as a Boolean"
+        #[inline(always)]
+        fn picked_or_zero(table: u8x16, indices: u8x16) -> u8x16 {
+            let biased = indices.simd_min(u8x16::splat(16)) + u8x16::splat(0x70);
+            table.swizzle_dyn_within::<16>(biased & u8x16::splat(0x8f))
+        }
+
+        // The lanes of `table` at the low four bits of the indices.
+        /// # Contract
+        ///
+        /// <span></span><pre><code>ensures lanes: (i : [ℕ]) → i < 16
+        /// &#32;&#32;&#32;&#32;→ [slice_index] result i ≡ [slice_index] table ([slice_index] indices i % 16)</code></pre>
+        ///
+        /// [ℕ]: crate::specs::library#%E2%84%95 "the whole numbers from 0 on"
+        /// [slice_index]: crate::specs::library#slice_index "element i of a list of numbers; 0 past its end"
+        #[inline(always)]
+        fn picked(table: u8x16, indices: u8x16) -> u8x16 {
+            table.swizzle_dyn_within::<16>(indices & u8x16::splat(15))
+        }
+
+        // The lanes of `low` where the index is below 16, else those of `high`.
+        /// # Contract
+        ///
+        /// <span></span><pre><code>ensures lanes: (i : [ℕ]) → i < 16 → [slice_index] result i
+        /// &#32;&#32;&#32;&#32;≡ (if [nat_lt] ([slice_index] indices i) 16 then [slice_index] low i else [slice_index] high i)</code></pre>
+        ///
+        /// [ℕ]: crate::specs::library#%E2%84%95 "the whole numbers from 0 on"
+        /// [slice_index]: crate::specs::library#slice_index "element i of a list of numbers; 0 past its end"
+        /// [nat_lt]: crate::specs::library#nat_lt "whether m is below n, as a Boolean"
+        #[inline(always)]
+        fn low_or_high(indices: u8x16, low: u8x16, high: u8x16) -> u8x16 {
+            indices.simd_lt(u8x16::splat(16)).select(low, high)
+        }
+
+        /// # Contract
+        ///
+        /// <span></span><pre><code>ensures lanes: (i : [ℕ]) → i < 16 → [slice_index] result i ≡ [slice_index] indices i
+        /// ensures inside: (i : [ℕ]) → i < 16 → [slice_index] result i < 32</code></pre>
+        ///
+        /// [ℕ]: crate::specs::library#%E2%84%95 "the whole numbers from 0 on"
+        /// [slice_index]: crate::specs::library#slice_index "element i of a list of numbers; 0 past its end"
+        #[inline(always)]
+        fn bytes_of_indices(indices: [ImmLaneIdx32; 16]) -> u8x16 {
+            let mut bytes = [0; 16];
+            for i in 0..16 {
+                bytes[i] = u8::from(indices[i]);
+            }
+            u8x16::from_array(bytes)
+        }
+    }
+    mod unary {
+        //! Unary instructions.
+
+        use crate::proved::lanes::{I8x16, I16x8, I32x4, I64x2, on_vectors};
+        use crate::proved::lanewise::simd::words;
+        use crate::proved::raw::V128;
+
+        /// The lanes negated, modulo 2 to the power 8.
+        ///
+        /// # Contract
+        ///
+        /// <span></span><pre><code>ensures: result ≡ [vector.neg] [w8] v</code></pre>
+        ///
+        /// [vector.neg]: crate::specs::lanewise::VectorTable#neg "modulo 2 ^ w"
+        /// [w8]: crate::specs::library#w8 "the widths of integers in bits"
+        #[inline]
+        pub fn i8x16_neg(v: V128) -> V128 {
+            words::negations::<u8>(v)
+        }
+
+        /// The lanes negated, modulo 2 to the power 16.
+        ///
+        /// # Contract
+        ///
+        /// <span></span><pre><code>ensures: result ≡ [vector.neg] [w16] v</code></pre>
+        ///
+        /// [vector.neg]: crate::specs::lanewise::VectorTable#neg "modulo 2 ^ w"
+        /// [w16]: crate::specs::library#w16 "the widths of integers in bits"
+        #[inline]
+        pub fn i16x8_neg(v: V128) -> V128 {
+            words::negations::<u16>(v)
+        }
+
+        /// The lanes negated, modulo 2 to the power 32.
+        ///
+        /// # Contract
+        ///
+        /// <span></span><pre><code>ensures: result ≡ [vector.neg] [w32] v</code></pre>
+        ///
+        /// [vector.neg]: crate::specs::lanewise::VectorTable#neg "modulo 2 ^ w"
+        /// [w32]: crate::specs::library#w32 "the widths of integers in bits"
+        #[inline]
+        pub fn i32x4_neg(v: V128) -> V128 {
+            words::negations::<u32>(v)
+        }
+
+        /// The lanes negated, modulo 2 to the power 64.
+        ///
+        /// # Contract
+        ///
+        /// <span></span><pre><code>ensures: result ≡ [vector.neg] [w64] v</code></pre>
+        ///
+        /// [vector.neg]: crate::specs::lanewise::VectorTable#neg "modulo 2 ^ w"
+        /// [w64]: crate::specs::library#w64 "the widths of integers in bits"
+        #[inline]
+        pub fn i64x2_neg(v: V128) -> V128 {
+            words::negations::<u64>(v)
+        }
+
+        /// The absolute values of the lanes, read signed; the least number is its own, modulo 2 to the
+        /// power 8.
+        ///
+        /// # Contract
+        ///
+        /// <span></span><pre><code>ensures: result ≡ [vector.abs] [w8] v</code></pre>
+        ///
+        /// [vector.abs]: crate::specs::lanewise::VectorTable#abs "the absolute values of lanes read signed, modulo 2 to the width"
+        /// [w8]: crate::specs::library#w8 "the widths of integers in bits"
+        #[inline]
+        pub fn i8x16_abs(v: V128) -> V128 {
+            on_vectors::unary::<I8x16, _>(v, |x| x.wrapping_abs())
+        }
+
+        /// The absolute values of the lanes, read signed; the least number is its own, modulo 2 to the
+        /// power 16.
+        ///
+        /// # Contract
+        ///
+        /// <span></span><pre><code>ensures: result ≡ [vector.abs] [w16] v</code></pre>
+        ///
+        /// [vector.abs]: crate::specs::lanewise::VectorTable#abs "the absolute values of lanes read signed, modulo 2 to the width"
+        /// [w16]: crate::specs::library#w16 "the widths of integers in bits"
+        #[inline]
+        pub fn i16x8_abs(v: V128) -> V128 {
+            on_vectors::unary::<I16x8, _>(v, |x| x.wrapping_abs())
+        }
+
+        /// The absolute values of the lanes, read signed; the least number is its own, modulo 2 to the
+        /// power 32.
+        ///
+        /// # Contract
+        ///
+        /// <span></span><pre><code>ensures: result ≡ [vector.abs] [w32] v</code></pre>
+        ///
+        /// [vector.abs]: crate::specs::lanewise::VectorTable#abs "the absolute values of lanes read signed, modulo 2 to the width"
+        /// [w32]: crate::specs::library#w32 "the widths of integers in bits"
+        #[inline]
+        pub fn i32x4_abs(v: V128) -> V128 {
+            on_vectors::unary::<I32x4, _>(v, |x| x.wrapping_abs())
+        }
+
+        /// The absolute values of the lanes, read signed; the least number is its own, modulo 2 to the
+        /// power 64.
+        ///
+        /// # Contract
+        ///
+        /// <span></span><pre><code>ensures: result ≡ [vector.abs] [w64] v</code></pre>
+        ///
+        /// [vector.abs]: crate::specs::lanewise::VectorTable#abs "the absolute values of lanes read signed, modulo 2 to the width"
+        /// [w64]: crate::specs::library#w64 "the widths of integers in bits"
+        #[inline]
+        pub fn i64x2_abs(v: V128) -> V128 {
+            on_vectors::unary::<I64x2, _>(v, |x| x.wrapping_abs())
+        }
+
+        /// How many bits of each lane are one.
+        ///
+        /// # Contract
+        ///
+        /// <span></span><pre><code>ensures: result ≡ [vector.popcnt] [w8] v</code></pre>
+        ///
+        /// [vector.popcnt]: crate::specs::lanewise::VectorTable#popcnt "how many bits of each lane are set"
+        /// [w8]: crate::specs::library#w8 "the widths of integers in bits"
+        #[inline]
+        pub fn i8x16_popcnt(v: V128) -> V128 {
+            words::counts_of_ones(v)
+        }
+    }
+    mod words {
+        //! Sums, differences, equality, averages and counted bits on the two words of a vector, whose lanes
+        //! stay where they are.
+        //!
+        //! What is generic in a lane type takes the highest bits of a word's lanes from it.
+
+        use crate::proved::lanes::words::{word_add, word_differ, word_sub};
+        use crate::proved::lanes::{WordLane, from_u64x2, u64x2_of};
+        use crate::proved::raw::V128;
+        use crate::rattle::simd::prelude::*;
+
+        // The highest bit of each lane of a word but the last: a sum or a difference needs no top at the
+        // end of the word, and without it LLVM makes one step of it where a word is one lane.
+        /// # Contract
+        ///
+        /// <span></span><pre><code>ensures: result ≡ [in_each_lane] [T.width] (2 ^ ([bits] [T.width] - 1)) % 2 ^ 63</code></pre>
+        ///
+        /// [in_each_lane]: crate::specs::lanes::Words#in_each_lane "the word with n in each lane of one width"
+        /// [T.width]: trait@WordLane#contract
+        /// [bits]: crate::specs::library#bits "the number of bits of a width"
+        #[inline(always)]
+        fn inner_tops<T: WordLane>() -> u64 {
+            T::TOPS % (1 << 63)
+        }
+
+        /// The sums of the lanes, modulo 2 to the power of their width.
+        ///
+        /// # Contract
+        ///
+        /// <span></span><pre><code>ensures: result ≡ [vector.add] [T.width] lhs rhs</code></pre>
+        ///
+        /// [vector.add]: crate::specs::lanewise::VectorTable#add "modulo 2 ^ w"
+        /// [T.width]: trait@WordLane#contract
+        #[inline(always)]
+        pub(super) fn sums<T: WordLane>(lhs: V128, rhs: V128) -> V128 {
+            let tops = inner_tops::<T>();
+            let (a_low, a_high) = lhs.words();
+            let (b_low, b_high) = rhs.words();
+            V128::from_word_pair(word_add(a_low, b_low, tops), word_add(a_high, b_high, tops))
+        }
+
+        /// The differences of the lanes, modulo 2 to the power of their width.
+        ///
+        /// An operand and the result are inverted twice, as a vector and as words, which changes nothing.
+        /// LLVM joins the inversions of the words with the masks of `word_sub`, and makes one step less.
+        ///
+        /// # Contract
+        ///
+        /// <span></span><pre><code>ensures: result ≡ [vector.sub] [T.width] lhs rhs</code></pre>
+        ///
+        /// [vector.sub]: crate::specs::lanewise::VectorTable#sub "the differences modulo 2 to the width"
+        /// [T.width]: trait@WordLane#contract
+        #[inline(always)]
+        pub(super) fn differences<T: WordLane>(lhs: V128, rhs: V128) -> V128 {
+            let tops = inner_tops::<T>();
+            let (a_low, a_high) = inverted(lhs).words();
+            let (b_low, b_high) = rhs.words();
+            inverted(V128::from_word_pair(
+                !word_sub(!a_low, b_low, tops),
+                !word_sub(!a_high, b_high, tops),
+            ))
+        }
+
+        // The bits of a vector inverted, both words as one value of the processor's.
+        /// # Contract
+        ///
+        /// <span></span><pre><code>ensures: result ≡ [vector.v128_not] v</code></pre>
+        ///
+        /// [vector.v128_not]: crate::specs::lanewise::VectorTable#v128_not "each bit is inverted"
+        #[inline(always)]
+        fn inverted(v: V128) -> V128 {
+            from_u64x2(!u64x2_of(v))
+        }
+
+        /// The lanes negated, modulo 2 to the power of their width.
+        ///
+        /// A lane plus all ones is the lane less 1, whose bits inverted are those of the lane negated.
+        ///
+        /// # Contract
+        ///
+        /// <span></span><pre><code>ensures: result ≡ [vector.neg] [T.width] v</code></pre>
+        ///
+        /// [vector.neg]: crate::specs::lanewise::VectorTable#neg "modulo 2 ^ w"
+        /// [T.width]: trait@WordLane#contract
+        #[inline(always)]
+        pub(super) fn negations<T: WordLane>(v: V128) -> V128 {
+            let tops = inner_tops::<T>();
+            let (low, high) = v.words();
+            V128::from_word_pair(
+                !word_add(low, u64::MAX, tops),
+                !word_add(high, u64::MAX, tops),
+            )
+        }
+
+        /// All ones in the lanes that are equal, else all zeros.
+        ///
+        /// # Contract
+        ///
+        /// <span></span><pre><code>ensures: result ≡ [vector.eq] [T.width] lhs rhs</code></pre>
+        ///
+        /// [vector.eq]: crate::specs::lanewise::VectorTable#eq "all ones in the lanes that are equal, else all zeros"
+        /// [T.width]: trait@WordLane#contract
+        #[inline(always)]
+        pub(super) fn equal<T: WordLane>(lhs: V128, rhs: V128) -> V128 {
+            let tops = T::TOPS;
+            let (a_low, a_high) = lhs.words();
+            let (b_low, b_high) = rhs.words();
+            filled::<T>(
+                word_differ(a_low, b_low, tops) ^ tops,
+                word_differ(a_high, b_high, tops) ^ tops,
+            )
+        }
+
+        /// All ones in the lanes that are different, else all zeros.
+        ///
+        /// # Contract
+        ///
+        /// <span></span><pre><code>ensures: result ≡ [vector.ne] [T.width] lhs rhs</code></pre>
+        ///
+        /// [vector.ne]: crate::specs::lanewise::VectorTable#ne "all ones in the lanes that differ, else all zeros"
+        /// [T.width]: trait@WordLane#contract
+        #[inline(always)]
+        pub(super) fn different<T: WordLane>(lhs: V128, rhs: V128) -> V128 {
+            let tops = T::TOPS;
+            let (a_low, a_high) = lhs.words();
+            let (b_low, b_high) = rhs.words();
+            filled::<T>(
+                word_differ(a_low, b_low, tops),
+                word_differ(a_high, b_high, tops),
+            )
+        }
+
+        /// All ones in the lanes of 64 bits that are equal, else all zeros.
+        ///
+        /// # Contract
+        ///
+        /// <span></span><pre><code>ensures: result ≡ [vector.eq] [w64] lhs rhs</code></pre>
+        ///
+        /// [vector.eq]: crate::specs::lanewise::VectorTable#eq "all ones in the lanes that are equal, else all zeros"
+        /// [w64]: crate::specs::library#w64 "the widths of integers in bits"
+        #[inline(always)]
+        pub(super) fn equal_words(lhs: V128, rhs: V128) -> V128 {
+            let (a_low, a_high) = lhs.words();
+            let (b_low, b_high) = rhs.words();
+            V128::from_word_pair(ones_if_equal(a_low, b_low), ones_if_equal(a_high, b_high))
+        }
+
+        /// All ones in the lanes of 64 bits that are different, else all zeros.
+        ///
+        /// # Contract
+        ///
+        /// <span></span><pre><code>ensures: result ≡ [vector.ne] [w64] lhs rhs</code></pre>
+        ///
+        /// [vector.ne]: crate::specs::lanewise::VectorTable#ne "all ones in the lanes that differ, else all zeros"
+        /// [w64]: crate::specs::library#w64 "the widths of integers in bits"
+        #[inline(always)]
+        pub(super) fn different_words(lhs: V128, rhs: V128) -> V128 {
+            let (a_low, a_high) = lhs.words();
+            let (b_low, b_high) = rhs.words();
+            V128::from_word_pair(!ones_if_equal(a_low, b_low), !ones_if_equal(a_high, b_high))
+        }
+
+        // All ones if two words are equal, else 0. They are compared as lanes of one bit, of which
+        // `word_differ` masks nothing.
+        /// # Contract
+        ///
+        /// <span></span><pre><code>ensures: result ≡ (if a == b then 2 ^ 64 - 1 else 0)</code></pre>
+        #[inline(always)]
+        fn ones_if_equal(a: u64, b: u64) -> u64 {
+            if word_differ(a, b, u64::MAX) == 0 {
+                u64::MAX
+            } else {
+                0
+            }
+        }
+
+        // The vector of two words of which each lane is 0 or its highest bit alone, those with the bit
+        // filled with ones: twice the bit, which is the bit above the lane, less the lane's lowest. Of
+        // plain words LLVM would take two vectors a turn of a loop, and regroup their words before and
+        // after.
+        /// # Contract
+        ///
+        /// <span></span><pre><code>requires low: [AreMarks] [T.width] low
+        /// requires high: [AreMarks] [T.width] high
+        /// ensures words: (x : [ℕ]) × (y : [ℕ]) × (result ≡ [vector_of] x y) × (x < 2 ^ 64) × (y < 2 ^ 64)
+        /// &#32;&#32;&#32;&#32;× [AreFilled] [T.width] low x × [AreFilled] [T.width] high y</code></pre>
+        ///
+        /// [AreMarks]: crate::specs::lanes::Words#AreMarks "each lane of w bits of a word is 0 or its highest bit alone"
+        /// [T.width]: trait@WordLane#contract
+        /// [ℕ]: crate::specs::library#%E2%84%95 "the whole numbers from 0 on"
+        /// [vector_of]: crate::specs::raw::Vector#vector_of "the vector whose words are low and high"
+        /// [AreFilled]: crate::specs::lanes::Words#AreFilled "the lanes that have their highest bit in marks are all ones in word, the others all zeros"
+        #[inline(always)]
+        fn filled<T: WordLane>(low: u64, high: u64) -> V128 {
+            let marks = u64x2::from_array([low, high]);
+            let ones = marks >> u64x2::splat(u64::from(T::BITS - 1));
+            from_u64x2((marks + marks) - ones)
+        }
+
+        /// The averages of the lanes, read unsigned, halves rounded up.
+        ///
+        /// # Contract
+        ///
+        /// <span></span><pre><code>ensures: result ≡ [vector.avgr_u] [T.width] lhs rhs</code></pre>
+        ///
+        /// [vector.avgr_u]: crate::specs::lanewise::VectorTable#avgr_u "the averages of lanes read unsigned, rounded up"
+        /// [T.width]: trait@WordLane#contract
+        #[inline(always)]
+        pub(super) fn averages<T: WordLane>(lhs: V128, rhs: V128) -> V128 {
+            let tops = T::TOPS;
+            let (a_low, a_high) = lhs.words();
+            let (b_low, b_high) = rhs.words();
+            V128::from_word_pair(
+                word_averages(a_low, b_low, tops),
+                word_averages(a_high, b_high, tops),
+            )
+        }
+
+        // Common bits and half of the others, which never borrow from the lane below.
+        /// # Contract
+        ///
+        /// <span></span><pre><code>ensures: (start width : [ℕ]) → [IsLane] tops start width
+        /// &#32;&#32;&#32;&#32;→ [field] start width result ≡ [vector.average] ([field] start width a) ([field] start width b)</code></pre>
+        ///
+        /// [ℕ]: crate::specs::library#%E2%84%95 "the whole numbers from 0 on"
+        /// [IsLane]: crate::specs::lanes::Words#IsLane "the bits from start to start + width - 1 are a lane of tops"
+        /// [field]: crate::specs::lanes::Words#field "the number in the bits of v from start to start + width - 1"
+        /// [vector.average]: crate::specs::lanewise::VectorTable#average "(x + y) / 2, halves rounded up"
+        #[inline(always)]
+        fn word_averages(a: u64, b: u64, tops: u64) -> u64 {
+            (a | b) - (((a ^ b) >> 1) & !tops)
+        }
+
+        /// How many bits of each lane of 8 bits are one.
+        ///
+        /// Counted in lanes of 2, 4 and 8 bits in turn, each the sum of its halves. Both words are one
+        /// value of the processor's, for the reason at `filled`.
+        ///
+        /// # Contract
+        ///
+        /// <span></span><pre><code>ensures: result ≡ [vector.popcnt] [w8] v</code></pre>
+        ///
+        /// [vector.popcnt]: crate::specs::lanewise::VectorTable#popcnt "how many bits of each lane are set"
+        /// [w8]: crate::specs::library#w8 "the widths of integers in bits"
+        #[inline(always)]
+        pub(super) fn counts_of_ones(v: V128) -> V128 {
+            let (low, high) = v.words();
+            let words = u64x2::from_array([low, high]);
+            let ones = u64x2::splat(0x5555_5555_5555_5555);
+            let pairs = words - ((words >> u64x2::splat(1)) & ones);
+            let twos = u64x2::splat(0x3333_3333_3333_3333);
+            let nibbles = (pairs & twos) + ((pairs >> u64x2::splat(2)) & twos);
+            let fours = u64x2::splat(0x0f0f_0f0f_0f0f_0f0f);
+            from_u64x2((nibbles + (nibbles >> u64x2::splat(4))) & fours)
+        }
+    }
+
+    // Arithmetic, bits and bytes.
+    pub use binary::{
+        i8x16_add, i8x16_add_sat_s, i8x16_add_sat_u, i8x16_avgr_u, i8x16_max_s, i8x16_max_u,
+        i8x16_min_s, i8x16_min_u, i8x16_mul, i8x16_sub, i8x16_sub_sat_s, i8x16_sub_sat_u,
+        i16x8_add, i16x8_add_sat_s, i16x8_add_sat_u, i16x8_avgr_u, i16x8_max_s, i16x8_max_u,
+        i16x8_min_s, i16x8_min_u, i16x8_mul, i16x8_q15mulr_sat_s, i16x8_sub, i16x8_sub_sat_s,
+        i16x8_sub_sat_u, i32x4_add, i32x4_max_s, i32x4_max_u, i32x4_min_s, i32x4_min_u, i32x4_mul,
+        i32x4_sub, i64x2_add, i64x2_mul, i64x2_sub,
+    };
+    pub use bitwise::{v128_and, v128_andnot, v128_bitselect, v128_not, v128_or, v128_xor};
+    pub use shuffle::{i8x16_shuffle, i8x16_swizzle};
+    pub use unary::{
+        i8x16_abs, i8x16_neg, i8x16_popcnt, i16x8_abs, i16x8_neg, i32x4_abs, i32x4_neg, i64x2_abs,
+        i64x2_neg,
+    };
+
+    // Comparisons.
+    pub use comparison::{
+        i8x16_eq, i8x16_ge_s, i8x16_ge_u, i8x16_gt_s, i8x16_gt_u, i8x16_le_s, i8x16_le_u,
+        i8x16_lt_s, i8x16_lt_u, i8x16_ne, i16x8_eq, i16x8_ge_s, i16x8_ge_u, i16x8_gt_s, i16x8_gt_u,
+        i16x8_le_s, i16x8_le_u, i16x8_lt_s, i16x8_lt_u, i16x8_ne, i32x4_eq, i32x4_ge_s, i32x4_ge_u,
+        i32x4_gt_s, i32x4_gt_u, i32x4_le_s, i32x4_le_u, i32x4_lt_s, i32x4_lt_u, i32x4_ne, i64x2_eq,
+        i64x2_ge_s, i64x2_gt_s, i64x2_le_s, i64x2_lt_s, i64x2_ne,
+    };
+
+    // Single lanes.
+    pub use lane_access::{
+        i8x16_extract_lane_s, i8x16_extract_lane_u, i8x16_replace_lane, i8x16_splat,
+        i16x8_extract_lane_s, i16x8_extract_lane_u, i16x8_replace_lane, i16x8_splat,
+        i32x4_extract_lane, i32x4_replace_lane, i32x4_splat, i64x2_extract_lane,
+        i64x2_replace_lane, i64x2_splat,
+    };
+
+    // Lanes and their indices.
+    pub use crate::proved::lanes::{
+        FromNarrow, FromWide, I8x16, I16x8, I32x4, I64x2, ImmLaneIdx, ImmLaneIdx2, ImmLaneIdx4,
+        ImmLaneIdx8, ImmLaneIdx16, ImmLaneIdx32, IntoLaneIdx, IntoLanes, Lanes, OutOfBoundsLaneIdx,
+        U8x16, U16x8, U32x4, U64x2,
+    };
+}

@@ -1,0 +1,3484 @@
+//! Metered WebAssembly memories and tables under a resource limiter, and a machine that runs lists
+//! of calls on them.
+mod calls {
+    //! What a machine can be asked, and what it replies. Both are our own: upstream leaves running to
+    //! the interpreter.
+
+    use crate::proved::lanes::ImmLaneIdx32;
+    use crate::proved::meter::{FuelError, MemoryError, TableError};
+    use crate::proved::ops::{
+        BinaryOp, ExtractOp, LoadLaneOp, LoadOp, MakeOp, ReplaceOp, ShiftOp, StoreLaneOp, StoreOp,
+        TernaryOp, TestOp, UnaryOp, VectorLoadOp,
+    };
+    use crate::proved::raw::{RawRef, RawVal};
+    use crate::proved::store::{MemoryType, SegmentError, TableType};
+    use crate::proved::typed::{GlobalError, GlobalType, TypedRawRef, TypedRawVal};
+    use crate::proved::types::{RefType, TrapCode};
+    use crate::rattle::Vec;
+    use core::fmt;
+    use core::fmt::{Debug, Formatter};
+
+    /// One call on a machine. Memories, tables, element segments and globals go by their indices, which
+    /// count from 0 for each kind and aren't used again: there is no such memory or table once it is
+    /// dropped. Registers go by their numbers from 0 to 15; `dst` is the one that takes the result, and
+    /// a refused call keeps it.
+    ///
+    /// Replies are listed in the order of the tests: the first that applies is the reply. `Memory` and
+    /// `Table` carry the error that the method of `Memory` or `Table` returns.
+    pub enum Call {
+        /// Sets the fuel that is left: [`Done`], or [`Fuel`] if metering is off.
+        ///
+        /// [`Done`]: crate::proved::machine::Reply::Done
+        /// [`Fuel`]: crate::proved::machine::Reply::Fuel
+        SetFuel(u64),
+        /// Returns the fuel that is left: [`Number`], or [`Fuel`] if metering is off.
+        ///
+        /// [`Number`]: crate::proved::machine::Reply::Number
+        /// [`Fuel`]: crate::proved::machine::Reply::Fuel
+        GetFuel,
+        /// Makes a memory of zeros: [`Made`] with its index, [`NoRoom`] if there is no memory for its slot,
+        /// or [`Memory`].
+        ///
+        /// [`Made`]: crate::proved::machine::Reply::Made
+        /// [`NoRoom`]: crate::proved::machine::Reply::NoRoom
+        /// [`Memory`]: crate::proved::machine::Reply::Memory
+        NewMemory(MemoryType),
+        /// Makes a memory of zeros at the front of the machine's spare region: [`Made`] with its index,
+        /// [`NoRegion`] if there is no spare region, [`NoRoom`] if there is no memory for its slot, or
+        /// [`Memory`]. Any reply except [`NoRegion`] and [`NoRoom`] uses up the region.
+        ///
+        /// [`Made`]: crate::proved::machine::Reply::Made
+        /// [`NoRegion`]: crate::proved::machine::Reply::NoRegion
+        /// [`NoRoom`]: crate::proved::machine::Reply::NoRoom
+        /// [`Memory`]: crate::proved::machine::Reply::Memory
+        NewLentMemory(MemoryType),
+        /// Grows a memory by `pages` pages: [`Number`] of the old size in pages, [`NoSuch`] if there is no
+        /// such memory, or [`Memory`].
+        ///
+        /// [`Number`]: crate::proved::machine::Reply::Number
+        /// [`NoSuch`]: crate::proved::machine::Reply::NoSuch
+        /// [`Memory`]: crate::proved::machine::Reply::Memory
+        GrowMemory {
+            /// The index of the memory.
+            memory: usize,
+            /// How many pages it grows by.
+            pages: u64,
+        },
+        /// Drops a memory, whose bytes are given back; its size still counts in the machine's total:
+        /// [`Done`], or [`NoSuch`] if there is no such memory.
+        ///
+        /// [`Done`]: crate::proved::machine::Reply::Done
+        /// [`NoSuch`]: crate::proved::machine::Reply::NoSuch
+        DropMemory(usize),
+        /// Reads `len` bytes of a memory: [`Bytes`], [`NoSuch`] if there is no such memory, [`Memory`] if
+        /// they end past it, or then [`NoRoom`] if there is no memory for the reply.
+        ///
+        /// [`Bytes`]: crate::proved::machine::Reply::Bytes
+        /// [`NoSuch`]: crate::proved::machine::Reply::NoSuch
+        /// [`Memory`]: crate::proved::machine::Reply::Memory
+        /// [`NoRoom`]: crate::proved::machine::Reply::NoRoom
+        Read {
+            /// The index of the memory.
+            memory: usize,
+            /// The offset in bytes.
+            offset: usize,
+            /// How many there are.
+            len: usize,
+        },
+        /// Writes bytes over those of a memory from an offset on: [`Done`], [`NoSuch`] if there is no such
+        /// memory, or [`Memory`] if they would end past it.
+        ///
+        /// [`Done`]: crate::proved::machine::Reply::Done
+        /// [`NoSuch`]: crate::proved::machine::Reply::NoSuch
+        /// [`Memory`]: crate::proved::machine::Reply::Memory
+        Write {
+            /// The index of the memory.
+            memory: usize,
+            /// The offset in bytes.
+            offset: usize,
+            /// The bytes to be written.
+            bytes: Vec<u8>,
+        },
+        /// Loads a number from a memory at `ptr + offset`: [`Value`], [`NoSuch`] if there is no such
+        /// memory, or [`Trap`] if it ends past it.
+        ///
+        /// [`Value`]: crate::proved::machine::Reply::Value
+        /// [`NoSuch`]: crate::proved::machine::Reply::NoSuch
+        /// [`Trap`]: crate::proved::machine::Reply::Trap
+        Load {
+            /// The instruction.
+            op: LoadOp,
+            /// The index of the memory.
+            memory: usize,
+            /// The address, to which the offset is added.
+            ptr: u64,
+            /// The offset in bytes.
+            offset: u64,
+        },
+        /// Stores a number to a memory at `ptr + offset`: [`Done`], [`NoSuch`] if there is no such memory,
+        /// or [`Trap`] if it would end past it.
+        ///
+        /// [`Done`]: crate::proved::machine::Reply::Done
+        /// [`NoSuch`]: crate::proved::machine::Reply::NoSuch
+        /// [`Trap`]: crate::proved::machine::Reply::Trap
+        Store {
+            /// The instruction.
+            op: StoreOp,
+            /// The index of the memory.
+            memory: usize,
+            /// The address, to which the offset is added.
+            ptr: u64,
+            /// The offset in bytes.
+            offset: u64,
+            /// The value that is written or set.
+            value: RawVal,
+        },
+        /// Makes a table of one reference: [`Made`] with its index, [`NoRoom`] if there is no memory for
+        /// its slot, or [`Table`].
+        ///
+        /// [`Made`]: crate::proved::machine::Reply::Made
+        /// [`NoRoom`]: crate::proved::machine::Reply::NoRoom
+        /// [`Table`]: crate::proved::machine::Reply::Table
+        NewTable {
+            /// The type.
+            ty: TableType,
+            /// The reference in each new element.
+            init: TypedRawRef,
+        },
+        /// Grows a table by `delta` elements: [`Number`] of the old size in elements, [`NoSuch`] if there
+        /// is no such table, or [`Table`].
+        ///
+        /// [`Number`]: crate::proved::machine::Reply::Number
+        /// [`NoSuch`]: crate::proved::machine::Reply::NoSuch
+        /// [`Table`]: crate::proved::machine::Reply::Table
+        GrowTable {
+            /// The index of the table.
+            table: usize,
+            /// How many elements it grows by.
+            delta: u64,
+            /// The reference in each new element.
+            init: TypedRawRef,
+        },
+        /// Drops a table, whose elements are given back; its size still counts in the machine's total:
+        /// [`Done`], or [`NoSuch`] if there is no such table.
+        ///
+        /// [`Done`]: crate::proved::machine::Reply::Done
+        /// [`NoSuch`]: crate::proved::machine::Reply::NoSuch
+        DropTable(usize),
+        /// Returns the element of a table, if there is one: [`Reference`], or [`NoSuch`] if there is no
+        /// such table.
+        ///
+        /// [`Reference`]: crate::proved::machine::Reply::Reference
+        /// [`NoSuch`]: crate::proved::machine::Reply::NoSuch
+        GetElement {
+            /// The index of the table.
+            table: usize,
+            /// The index of the element.
+            index: u64,
+        },
+        /// Sets an element of a table: [`Done`], [`NoSuch`] if there is no such table, or [`Table`] with
+        /// `ElementTypeMismatch` if the reference isn't of the type of the elements, then
+        /// `SetOutOfBounds` if the index is past the end.
+        ///
+        /// [`Done`]: crate::proved::machine::Reply::Done
+        /// [`NoSuch`]: crate::proved::machine::Reply::NoSuch
+        /// [`Table`]: crate::proved::machine::Reply::Table
+        SetElement {
+            /// The index of the table.
+            table: usize,
+            /// The index of the element.
+            index: u64,
+            /// The value that is written or set.
+            value: TypedRawRef,
+        },
+        /// Copies `len` items of an element segment, from `src` on, over the elements of a table from
+        /// `dst` on: [`Done`], [`NoSuch`] if there is no such segment or table, or [`Table`] with
+        /// `ElementTypeMismatch` if their types differ, then `InitOutOfBounds` if a range ends past the
+        /// segment or the table, then `OutOfFuel`; copying no items costs no fuel.
+        ///
+        /// [`Done`]: crate::proved::machine::Reply::Done
+        /// [`NoSuch`]: crate::proved::machine::Reply::NoSuch
+        /// [`Table`]: crate::proved::machine::Reply::Table
+        InitTable {
+            /// The index of the table.
+            table: usize,
+            /// The index of the element segment.
+            segment: usize,
+            /// Where the result goes.
+            dst: u64,
+            /// Where the first of them stands.
+            src: u32,
+            /// How many there are.
+            len: u32,
+        },
+        /// Copies `len` elements of a table, from `src` on, over those of another or of itself from
+        /// `dst` on: [`Done`], [`NoSuch`] if there is no such table, or [`Table`] with `ElementTypeMismatch`
+        /// if their types differ, then `CopyOutOfBounds` if a range ends past its table, then
+        /// `OutOfFuel`, which is tested also for no element. If ranges of one table overlap, the old
+        /// elements are copied.
+        ///
+        /// [`Done`]: crate::proved::machine::Reply::Done
+        /// [`NoSuch`]: crate::proved::machine::Reply::NoSuch
+        /// [`Table`]: crate::proved::machine::Reply::Table
+        CopyTable {
+            /// The index of the table that is written.
+            dst_table: usize,
+            /// Where the result goes.
+            dst: u64,
+            /// The index of the table that is read.
+            src_table: usize,
+            /// Where the first of them stands.
+            src: u64,
+            /// How many there are.
+            len: u64,
+        },
+        /// Fills `len` elements of a table with a reference, from `dst` on: [`Done`], [`NoSuch`] if there
+        /// is no such table, or [`Table`] with `ElementTypeMismatch` if the reference isn't of the type
+        /// of the elements, then `FillOutOfBounds` if they end past the table, then `OutOfFuel`, which
+        /// is tested also for no element.
+        ///
+        /// [`Done`]: crate::proved::machine::Reply::Done
+        /// [`NoSuch`]: crate::proved::machine::Reply::NoSuch
+        /// [`Table`]: crate::proved::machine::Reply::Table
+        FillTable {
+            /// The index of the table.
+            table: usize,
+            /// Where the result goes.
+            dst: u64,
+            /// The value that is written or set.
+            value: TypedRawRef,
+            /// How many there are.
+            len: u64,
+        },
+        /// Makes an element segment: [`Made`] with its index, [`NoRoom`] if there is no memory for its
+        /// slot, or [`Segment`].
+        ///
+        /// [`Made`]: crate::proved::machine::Reply::Made
+        /// [`NoRoom`]: crate::proved::machine::Reply::NoRoom
+        /// [`Segment`]: crate::proved::machine::Reply::Segment
+        NewSegment {
+            /// The type.
+            ty: RefType,
+            /// The references.
+            items: Vec<RawRef>,
+        },
+        /// Drops the items of an element segment, which stays: [`Done`], or [`NoSuch`] if there is no such
+        /// segment.
+        ///
+        /// [`Done`]: crate::proved::machine::Reply::Done
+        /// [`NoSuch`]: crate::proved::machine::Reply::NoSuch
+        DropItems(usize),
+        /// Makes a global: [`Made`] with its index, or [`NoRoom`] if there is no memory for its slot.
+        ///
+        /// [`Made`]: crate::proved::machine::Reply::Made
+        /// [`NoRoom`]: crate::proved::machine::Reply::NoRoom
+        NewGlobal {
+            /// The value that is written or set.
+            value: RawVal,
+            /// The type.
+            ty: GlobalType,
+        },
+        /// Sets a global: [`Done`], [`NoSuch`] if there is no such global, or [`Global`] with
+        /// `ImmutableWrite` if it is a constant, then `TypeMismatch` if the value isn't of its type.
+        ///
+        /// [`Done`]: crate::proved::machine::Reply::Done
+        /// [`NoSuch`]: crate::proved::machine::Reply::NoSuch
+        /// [`Global`]: crate::proved::machine::Reply::Global
+        SetGlobal {
+            /// The index of the global.
+            global: usize,
+            /// The value that is written or set.
+            value: TypedRawVal,
+        },
+        /// Returns the value of a global: [`Value`], or [`NoSuch`] if there is no such global.
+        ///
+        /// [`Value`]: crate::proved::machine::Reply::Value
+        /// [`NoSuch`]: crate::proved::machine::Reply::NoSuch
+        GetGlobal(usize),
+        /// Sets a register: [`Done`], or [`NoSuch`] if there is no such register.
+        ///
+        /// [`Done`]: crate::proved::machine::Reply::Done
+        /// [`NoSuch`]: crate::proved::machine::Reply::NoSuch
+        SetRegister {
+            /// Where the result goes.
+            dst: u8,
+            /// The value that is written or set.
+            value: RawVal,
+        },
+        /// Returns the value of a register: [`Value`], or [`NoSuch`] if there is no such register.
+        ///
+        /// [`Value`]: crate::proved::machine::Reply::Value
+        /// [`NoSuch`]: crate::proved::machine::Reply::NoSuch
+        GetRegister(u8),
+        /// Makes a vector of the item in register `a`: [`Done`], or [`NoSuch`] if there is no such
+        /// register.
+        ///
+        /// [`Done`]: crate::proved::machine::Reply::Done
+        /// [`NoSuch`]: crate::proved::machine::Reply::NoSuch
+        Make {
+            /// The instruction.
+            op: MakeOp,
+            /// Where the result goes.
+            dst: u8,
+            /// The register of the first operand.
+            a: u8,
+        },
+        /// Executes an instruction of one vector: [`Done`], or [`NoSuch`] if there is no such register.
+        ///
+        /// [`Done`]: crate::proved::machine::Reply::Done
+        /// [`NoSuch`]: crate::proved::machine::Reply::NoSuch
+        Unary {
+            /// The instruction.
+            op: UnaryOp,
+            /// Where the result goes.
+            dst: u8,
+            /// The register of the first operand.
+            a: u8,
+        },
+        /// Executes an instruction of two vectors: [`Done`], or [`NoSuch`] if there is no such register.
+        ///
+        /// [`Done`]: crate::proved::machine::Reply::Done
+        /// [`NoSuch`]: crate::proved::machine::Reply::NoSuch
+        Binary {
+            /// The instruction.
+            op: BinaryOp,
+            /// Where the result goes.
+            dst: u8,
+            /// The register of the first operand.
+            a: u8,
+            /// The register of the second operand.
+            b: u8,
+        },
+        /// Executes an instruction of three vectors: [`Done`], or [`NoSuch`] if there is no such register.
+        ///
+        /// [`Done`]: crate::proved::machine::Reply::Done
+        /// [`NoSuch`]: crate::proved::machine::Reply::NoSuch
+        Ternary {
+            /// The instruction.
+            op: TernaryOp,
+            /// Where the result goes.
+            dst: u8,
+            /// The register of the first operand.
+            a: u8,
+            /// The register of the second operand.
+            b: u8,
+            /// The register of the third operand.
+            c: u8,
+        },
+        /// Shifts the lanes of a vector by `amount` modulo their width: [`Done`], or [`NoSuch`] if there is
+        /// no such register.
+        ///
+        /// [`Done`]: crate::proved::machine::Reply::Done
+        /// [`NoSuch`]: crate::proved::machine::Reply::NoSuch
+        Shift {
+            /// The instruction.
+            op: ShiftOp,
+            /// Where the result goes.
+            dst: u8,
+            /// The register of the first operand.
+            a: u8,
+            /// By how many bits.
+            amount: u32,
+        },
+        /// Tests a vector, or takes its mask: [`Value`], or [`NoSuch`] if there is no such register.
+        ///
+        /// [`Value`]: crate::proved::machine::Reply::Value
+        /// [`NoSuch`]: crate::proved::machine::Reply::NoSuch
+        Test {
+            /// The instruction.
+            op: TestOp,
+            /// The register of the first operand.
+            a: u8,
+        },
+        /// Takes a lane from a vector: [`Value`], or [`NoSuch`] if there is no such register.
+        ///
+        /// [`Value`]: crate::proved::machine::Reply::Value
+        /// [`NoSuch`]: crate::proved::machine::Reply::NoSuch
+        Extract {
+            /// The instruction.
+            op: ExtractOp,
+            /// The register of the first operand.
+            a: u8,
+        },
+        /// Puts the item in register `item` into a lane of a vector: [`Done`], or [`NoSuch`] if there is no
+        /// such register.
+        ///
+        /// [`Done`]: crate::proved::machine::Reply::Done
+        /// [`NoSuch`]: crate::proved::machine::Reply::NoSuch
+        Replace {
+            /// The instruction.
+            op: ReplaceOp,
+            /// Where the result goes.
+            dst: u8,
+            /// The register of the first operand.
+            a: u8,
+            /// The register of the item.
+            item: u8,
+        },
+        /// Picks bytes of two vectors: [`Done`], or [`NoSuch`] if there is no such register.
+        ///
+        /// [`Done`]: crate::proved::machine::Reply::Done
+        /// [`NoSuch`]: crate::proved::machine::Reply::NoSuch
+        Shuffle {
+            /// Where the result goes.
+            dst: u8,
+            /// The register of the first operand.
+            a: u8,
+            /// The register of the second operand.
+            b: u8,
+            /// The index of the byte for each lane.
+            lanes: [ImmLaneIdx32; 16],
+        },
+        /// Loads a vector from a memory at `ptr + offset`: [`Done`], [`NoSuch`] if there is no such memory
+        /// or register, or [`Trap`] if it ends past it.
+        ///
+        /// [`Done`]: crate::proved::machine::Reply::Done
+        /// [`NoSuch`]: crate::proved::machine::Reply::NoSuch
+        /// [`Trap`]: crate::proved::machine::Reply::Trap
+        VectorLoad {
+            /// The instruction.
+            op: VectorLoadOp,
+            /// Where the result goes.
+            dst: u8,
+            /// The index of the memory.
+            memory: usize,
+            /// The address, to which the offset is added.
+            ptr: u64,
+            /// The offset in bytes.
+            offset: u64,
+        },
+        /// Loads a lane of a vector from a memory at `ptr + offset`: [`Done`], [`NoSuch`] if there is no
+        /// such memory or register, or [`Trap`] if it ends past it.
+        ///
+        /// [`Done`]: crate::proved::machine::Reply::Done
+        /// [`NoSuch`]: crate::proved::machine::Reply::NoSuch
+        /// [`Trap`]: crate::proved::machine::Reply::Trap
+        LoadLane {
+            /// The instruction.
+            op: LoadLaneOp,
+            /// Where the result goes.
+            dst: u8,
+            /// The register of the first operand.
+            a: u8,
+            /// The index of the memory.
+            memory: usize,
+            /// The address, to which the offset is added.
+            ptr: u64,
+            /// The offset in bytes.
+            offset: u64,
+        },
+        /// Stores a vector to a memory at `ptr + offset`: [`Done`], [`NoSuch`] if there is no such memory
+        /// or register, or [`Trap`] if it would end past it.
+        ///
+        /// [`Done`]: crate::proved::machine::Reply::Done
+        /// [`NoSuch`]: crate::proved::machine::Reply::NoSuch
+        /// [`Trap`]: crate::proved::machine::Reply::Trap
+        VectorStore {
+            /// The register of the first operand.
+            a: u8,
+            /// The index of the memory.
+            memory: usize,
+            /// The address, to which the offset is added.
+            ptr: u64,
+            /// The offset in bytes.
+            offset: u64,
+        },
+        /// Stores a lane of a vector to a memory at `ptr + offset`: [`Done`], [`NoSuch`] if there is no
+        /// such memory or register, or [`Trap`] if it would end past it.
+        ///
+        /// [`Done`]: crate::proved::machine::Reply::Done
+        /// [`NoSuch`]: crate::proved::machine::Reply::NoSuch
+        /// [`Trap`]: crate::proved::machine::Reply::Trap
+        StoreLane {
+            /// The instruction.
+            op: StoreLaneOp,
+            /// The register of the first operand.
+            a: u8,
+            /// The index of the memory.
+            memory: usize,
+            /// The address, to which the offset is added.
+            ptr: u64,
+            /// The offset in bytes.
+            offset: u64,
+        },
+    }
+
+    /// Shows the name of the call, without its operands.
+    impl Debug for Call {
+        #[inline]
+        fn fmt(&self, f: &mut Formatter<'_>) -> fmt::Result {
+            f.write_str(self.name())
+        }
+    }
+
+    impl Call {
+        // The name of the variant.
+        #[inline]
+        fn name(&self) -> &'static str {
+            match self {
+                Call::SetFuel(_) => "SetFuel",
+                Call::GetFuel => "GetFuel",
+                Call::NewMemory(_) => "NewMemory",
+                Call::NewLentMemory(_) => "NewLentMemory",
+                Call::GrowMemory { .. } => "GrowMemory",
+                Call::DropMemory(_) => "DropMemory",
+                Call::Read { .. } => "Read",
+                Call::Write { .. } => "Write",
+                Call::Load { .. } => "Load",
+                Call::Store { .. } => "Store",
+                Call::NewTable { .. } => "NewTable",
+                Call::GrowTable { .. } => "GrowTable",
+                Call::DropTable(_) => "DropTable",
+                Call::GetElement { .. } => "GetElement",
+                Call::SetElement { .. } => "SetElement",
+                Call::InitTable { .. } => "InitTable",
+                Call::CopyTable { .. } => "CopyTable",
+                Call::FillTable { .. } => "FillTable",
+                Call::NewSegment { .. } => "NewSegment",
+                Call::DropItems(_) => "DropItems",
+                Call::NewGlobal { .. } => "NewGlobal",
+                Call::SetGlobal { .. } => "SetGlobal",
+                Call::GetGlobal(_) => "GetGlobal",
+                Call::SetRegister { .. } => "SetRegister",
+                Call::GetRegister(_) => "GetRegister",
+                Call::Make { .. } => "Make",
+                Call::Unary { .. } => "Unary",
+                Call::Binary { .. } => "Binary",
+                Call::Ternary { .. } => "Ternary",
+                Call::Shift { .. } => "Shift",
+                Call::Test { .. } => "Test",
+                Call::Extract { .. } => "Extract",
+                Call::Replace { .. } => "Replace",
+                Call::Shuffle { .. } => "Shuffle",
+                Call::VectorLoad { .. } => "VectorLoad",
+                Call::LoadLane { .. } => "LoadLane",
+                Call::VectorStore { .. } => "VectorStore",
+                Call::StoreLane { .. } => "StoreLane",
+            }
+        }
+
+        /// Whether it is `SetFuel`. A list without one can be billed: see
+        /// [`laws::charges_are_spent`](crate::proved::machine::laws::charges_are_spent).
+        ///
+        /// # Contract
+        ///
+        /// <span></span><pre><code>ensures: [MatchBool] result ([SetsNoFuel] self.now → ⊥) ([SetsNoFuel] self.now)</code></pre>
+        ///
+        /// [MatchBool]: crate::specs::library#MatchBool "P where b is true, else Q"
+        /// [SetsNoFuel]: crate::specs::machine::Account#SetsNoFuel "the call doesn\'t set the fuel"
+        #[inline]
+        pub fn sets_fuel(&self) -> bool {
+            matches!(self, Call::SetFuel(_))
+        }
+
+        /// Does nothing: its contract says that the type which a call names is valid.
+        ///
+        /// # Contract
+        ///
+        /// <span></span><pre><code>ensures: [IsValidCall] self.now</code></pre>
+        ///
+        /// [IsValidCall]: crate::specs::machine::Validity#IsValidCall "a type that a call names is valid"
+        #[inline(always)]
+        pub(crate) fn tell_valid(&self) {
+            match self {
+                Call::NewMemory(ty) | Call::NewLentMemory(ty) => {
+                    let _minimum = ty.minimum();
+                }
+                Call::NewTable { ty, .. } => {
+                    let _minimum = ty.minimum();
+                }
+                _ => {}
+            }
+        }
+    }
+
+    /// The reply to one call.
+    #[derive(Debug, PartialEq, Eq)]
+    pub enum Reply {
+        /// The call is done, and has no other result.
+        Done,
+        /// The index of the memory, table, element segment or global that was made.
+        Made(usize),
+        /// The value of a global or a register, or a number that `Load`, `Test` or `Extract` gives, in
+        /// the low word.
+        Value(RawVal),
+        /// The old size, of `GrowMemory` in pages, of `GrowTable` in elements, or the fuel left, of
+        /// `GetFuel`.
+        Number(u64),
+        /// The bytes that `Read` asked for.
+        Bytes(ByteList),
+        /// An element of a table, or none past its end.
+        Reference(Option<TypedRawRef>),
+        /// Why a call on a memory was refused.
+        Memory(MemoryError),
+        /// Why a call on a table was refused.
+        Table(TableError),
+        /// Why a call on the meter was refused.
+        Fuel(FuelError),
+        /// Why a call on a global was refused.
+        Global(GlobalError),
+        /// Why an element segment could not be made.
+        Segment(SegmentError),
+        /// Why a load or a store trapped: `MemoryOutOfBounds`.
+        Trap(TrapCode),
+        /// There is no such memory, table, element segment, global or register. It is tested first;
+        /// nothing was asked or changed.
+        NoSuch,
+        /// There is no spare region; nothing was asked or changed.
+        NoRegion,
+        /// Memory for a slot or for the reply was refused; nothing was asked or changed.
+        NoRoom,
+    }
+
+    /// The bytes of a reply, with a memory of their own: what is read stays as it was when the memory
+    /// is written, grown or dropped. Two lists are equal if their bytes are.
+    ///
+    /// # Model
+    ///
+    /// <span></span><pre><code>Value = [List] [ℕ]
+    /// view = λ b. b.bytes.items</code></pre>
+    ///
+    /// [List]: crate::specs::library#List "the finite lists"
+    /// [ℕ]: crate::specs::library#%E2%84%95 "the whole numbers from 0 on"
+    #[derive(Debug)]
+    pub struct ByteList {
+        bytes: Vec<u8>,
+    }
+
+    /// # Contract
+    ///
+    /// <span></span><pre><code>from_gives = λ bytes list. list ≡ bytes.items</code></pre>
+    impl From<Vec<u8>> for ByteList {
+        #[inline]
+        fn from(bytes: Vec<u8>) -> Self {
+            ByteList { bytes }
+        }
+    }
+
+    impl ByteList {
+        /// The bytes.
+        ///
+        /// # Contract
+        ///
+        /// <span></span><pre><code>ensures: result.now ≡ self.now</code></pre>
+        #[inline]
+        pub fn as_slice(&self) -> &[u8] {
+            self.bytes.as_slice()
+        }
+    }
+
+    /// # Contract
+    ///
+    /// <span></span><pre><code>eq = [pointwise] [nat_eq]</code></pre>
+    ///
+    /// [pointwise]: crate::specs::library#pointwise "the lists are as long, and eq of each two elements"
+    /// [nat_eq]: crate::specs::library#nat_eq "whether two numbers are equal, as a Boolean"
+    impl PartialEq for ByteList {
+        #[inline]
+        fn eq(&self, other: &Self) -> bool {
+            self.as_slice() == other.as_slice()
+        }
+    }
+
+    impl Eq for ByteList {}
+}
+#[cfg(any(doc, test))]
+pub mod laws {
+    //! What holds of all runs. These functions do nothing: each states a law as its contract, for any
+    //! limiter, of which a run may also have none.
+    //!
+    //! Own: upstream states no laws.
+
+    use crate::proved::machine::machine::Machine;
+    use crate::proved::meter::{Reserving, ResourceLimiter};
+
+    /// Two runs in a row are one: of both lists of turns, and of both lists of calls with their
+    /// replies. So what holds of each run holds of all that a machine is ever asked.
+    ///
+    /// # Contract
+    ///
+    /// <span></span><pre><code>ensures turns: [RunsJoin] ([optional_rules] [L.rules])
+    /// ensures calls: [RunsOfCallsJoin] ([optional_rules] [L.rules])</code></pre>
+    ///
+    /// [RunsJoin]: crate::specs::machine::Laws#RunsJoin "turns of a run, and those of a run from where it ends, are one run"
+    /// [optional_rules]: crate::specs::meter::Limiter#optional_rules "the rules of a limiter that may be absent"
+    /// [L.rules]: trait@ResourceLimiter#contract
+    /// [RunsOfCallsJoin]: crate::specs::machine::Laws#RunsOfCallsJoin "a run of calls, and a run of calls from where it ends, are a run of all these calls, with the replies in turn"
+    #[inline]
+    pub fn runs_join<L: ResourceLimiter>() {}
+
+    /// A turn that is refused keeps the contents. It keeps the meter, unless it is a growth that fails
+    /// after its charge, and the spare region, unless a memory was to be made in it and there was a
+    /// slot for it.
+    ///
+    /// A growth fails after its charge if its question was permitted, its price was left and taken, and
+    /// then the allocation failed. The limiter was notified of that, the reply says so too, unless the
+    /// limiter answers the notice with an error, and the meter has exactly that price less
+    /// (`FailsAfterCharge`).
+    ///
+    /// This holds of each turn of a run, and a run in which each turn is refused keeps the contents.
+    ///
+    /// # Contract
+    ///
+    /// <span></span><pre><code>ensures turn: [RefusalsKeepContents] ([optional_rules] [L.rules])
+    /// ensures run: [RefusalsInRunsKeepContents] ([optional_rules] [L.rules])
+    /// ensures all_refused: [RefusedRunsKeepContents] ([optional_rules] [L.rules])</code></pre>
+    ///
+    /// [RefusalsKeepContents]: crate::specs::machine::Laws#RefusalsKeepContents "in each turn that is refused the contents stay; the meter, unless it is a growth that fails after its charge; and the spare region, unless a memory was to be made in it"
+    /// [optional_rules]: crate::specs::meter::Limiter#optional_rules "the rules of a limiter that may be absent"
+    /// [L.rules]: trait@ResourceLimiter#contract
+    /// [RefusalsInRunsKeepContents]: crate::specs::machine::Laws#RefusalsInRunsKeepContents "in a run each turn that is refused keeps what a refused turn keeps (\`Keeps\`)"
+    /// [RefusedRunsKeepContents]: crate::specs::machine::Laws#RefusedRunsKeepContents "a run in which each turn is refused keeps the contents"
+    #[inline]
+    pub fn refusals_keep_contents<L: ResourceLimiter>() {}
+
+    /// In each turn the limiter is asked the question of the call (`question_of`) if it has one, unless
+    /// there is no room for the slot of what it makes, and nothing else. A permission is followed by
+    /// exactly the growth that was asked for, or by exactly one notice, which the reply reports, and a
+    /// denial by neither.
+    ///
+    /// A growth that succeeds is charged its price, and so is one that fails for lack of memory. No
+    /// other growth and no creation is charged anything. A call that lets nothing grow is charged for
+    /// the elements that it writes over a part of a table, and else nothing. The charge was left in the
+    /// meter, and is taken from it.
+    ///
+    /// Without a limiter each question is permitted. This holds of each turn of a run.
+    ///
+    /// # Contract
+    ///
+    /// <span></span><pre><code>ensures turn: [GrowsAsPermitted] ([optional_rules] [L.rules])
+    /// ensures run: [RunsGrowAsPermitted] ([optional_rules] [L.rules])</code></pre>
+    ///
+    /// [GrowsAsPermitted]: crate::specs::machine::Laws#GrowsAsPermitted "in each turn the limiter is asked what the call asks, or nothing if it asks nothing; a permission is followed by exactly the growth that was asked for, or by just one notice, and a denial by neither; a growth is charged only after a permission, and then its price; what is charged is taken from the meter"
+    /// [optional_rules]: crate::specs::meter::Limiter#optional_rules "the rules of a limiter that may be absent"
+    /// [L.rules]: trait@ResourceLimiter#contract
+    /// [RunsGrowAsPermitted]: crate::specs::machine::Laws#RunsGrowAsPermitted "in a run each turn asks, grows and is charged as a step does (\`Exchanges\`)"
+    #[inline]
+    pub fn growths_are_permitted<L: ResourceLimiter>() {}
+
+    /// While metering is on, the fuel that is left and the charges since it was set last, or since the
+    /// start of the run, are what was set then, or was left at the start.
+    ///
+    /// # Contract
+    ///
+    /// <span></span><pre><code>ensures: [FuelBalances] ([optional_rules] [L.rules])</code></pre>
+    ///
+    /// [FuelBalances]: crate::specs::machine::Laws#FuelBalances "while metering is on, what is left and the charges since the fuel was set last, or since the start, are what was set then, or left at the start"
+    /// [optional_rules]: crate::specs::meter::Limiter#optional_rules "the rules of a limiter that may be absent"
+    /// [L.rules]: trait@ResourceLimiter#contract
+    #[inline]
+    pub fn fuel_balances<L: ResourceLimiter>() {}
+
+    /// While metering is on, calls that don't set the fuel were charged what was left before and isn't
+    /// left after. At a rate above 0 that bounds the bytes that they have written by growing and
+    /// copying: `IsSpent` gives each turn that writes less than one fuel's worth of bytes beyond what
+    /// its charge pays for.
+    ///
+    /// # Contract
+    ///
+    /// <span></span><pre><code>ensures: [ChargesAreSpent] ([optional_rules] [L.rules])</code></pre>
+    ///
+    /// [ChargesAreSpent]: crate::specs::machine::Laws#ChargesAreSpent "while metering is on, what calls that don\'t set the fuel were charged is what was left before and isn\'t left after, and it bounds what they have written"
+    /// [optional_rules]: crate::specs::meter::Limiter#optional_rules "the rules of a limiter that may be absent"
+    /// [L.rules]: trait@ResourceLimiter#contract
+    #[inline]
+    pub fn charges_are_spent<L: ResourceLimiter>() {}
+
+    /// Every machine's state is valid: its memories and tables have valid types and as many whole pages
+    /// and elements as these allow, its element segments are no longer than 2^32 - 1 items, and it has
+    /// 16 registers.
+    ///
+    /// # Contract
+    ///
+    /// <span></span><pre><code>ensures: [IsValid] machine.now</code></pre>
+    ///
+    /// [IsValid]: crate::specs::machine::Validity#IsValid "memories and tables have valid types and as many whole pages and elements as these allow, segments aren\'t too long, and there are 16 registers"
+    #[inline]
+    pub fn states_are_valid(machine: &Machine) {
+        machine.tell_valid();
+    }
+
+    /// A run of calls whose types are valid keeps a state valid. The types of a `Call` that code holds
+    /// are.
+    ///
+    /// # Contract
+    ///
+    /// <span></span><pre><code>ensures: [RunsKeepValidity] ([optional_rules] [L.rules])</code></pre>
+    ///
+    /// [RunsKeepValidity]: crate::specs::machine::Laws#RunsKeepValidity "a run of calls whose types are valid leads from a valid state to a valid one"
+    /// [optional_rules]: crate::specs::meter::Limiter#optional_rules "the rules of a limiter that may be absent"
+    /// [L.rules]: trait@ResourceLimiter#contract
+    #[inline]
+    pub fn runs_keep_validity<L: ResourceLimiter>() {}
+
+    /// If no reply of a run reports a denial, the limiter permitted each question. A growth out of
+    /// bounds counts as a denial here, since both have the same error.
+    ///
+    /// # Contract
+    ///
+    /// <span></span><pre><code>ensures: [RepliesPermit] ([optional_rules] [L.rules])</code></pre>
+    ///
+    /// [RepliesPermit]: crate::specs::machine::Laws#RepliesPermit "a run in which no reply reports a denial is one in which each question was permitted"
+    /// [optional_rules]: crate::specs::meter::Limiter#optional_rules "the rules of a limiter that may be absent"
+    /// [L.rules]: trait@ResourceLimiter#contract
+    #[inline]
+    pub fn replies_permit<L: ResourceLimiter>() {}
+
+    /// A quota that holds at most its caps before a run does so after it, and has the same caps.
+    ///
+    /// # Contract
+    ///
+    /// <span></span><pre><code>ensures: [QuotasStayWithin]</code></pre>
+    ///
+    /// [QuotasStayWithin]: crate::specs::machine::Laws#QuotasStayWithin "a quota that holds at most its caps before a run does so after it, and has the same caps"
+    #[inline]
+    pub fn quotas_stay_within() {}
+
+    /// A run under a limiter whose kind was chosen while the program ran is one by the rules of its
+    /// kind, and the kind stays. So are a run of calls with its replies, and a reply to one call.
+    ///
+    /// # Contract
+    ///
+    /// <span></span><pre><code>ensures turns: [RunsKeepKind]
+    /// ensures calls: [RunsOfCallsKeepKind]
+    /// ensures reply: [RepliesKeepKind]</code></pre>
+    ///
+    /// [RunsKeepKind]: crate::specs::machine::LimiterKinds#RunsKeepKind "a run under such a limiter is one by the rules of its kind"
+    /// [RunsOfCallsKeepKind]: crate::specs::machine::LimiterKinds#RunsOfCallsKeepKind "a run of calls with these replies under such a limiter is one by the rules of its kind"
+    /// [RepliesKeepKind]: crate::specs::machine::LimiterKinds#RepliesKeepKind "a reply to a call under such a limiter is one by the rules of its kind"
+    #[inline]
+    pub fn kinds_stay() {}
+
+    /// A reserving limiter that holds a machine's totals before a run holds them after it.
+    ///
+    /// # Contract
+    ///
+    /// <span></span><pre><code>ensures: [HoldsTotalsAlways] [L.rules] [L.Reserving].holdings</code></pre>
+    ///
+    /// [HoldsTotalsAlways]: crate::specs::machine::Laws#HoldsTotalsAlways "a limiter that holds the totals before a run is there after it, and holds the totals then"
+    /// [L.rules]: trait@Reserving#contract
+    /// [L.Reserving]: trait@Reserving#contract
+    #[inline]
+    pub fn totals_are_held<L: Reserving>() {}
+
+    /// While metering is on at a rate above 0, the bytes that a run writes by growing and copying are
+    /// bounded by the fuel that is charged for them, and so by the fuel that was left at its start and
+    /// all amounts that were set.
+    ///
+    /// `IsBounded` gives each turn that writes less than one fuel's worth of bytes beyond what its
+    /// charge pays for.
+    ///
+    /// # Contract
+    ///
+    /// <span></span><pre><code>ensures: [FuelBoundsWriting] ([optional_rules] [L.rules])</code></pre>
+    ///
+    /// [FuelBoundsWriting]: crate::specs::machine::Laws#FuelBoundsWriting "while metering is on at a rate above 0, the bytes that a run writes by growing and copying are bounded by the fuel that is charged for them, and so by all the fuel that there was"
+    /// [optional_rules]: crate::specs::meter::Limiter#optional_rules "the rules of a limiter that may be absent"
+    /// [L.rules]: trait@ResourceLimiter#contract
+    #[inline]
+    pub fn fuel_bounds_writing<L: ResourceLimiter>() {}
+
+    /// A run that makes no memory in a lent region, and grows no memory past the region that it lies
+    /// in, is a run of the same machine with memories of their own: the same replies, charges, written
+    /// bytes and limiter.
+    ///
+    /// `FitsRegions` says which calls these are: a growth past the region counts as one where it is
+    /// refused before the limiter is asked.
+    ///
+    /// # Contract
+    ///
+    /// <span></span><pre><code>ensures: [LentRunsAreOwned] ([optional_rules] [L.rules])</code></pre>
+    ///
+    /// [LentRunsAreOwned]: crate::specs::machine::Laws#LentRunsAreOwned "a run that makes no memory in a region and grows none past its own is a run of the same machine with memories of their own"
+    /// [optional_rules]: crate::specs::meter::Limiter#optional_rules "the rules of a limiter that may be absent"
+    /// [L.rules]: trait@ResourceLimiter#contract
+    #[inline]
+    pub fn lent_runs_are_owned<L: ResourceLimiter>() {}
+
+    /// A memory that is made in a spare region of at least its minimum is made as one with memory of
+    /// its own, except for its room and the spare region.
+    ///
+    /// # Contract
+    ///
+    /// <span></span><pre><code>ensures: [LentCreationsAreOwned] ([optional_rules] [L.rules])</code></pre>
+    ///
+    /// [LentCreationsAreOwned]: crate::specs::machine::Laws#LentCreationsAreOwned "a creation in a spare region of at least the minimum is a creation of a memory of its own"
+    /// [optional_rules]: crate::specs::meter::Limiter#optional_rules "the rules of a limiter that may be absent"
+    /// [L.rules]: trait@ResourceLimiter#contract
+    #[inline]
+    pub fn lent_creations_are_owned<L: ResourceLimiter>() {}
+
+    /// A growth of a lent memory for which its type and its region have room, and which can be paid
+    /// for, takes no memory: the limiter alone can refuse it.
+    ///
+    /// # Contract
+    ///
+    /// <span></span><pre><code>ensures: [LentGrowthsSucceed] ([optional_rules] [L.rules])</code></pre>
+    ///
+    /// [LentGrowthsSucceed]: crate::specs::machine::Laws#LentGrowthsSucceed "a growth of a lent memory that its type and its region have place for, and that can be paid, is refused by the limiter alone"
+    /// [optional_rules]: crate::specs::meter::Limiter#optional_rules "the rules of a limiter that may be absent"
+    /// [L.rules]: trait@ResourceLimiter#contract
+    #[inline]
+    pub fn lent_growths_succeed<L: ResourceLimiter>() {}
+
+    /// If the limiter is deterministic, two runs of one list of calls from one machine and one limiter
+    /// are equal, as long as neither is out of memory: no reply and no notice says so.
+    ///
+    /// # Contract
+    ///
+    /// <span></span><pre><code>ensures: [RunsAreOne] [L.rules]</code></pre>
+    ///
+    /// [RunsAreOne]: crate::specs::machine::Laws#RunsAreOne "if the limiter is deterministic, two runs of one list of calls from one world, in which neither a reply nor a notice says out of memory, are one"
+    /// [L.rules]: trait@ResourceLimiter#contract
+    #[inline]
+    pub fn runs_are_one<L: ResourceLimiter>() {}
+
+    /// If the limiter accepts each notice, a run in which no reply says out of memory is one in which
+    /// no notice does either, as `runs_are_one` requires.
+    ///
+    /// # Contract
+    ///
+    /// <span></span><pre><code>ensures: [RepliesTell] [L.rules]</code></pre>
+    ///
+    /// [RepliesTell]: crate::specs::machine::Laws#RepliesTell "if the limiter accepts each notice, a run in which no reply says out of memory is one in which no notice does"
+    /// [L.rules]: trait@ResourceLimiter#contract
+    #[inline]
+    pub fn replies_tell<L: ResourceLimiter>() {}
+
+    /// If the limiter is deterministic and accepts each notice, two runs of one list of calls from one
+    /// machine and one limiter have the same replies and lead to the same machine and limiter, as long
+    /// as no reply says out of memory. Its premises are what `run` promises and what a caller sees.
+    ///
+    /// # Contract
+    ///
+    /// <span></span><pre><code>ensures: [RepliesAreOne] [L.rules]</code></pre>
+    ///
+    /// [RepliesAreOne]: crate::specs::machine::Laws#RepliesAreOne "if the limiter is deterministic and accepts each notice, two runs of one list of calls from one world, in which no reply says out of memory, have the same replies and end in one world"
+    /// [L.rules]: trait@ResourceLimiter#contract
+    #[inline]
+    pub fn replies_are_one<L: ResourceLimiter>() {}
+
+    /// The limiter that permits everything accepts each notice.
+    ///
+    /// # Contract
+    ///
+    /// <span></span><pre><code>ensures: [AcceptsNotices] ([unlimited_rules] {S = [NoLimits]})</code></pre>
+    ///
+    /// [AcceptsNotices]: crate::specs::machine::Determinism#AcceptsNotices "each notice is accepted"
+    /// [unlimited_rules]: crate::specs::meter::Limiter#unlimited_rules "the rules of a limiter that permits everything, accepts each notice, and stays the same"
+    /// [NoLimits]: crate::proved::meter::NoLimits
+    #[inline]
+    pub fn no_limits_accept_notices() {}
+
+    /// A quota accepts each notice.
+    ///
+    /// # Contract
+    ///
+    /// <span></span><pre><code>ensures: [AcceptsNotices] [quota_rules]</code></pre>
+    ///
+    /// [AcceptsNotices]: crate::specs::machine::Determinism#AcceptsNotices "each notice is accepted"
+    /// [quota_rules]: crate::specs::meter::Quota#quota_rules "the rules of a quota"
+    #[inline]
+    pub fn quota_accepts_notices() {}
+
+    /// The limiter that permits everything is deterministic.
+    ///
+    /// # Contract
+    ///
+    /// <span></span><pre><code>ensures: [IsDeterministic] ([unlimited_rules] {S = [NoLimits]})</code></pre>
+    ///
+    /// [IsDeterministic]: crate::specs::machine::Determinism#IsDeterministic "each question and each notice has one answer, and leaves one state"
+    /// [unlimited_rules]: crate::specs::meter::Limiter#unlimited_rules "the rules of a limiter that permits everything, accepts each notice, and stays the same"
+    /// [NoLimits]: crate::proved::meter::NoLimits
+    #[inline]
+    pub fn no_limits_leave_no_choice() {}
+
+    /// A quota is deterministic.
+    ///
+    /// # Contract
+    ///
+    /// <span></span><pre><code>ensures: [IsDeterministic] [quota_rules]</code></pre>
+    ///
+    /// [IsDeterministic]: crate::specs::machine::Determinism#IsDeterministic "each question and each notice has one answer, and leaves one state"
+    /// [quota_rules]: crate::specs::meter::Quota#quota_rules "the rules of a quota"
+    #[inline]
+    pub fn quota_leaves_no_choice() {}
+}
+mod machine {
+    //! The machine.
+
+    use crate::proved::machine::calls::Reply;
+    use crate::proved::machine::registers::Registers;
+    use crate::proved::machine::slots::Slots;
+    use crate::proved::machine::store::Store;
+    use crate::proved::machine::values::value_at;
+    use crate::proved::meter::{Fuel, FuelError};
+    use crate::proved::ops::StoreOp;
+    use crate::proved::raw::RawVal;
+    use crate::proved::store::{ElementSegment, Memory, Table};
+    use crate::proved::typed::Global;
+    use crate::rattle::Vec;
+
+    /// Memories, tables, element segments and globals by their indices, 16 registers of raw values, one
+    /// fuel meter, and at most one spare region: a borrowed buffer in which a memory can be made; `'r`
+    /// is its lifetime.
+    ///
+    /// Its state is valid at any time: see [`laws::states_are_valid`](crate::proved::machine::laws::states_are_valid).
+    ///
+    /// Own: upstream's interpreter has a store of its own.
+    ///
+    /// # Examples
+    ///
+    /// ```
+    /// use wasmi_core_proved::RawVal;
+    /// use wasmi_core_proved::machine::{
+    ///     Call, Fuel, FuelCostsProvider, Machine, MemoryType, NoLimits, Reply, run_lending,
+    /// };
+    /// use wasmi_core_proved::ops::{LoadOp, StoreOp};
+    ///
+    /// let mut machine = Machine::new(Fuel::new(false, FuelCostsProvider::default()));
+    /// let mut builder = MemoryType::builder();
+    /// builder.min(1);
+    /// let value = RawVal::from(7_i32);
+    /// let calls = [
+    ///     Call::NewMemory(builder.build()?),
+    ///     Call::Store { op: StoreOp::Store32, memory: 0, ptr: 8, offset: 0, value },
+    ///     Call::Load { op: LoadOp::LoadU32, memory: 0, ptr: 4, offset: 4 },
+    ///     Call::DropMemory(0),
+    ///     Call::Load { op: LoadOp::LoadU32, memory: 0, ptr: 4, offset: 4 },
+    /// ];
+    /// let replies = run_lending(&mut machine, &calls, &mut NoLimits)?;
+    /// assert!(matches!(&replies[2], Reply::Value(raw) if raw.to_bits64() == 7));
+    /// assert!(matches!(replies[4], Reply::NoSuch));
+    /// # Ok::<(), Box<dyn std::error::Error>>(())
+    /// ```
+    ///
+    /// # Model
+    ///
+    /// <span></span><pre><code>Value = [State]
+    /// view = λ m. m.store
+    /// invariant = λ m. [IsValid] m.store</code></pre>
+    ///
+    /// [State]: crate::specs::machine::State#State "the memories, tables, element segments and globals that were made, each kind in its order, the registers, the meter, and the bytes of the spare region, if there is one"
+    /// [IsValid]: crate::specs::machine::Validity#IsValid "memories and tables have valid types and as many whole pages and elements as these allow, segments aren\'t too long, and there are 16 registers"
+    #[derive(Debug)]
+    pub struct Machine<'r> {
+        pub(crate) store: Store<'r>,
+    }
+
+    impl<'r> Machine<'r> {
+        /// A machine with this meter, on which nothing was made yet. It takes no memory.
+        ///
+        /// # Contract
+        ///
+        /// <span></span><pre><code>ensures: result ≡ [new_state] fuel</code></pre>
+        ///
+        /// [new_state]: crate::specs::machine::State#new_state "a machine on which nothing was made yet, with 16 registers of zeros"
+        #[inline]
+        pub fn new(fuel: Fuel) -> Machine<'r> {
+            Machine::with_nothing(fuel, None)
+        }
+
+        /// A machine with this meter and this spare region, on which nothing was made yet. It takes no
+        /// memory, and leaves the bytes of the region as they are.
+        ///
+        /// # Contract
+        ///
+        /// <span></span><pre><code>ensures: result ≡ [with_spare] ([new_state] fuel) region.entry.now</code></pre>
+        ///
+        /// [with_spare]: crate::specs::machine::State#with_spare "the state with this spare region"
+        /// [new_state]: crate::specs::machine::State#new_state "a machine on which nothing was made yet, with 16 registers of zeros"
+        #[inline]
+        pub fn with_region(fuel: Fuel, region: &'r mut [u8]) -> Machine<'r> {
+            Machine::with_nothing(fuel, Some(region))
+        }
+
+        /// A machine with this meter, and with this spare region if there is one.
+        ///
+        /// # Contract
+        ///
+        /// <span></span><pre><code>ensures: result ≡ record ([new_state] fuel) { spare = [option_copied_mut] spare.entry }</code></pre>
+        ///
+        /// [new_state]: crate::specs::machine::State#new_state "a machine on which nothing was made yet, with 16 registers of zeros"
+        /// [option_copied_mut]: crate::specs::library#option_copied_mut "the value behind an optional \`&mut\`, if there is one"
+        #[inline]
+        fn with_nothing(fuel: Fuel, spare: Option<&'r mut [u8]>) -> Machine<'r> {
+            let store = Store {
+                memories: Slots::new(),
+                tables: Slots::new(),
+                segments: Vec::new(),
+                globals: Vec::new(),
+                registers: Registers::default(),
+                fuel,
+                spare,
+            };
+            Machine { store }
+        }
+
+        /// The meter.
+        ///
+        /// # Contract
+        ///
+        /// <span></span><pre><code>ensures: result.now ≡ self.now.meter</code></pre>
+        #[inline]
+        pub fn fuel(&self) -> &Fuel {
+            &self.store.fuel
+        }
+
+        /// Takes an amount of fuel, and returns what is left. The error is [`FuelMeteringDisabled`] if
+        /// the meter is off, and [`OutOfFuel`] with the amount if less is left; then nothing is taken.
+        ///
+        /// It isn't a call, so a run has no turn for it: an interpreter pays by it for the instructions
+        /// that it executes between calls.
+        ///
+        /// Own: upstream's interpreter has the meter itself.
+        ///
+        /// # Contract
+        ///
+        /// <span></span><pre><code>ensures on: [IsSome] self.old.meter.left
+        /// &#32;&#32;&#32;&#32;→ [ConsumesFuel] self.old.meter amount ([amount_left] self.old.meter - amount) result
+        /// &#32;&#32;&#32;&#32;self.new.meter
+        /// ensures off: self.old.meter.left ≡ [None]
+        /// &#32;&#32;&#32;&#32;→ (result ≡ [Err] [FuelError.FuelMeteringDisabled]) × (self.new ≡ self.old)
+        /// ensures rest: self.new ≡ record self.old { meter = self.new.meter }
+        /// ensures balance: [MatchResult] result
+        /// &#32;&#32;&#32;&#32;(λ left. (self.new.meter.left ≡ [Some] left)
+        /// &#32;&#32;&#32;&#32;× (self.old.meter.left ≡ [Some] (left + amount))
+        /// &#32;&#32;&#32;&#32;× (self.new ≡ record self.old { meter = [meter_after] self.old.meter amount }))
+        /// &#32;&#32;&#32;&#32;(λ error. self.new ≡ self.old)</code></pre>
+        ///
+        /// [IsSome]: crate::specs::library#IsSome "there is a value"
+        /// [ConsumesFuel]: crate::specs::meter::Meter#ConsumesFuel "an amount is taken where that much is left, and is refused else"
+        /// [amount_left]: crate::specs::meter::Meter#amount_left "what is left; nothing where the meter is off"
+        /// [None]: crate::specs::library#None "no value, of an \`Option\`"
+        /// [Err]: crate::specs::library#Err "the error e, of a \`Result\`"
+        /// [FuelError.FuelMeteringDisabled]: crate::proved::meter::FuelError::FuelMeteringDisabled
+        /// [MatchResult]: crate::specs::library#MatchResult "P of the value, or Q of the error"
+        /// [Some]: crate::specs::library#Some "the value x, of an \`Option\`"
+        /// [meter_after]: crate::specs::meter::Meter#meter_after "the meter with an amount taken; one that is off stays"
+        /// [`FuelMeteringDisabled`]: crate::proved::meter::FuelError::FuelMeteringDisabled
+        /// [`OutOfFuel`]: crate::proved::meter::FuelError::OutOfFuel
+        #[inline]
+        pub fn consume_fuel(&mut self, amount: u64) -> Result<u64, FuelError> {
+            self.store.fuel.get_fuel()?;
+            self.store.fuel.consume_fuel_unchecked(amount)
+        }
+
+        /// The memory of an index, if there is one that wasn't dropped.
+        ///
+        /// # Contract
+        ///
+        /// <span></span><pre><code>ensures: [option_copied] result ≡ [live_at] self.now.memories index</code></pre>
+        ///
+        /// [option_copied]: crate::specs::library#option_copied "the value behind an optional reference, if there is one"
+        /// [live_at]: crate::specs::machine::State#live_at "the live value of an index, if there is one"
+        #[inline]
+        pub fn memory(&self, index: usize) -> Option<&Memory<'r>> {
+            self.store.memories.live(index)
+        }
+
+        /// Stores an item to a memory at `ptr + offset`, as `Call::Store` does, which reaches no
+        /// limiter. The reply is [`Done`], [`NoSuch`] if there is no such memory, or [`Trap`] with
+        /// `MemoryOutOfBounds`; after the last two nothing has changed.
+        ///
+        /// Own: upstream's interpreter has the memory itself.
+        ///
+        /// # Contract
+        ///
+        /// <span></span><pre><code>ensures memories: [StoresMemoryAt] memory (ptr + offset) ([stored_bytes] op value)
+        /// &#32;&#32;&#32;&#32;self.old.memories result self.new.memories
+        /// ensures rest: self.new ≡ [with_memories] self.old self.new.memories</code></pre>
+        ///
+        /// [StoresMemoryAt]: crate::specs::machine::MemoryEffects#StoresMemoryAt "the memory of an index has the stored bytes at the address, or the store traps"
+        /// [stored_bytes]: crate::specs::ops::ScalarAccessOps#stored_bytes "the bytes that a store writes: the low ones of the value"
+        /// [with_memories]: crate::specs::machine::State#with_memories "the state with other memories"
+        /// [`Done`]: crate::proved::machine::Reply::Done
+        /// [`NoSuch`]: crate::proved::machine::Reply::NoSuch
+        /// [`Trap`]: crate::proved::machine::Reply::Trap
+        #[inline(always)]
+        pub fn store_item(
+            &mut self,
+            op: StoreOp,
+            memory: usize,
+            ptr: u64,
+            offset: u64,
+            value: RawVal,
+        ) -> Reply {
+            self.store.store_item(op, memory, ptr, offset, value)
+        }
+
+        /// The table of an index, if there is one that wasn't dropped.
+        ///
+        /// # Contract
+        ///
+        /// <span></span><pre><code>ensures: [option_copied] result ≡ [live_at] self.now.tables index</code></pre>
+        ///
+        /// [option_copied]: crate::specs::library#option_copied "the value behind an optional reference, if there is one"
+        /// [live_at]: crate::specs::machine::State#live_at "the live value of an index, if there is one"
+        #[inline]
+        pub fn table(&self, index: usize) -> Option<&Table> {
+            self.store.tables.live(index)
+        }
+
+        /// The element segment of an index, if there is one.
+        ///
+        /// # Contract
+        ///
+        /// <span></span><pre><code>ensures: [option_copied] result ≡ [slice_get] self.now.segments index</code></pre>
+        ///
+        /// [option_copied]: crate::specs::library#option_copied "the value behind an optional reference, if there is one"
+        /// [slice_get]: crate::specs::library#slice_get "element i, if there is one"
+        #[inline]
+        pub fn segment(&self, index: usize) -> Option<&ElementSegment> {
+            value_at(&self.store.segments, index)
+        }
+
+        /// The global of an index, if there is one.
+        ///
+        /// # Contract
+        ///
+        /// <span></span><pre><code>ensures: [option_copied] result ≡ [slice_get] self.now.globals index</code></pre>
+        ///
+        /// [option_copied]: crate::specs::library#option_copied "the value behind an optional reference, if there is one"
+        /// [slice_get]: crate::specs::library#slice_get "element i, if there is one"
+        #[inline]
+        pub fn global(&self, index: usize) -> Option<&Global> {
+            value_at(&self.store.globals, index)
+        }
+
+        /// The value of a register, if there is one: their numbers are 0 to 15.
+        ///
+        /// # Contract
+        ///
+        /// <span></span><pre><code>ensures value: result ≡ [slice_get] self.now.registers register
+        /// ensures count: [length] self.now.registers ≡ 16
+        /// ensures there: [IsSome] result ↔ (register < 16)</code></pre>
+        ///
+        /// [slice_get]: crate::specs::library#slice_get "element i, if there is one"
+        /// [length]: crate::specs::library#length "the number of elements of a list"
+        /// [IsSome]: crate::specs::library#IsSome "there is a value"
+        #[inline]
+        pub fn register(&self, register: u8) -> Option<RawVal> {
+            self.store.registers.get(register)
+        }
+
+        /// The bytes of all memories, dropped ones at their last size. The cost grows with the number
+        /// of memories that were ever made, including those that were dropped.
+        ///
+        /// # Contract
+        ///
+        /// <span></span><pre><code>ensures: result ≡ [total] self.now [Bytes]</code></pre>
+        ///
+        /// [total]: crate::specs::machine::Totals#total "their sum"
+        /// [Bytes]: crate::proved::meter::Kind::Bytes
+        #[inline]
+        pub fn total_bytes(&self) -> u128 {
+            self.store.memories.total()
+        }
+
+        /// The elements of all tables, dropped ones at their last size. The cost grows with the number
+        /// of tables that were ever made, including those that were dropped.
+        ///
+        /// # Contract
+        ///
+        /// <span></span><pre><code>ensures: result ≡ [total] self.now [Elements]</code></pre>
+        ///
+        /// [total]: crate::specs::machine::Totals#total "their sum"
+        /// [Elements]: crate::proved::meter::Kind::Elements
+        #[inline]
+        pub fn total_elements(&self) -> u128 {
+            self.store.tables.total()
+        }
+
+        /// Does nothing: its contract says what holds of each machine.
+        ///
+        /// # Contract
+        ///
+        /// <span></span><pre><code>ensures: [IsValid] self.now</code></pre>
+        ///
+        /// [IsValid]: crate::specs::machine::Validity#IsValid "memories and tables have valid types and as many whole pages and elements as these allow, segments aren\'t too long, and there are 16 registers"
+        #[inline(always)]
+        pub(crate) fn tell_valid(&self) {
+            let _ = &self.store;
+        }
+    }
+}
+mod memories {
+    //! The memories of a machine, by their indices.
+
+    use crate::proved::machine::calls::{ByteList, Reply};
+    use crate::proved::machine::slots::Slots;
+    use crate::proved::meter::{Fuel, MemoryError, ResourceLimiter, ResourceLimiterRef};
+    use crate::proved::ops::{LoadOp, StoreLaneOp, StoreOp};
+    use crate::proved::raw::{RawVal, V128};
+    use crate::proved::store::{Memory, MemoryType};
+    use crate::proved::types::TrapCode;
+    use crate::proved::vector_access::simd::v128_store;
+    use crate::rattle::SliceExt;
+
+    impl<'r> Slots<Memory<'r>> {
+        /// Makes a memory in a new slot, which is reserved before the limiter is asked.
+        ///
+        /// # Contract
+        ///
+        /// <span></span><pre><code>ensures loan: [KeepsLoan] limiter.old limiter.new
+        /// ensures made: [Creates] [Reply.Memory]
+        /// &#32;&#32;&#32;&#32;([MakesMemory] ([optional_rules] [L.rules]) [Owned] ty) self.old.slots.items
+        /// &#32;&#32;&#32;&#32;([lent_limiter] limiter.old) result self.new.slots.items ([lent_limiter] limiter.new)</code></pre>
+        ///
+        /// [KeepsLoan]: crate::specs::meter::LimiterRef#KeepsLoan "r\' leads to what r leads to"
+        /// [Creates]: crate::specs::machine::Effects#Creates "a creation under a limiter: without room for a slot nothing is asked"
+        /// [Reply.Memory]: crate::proved::machine::Reply::Memory
+        /// [MakesMemory]: crate::specs::store::Memory#MakesMemory "a memory of a type is made in a room"
+        /// [optional_rules]: crate::specs::meter::Limiter#optional_rules "the rules of a limiter that may be absent"
+        /// [L.rules]: trait@ResourceLimiter#contract
+        /// [Owned]: crate::specs::store::Buffer#Owned
+        /// [lent_limiter]: crate::specs::meter::LimiterRef#lent_limiter "the present value of the limiter that is lent, or none"
+        #[inline(always)]
+        pub(crate) fn create<L: ResourceLimiter>(
+            &mut self,
+            ty: MemoryType,
+            limiter: &mut ResourceLimiterRef<L>,
+        ) -> Reply {
+            if !self.reserve() {
+                return Reply::NoRoom;
+            }
+            match Memory::new(ty, limiter) {
+                Ok(memory) => Reply::Made(self.push(memory)),
+                Err(error) => Reply::Memory(error),
+            }
+        }
+
+        /// Makes a memory in the spare region, in a new slot, which is reserved before the limiter is
+        /// asked.
+        ///
+        /// # Contract
+        ///
+        /// <span></span><pre><code>ensures loan: [KeepsLoan] limiter.old limiter.new
+        /// ensures made: [CreatesLent] ([optional_rules] [L.rules]) ty
+        /// &#32;&#32;&#32;&#32;(record { slots = self.old.slots.items; spare = [option_copied_mut] spare.old })
+        /// &#32;&#32;&#32;&#32;([lent_limiter] limiter.old) result
+        /// &#32;&#32;&#32;&#32;(record { slots = self.new.slots.items; spare = [option_copied_mut] spare.new })
+        /// &#32;&#32;&#32;&#32;([lent_limiter] limiter.new)</code></pre>
+        ///
+        /// [KeepsLoan]: crate::specs::meter::LimiterRef#KeepsLoan "r\' leads to what r leads to"
+        /// [CreatesLent]: crate::specs::machine::MemoryEffects#CreatesLent "a creation in the spare region; without one nothing is asked"
+        /// [optional_rules]: crate::specs::meter::Limiter#optional_rules "the rules of a limiter that may be absent"
+        /// [L.rules]: trait@ResourceLimiter#contract
+        /// [option_copied_mut]: crate::specs::library#option_copied_mut "the value behind an optional \`&mut\`, if there is one"
+        /// [lent_limiter]: crate::specs::meter::LimiterRef#lent_limiter "the present value of the limiter that is lent, or none"
+        #[inline(always)]
+        pub(crate) fn create_lent<L: ResourceLimiter>(
+            &mut self,
+            ty: MemoryType,
+            spare: &mut Option<&'r mut [u8]>,
+            limiter: &mut ResourceLimiterRef<L>,
+        ) -> Reply {
+            let Some(region) = spare.take() else {
+                return Reply::NoRegion;
+            };
+            if self.reserve() {
+                match Memory::new_static(ty, limiter, region) {
+                    Ok(memory) => Reply::Made(self.push(memory)),
+                    Err(error) => Reply::Memory(error),
+                }
+            } else {
+                *spare = Some(region);
+                Reply::NoRoom
+            }
+        }
+
+        /// Grows a memory by so many pages.
+        ///
+        /// # Contract
+        ///
+        /// <span></span><pre><code>ensures loan: [KeepsLoan] limiter.old limiter.new
+        /// ensures grown: [WithCharge]
+        /// &#32;&#32;&#32;&#32;([ActsAt] index ([reply_of] [Reply.Number] [Reply.Memory])
+        /// &#32;&#32;&#32;&#32;([GrowsMemoryCharging] ([optional_rules] [L.rules]) pages))
+        /// &#32;&#32;&#32;&#32;([metered_value] self.old.slots.items ([Some] fuel.old) ([lent_limiter] limiter.old)) result
+        /// &#32;&#32;&#32;&#32;([metered_value] self.new.slots.items ([Some] fuel.new) ([lent_limiter] limiter.new))</code></pre>
+        ///
+        /// [KeepsLoan]: crate::specs::meter::LimiterRef#KeepsLoan "r\' leads to what r leads to"
+        /// [WithCharge]: crate::specs::store::Growth#WithCharge "a call on a value takes place, with some charge"
+        /// [ActsAt]: crate::specs::machine::Effects#ActsAt "a call with a charge on the live value of an index, with the reply to each result"
+        /// [reply_of]: crate::specs::machine::Effects#reply_of "the reply to a call that returns a value or is refused"
+        /// [Reply.Number]: crate::proved::machine::Reply::Number
+        /// [Reply.Memory]: crate::proved::machine::Reply::Memory
+        /// [GrowsMemoryCharging]: crate::specs::store::Memory#GrowsMemoryCharging "a memory grows by so many pages, with this charge; it returns the old size in pages"
+        /// [optional_rules]: crate::specs::meter::Limiter#optional_rules "the rules of a limiter that may be absent"
+        /// [L.rules]: trait@ResourceLimiter#contract
+        /// [metered_value]: crate::specs::store::Growth#metered_value "a value with its meter, if there is one, and its limiter"
+        /// [Some]: crate::specs::library#Some "the value x, of an \`Option\`"
+        /// [lent_limiter]: crate::specs::meter::LimiterRef#lent_limiter "the present value of the limiter that is lent, or none"
+        #[inline(always)]
+        pub(crate) fn grow<L: ResourceLimiter>(
+            &mut self,
+            index: usize,
+            pages: u64,
+            fuel: &mut Fuel,
+            limiter: &mut ResourceLimiterRef<L>,
+        ) -> Reply {
+            let Some(memory) = self.live_mut(index) else {
+                return Reply::NoSuch;
+            };
+            match memory.grow_metered(pages, fuel, limiter) {
+                Ok(size) => Reply::Number(size),
+                Err(error) => Reply::Memory(error),
+            }
+        }
+
+        /// Reads a part of a memory.
+        ///
+        /// # Contract
+        ///
+        /// <span></span><pre><code>ensures: [ReadsMemoryAt] index offset len self.now.slots.items result</code></pre>
+        ///
+        /// [ReadsMemoryAt]: crate::specs::machine::MemoryEffects#ReadsMemoryAt "the reply to a read of so many bytes from an offset on, by the memory of an index"
+        #[inline(always)]
+        pub(crate) fn read(&self, index: usize, offset: usize, len: usize) -> Reply {
+            match self.live(index) {
+                Some(memory) => read_bytes(memory.data(), offset, len),
+                None => Reply::NoSuch,
+            }
+        }
+
+        /// Writes into a memory.
+        ///
+        /// # Contract
+        ///
+        /// <span></span><pre><code>ensures: [WritesMemoryAt] index offset bytes.now self.old.slots.items result
+        /// &#32;&#32;&#32;&#32;self.new.slots.items</code></pre>
+        ///
+        /// [WritesMemoryAt]: crate::specs::machine::MemoryEffects#WritesMemoryAt "the memory of an index is written over with bytes from an offset on, or the write is refused"
+        #[inline(always)]
+        pub(crate) fn write(&mut self, index: usize, offset: usize, bytes: &[u8]) -> Reply {
+            let Some(memory) = self.live_mut(index) else {
+                return Reply::NoSuch;
+            };
+            match memory.write(offset, bytes) {
+                Ok(()) => Reply::Done,
+                Err(error) => Reply::Memory(error),
+            }
+        }
+
+        /// Loads a number from a memory.
+        ///
+        /// # Contract
+        ///
+        /// <span></span><pre><code>ensures: [LoadsMemoryAt] op index (ptr + offset) self.now.slots.items result</code></pre>
+        ///
+        /// [LoadsMemoryAt]: crate::specs::machine::MemoryEffects#LoadsMemoryAt "the reply to a load at an address of the memory of an index"
+        #[inline(always)]
+        pub(crate) fn load(&self, op: LoadOp, index: usize, ptr: u64, offset: u64) -> Reply {
+            match self.live(index) {
+                Some(memory) => match op.load(memory.data(), ptr, offset) {
+                    Ok(value) => Reply::Value(value),
+                    Err(trap) => Reply::Trap(trap),
+                },
+                None => Reply::NoSuch,
+            }
+        }
+
+        /// Stores a number to a memory.
+        ///
+        /// # Contract
+        ///
+        /// <span></span><pre><code>ensures: [StoresMemoryAt] index (ptr + offset)
+        /// &#32;&#32;&#32;&#32;([stored_bytes] op value) self.old.slots.items result self.new.slots.items</code></pre>
+        ///
+        /// [StoresMemoryAt]: crate::specs::machine::MemoryEffects#StoresMemoryAt "the memory of an index has the stored bytes at the address, or the store traps"
+        /// [stored_bytes]: crate::specs::ops::ScalarAccessOps#stored_bytes "the bytes that a store writes: the low ones of the value"
+        #[inline(always)]
+        pub(crate) fn store(
+            &mut self,
+            op: StoreOp,
+            index: usize,
+            ptr: u64,
+            offset: u64,
+            value: RawVal,
+        ) -> Reply {
+            let Some(memory) = self.live_mut(index) else {
+                return Reply::NoSuch;
+            };
+            stored(store(memory, op, ptr, offset, value))
+        }
+    }
+
+    /// The stores of vectors.
+    impl<'r> Slots<Memory<'r>> {
+        /// Stores a vector to a memory, if its register is there.
+        ///
+        /// # Contract
+        ///
+        /// <span></span><pre><code>ensures: [StoresVectorAt] index (ptr + offset) ([option_map] ([le_bytes] 16) vector)
+        /// &#32;&#32;&#32;&#32;self.old.slots.items result self.new.slots.items</code></pre>
+        ///
+        /// [StoresVectorAt]: crate::specs::machine::RegisterEffects#StoresVectorAt "a store of the bytes of a vector, if its register is there"
+        /// [option_map]: crate::specs::library#option_map "f of the value, if there is one"
+        /// [le_bytes]: crate::specs::types::Bytes#le_bytes "the k bytes of a number below 256 to the power k"
+        #[inline(always)]
+        pub(crate) fn store_vector(
+            &mut self,
+            vector: Option<V128>,
+            index: usize,
+            ptr: u64,
+            offset: u64,
+        ) -> Reply {
+            let Some(vector) = vector else {
+                return Reply::NoSuch;
+            };
+            let Some(memory) = self.live_mut(index) else {
+                return Reply::NoSuch;
+            };
+            stored(store_vector(memory, vector, ptr, offset))
+        }
+
+        /// Stores a lane of a vector to a memory, if its register is there.
+        ///
+        /// # Contract
+        ///
+        /// <span></span><pre><code>ensures: [StoresVectorAt] index (ptr + offset) ([option_map] ([stored_lane] op) vector)
+        /// &#32;&#32;&#32;&#32;self.old.slots.items result self.new.slots.items</code></pre>
+        ///
+        /// [StoresVectorAt]: crate::specs::machine::RegisterEffects#StoresVectorAt "a store of the bytes of a vector, if its register is there"
+        /// [option_map]: crate::specs::library#option_map "f of the value, if there is one"
+        /// [stored_lane]: crate::specs::ops::VectorAccessOps#stored_lane "the bytes that a store of a lane writes"
+        #[inline(always)]
+        pub(crate) fn store_lane(
+            &mut self,
+            op: StoreLaneOp,
+            vector: Option<V128>,
+            index: usize,
+            ptr: u64,
+            offset: u64,
+        ) -> Reply {
+            let Some(vector) = vector else {
+                return Reply::NoSuch;
+            };
+            let Some(memory) = self.live_mut(index) else {
+                return Reply::NoSuch;
+            };
+            stored(store_lane(memory, op, vector, ptr, offset))
+        }
+    }
+
+    /// The reply to a store.
+    ///
+    /// # Contract
+    ///
+    /// <span></span><pre><code>ensures: result ≡ [reply_of] (λ \_. [Reply.Done]) [Reply.Trap] answer</code></pre>
+    ///
+    /// [reply_of]: crate::specs::machine::Effects#reply_of "the reply to a call that returns a value or is refused"
+    /// [Reply.Done]: crate::proved::machine::Reply::Done
+    /// [Reply.Trap]: crate::proved::machine::Reply::Trap
+    #[inline(always)]
+    fn stored(answer: Result<(), TrapCode>) -> Reply {
+        answer.map_or_else(Reply::Trap, |()| Reply::Done)
+    }
+
+    /// A part of a list of bytes: its bounds are tested before the reply's buffer is allocated.
+    ///
+    /// # Contract
+    ///
+    /// <span></span><pre><code>ensures: [ReadsBytes] ([at] memory.now offset len) result</code></pre>
+    ///
+    /// [ReadsBytes]: crate::specs::machine::MemoryEffects#ReadsBytes "a read: its bounds are tested before memory for the reply is asked for"
+    /// [at]: crate::specs::types::Access#at "the items a to a + n - 1, or none where the list ends before them"
+    #[inline(always)]
+    fn read_bytes(memory: &[u8], offset: usize, len: usize) -> Reply {
+        if memory.len() < offset || memory.len() - offset < len {
+            return Reply::Memory(MemoryError::OutOfBoundsAccess);
+        }
+        match memory[offset..][..len].try_to_vec() {
+            Ok(bytes) => Reply::Bytes(ByteList::from(bytes)),
+            Err(_) => Reply::NoRoom,
+        }
+    }
+
+    /// Stores a number to a memory. A function of the memory alone, as the two below: its clause says
+    /// what the memory becomes, apart from the slot that lends it.
+    ///
+    /// # Contract
+    ///
+    /// <span></span><pre><code>ensures: [StoresMemory] memory.old (ptr + offset) ([stored_bytes] op value) result memory.new</code></pre>
+    ///
+    /// [StoresMemory]: crate::specs::machine::MemoryEffects#StoresMemory "a store: the memory has the bytes at the address, or the store traps and the memory is the same"
+    /// [stored_bytes]: crate::specs::ops::ScalarAccessOps#stored_bytes "the bytes that a store writes: the low ones of the value"
+    #[inline(always)]
+    fn store(
+        memory: &mut Memory,
+        op: StoreOp,
+        ptr: u64,
+        offset: u64,
+        value: RawVal,
+    ) -> Result<(), TrapCode> {
+        op.store(memory.data_mut(), ptr, offset, value)
+    }
+
+    /// Stores a vector to a memory.
+    ///
+    /// # Contract
+    ///
+    /// <span></span><pre><code>ensures: [StoresMemory] memory.old (ptr + offset) ([le_bytes] 16 vector) result memory.new</code></pre>
+    ///
+    /// [StoresMemory]: crate::specs::machine::MemoryEffects#StoresMemory "a store: the memory has the bytes at the address, or the store traps and the memory is the same"
+    /// [le_bytes]: crate::specs::types::Bytes#le_bytes "the k bytes of a number below 256 to the power k"
+    #[inline]
+    fn store_vector(
+        memory: &mut Memory,
+        vector: V128,
+        ptr: u64,
+        offset: u64,
+    ) -> Result<(), TrapCode> {
+        v128_store(memory.data_mut(), ptr, offset, vector)
+    }
+
+    /// Stores a lane of a vector to a memory.
+    ///
+    /// # Contract
+    ///
+    /// <span></span><pre><code>ensures: [StoresMemory] memory.old (ptr + offset) ([stored_lane] op vector) result memory.new</code></pre>
+    ///
+    /// [StoresMemory]: crate::specs::machine::MemoryEffects#StoresMemory "a store: the memory has the bytes at the address, or the store traps and the memory is the same"
+    /// [stored_lane]: crate::specs::ops::VectorAccessOps#stored_lane "the bytes that a store of a lane writes"
+    #[inline]
+    fn store_lane(
+        memory: &mut Memory,
+        op: StoreLaneOp,
+        vector: V128,
+        ptr: u64,
+        offset: u64,
+    ) -> Result<(), TrapCode> {
+        op.store(memory.data_mut(), ptr, offset, vector)
+    }
+}
+mod registers {
+    //! The registers of a machine.
+
+    use crate::proved::lanes::ImmLaneIdx32;
+    use crate::proved::lanewise::simd::i8x16_shuffle;
+    use crate::proved::machine::calls::Reply;
+    use crate::proved::ops::{
+        BinaryOp, ExtractOp, LoadLaneOp, MakeOp, ReplaceOp, ShiftOp, TernaryOp, TestOp, UnaryOp,
+        VectorLoadOp,
+    };
+    use crate::proved::raw::{RawVal, ReadAs, V128};
+    use crate::proved::store::Memory;
+    use crate::proved::types::TrapCode;
+
+    /// The 16 registers of raw values, by their numbers from 0. At first they are zeros.
+    #[derive(Debug, Default)]
+    pub(crate) struct Registers {
+        pub(crate) values: [RawVal; 16],
+    }
+
+    impl Registers {
+        /// The value of a register, if there is one.
+        ///
+        /// # Contract
+        ///
+        /// <span></span><pre><code>ensures value: result ≡ [slice_get] self.now.values register
+        /// ensures count: [length] self.now.values ≡ 16</code></pre>
+        ///
+        /// [slice_get]: crate::specs::library#slice_get "element i, if there is one"
+        /// [length]: crate::specs::library#length "the number of elements of a list"
+        #[inline]
+        pub(crate) fn get(&self, register: u8) -> Option<RawVal> {
+            self.values.get(usize::from(register)).copied()
+        }
+
+        /// The vector in a register, if there is one.
+        ///
+        /// # Contract
+        ///
+        /// <span></span><pre><code>ensures: result ≡ [vector_at] self.now.values register</code></pre>
+        ///
+        /// [vector_at]: crate::specs::machine::RegisterEffects#vector_at "the vector in a register, if there is one"
+        #[inline]
+        pub(crate) fn vector(&self, register: u8) -> Option<V128> {
+            self.get(register).map(|raw| raw.read_as())
+        }
+
+        /// Sets a register.
+        ///
+        /// # Contract
+        ///
+        /// <span></span><pre><code>ensures: [TakesRegister] dst ([Some] ([Ok] value)) self.old.values result self.new.values</code></pre>
+        ///
+        /// [TakesRegister]: crate::specs::machine::RegisterEffects#TakesRegister "the register of an index takes what a call gives, if there is such a register"
+        /// [Some]: crate::specs::library#Some "the value x, of an \`Option\`"
+        /// [Ok]: crate::specs::library#Ok "the value x, of a \`Result\`"
+        #[inline(always)]
+        pub(crate) fn set(&mut self, dst: u8, value: RawVal) -> Reply {
+            let index = usize::from(dst);
+            if index >= self.values.len() {
+                return Reply::NoSuch;
+            }
+            self.values[index] = value;
+            Reply::Done
+        }
+
+        /// Sets a register to a vector that was loaded, or keeps it where the load has trapped.
+        ///
+        /// # Contract
+        ///
+        /// <span></span><pre><code>ensures: [TakesRegister] dst
+        /// &#32;&#32;&#32;&#32;([Some] ([as_raw] [raw_of_vector] vector)) self.old.values result self.new.values</code></pre>
+        ///
+        /// [TakesRegister]: crate::specs::machine::RegisterEffects#TakesRegister "the register of an index takes what a call gives, if there is such a register"
+        /// [Some]: crate::specs::library#Some "the value x, of an \`Option\`"
+        /// [as_raw]: crate::specs::ops::RawResults#as_raw "an answer as a raw value; a trap stays"
+        /// [raw_of_vector]: crate::specs::raw::RawVal#raw_of_vector "the words of a vector"
+        #[inline(always)]
+        fn set_loaded(&mut self, dst: u8, vector: Result<V128, TrapCode>) -> Reply {
+            match vector {
+                Ok(vector) => self.set(dst, vector.into()),
+                Err(_) if self.get(dst).is_none() => Reply::NoSuch,
+                Err(trap) => Reply::Trap(trap),
+            }
+        }
+
+        /// The value of a register.
+        ///
+        /// # Contract
+        ///
+        /// <span></span><pre><code>ensures: result ≡ [raw_reply] ([slice_get] self.now.values register)</code></pre>
+        ///
+        /// [raw_reply]: crate::specs::machine::RegisterEffects#raw_reply "the raw value that is asked of a register, if it is there"
+        /// [slice_get]: crate::specs::library#slice_get "element i, if there is one"
+        #[inline(always)]
+        pub(crate) fn get_register(&self, register: u8) -> Reply {
+            self.get(register).map_or(Reply::NoSuch, Reply::Value)
+        }
+
+        /// Makes a vector of an item.
+        ///
+        /// # Contract
+        ///
+        /// <span></span><pre><code>ensures: [TakesRegister] dst
+        /// &#32;&#32;&#32;&#32;([option_map] (λ raw. [given_vector] ([made_vector] op raw)) ([slice_get] self.old.values a))
+        /// &#32;&#32;&#32;&#32;self.old.values result self.new.values</code></pre>
+        ///
+        /// [TakesRegister]: crate::specs::machine::RegisterEffects#TakesRegister "the register of an index takes what a call gives, if there is such a register"
+        /// [option_map]: crate::specs::library#option_map "f of the value, if there is one"
+        /// [given_vector]: crate::specs::machine::RegisterEffects#given_vector "a vector as a register takes it"
+        /// [made_vector]: crate::specs::ops::MakeOps#made_vector "the vector that an instruction makes of an item in a raw value"
+        /// [slice_get]: crate::specs::library#slice_get "element i, if there is one"
+        #[inline(always)]
+        pub(crate) fn make(&mut self, op: MakeOp, dst: u8, a: u8) -> Reply {
+            let Some(a) = self.get(a) else {
+                return Reply::NoSuch;
+            };
+            self.set(dst, op.apply(a).into())
+        }
+
+        /// An instruction of one vector.
+        ///
+        /// # Contract
+        ///
+        /// <span></span><pre><code>ensures: [TakesRegister] dst
+        /// &#32;&#32;&#32;&#32;([of_one] ([unary_vector] op) ([vector_at] self.old.values a)) self.old.values result
+        /// &#32;&#32;&#32;&#32;self.new.values</code></pre>
+        ///
+        /// [TakesRegister]: crate::specs::machine::RegisterEffects#TakesRegister "the register of an index takes what a call gives, if there is such a register"
+        /// [of_one]: crate::specs::machine::RegisterEffects#of_one "what a function of one vector gives a register, if the vector is there"
+        /// [unary_vector]: crate::specs::ops::UnaryOps#unary_vector "what an instruction of one vector gives"
+        /// [vector_at]: crate::specs::machine::RegisterEffects#vector_at "the vector in a register, if there is one"
+        #[inline(always)]
+        pub(crate) fn unary(&mut self, op: UnaryOp, dst: u8, a: u8) -> Reply {
+            let Some(a) = self.vector(a) else {
+                return Reply::NoSuch;
+            };
+            self.set(dst, op.apply(a).into())
+        }
+
+        /// An instruction of two vectors.
+        ///
+        /// # Contract
+        ///
+        /// <span></span><pre><code>ensures: [TakesRegister] dst
+        /// &#32;&#32;&#32;&#32;([of_two] ([binary_vector] op) ([vector_at] self.old.values a) ([vector_at] self.old.values b))
+        /// &#32;&#32;&#32;&#32;self.old.values result self.new.values</code></pre>
+        ///
+        /// [TakesRegister]: crate::specs::machine::RegisterEffects#TakesRegister "the register of an index takes what a call gives, if there is such a register"
+        /// [of_two]: crate::specs::machine::RegisterEffects#of_two "what a function of two vectors gives a register, if both are there"
+        /// [binary_vector]: crate::specs::ops::BinaryOps#binary_vector "what an instruction of two vectors gives"
+        /// [vector_at]: crate::specs::machine::RegisterEffects#vector_at "the vector in a register, if there is one"
+        #[inline(always)]
+        pub(crate) fn binary(&mut self, op: BinaryOp, dst: u8, a: u8, b: u8) -> Reply {
+            let (Some(a), Some(b)) = (self.vector(a), self.vector(b)) else {
+                return Reply::NoSuch;
+            };
+            self.set(dst, op.apply(a, b).into())
+        }
+
+        /// An instruction of three vectors.
+        ///
+        /// # Contract
+        ///
+        /// <span></span><pre><code>ensures: [TakesRegister] dst
+        /// &#32;&#32;&#32;&#32;([of_three] ([ternary_vector] op) ([vector_at] self.old.values a)
+        /// &#32;&#32;&#32;&#32;([vector_at] self.old.values b) ([vector_at] self.old.values c)) self.old.values result
+        /// &#32;&#32;&#32;&#32;self.new.values</code></pre>
+        ///
+        /// [TakesRegister]: crate::specs::machine::RegisterEffects#TakesRegister "the register of an index takes what a call gives, if there is such a register"
+        /// [of_three]: crate::specs::machine::RegisterEffects#of_three "what a function of three vectors gives a register, if all three are there"
+        /// [ternary_vector]: crate::specs::ops::TernaryOps#ternary_vector "what an instruction of three vectors gives"
+        /// [vector_at]: crate::specs::machine::RegisterEffects#vector_at "the vector in a register, if there is one"
+        #[inline(always)]
+        pub(crate) fn ternary(&mut self, op: TernaryOp, dst: u8, a: u8, b: u8, c: u8) -> Reply {
+            let (Some(a), Some(b), Some(c)) = (self.vector(a), self.vector(b), self.vector(c))
+            else {
+                return Reply::NoSuch;
+            };
+            self.set(dst, op.apply(a, b, c).into())
+        }
+
+        /// A shift of the lanes of a vector.
+        ///
+        /// # Contract
+        ///
+        /// <span></span><pre><code>ensures: [TakesRegister] dst
+        /// &#32;&#32;&#32;&#32;([of_one] (λ v. [shifted_vector] op v amount) ([vector_at] self.old.values a)) self.old.values
+        /// &#32;&#32;&#32;&#32;result self.new.values</code></pre>
+        ///
+        /// [TakesRegister]: crate::specs::machine::RegisterEffects#TakesRegister "the register of an index takes what a call gives, if there is such a register"
+        /// [of_one]: crate::specs::machine::RegisterEffects#of_one "what a function of one vector gives a register, if the vector is there"
+        /// [shifted_vector]: crate::specs::ops::ShiftOps#shifted_vector "what a shift of a vector by an amount gives"
+        /// [vector_at]: crate::specs::machine::RegisterEffects#vector_at "the vector in a register, if there is one"
+        #[inline(always)]
+        pub(crate) fn shift(&mut self, op: ShiftOp, dst: u8, a: u8, amount: u32) -> Reply {
+            let Some(a) = self.vector(a) else {
+                return Reply::NoSuch;
+            };
+            self.set(dst, op.apply(a, amount).into())
+        }
+
+        /// A test of a vector.
+        ///
+        /// # Contract
+        ///
+        /// <span></span><pre><code>ensures: result ≡ [raw_reply] ([option_map] ([tested_raw] op) ([vector_at] self.now.values a))</code></pre>
+        ///
+        /// [raw_reply]: crate::specs::machine::RegisterEffects#raw_reply "the raw value that is asked of a register, if it is there"
+        /// [option_map]: crate::specs::library#option_map "f of the value, if there is one"
+        /// [tested_raw]: crate::specs::ops::TestOps#tested_raw "the Boolean or the mask that a test of a vector gives, as a raw value"
+        /// [vector_at]: crate::specs::machine::RegisterEffects#vector_at "the vector in a register, if there is one"
+        #[inline(always)]
+        pub(crate) fn test(&self, op: TestOp, a: u8) -> Reply {
+            let Some(a) = self.vector(a) else {
+                return Reply::NoSuch;
+            };
+            Reply::Value(op.apply(a))
+        }
+
+        /// A lane of a vector.
+        ///
+        /// # Contract
+        ///
+        /// <span></span><pre><code>ensures: result ≡ [raw_reply] ([option_map] ([extracted_raw] op) ([vector_at] self.now.values a))</code></pre>
+        ///
+        /// [raw_reply]: crate::specs::machine::RegisterEffects#raw_reply "the raw value that is asked of a register, if it is there"
+        /// [option_map]: crate::specs::library#option_map "f of the value, if there is one"
+        /// [extracted_raw]: crate::specs::ops::LaneOps#extracted_raw "the lane that an instruction takes from a vector, as a raw value"
+        /// [vector_at]: crate::specs::machine::RegisterEffects#vector_at "the vector in a register, if there is one"
+        #[inline(always)]
+        pub(crate) fn extract(&self, op: ExtractOp, a: u8) -> Reply {
+            let Some(a) = self.vector(a) else {
+                return Reply::NoSuch;
+            };
+            Reply::Value(op.apply(a))
+        }
+
+        /// A vector with an item in a lane.
+        ///
+        /// # Contract
+        ///
+        /// <span></span><pre><code>ensures: [TakesRegister] dst
+        /// &#32;&#32;&#32;&#32;([option_and_then]
+        /// &#32;&#32;&#32;&#32;(λ raw. [of_one] (λ v. [replaced_vector] op v raw) ([vector_at] self.old.values a))
+        /// &#32;&#32;&#32;&#32;([slice_get] self.old.values item)) self.old.values result self.new.values</code></pre>
+        ///
+        /// [TakesRegister]: crate::specs::machine::RegisterEffects#TakesRegister "the register of an index takes what a call gives, if there is such a register"
+        /// [option_and_then]: crate::specs::library#option_and_then "f of the value, if there is one"
+        /// [of_one]: crate::specs::machine::RegisterEffects#of_one "what a function of one vector gives a register, if the vector is there"
+        /// [replaced_vector]: crate::specs::ops::LaneOps#replaced_vector "the vector with an item of a raw value in a lane"
+        /// [vector_at]: crate::specs::machine::RegisterEffects#vector_at "the vector in a register, if there is one"
+        /// [slice_get]: crate::specs::library#slice_get "element i, if there is one"
+        #[inline(always)]
+        pub(crate) fn replace(&mut self, op: ReplaceOp, dst: u8, a: u8, item: u8) -> Reply {
+            let (Some(a), Some(item)) = (self.vector(a), self.get(item)) else {
+                return Reply::NoSuch;
+            };
+            self.set(dst, op.apply(a, item).into())
+        }
+
+        /// Bytes of two vectors.
+        ///
+        /// # Contract
+        ///
+        /// <span></span><pre><code>ensures: [TakesRegister] dst
+        /// &#32;&#32;&#32;&#32;([of_two] (λ x y. [shuffle] x y lanes) ([vector_at] self.old.values a)
+        /// &#32;&#32;&#32;&#32;([vector_at] self.old.values b)) self.old.values result self.new.values</code></pre>
+        ///
+        /// [TakesRegister]: crate::specs::machine::RegisterEffects#TakesRegister "the register of an index takes what a call gives, if there is such a register"
+        /// [of_two]: crate::specs::machine::RegisterEffects#of_two "what a function of two vectors gives a register, if both are there"
+        /// [shuffle]: crate::specs::lanewise::VectorTable#shuffle "of the 32 bytes of a and b, those at the indices s"
+        /// [vector_at]: crate::specs::machine::RegisterEffects#vector_at "the vector in a register, if there is one"
+        #[inline(always)]
+        pub(crate) fn shuffle(
+            &mut self,
+            dst: u8,
+            a: u8,
+            b: u8,
+            lanes: [ImmLaneIdx32; 16],
+        ) -> Reply {
+            let (Some(a), Some(b)) = (self.vector(a), self.vector(b)) else {
+                return Reply::NoSuch;
+            };
+            self.set(dst, i8x16_shuffle(a, b, lanes).into())
+        }
+
+        /// Loads a vector from a memory, if it is there.
+        ///
+        /// # Contract
+        ///
+        /// <span></span><pre><code>ensures: [TakesRegister] dst ([vector_loaded] op (ptr + offset) ([option_copied] memory.entry))
+        /// &#32;&#32;&#32;&#32;self.old.values result self.new.values</code></pre>
+        ///
+        /// [TakesRegister]: crate::specs::machine::RegisterEffects#TakesRegister "the register of an index takes what a call gives, if there is such a register"
+        /// [vector_loaded]: crate::specs::machine::RegisterEffects#vector_loaded "what a load of a vector from a memory gives a register, if the memory is there"
+        /// [option_copied]: crate::specs::library#option_copied "the value behind an optional reference, if there is one"
+        #[inline(always)]
+        pub(crate) fn load(
+            &mut self,
+            op: VectorLoadOp,
+            dst: u8,
+            memory: Option<&Memory>,
+            ptr: u64,
+            offset: u64,
+        ) -> Reply {
+            let Some(memory) = memory else {
+                return Reply::NoSuch;
+            };
+            self.set_loaded(dst, op.load(memory.data(), ptr, offset))
+        }
+
+        /// Loads a lane of a vector from a memory, if it is there.
+        ///
+        /// # Contract
+        ///
+        /// <span></span><pre><code>ensures: [TakesRegister] dst
+        /// &#32;&#32;&#32;&#32;([lane_loaded] op (ptr + offset) ([vector_at] self.old.values a)
+        /// &#32;&#32;&#32;&#32;([option_copied] memory.entry)) self.old.values result self.new.values</code></pre>
+        ///
+        /// [TakesRegister]: crate::specs::machine::RegisterEffects#TakesRegister "the register of an index takes what a call gives, if there is such a register"
+        /// [lane_loaded]: crate::specs::machine::RegisterEffects#lane_loaded "what a load of one lane of a vector from a memory gives a register, if the vector and the memory are there"
+        /// [vector_at]: crate::specs::machine::RegisterEffects#vector_at "the vector in a register, if there is one"
+        /// [option_copied]: crate::specs::library#option_copied "the value behind an optional reference, if there is one"
+        #[inline(always)]
+        pub(crate) fn load_lane(
+            &mut self,
+            op: LoadLaneOp,
+            dst: u8,
+            a: u8,
+            memory: Option<&Memory>,
+            ptr: u64,
+            offset: u64,
+        ) -> Reply {
+            let (Some(a), Some(memory)) = (self.vector(a), memory) else {
+                return Reply::NoSuch;
+            };
+            self.set_loaded(dst, op.load(memory.data(), ptr, offset, a))
+        }
+    }
+}
+mod running {
+    //! One call, and runs of calls. They are our own: upstream leaves running to the interpreter.
+
+    use crate::proved::machine::calls::{Call, Reply};
+    use crate::proved::machine::machine::Machine;
+    use crate::proved::meter::{Reserving, ResourceLimiter, ResourceLimiterRef};
+    use crate::rattle::Vec;
+    use crate::rattle::alloc::AllocError;
+
+    impl<'r> Machine<'r> {
+        /// Executes one call, as `run` executes each of a list.
+        ///
+        /// # Contract
+        ///
+        /// <span></span><pre><code>ensures loan: [KeepsLoan] limiter.old limiter.new
+        /// ensures step: [Answers] ([optional_rules] [L.rules]) call.now
+        /// &#32;&#32;&#32;&#32;([world] self.old ([lent_limiter] limiter.old)) result
+        /// &#32;&#32;&#32;&#32;([world] self.new ([lent_limiter] limiter.new))
+        /// ensures valid: [IsValid] self.new</code></pre>
+        ///
+        /// [KeepsLoan]: crate::specs::meter::LimiterRef#KeepsLoan "r\' leads to what r leads to"
+        /// [Answers]: crate::specs::machine::Steps#Answers "a call is answered by a reply: there is a step by it, with some charge and some bytes written"
+        /// [optional_rules]: crate::specs::meter::Limiter#optional_rules "the rules of a limiter that may be absent"
+        /// [L.rules]: trait@ResourceLimiter#contract
+        /// [world]: crate::specs::machine::World#world "a machine in this state with this limiter"
+        /// [lent_limiter]: crate::specs::meter::LimiterRef#lent_limiter "the present value of the limiter that is lent, or none"
+        /// [IsValid]: crate::specs::machine::Validity#IsValid "memories and tables have valid types and as many whole pages and elements as these allow, segments aren\'t too long, and there are 16 registers"
+        #[inline(always)]
+        pub fn step<L: ResourceLimiter>(
+            &mut self,
+            call: &Call,
+            limiter: &mut ResourceLimiterRef<L>,
+        ) -> Reply {
+            call.tell_valid();
+            self.store.step(call, limiter)
+        }
+
+        /// Grows a memory by so many pages, as `step` does for `Call::GrowMemory`. The reply is
+        /// [`Number`] with the old size in pages, [`NoSuch`] if there is no such memory, or [`Memory`] with
+        /// an error of [`LinearMemory::grow`](crate::proved::store::LinearMemory::grow).
+        ///
+        /// Own: upstream's interpreter has the memory itself.
+        ///
+        /// # Contract
+        ///
+        /// <span></span><pre><code>ensures loan: [KeepsLoan] limiter.old limiter.new
+        /// ensures step: [Answers] ([optional_rules] [L.rules]) ([GrowMemory] memory pages)
+        /// &#32;&#32;&#32;&#32;([world] self.old ([lent_limiter] limiter.old)) result
+        /// &#32;&#32;&#32;&#32;([world] self.new ([lent_limiter] limiter.new))
+        /// ensures valid: [IsValid] self.new</code></pre>
+        ///
+        /// [KeepsLoan]: crate::specs::meter::LimiterRef#KeepsLoan "r\' leads to what r leads to"
+        /// [Answers]: crate::specs::machine::Steps#Answers "a call is answered by a reply: there is a step by it, with some charge and some bytes written"
+        /// [optional_rules]: crate::specs::meter::Limiter#optional_rules "the rules of a limiter that may be absent"
+        /// [L.rules]: trait@ResourceLimiter#contract
+        /// [GrowMemory]: crate::proved::machine::Call::GrowMemory
+        /// [world]: crate::specs::machine::World#world "a machine in this state with this limiter"
+        /// [lent_limiter]: crate::specs::meter::LimiterRef#lent_limiter "the present value of the limiter that is lent, or none"
+        /// [IsValid]: crate::specs::machine::Validity#IsValid "memories and tables have valid types and as many whole pages and elements as these allow, segments aren\'t too long, and there are 16 registers"
+        /// [`Number`]: crate::proved::machine::Reply::Number
+        /// [`NoSuch`]: crate::proved::machine::Reply::NoSuch
+        /// [`Memory`]: crate::proved::machine::Reply::Memory
+        #[inline(always)]
+        pub fn grow_memory<L: ResourceLimiter>(
+            &mut self,
+            memory: usize,
+            pages: u64,
+            limiter: &mut ResourceLimiterRef<L>,
+        ) -> Reply {
+            self.store.grow_memory(memory, pages, limiter)
+        }
+
+        /// Grows a memory, as `grow_memory`, but borrows the limiter for this call alone, so that its
+        /// state afterwards is known.
+        ///
+        /// # Contract
+        ///
+        /// <span></span><pre><code>ensures step: [Answers] ([optional_rules] [L.rules]) ([GrowMemory] memory pages)
+        /// &#32;&#32;&#32;&#32;([world] self.old ([Some] limiter.old)) result ([world] self.new ([Some] limiter.new))
+        /// ensures valid: [IsValid] self.new</code></pre>
+        ///
+        /// [Answers]: crate::specs::machine::Steps#Answers "a call is answered by a reply: there is a step by it, with some charge and some bytes written"
+        /// [optional_rules]: crate::specs::meter::Limiter#optional_rules "the rules of a limiter that may be absent"
+        /// [L.rules]: trait@ResourceLimiter#contract
+        /// [GrowMemory]: crate::proved::machine::Call::GrowMemory
+        /// [world]: crate::specs::machine::World#world "a machine in this state with this limiter"
+        /// [Some]: crate::specs::library#Some "the value x, of an \`Option\`"
+        /// [IsValid]: crate::specs::machine::Validity#IsValid "memories and tables have valid types and as many whole pages and elements as these allow, segments aren\'t too long, and there are 16 registers"
+        #[inline(always)]
+        pub fn grow_memory_lending<L: ResourceLimiter>(
+            &mut self,
+            memory: usize,
+            pages: u64,
+            limiter: &mut L,
+        ) -> Reply {
+            let mut lent = ResourceLimiterRef::from(limiter);
+            let reply = self.grow_memory(memory, pages, &mut lent);
+            let Some(_limiter) = lent.into_resource_limiter() else {
+                unreachable!()
+            };
+            reply
+        }
+
+        /// Executes one call, as `step`, but borrows the limiter for this call alone, so that its state
+        /// afterwards is known.
+        ///
+        /// Own: upstream leaves running to the interpreter.
+        ///
+        /// # Contract
+        ///
+        /// <span></span><pre><code>ensures step: [Answers] ([optional_rules] [L.rules]) call.now
+        /// &#32;&#32;&#32;&#32;([world] self.old ([Some] limiter.old)) result ([world] self.new ([Some] limiter.new))
+        /// ensures valid: [IsValid] self.new</code></pre>
+        ///
+        /// [Answers]: crate::specs::machine::Steps#Answers "a call is answered by a reply: there is a step by it, with some charge and some bytes written"
+        /// [optional_rules]: crate::specs::meter::Limiter#optional_rules "the rules of a limiter that may be absent"
+        /// [L.rules]: trait@ResourceLimiter#contract
+        /// [world]: crate::specs::machine::World#world "a machine in this state with this limiter"
+        /// [Some]: crate::specs::library#Some "the value x, of an \`Option\`"
+        /// [IsValid]: crate::specs::machine::Validity#IsValid "memories and tables have valid types and as many whole pages and elements as these allow, segments aren\'t too long, and there are 16 registers"
+        #[inline(always)]
+        pub fn step_lending<L: ResourceLimiter>(&mut self, call: &Call, limiter: &mut L) -> Reply {
+            let mut lent = ResourceLimiterRef::from(limiter);
+            let reply = self.step(call, &mut lent);
+            let Some(_limiter) = lent.into_resource_limiter() else {
+                unreachable!()
+            };
+            reply
+        }
+    }
+
+    /// Executes calls one after another. Memory for the replies is allocated first; if that fails,
+    /// nothing has happened.
+    ///
+    /// # Contract
+    ///
+    /// <span></span><pre><code>ensures loan: [KeepsLoan] limiter.old limiter.new
+    /// ensures run: [IfOk] result (λ replies. [IsRunOf] ([optional_rules] [L.rules]) calls.now
+    /// &#32;&#32;&#32;&#32;([world] machine.old ([lent_limiter] limiter.old)) replies.items
+    /// &#32;&#32;&#32;&#32;([world] machine.new ([lent_limiter] limiter.new)))
+    /// ensures err: [OnErr] result ((machine.new ≡ machine.old) × (limiter.new ≡ limiter.old))
+    /// ensures valid: [IsValid] machine.new</code></pre>
+    ///
+    /// [KeepsLoan]: crate::specs::meter::LimiterRef#KeepsLoan "r\' leads to what r leads to"
+    /// [IfOk]: crate::specs::library#IfOk "P of the value, if r is a value"
+    /// [IsRunOf]: crate::specs::machine::Runs#IsRunOf "the replies are those of a run of the calls, from one world to another"
+    /// [optional_rules]: crate::specs::meter::Limiter#optional_rules "the rules of a limiter that may be absent"
+    /// [L.rules]: trait@ResourceLimiter#contract
+    /// [world]: crate::specs::machine::World#world "a machine in this state with this limiter"
+    /// [lent_limiter]: crate::specs::meter::LimiterRef#lent_limiter "the present value of the limiter that is lent, or none"
+    /// [OnErr]: crate::specs::library#OnErr "P, if r is an error"
+    /// [IsValid]: crate::specs::machine::Validity#IsValid "memories and tables have valid types and as many whole pages and elements as these allow, segments aren\'t too long, and there are 16 registers"
+    #[inline]
+    pub fn run<L: ResourceLimiter>(
+        machine: &mut Machine,
+        calls: &[Call],
+        limiter: &mut ResourceLimiterRef<L>,
+    ) -> Result<Vec<Reply>, AllocError> {
+        machine.tell_valid();
+        let mut replies = Vec::with_capacity(calls.len())?;
+        for call in calls {
+            let reply = machine.step(call, limiter);
+            replies.push_reserved(reply);
+        }
+        Ok(replies)
+    }
+
+    /// Executes calls, as `run`, but borrows the limiter for this run alone, so that its state
+    /// afterwards is known.
+    ///
+    /// Own: upstream leaves running to the interpreter.
+    ///
+    /// # Contract
+    ///
+    /// <span></span><pre><code>ensures run: [IfOk] result (λ replies. [IsRunOf] ([optional_rules] [L.rules]) calls.now
+    /// &#32;&#32;&#32;&#32;([world] machine.old ([Some] limiter.old)) replies.items
+    /// &#32;&#32;&#32;&#32;([world] machine.new ([Some] limiter.new)))
+    /// ensures err: [OnErr] result ((machine.new ≡ machine.old) × (limiter.new ≡ limiter.old))
+    /// ensures valid: [IsValid] machine.new</code></pre>
+    ///
+    /// [IfOk]: crate::specs::library#IfOk "P of the value, if r is a value"
+    /// [IsRunOf]: crate::specs::machine::Runs#IsRunOf "the replies are those of a run of the calls, from one world to another"
+    /// [optional_rules]: crate::specs::meter::Limiter#optional_rules "the rules of a limiter that may be absent"
+    /// [L.rules]: trait@ResourceLimiter#contract
+    /// [world]: crate::specs::machine::World#world "a machine in this state with this limiter"
+    /// [Some]: crate::specs::library#Some "the value x, of an \`Option\`"
+    /// [OnErr]: crate::specs::library#OnErr "P, if r is an error"
+    /// [IsValid]: crate::specs::machine::Validity#IsValid "memories and tables have valid types and as many whole pages and elements as these allow, segments aren\'t too long, and there are 16 registers"
+    #[inline]
+    pub fn run_lending<L: ResourceLimiter>(
+        machine: &mut Machine,
+        calls: &[Call],
+        limiter: &mut L,
+    ) -> Result<Vec<Reply>, AllocError> {
+        let mut lent = ResourceLimiterRef::from(limiter);
+        let replies = run(machine, calls, &mut lent);
+        let Some(_limiter) = lent.into_resource_limiter() else {
+            unreachable!()
+        };
+        replies
+    }
+
+    /// Executes calls, as `run`, under a limiter that holds exactly what the machine has, and does so
+    /// again afterwards.
+    ///
+    /// # Panics
+    ///
+    /// Panics if what the limiter holds isn't the machine's totals.
+    ///
+    /// # Contract
+    ///
+    /// <span></span><pre><code>requires totals: [HoldsTotals] ([L.Reserving].holdings limiter.old) machine.old
+    /// ensures run: [IfOk] result (λ replies. [IsRunOf] ([optional_rules] [L.rules]) calls.now
+    /// &#32;&#32;&#32;&#32;([world] machine.old ([Some] limiter.old)) replies.items
+    /// &#32;&#32;&#32;&#32;([world] machine.new ([Some] limiter.new)))
+    /// ensures err: [OnErr] result ((machine.new ≡ machine.old) × (limiter.new ≡ limiter.old))
+    /// ensures held: [HoldsTotals] ([L.Reserving].holdings limiter.new) machine.new
+    /// ensures valid: [IsValid] machine.new</code></pre>
+    ///
+    /// [HoldsTotals]: crate::specs::machine::Totals#HoldsTotals "exactly these totals are held"
+    /// [L.Reserving]: trait@Reserving#contract
+    /// [IfOk]: crate::specs::library#IfOk "P of the value, if r is a value"
+    /// [IsRunOf]: crate::specs::machine::Runs#IsRunOf "the replies are those of a run of the calls, from one world to another"
+    /// [optional_rules]: crate::specs::meter::Limiter#optional_rules "the rules of a limiter that may be absent"
+    /// [L.rules]: trait@Reserving#contract
+    /// [world]: crate::specs::machine::World#world "a machine in this state with this limiter"
+    /// [Some]: crate::specs::library#Some "the value x, of an \`Option\`"
+    /// [OnErr]: crate::specs::library#OnErr "P, if r is an error"
+    /// [IsValid]: crate::specs::machine::Validity#IsValid "memories and tables have valid types and as many whole pages and elements as these allow, segments aren\'t too long, and there are 16 registers"
+    #[inline]
+    pub fn run_reserving<L: Reserving>(
+        machine: &mut Machine,
+        calls: &[Call],
+        limiter: &mut L,
+    ) -> Result<Vec<Reply>, AllocError> {
+        assert!(
+            u128::from(limiter.held_bytes()) == machine.total_bytes()
+                && u128::from(limiter.held_elements()) == machine.total_elements(),
+            "what the limiter holds isn't the machine's totals"
+        );
+        run_lending(machine, calls, limiter)
+    }
+}
+pub mod simd {
+    //! The vector instructions, the loads and stores of vectors, and the lane types and indices.
+    //!
+    //! Upstream: `wasmi_core::simd`.
+
+    // Lanes, their indices, and vectors as lanes.
+    pub use crate::proved::lanes::{
+        LaneArray, LaneIndex, LaneInteger, LaneItem, Narrower, SimdLane, WordLane,
+    };
+    pub use crate::proved::lanewise::simd::{
+        FromNarrow, FromWide, I8x16, I16x8, I32x4, I64x2, ImmLaneIdx, ImmLaneIdx2, ImmLaneIdx4,
+        ImmLaneIdx8, ImmLaneIdx16, ImmLaneIdx32, IntoLaneIdx, IntoLanes, Lanes, OutOfBoundsLaneIdx,
+        U8x16, U16x8, U32x4, U64x2,
+    };
+
+    // Lane by lane, on lanes of 8 or 16 bits.
+    pub use crate::proved::lanewise::simd::{
+        i8x16_abs, i8x16_add, i8x16_add_sat_s, i8x16_add_sat_u, i8x16_avgr_u, i8x16_eq,
+        i8x16_extract_lane_s, i8x16_extract_lane_u, i8x16_ge_s, i8x16_ge_u, i8x16_gt_s, i8x16_gt_u,
+        i8x16_le_s, i8x16_le_u, i8x16_lt_s, i8x16_lt_u, i8x16_max_s, i8x16_max_u, i8x16_min_s,
+        i8x16_min_u, i8x16_mul, i8x16_ne, i8x16_neg, i8x16_popcnt, i8x16_replace_lane,
+        i8x16_shuffle, i8x16_splat, i8x16_sub, i8x16_sub_sat_s, i8x16_sub_sat_u, i8x16_swizzle,
+        i16x8_abs, i16x8_add, i16x8_add_sat_s, i16x8_add_sat_u, i16x8_avgr_u, i16x8_eq,
+        i16x8_extract_lane_s, i16x8_extract_lane_u, i16x8_ge_s, i16x8_ge_u, i16x8_gt_s, i16x8_gt_u,
+        i16x8_le_s, i16x8_le_u, i16x8_lt_s, i16x8_lt_u, i16x8_max_s, i16x8_max_u, i16x8_min_s,
+        i16x8_min_u, i16x8_mul, i16x8_ne, i16x8_neg, i16x8_q15mulr_sat_s, i16x8_replace_lane,
+        i16x8_splat, i16x8_sub, i16x8_sub_sat_s, i16x8_sub_sat_u,
+    };
+
+    // Lane by lane, on lanes of 32 or 64 bits, and on whole vectors.
+    pub use crate::proved::lanewise::simd::{
+        i32x4_abs, i32x4_add, i32x4_eq, i32x4_extract_lane, i32x4_ge_s, i32x4_ge_u, i32x4_gt_s,
+        i32x4_gt_u, i32x4_le_s, i32x4_le_u, i32x4_lt_s, i32x4_lt_u, i32x4_max_s, i32x4_max_u,
+        i32x4_min_s, i32x4_min_u, i32x4_mul, i32x4_ne, i32x4_neg, i32x4_replace_lane, i32x4_splat,
+        i32x4_sub, i64x2_abs, i64x2_add, i64x2_eq, i64x2_extract_lane, i64x2_ge_s, i64x2_gt_s,
+        i64x2_le_s, i64x2_lt_s, i64x2_mul, i64x2_ne, i64x2_neg, i64x2_replace_lane, i64x2_splat,
+        i64x2_sub, v128_and, v128_andnot, v128_bitselect, v128_not, v128_or, v128_xor,
+    };
+
+    // Instructions that widen, narrow, shift or test lanes, and the relaxed ones.
+    pub use crate::proved::widening::simd::{
+        i8x16_all_true, i8x16_bitmask, i8x16_narrow_i16x8_s, i8x16_narrow_i16x8_u,
+        i8x16_relaxed_laneselect, i8x16_relaxed_swizzle, i8x16_shl, i8x16_shr_s, i8x16_shr_u,
+        i16x8_all_true, i16x8_bitmask, i16x8_extadd_pairwise_i8x16_s,
+        i16x8_extadd_pairwise_i8x16_u, i16x8_extend_high_i8x16_s, i16x8_extend_high_i8x16_u,
+        i16x8_extend_low_i8x16_s, i16x8_extend_low_i8x16_u, i16x8_extmul_high_i8x16_s,
+        i16x8_extmul_high_i8x16_u, i16x8_extmul_low_i8x16_s, i16x8_extmul_low_i8x16_u,
+        i16x8_narrow_i32x4_s, i16x8_narrow_i32x4_u, i16x8_relaxed_dot_i8x16_i7x16_s,
+        i16x8_relaxed_laneselect, i16x8_relaxed_q15mulr_s, i16x8_shl, i16x8_shr_s, i16x8_shr_u,
+        i32x4_all_true, i32x4_bitmask, i32x4_dot_i16x8_s, i32x4_extadd_pairwise_i16x8_s,
+        i32x4_extadd_pairwise_i16x8_u, i32x4_extend_high_i16x8_s, i32x4_extend_high_i16x8_u,
+        i32x4_extend_low_i16x8_s, i32x4_extend_low_i16x8_u, i32x4_extmul_high_i16x8_s,
+        i32x4_extmul_high_i16x8_u, i32x4_extmul_low_i16x8_s, i32x4_extmul_low_i16x8_u,
+        i32x4_relaxed_dot_i8x16_i7x16_add_s, i32x4_relaxed_laneselect, i32x4_shl, i32x4_shr_s,
+        i32x4_shr_u, i64x2_all_true, i64x2_bitmask, i64x2_extend_high_i32x4_s,
+        i64x2_extend_high_i32x4_u, i64x2_extend_low_i32x4_s, i64x2_extend_low_i32x4_u,
+        i64x2_extmul_high_i32x4_s, i64x2_extmul_high_i32x4_u, i64x2_extmul_low_i32x4_s,
+        i64x2_extmul_low_i32x4_u, i64x2_relaxed_laneselect, i64x2_shl, i64x2_shr_s, i64x2_shr_u,
+        v128_any_true, v128_low32_zero, v128_low64_zero, v128_widen8x8_s, v128_widen8x8_u,
+        v128_widen16x4_s, v128_widen16x4_u, v128_widen32x2_s, v128_widen32x2_u,
+    };
+
+    // Loads and stores.
+    pub use crate::proved::vector_access::simd::{
+        v128_load, v128_load_at, v128_load8_lane, v128_load8_lane_at, v128_load8_splat,
+        v128_load8_splat_at, v128_load8x8_s, v128_load8x8_s_at, v128_load8x8_u, v128_load8x8_u_at,
+        v128_load16_lane, v128_load16_lane_at, v128_load16_splat, v128_load16_splat_at,
+        v128_load16x4_s, v128_load16x4_s_at, v128_load16x4_u, v128_load16x4_u_at, v128_load32_lane,
+        v128_load32_lane_at, v128_load32_splat, v128_load32_splat_at, v128_load32_zero,
+        v128_load32_zero_at, v128_load32x2_s, v128_load32x2_s_at, v128_load32x2_u,
+        v128_load32x2_u_at, v128_load64_lane, v128_load64_lane_at, v128_load64_splat,
+        v128_load64_splat_at, v128_load64_zero, v128_load64_zero_at, v128_store, v128_store_at,
+        v128_store8_lane, v128_store8_lane_at, v128_store16_lane, v128_store16_lane_at,
+        v128_store32_lane, v128_store32_lane_at, v128_store64_lane, v128_store64_lane_at,
+    };
+}
+mod slots {
+    //! Slots: what was made, each at the index of its making.
+
+    use crate::proved::machine::calls::Reply;
+    use crate::proved::store::{Memory, Table};
+    use crate::rattle::Vec;
+
+    /// What counts in a machine's totals: a memory by its bytes, a table by its elements.
+    ///
+    /// # Contract
+    ///
+    /// <span></span><pre><code><i>\-\- How many it has.</i>
+    /// count: Self → [ℕ]</code></pre>
+    ///
+    /// [ℕ]: crate::specs::library#%E2%84%95 "the whole numbers from 0 on"
+    pub(crate) trait Counted {
+        /// # Contract
+        ///
+        /// <span></span><pre><code>ensures: result ≡ count self.now</code></pre>
+        fn count(&self) -> usize;
+    }
+
+    impl<'r> Counted for Memory<'r> {
+        #[inline]
+        fn count(&self) -> usize {
+            self.data_size()
+        }
+    }
+
+    impl Counted for Table {
+        #[inline]
+        fn count(&self) -> usize {
+            self.size() as usize
+        }
+    }
+
+    /// A live value, or the size of one when it was dropped.
+    #[derive(Debug)]
+    pub(crate) enum Slot<T> {
+        Live(T),
+        Gone(usize),
+    }
+
+    impl<T> Slot<T> {
+        /// # Contract
+        ///
+        /// <span></span><pre><code>requires live: [IsSome] ([live_value] self.old)
+        /// ensures\* writes_back: [sem] 𝓛 ([Lends] ([the_row] [T.row]) [T.row] self.entry result Live)
+        /// ensures value: [live_value] self.old ≡ [Some] result.now</code></pre>
+        ///
+        /// [IsSome]: crate::specs::library#IsSome "there is a value"
+        /// [live_value]: crate::specs::machine::State#live_value "the value in a slot, if it wasn\'t dropped"
+        /// [sem]: crate::specs::library#sem "the fixed form of a clause on a loan"
+        /// [Lends]: crate::specs::library#Lends "the result r borrows from x: what is written through r last, w, makes x the value F w"
+        /// [the_row]: crate::specs::library#the_row "the type itself, in a clause on a loan"
+        /// [T.row]: crate::specs::library#row "a type, in a clause on a loan"
+        /// [Some]: crate::specs::library#Some "the value x, of an \`Option\`"
+        #[inline]
+        fn value_mut(&mut self) -> &mut T {
+            match self {
+                Slot::Live(value) => value,
+                Slot::Gone(_) => unreachable!(),
+            }
+        }
+
+        /// How many bytes or elements it has, or had when it was dropped.
+        ///
+        /// # Contract
+        ///
+        /// <span></span><pre><code>ensures: result ≡ [slot_count] [T.Counted].count self.now</code></pre>
+        ///
+        /// [slot_count]: crate::specs::machine::Totals#slot_count "how many a slot\'s value has, or had when it was dropped"
+        /// [T.Counted]: trait@Counted#contract
+        #[inline]
+        fn count(&self) -> usize
+        where
+            T: Counted,
+        {
+            match self {
+                Slot::Live(value) => value.count(),
+                Slot::Gone(last) => *last,
+            }
+        }
+    }
+
+    /// Slots by their indices, which count from 0.
+    #[derive(Debug)]
+    pub(crate) struct Slots<T> {
+        pub(crate) slots: Vec<Slot<T>>,
+    }
+
+    impl<T> Slots<T> {
+        /// No slot yet. It takes no memory.
+        ///
+        /// # Contract
+        ///
+        /// <span></span><pre><code>ensures: result.slots.items ≡ \[\]</code></pre>
+        #[inline]
+        pub(crate) fn new() -> Self {
+            Slots { slots: Vec::new() }
+        }
+
+        /// The live value of an index, if there is one.
+        ///
+        /// # Contract
+        ///
+        /// <span></span><pre><code>ensures: [option_copied] result ≡ [live_at] self.now.slots.items index</code></pre>
+        ///
+        /// [option_copied]: crate::specs::library#option_copied "the value behind an optional reference, if there is one"
+        /// [live_at]: crate::specs::machine::State#live_at "the live value of an index, if there is one"
+        #[inline]
+        pub(crate) fn live(&self, index: usize) -> Option<&T> {
+            match self.slots.get(index) {
+                Some(Slot::Live(value)) => Some(value),
+                _ => None,
+            }
+        }
+
+        /// The live value of an index, if there is one, to be changed.
+        ///
+        /// # Contract
+        ///
+        /// <span></span><pre><code>ensures\* writes_back: [sem] 𝓛 ([LendsIf] ([the_row] [T.row]) [T.row] self.entry result
+        /// &#32;&#32;&#32;&#32;([with_live] self.old index) self.old)
+        /// ensures value: [option_copied_mut] result ≡ [live_at] self.old.slots.items index</code></pre>
+        ///
+        /// [sem]: crate::specs::library#sem "the fixed form of a clause on a loan"
+        /// [LendsIf]: crate::specs::library#LendsIf "as \`Lends\` where the result is a value; else x is v"
+        /// [the_row]: crate::specs::library#the_row "the type itself, in a clause on a loan"
+        /// [T.row]: crate::specs::library#row "a type, in a clause on a loan"
+        /// [with_live]: crate::specs::machine::State#with_live "the slots with this live value at an index"
+        /// [option_copied_mut]: crate::specs::library#option_copied_mut "the value behind an optional \`&mut\`, if there is one"
+        /// [live_at]: crate::specs::machine::State#live_at "the live value of an index, if there is one"
+        #[inline]
+        pub(crate) fn live_mut(&mut self, index: usize) -> Option<&mut T> {
+            if self.live(index).is_some() {
+                Some(self.value_mut(index))
+            } else {
+                None
+            }
+        }
+
+        /// # Contract
+        ///
+        /// <span></span><pre><code>requires live: [IsSome] ([live_at] self.old.slots.items index)
+        /// ensures\* writes_back: [sem] 𝓛
+        /// &#32;&#32;&#32;&#32;([Lends] ([the_row] [T.row]) [T.row] self.entry result ([with_live] self.old index))
+        /// ensures value: [live_at] self.old.slots.items index ≡ [Some] result.now</code></pre>
+        ///
+        /// [IsSome]: crate::specs::library#IsSome "there is a value"
+        /// [live_at]: crate::specs::machine::State#live_at "the live value of an index, if there is one"
+        /// [sem]: crate::specs::library#sem "the fixed form of a clause on a loan"
+        /// [Lends]: crate::specs::library#Lends "the result r borrows from x: what is written through r last, w, makes x the value F w"
+        /// [the_row]: crate::specs::library#the_row "the type itself, in a clause on a loan"
+        /// [T.row]: crate::specs::library#row "a type, in a clause on a loan"
+        /// [with_live]: crate::specs::machine::State#with_live "the slots with this live value at an index"
+        /// [Some]: crate::specs::library#Some "the value x, of an \`Option\`"
+        #[inline]
+        fn value_mut(&mut self, index: usize) -> &mut T {
+            self.slots[index].value_mut()
+        }
+
+        /// Has room for one more slot, if memory isn't refused.
+        ///
+        /// # Contract
+        ///
+        /// <span></span><pre><code>ensures room: [IsTrue] result → [length] self.new.slots.items < [vec_capacity] self.new.slots
+        /// ensures same: self.new.slots.items ≡ self.old.slots.items</code></pre>
+        ///
+        /// [IsTrue]: crate::specs::library#IsTrue "b is true"
+        /// [length]: crate::specs::library#length "the number of elements of a list"
+        /// [vec_capacity]: crate::specs::library#vec_capacity "the capacity of a \`Vec\`"
+        #[inline]
+        pub(crate) fn reserve(&mut self) -> bool {
+            self.slots.try_reserve(1).is_ok()
+        }
+
+        /// Puts a value into a new slot, and returns its index.
+        ///
+        /// # Contract
+        ///
+        /// <span></span><pre><code>requires room: [length] self.old.slots.items < [vec_capacity] self.old.slots
+        /// ensures index: result ≡ [length] self.old.slots.items
+        /// ensures slots: self.new.slots.items ≡ self.old.slots.items ++ Live value ∷ \[\]</code></pre>
+        ///
+        /// [length]: crate::specs::library#length "the number of elements of a list"
+        /// [vec_capacity]: crate::specs::library#vec_capacity "the capacity of a \`Vec\`"
+        #[inline]
+        pub(crate) fn push(&mut self, value: T) -> usize
+where {
+            let index = self.slots.len();
+            self.slots.push_reserved(Slot::Live(value));
+            index
+        }
+    }
+
+    impl<T: Counted> Slots<T> {
+        /// Drops the live value of an index, and keeps how many it had.
+        ///
+        /// # Contract
+        ///
+        /// <span></span><pre><code>ensures: [DropsAt] [T.Counted].count index self.old.slots.items result self.new.slots.items</code></pre>
+        ///
+        /// [DropsAt]: crate::specs::machine::Effects#DropsAt "the live value of an index is dropped, and its slot keeps how many it had; where the index names none it is \`NoSuch\`, and nothing has changed"
+        /// [T.Counted]: trait@Counted#contract
+        #[inline]
+        pub(crate) fn drop_live(&mut self, index: usize) -> Reply
+where {
+            let Some(value) = self.live(index) else {
+                return Reply::NoSuch;
+            };
+            let last = value.count();
+            self.slots[index] = Slot::Gone(last);
+            Reply::Done
+        }
+
+        /// How many bytes or elements all of them have; dropped ones count with their last size.
+        ///
+        /// # Contract
+        ///
+        /// <span></span><pre><code>ensures: result ≡ [sum] ([map] ([slot_count] [T.Counted].count) self.now.slots.items)</code></pre>
+        ///
+        /// [sum]: crate::specs::library#sum "the sum of a list of numbers"
+        /// [map]: crate::specs::library#map "f of each element"
+        /// [slot_count]: crate::specs::machine::Totals#slot_count "how many a slot\'s value has, or had when it was dropped"
+        /// [T.Counted]: trait@Counted#contract
+        #[inline]
+        pub(crate) fn total(&self) -> u128 {
+            let mut total = 0;
+            for slot in &self.slots {
+                total += slot.count() as u128;
+            }
+            total
+        }
+    }
+}
+mod store {
+    //! The store of a machine: what was made, the registers and the meter, and what each call does to
+    //! them.
+
+    use crate::proved::machine::calls::{Call, Reply};
+    use crate::proved::machine::registers::Registers;
+    use crate::proved::machine::slots::Slots;
+    use crate::proved::machine::values::{
+        create_global, create_segment, drop_items, get_global, set_global, value_at,
+    };
+    use crate::proved::meter::{Fuel, ResourceLimiter, ResourceLimiterRef};
+    use crate::proved::ops::StoreOp;
+    use crate::proved::raw::RawVal;
+    use crate::proved::store::{ElementSegment, ElementSegmentRef, Memory, Table};
+    use crate::proved::typed::Global;
+    use crate::rattle::Vec;
+
+    /// Memories, tables, element segments and globals by their indices, registers, the meter, and the
+    /// spare region, if there is one.
+    ///
+    /// Core specification, the store.
+    ///
+    /// # Model
+    ///
+    /// <span></span><pre><code>Value = [State]
+    /// view = λ m. record {
+    /// &#32;&#32;&#32;&#32;memories = m.memories.slots.items;
+    /// &#32;&#32;&#32;&#32;tables = m.tables.slots.items;
+    /// &#32;&#32;&#32;&#32;segments = m.segments.items;
+    /// &#32;&#32;&#32;&#32;globals = m.globals.items;
+    /// &#32;&#32;&#32;&#32;registers = m.registers.values;
+    /// &#32;&#32;&#32;&#32;meter = m.fuel;
+    /// &#32;&#32;&#32;&#32;spare = [option_copied_mut] m.spare;
+    /// &#32;&#32;&#32;&#32;}</code></pre>
+    ///
+    /// [State]: crate::specs::machine::State#State "the memories, tables, element segments and globals that were made, each kind in its order, the registers, the meter, and the bytes of the spare region, if there is one"
+    /// [option_copied_mut]: crate::specs::library#option_copied_mut "the value behind an optional \`&mut\`, if there is one"
+    #[derive(Debug)]
+    pub(crate) struct Store<'r> {
+        pub(crate) memories: Slots<Memory<'r>>,
+        pub(crate) tables: Slots<Table>,
+        pub(crate) segments: Vec<ElementSegment>,
+        pub(crate) globals: Vec<Global>,
+        pub(crate) registers: Registers,
+        pub(crate) fuel: Fuel,
+        pub(crate) spare: Option<&'r mut [u8]>,
+    }
+
+    impl<'r> Store<'r> {
+        /// # Contract
+        ///
+        /// <span></span><pre><code>ensures: [SetsFuel] fuel self.old result self.new</code></pre>
+        ///
+        /// [SetsFuel]: crate::specs::machine::FuelEffects#SetsFuel "the fuel that is left is set, where the meter is on"
+        #[inline(always)]
+        fn set_fuel(&mut self, fuel: u64) -> Reply {
+            match self.fuel.set_fuel(fuel) {
+                Ok(()) => Reply::Done,
+                Err(error) => Reply::Fuel(error),
+            }
+        }
+
+        /// # Contract
+        ///
+        /// <span></span><pre><code>ensures: result ≡ [get_fuel_reply] self.now.meter</code></pre>
+        ///
+        /// [get_fuel_reply]: crate::specs::machine::FuelEffects#get_fuel_reply "the fuel that is left is asked for"
+        #[inline(always)]
+        fn get_fuel(&self) -> Reply {
+            self.fuel.get_fuel().map_or_else(Reply::Fuel, Reply::Number)
+        }
+
+        /// Stores an item to a memory.
+        ///
+        /// # Contract
+        ///
+        /// <span></span><pre><code>ensures memories: [StoresMemoryAt] memory (ptr + offset) ([stored_bytes] op value)
+        /// &#32;&#32;&#32;&#32;self.old.memories result self.new.memories
+        /// ensures rest: self.new ≡ [with_memories] self.old self.new.memories</code></pre>
+        ///
+        /// [StoresMemoryAt]: crate::specs::machine::MemoryEffects#StoresMemoryAt "the memory of an index has the stored bytes at the address, or the store traps"
+        /// [stored_bytes]: crate::specs::ops::ScalarAccessOps#stored_bytes "the bytes that a store writes: the low ones of the value"
+        /// [with_memories]: crate::specs::machine::State#with_memories "the state with other memories"
+        #[inline(always)]
+        pub(crate) fn store_item(
+            &mut self,
+            op: StoreOp,
+            memory: usize,
+            ptr: u64,
+            offset: u64,
+            value: RawVal,
+        ) -> Reply {
+            self.memories.store(op, memory, ptr, offset, value)
+        }
+
+        /// Grows a memory by so many pages.
+        ///
+        /// # Contract
+        ///
+        /// <span></span><pre><code>ensures loan: [KeepsLoan] limiter.old limiter.new
+        /// ensures step: [Answers] ([optional_rules] [L.rules]) ([GrowMemory] memory pages)
+        /// &#32;&#32;&#32;&#32;([world] self.old ([lent_limiter] limiter.old)) result
+        /// &#32;&#32;&#32;&#32;([world] self.new ([lent_limiter] limiter.new))</code></pre>
+        ///
+        /// [KeepsLoan]: crate::specs::meter::LimiterRef#KeepsLoan "r\' leads to what r leads to"
+        /// [Answers]: crate::specs::machine::Steps#Answers "a call is answered by a reply: there is a step by it, with some charge and some bytes written"
+        /// [optional_rules]: crate::specs::meter::Limiter#optional_rules "the rules of a limiter that may be absent"
+        /// [L.rules]: trait@ResourceLimiter#contract
+        /// [GrowMemory]: crate::proved::machine::Call::GrowMemory
+        /// [world]: crate::specs::machine::World#world "a machine in this state with this limiter"
+        /// [lent_limiter]: crate::specs::meter::LimiterRef#lent_limiter "the present value of the limiter that is lent, or none"
+        #[inline(always)]
+        pub(crate) fn grow_memory<L: ResourceLimiter>(
+            &mut self,
+            memory: usize,
+            pages: u64,
+            limiter: &mut ResourceLimiterRef<L>,
+        ) -> Reply {
+            self.memories.grow(memory, pages, &mut self.fuel, limiter)
+        }
+
+        /// Executes one call.
+        ///
+        /// # Contract
+        ///
+        /// <span></span><pre><code>ensures loan: [KeepsLoan] limiter.old limiter.new
+        /// ensures step: [Answers] ([optional_rules] [L.rules]) call.now
+        /// &#32;&#32;&#32;&#32;([world] self.old ([lent_limiter] limiter.old)) result
+        /// &#32;&#32;&#32;&#32;([world] self.new ([lent_limiter] limiter.new))</code></pre>
+        ///
+        /// [KeepsLoan]: crate::specs::meter::LimiterRef#KeepsLoan "r\' leads to what r leads to"
+        /// [Answers]: crate::specs::machine::Steps#Answers "a call is answered by a reply: there is a step by it, with some charge and some bytes written"
+        /// [optional_rules]: crate::specs::meter::Limiter#optional_rules "the rules of a limiter that may be absent"
+        /// [L.rules]: trait@ResourceLimiter#contract
+        /// [world]: crate::specs::machine::World#world "a machine in this state with this limiter"
+        /// [lent_limiter]: crate::specs::meter::LimiterRef#lent_limiter "the present value of the limiter that is lent, or none"
+        #[inline(always)]
+        pub(crate) fn step<L: ResourceLimiter>(
+            &mut self,
+            call: &Call,
+            limiter: &mut ResourceLimiterRef<L>,
+        ) -> Reply {
+            match call {
+                Call::SetFuel(fuel) => self.set_fuel(*fuel),
+                Call::GetFuel => self.get_fuel(),
+                Call::NewMemory(_) => self.step_memory(call, limiter),
+                Call::NewLentMemory(_) => self.step_memory(call, limiter),
+                Call::GrowMemory { .. } => self.step_memory(call, limiter),
+                Call::DropMemory(_) => self.step_memory(call, limiter),
+                Call::Read { .. } => self.step_memory(call, limiter),
+                Call::Write { .. } => self.step_memory(call, limiter),
+                Call::Load { .. } => self.step_memory(call, limiter),
+                Call::Store { .. } => self.step_memory(call, limiter),
+                Call::NewSegment { ty, items } => create_segment(&mut self.segments, *ty, items),
+                Call::DropItems(segment) => drop_items(&mut self.segments, *segment),
+                Call::NewGlobal { value, ty } => create_global(&mut self.globals, *value, *ty),
+                Call::SetGlobal { global, value } => set_global(&mut self.globals, *global, *value),
+                Call::GetGlobal(global) => get_global(&self.globals, *global),
+                Call::NewTable { .. } => self.step_table(call, limiter),
+                Call::GrowTable { .. } => self.step_table(call, limiter),
+                Call::DropTable(_) => self.step_table(call, limiter),
+                Call::GetElement { .. } => self.step_table(call, limiter),
+                Call::SetElement { .. } => self.step_table(call, limiter),
+                Call::InitTable { .. } => self.step_table(call, limiter),
+                Call::CopyTable { .. } => self.step_table(call, limiter),
+                Call::FillTable { .. } => self.step_table(call, limiter),
+                Call::VectorLoad { .. }
+                | Call::LoadLane { .. }
+                | Call::VectorStore { .. }
+                | Call::StoreLane { .. } => self.step_vector_access::<L>(call),
+                Call::SetRegister { .. }
+                | Call::GetRegister(_)
+                | Call::Make { .. }
+                | Call::Unary { .. }
+                | Call::Binary { .. }
+                | Call::Ternary { .. }
+                | Call::Shift { .. }
+                | Call::Test { .. }
+                | Call::Extract { .. }
+                | Call::Replace { .. }
+                | Call::Shuffle { .. } => self.step_register::<L>(call),
+            }
+        }
+
+        /// Executes one call on memories.
+        ///
+        /// # Contract
+        ///
+        /// <span></span><pre><code>requires subject: [subject_of] call.now ≡ [Memories]
+        /// ensures loan: [KeepsLoan] limiter.old limiter.new
+        /// ensures step: [Answers] ([optional_rules] [L.rules]) call.now
+        /// &#32;&#32;&#32;&#32;([world] self.old ([lent_limiter] limiter.old)) result
+        /// &#32;&#32;&#32;&#32;([world] self.new ([lent_limiter] limiter.new))</code></pre>
+        ///
+        /// [subject_of]: crate::specs::machine::Steps#subject_of "what each call is about: a line for each"
+        /// [Memories]: crate::specs::machine::Steps#Memories
+        /// [KeepsLoan]: crate::specs::meter::LimiterRef#KeepsLoan "r\' leads to what r leads to"
+        /// [Answers]: crate::specs::machine::Steps#Answers "a call is answered by a reply: there is a step by it, with some charge and some bytes written"
+        /// [optional_rules]: crate::specs::meter::Limiter#optional_rules "the rules of a limiter that may be absent"
+        /// [L.rules]: trait@ResourceLimiter#contract
+        /// [world]: crate::specs::machine::World#world "a machine in this state with this limiter"
+        /// [lent_limiter]: crate::specs::meter::LimiterRef#lent_limiter "the present value of the limiter that is lent, or none"
+        #[inline(always)]
+        fn step_memory<L: ResourceLimiter>(
+            &mut self,
+            call: &Call,
+            limiter: &mut ResourceLimiterRef<L>,
+        ) -> Reply {
+            match call {
+                Call::NewMemory(ty) => self.memories.create(*ty, limiter),
+                Call::NewLentMemory(ty) => self.memories.create_lent(*ty, &mut self.spare, limiter),
+                Call::GrowMemory { memory, pages } => self.grow_memory(*memory, *pages, limiter),
+                Call::DropMemory(memory) => self.memories.drop_live(*memory),
+                Call::Read {
+                    memory,
+                    offset,
+                    len,
+                } => self.memories.read(*memory, *offset, *len),
+                Call::Write {
+                    memory,
+                    offset,
+                    bytes,
+                } => self.memories.write(*memory, *offset, bytes),
+                Call::Load {
+                    op,
+                    memory,
+                    ptr,
+                    offset,
+                } => self.memories.load(*op, *memory, *ptr, *offset),
+                Call::Store {
+                    op,
+                    memory,
+                    ptr,
+                    offset,
+                    value,
+                } => self.memories.store(*op, *memory, *ptr, *offset, *value),
+                _ => unreachable!(),
+            }
+        }
+
+        /// Executes one call on tables.
+        ///
+        /// # Contract
+        ///
+        /// <span></span><pre><code>requires subject: [subject_of] call.now ≡ [Tables]
+        /// ensures loan: [KeepsLoan] limiter.old limiter.new
+        /// ensures step: [Answers] ([optional_rules] [L.rules]) call.now
+        /// &#32;&#32;&#32;&#32;([world] self.old ([lent_limiter] limiter.old)) result
+        /// &#32;&#32;&#32;&#32;([world] self.new ([lent_limiter] limiter.new))</code></pre>
+        ///
+        /// [subject_of]: crate::specs::machine::Steps#subject_of "what each call is about: a line for each"
+        /// [Tables]: crate::specs::machine::Steps#Tables
+        /// [KeepsLoan]: crate::specs::meter::LimiterRef#KeepsLoan "r\' leads to what r leads to"
+        /// [Answers]: crate::specs::machine::Steps#Answers "a call is answered by a reply: there is a step by it, with some charge and some bytes written"
+        /// [optional_rules]: crate::specs::meter::Limiter#optional_rules "the rules of a limiter that may be absent"
+        /// [L.rules]: trait@ResourceLimiter#contract
+        /// [world]: crate::specs::machine::World#world "a machine in this state with this limiter"
+        /// [lent_limiter]: crate::specs::meter::LimiterRef#lent_limiter "the present value of the limiter that is lent, or none"
+        #[inline(always)]
+        fn step_table<L: ResourceLimiter>(
+            &mut self,
+            call: &Call,
+            limiter: &mut ResourceLimiterRef<L>,
+        ) -> Reply {
+            match call {
+                Call::NewTable { ty, init } => self.tables.create(*ty, *init, limiter),
+                Call::GrowTable { table, delta, init } => {
+                    self.tables
+                        .grow(*table, *delta, *init, &mut self.fuel, limiter)
+                }
+                Call::DropTable(table) => self.tables.drop_live(*table),
+                Call::GetElement { table, index } => self.tables.get(*table, *index),
+                Call::SetElement {
+                    table,
+                    index,
+                    value,
+                } => self.tables.set(*table, *index, *value),
+                Call::InitTable {
+                    table,
+                    segment,
+                    dst,
+                    src,
+                    len,
+                } => {
+                    let Some(segment) = value_at(&self.segments, *segment) else {
+                        return Reply::NoSuch;
+                    };
+                    self.tables.init(
+                        *table,
+                        ElementSegmentRef::from(segment),
+                        *dst,
+                        *src,
+                        *len,
+                        &mut self.fuel,
+                    )
+                }
+                Call::CopyTable {
+                    dst_table,
+                    dst,
+                    src_table,
+                    src,
+                    len,
+                } => self
+                    .tables
+                    .copy(*dst_table, *dst, *src_table, *src, *len, &mut self.fuel),
+                Call::FillTable {
+                    table,
+                    dst,
+                    value,
+                    len,
+                } => self.tables.fill(*table, *dst, *value, *len, &mut self.fuel),
+                _ => unreachable!(),
+            }
+        }
+
+        /// Executes one call on registers, which doesn't reach the limiter: only the contract has `L`.
+        ///
+        /// # Contract
+        ///
+        /// <span></span><pre><code>requires subject: [subject_of] call.now ≡ [RegisterFile]
+        /// ensures step: [AnswersAlone] ([optional_rules] [L.rules]) call.now self.old result self.new</code></pre>
+        ///
+        /// [subject_of]: crate::specs::machine::Steps#subject_of "what each call is about: a line for each"
+        /// [RegisterFile]: crate::specs::machine::Steps#RegisterFile
+        /// [AnswersAlone]: crate::specs::machine::Steps#AnswersAlone "a call is answered by a reply without the limiter, whatever the limiter is, in a step that charges and writes nothing"
+        /// [optional_rules]: crate::specs::meter::Limiter#optional_rules "the rules of a limiter that may be absent"
+        /// [L.rules]: trait@ResourceLimiter#contract
+        #[inline(always)]
+        fn step_register<L: ResourceLimiter>(&mut self, call: &Call) -> Reply {
+            match call {
+                Call::SetRegister { dst, value } => self.registers.set(*dst, *value),
+                Call::GetRegister(register) => self.registers.get_register(*register),
+                Call::Make { op, dst, a } => self.registers.make(*op, *dst, *a),
+                Call::Unary { op, dst, a } => self.registers.unary(*op, *dst, *a),
+                Call::Binary { op, dst, a, b } => self.registers.binary(*op, *dst, *a, *b),
+                Call::Ternary { op, dst, a, b, c } => self.registers.ternary(*op, *dst, *a, *b, *c),
+                Call::Shift { op, dst, a, amount } => self.registers.shift(*op, *dst, *a, *amount),
+                Call::Test { op, a } => self.registers.test(*op, *a),
+                Call::Extract { op, a } => self.registers.extract(*op, *a),
+                Call::Replace { op, dst, a, item } => self.registers.replace(*op, *dst, *a, *item),
+                Call::Shuffle { dst, a, b, lanes } => self.registers.shuffle(*dst, *a, *b, *lanes),
+                _ => unreachable!(),
+            }
+        }
+
+        /// Executes one load or store of a vector, which doesn't reach the limiter: only the contract
+        /// names `L`.
+        ///
+        /// # Contract
+        ///
+        /// <span></span><pre><code>requires subject: [subject_of] call.now ≡ [Vectors]
+        /// ensures step: [AnswersAlone] ([optional_rules] [L.rules]) call.now self.old result self.new</code></pre>
+        ///
+        /// [subject_of]: crate::specs::machine::Steps#subject_of "what each call is about: a line for each"
+        /// [Vectors]: crate::specs::machine::Steps#Vectors
+        /// [AnswersAlone]: crate::specs::machine::Steps#AnswersAlone "a call is answered by a reply without the limiter, whatever the limiter is, in a step that charges and writes nothing"
+        /// [optional_rules]: crate::specs::meter::Limiter#optional_rules "the rules of a limiter that may be absent"
+        /// [L.rules]: trait@ResourceLimiter#contract
+        #[inline(always)]
+        fn step_vector_access<L: ResourceLimiter>(&mut self, call: &Call) -> Reply {
+            match call {
+                Call::VectorLoad {
+                    op,
+                    dst,
+                    memory,
+                    ptr,
+                    offset,
+                } => {
+                    let memory = self.memories.live(*memory);
+                    self.registers.load(*op, *dst, memory, *ptr, *offset)
+                }
+                Call::LoadLane {
+                    op,
+                    dst,
+                    a,
+                    memory,
+                    ptr,
+                    offset,
+                } => {
+                    let memory = self.memories.live(*memory);
+                    self.registers
+                        .load_lane(*op, *dst, *a, memory, *ptr, *offset)
+                }
+                Call::VectorStore {
+                    a,
+                    memory,
+                    ptr,
+                    offset,
+                } => {
+                    let a = self.registers.vector(*a);
+                    self.memories.store_vector(a, *memory, *ptr, *offset)
+                }
+                Call::StoreLane {
+                    op,
+                    a,
+                    memory,
+                    ptr,
+                    offset,
+                } => {
+                    let a = self.registers.vector(*a);
+                    self.memories.store_lane(*op, a, *memory, *ptr, *offset)
+                }
+                _ => unreachable!(),
+            }
+        }
+    }
+}
+mod tables {
+    //! The tables of a machine, by their indices.
+
+    use crate::proved::machine::calls::Reply;
+    use crate::proved::machine::slots::{Slot, Slots};
+    use crate::proved::meter::{Fuel, ResourceLimiter, ResourceLimiterRef, TableError};
+    use crate::proved::store::{ElementSegmentRef, Table, TableType};
+    use crate::proved::typed::TypedRawRef;
+
+    impl Slots<Table> {
+        /// Makes a table in a new slot, which is reserved before the limiter is asked.
+        ///
+        /// # Contract
+        ///
+        /// <span></span><pre><code>ensures loan: [KeepsLoan] limiter.old limiter.new
+        /// ensures made: [Creates] [Reply.Table]
+        /// &#32;&#32;&#32;&#32;([MakesTable] ([optional_rules] [L.rules]) ty init) self.old.slots.items
+        /// &#32;&#32;&#32;&#32;([lent_limiter] limiter.old) result self.new.slots.items ([lent_limiter] limiter.new)</code></pre>
+        ///
+        /// [KeepsLoan]: crate::specs::meter::LimiterRef#KeepsLoan "r\' leads to what r leads to"
+        /// [Creates]: crate::specs::machine::Effects#Creates "a creation under a limiter: without room for a slot nothing is asked"
+        /// [Reply.Table]: crate::proved::machine::Reply::Table
+        /// [MakesTable]: crate::specs::store::Table#MakesTable "a table of a type is made of a reference"
+        /// [optional_rules]: crate::specs::meter::Limiter#optional_rules "the rules of a limiter that may be absent"
+        /// [L.rules]: trait@ResourceLimiter#contract
+        /// [lent_limiter]: crate::specs::meter::LimiterRef#lent_limiter "the present value of the limiter that is lent, or none"
+        #[inline(always)]
+        pub(crate) fn create<L: ResourceLimiter>(
+            &mut self,
+            ty: TableType,
+            init: TypedRawRef,
+            limiter: &mut ResourceLimiterRef<L>,
+        ) -> Reply {
+            if !self.reserve() {
+                return Reply::NoRoom;
+            }
+            match Table::new(ty, init, limiter) {
+                Ok(table) => Reply::Made(self.push(table)),
+                Err(error) => Reply::Table(error),
+            }
+        }
+
+        /// Grows a table by so many elements.
+        ///
+        /// # Contract
+        ///
+        /// <span></span><pre><code>ensures loan: [KeepsLoan] limiter.old limiter.new
+        /// ensures grown: [WithCharge]
+        /// &#32;&#32;&#32;&#32;([ActsAt] index ([reply_of] [Reply.Number] [Reply.Table])
+        /// &#32;&#32;&#32;&#32;([GrowsTableCharging] ([optional_rules] [L.rules]) delta init))
+        /// &#32;&#32;&#32;&#32;([metered_value] self.old.slots.items ([Some] fuel.old) ([lent_limiter] limiter.old)) result
+        /// &#32;&#32;&#32;&#32;([metered_value] self.new.slots.items ([Some] fuel.new) ([lent_limiter] limiter.new))</code></pre>
+        ///
+        /// [KeepsLoan]: crate::specs::meter::LimiterRef#KeepsLoan "r\' leads to what r leads to"
+        /// [WithCharge]: crate::specs::store::Growth#WithCharge "a call on a value takes place, with some charge"
+        /// [ActsAt]: crate::specs::machine::Effects#ActsAt "a call with a charge on the live value of an index, with the reply to each result"
+        /// [reply_of]: crate::specs::machine::Effects#reply_of "the reply to a call that returns a value or is refused"
+        /// [Reply.Number]: crate::proved::machine::Reply::Number
+        /// [Reply.Table]: crate::proved::machine::Reply::Table
+        /// [GrowsTableCharging]: crate::specs::store::Table#GrowsTableCharging "a growth by a reference that has a type, with this charge: the type is tested first, also for no element, and where it is another, nothing is touched"
+        /// [optional_rules]: crate::specs::meter::Limiter#optional_rules "the rules of a limiter that may be absent"
+        /// [L.rules]: trait@ResourceLimiter#contract
+        /// [metered_value]: crate::specs::store::Growth#metered_value "a value with its meter, if there is one, and its limiter"
+        /// [Some]: crate::specs::library#Some "the value x, of an \`Option\`"
+        /// [lent_limiter]: crate::specs::meter::LimiterRef#lent_limiter "the present value of the limiter that is lent, or none"
+        #[inline(always)]
+        pub(crate) fn grow<L: ResourceLimiter>(
+            &mut self,
+            index: usize,
+            delta: u64,
+            init: TypedRawRef,
+            fuel: &mut Fuel,
+            limiter: &mut ResourceLimiterRef<L>,
+        ) -> Reply {
+            let Some(table) = self.live_mut(index) else {
+                return Reply::NoSuch;
+            };
+            match table.grow_metered(delta, init, fuel, limiter) {
+                Ok(size) => Reply::Number(size),
+                Err(error) => Reply::Table(error),
+            }
+        }
+
+        /// The element of a table.
+        ///
+        /// # Contract
+        ///
+        /// <span></span><pre><code>ensures: [GetsElementAt] index element self.now.slots.items result</code></pre>
+        ///
+        /// [GetsElementAt]: crate::specs::machine::TableEffects#GetsElementAt "the reply to a call for an element of the table of an index"
+        #[inline(always)]
+        pub(crate) fn get(&self, index: usize, element: u64) -> Reply {
+            self.live(index)
+                .map_or(Reply::NoSuch, |table| Reply::Reference(table.get(element)))
+        }
+
+        /// Sets an element of a table.
+        ///
+        /// # Contract
+        ///
+        /// <span></span><pre><code>ensures: [SetsElementAt] index element value self.old.slots.items result
+        /// &#32;&#32;&#32;&#32;self.new.slots.items</code></pre>
+        ///
+        /// [SetsElementAt]: crate::specs::machine::TableEffects#SetsElementAt "an element of the table of an index is set, or the call is refused"
+        #[inline(always)]
+        pub(crate) fn set(&mut self, index: usize, element: u64, value: TypedRawRef) -> Reply {
+            let Some(table) = self.live_mut(index) else {
+                return Reply::NoSuch;
+            };
+            done(table.set(element, value))
+        }
+
+        /// Fills a part of a table.
+        ///
+        /// # Contract
+        ///
+        /// <span></span><pre><code>ensures: [WithCharge] ([WritesTableAt] index ([filling_of] dst value len))
+        /// &#32;&#32;&#32;&#32;([metered] self.old.slots.items ([Some] fuel.old)) result
+        /// &#32;&#32;&#32;&#32;([metered] self.new.slots.items ([Some] fuel.new))</code></pre>
+        ///
+        /// [WithCharge]: crate::specs::store::Growth#WithCharge "a call on a value takes place, with some charge"
+        /// [WritesTableAt]: crate::specs::machine::TableEffects#WritesTableAt "a part of the table of an index is written over, with its charge"
+        /// [filling_of]: crate::specs::store::Table#filling_of "so many elements from dst on are filled with a reference, whose type is tested"
+        /// [metered]: crate::specs::store::Growth#metered "a value with its meter, if there is one, and no limiter to ask"
+        /// [Some]: crate::specs::library#Some "the value x, of an \`Option\`"
+        #[inline(always)]
+        pub(crate) fn fill(
+            &mut self,
+            index: usize,
+            dst: u64,
+            value: TypedRawRef,
+            len: u64,
+            fuel: &mut Fuel,
+        ) -> Reply {
+            let Some(table) = self.live_mut(index) else {
+                return Reply::NoSuch;
+            };
+            done(table.fill_metered(dst, value, len, fuel))
+        }
+
+        /// Initializes a part of a table from an element segment, if there is one.
+        ///
+        /// # Contract
+        ///
+        /// <span></span><pre><code>ensures: [WithCharge]
+        /// &#32;&#32;&#32;&#32;([WritesTableAt] index ([initialization_of] dst src len ([segment_of] segment.entry)))
+        /// &#32;&#32;&#32;&#32;([metered] self.old.slots.items ([Some] fuel.old)) result
+        /// &#32;&#32;&#32;&#32;([metered] self.new.slots.items ([Some] fuel.new))</code></pre>
+        ///
+        /// [WithCharge]: crate::specs::store::Growth#WithCharge "a call on a value takes place, with some charge"
+        /// [WritesTableAt]: crate::specs::machine::TableEffects#WritesTableAt "a part of the table of an index is written over, with its charge"
+        /// [initialization_of]: crate::specs::store::Table#initialization_of "so many items from src on of an element segment are copied over the elements from dst on; no item is free"
+        /// [segment_of]: crate::specs::store::Segment#segment_of "the segment that is shared"
+        /// [metered]: crate::specs::store::Growth#metered "a value with its meter, if there is one, and no limiter to ask"
+        /// [Some]: crate::specs::library#Some "the value x, of an \`Option\`"
+        #[inline(always)]
+        pub(crate) fn init(
+            &mut self,
+            index: usize,
+            segment: ElementSegmentRef,
+            dst: u64,
+            src: u32,
+            len: u32,
+            fuel: &mut Fuel,
+        ) -> Reply {
+            let Some(table) = self.live_mut(index) else {
+                return Reply::NoSuch;
+            };
+            done(table.init_metered(segment, dst, src, len, fuel))
+        }
+
+        /// Copies a range of a table to another one, or within it.
+        ///
+        /// # Contract
+        ///
+        /// <span></span><pre><code>ensures: [WithCharge]
+        /// &#32;&#32;&#32;&#32;([WritesTableFrom] ([live_at] self.old.slots.items src_index) dst_index
+        /// &#32;&#32;&#32;&#32;([copy_of] dst src len))
+        /// &#32;&#32;&#32;&#32;([metered] self.old.slots.items ([Some] fuel.old)) result
+        /// &#32;&#32;&#32;&#32;([metered] self.new.slots.items ([Some] fuel.new))</code></pre>
+        ///
+        /// [WithCharge]: crate::specs::store::Growth#WithCharge "a call on a value takes place, with some charge"
+        /// [WritesTableFrom]: crate::specs::machine::TableEffects#WritesTableFrom "a part of the table of an index is written over with what a source has, with its charge; without a source the reply is \`NoSuch\`, and nothing has changed"
+        /// [live_at]: crate::specs::machine::State#live_at "the live value of an index, if there is one"
+        /// [copy_of]: crate::specs::store::Table#copy_of "so many elements from src on of a table, perhaps the same one, are copied over those from dst on"
+        /// [metered]: crate::specs::store::Growth#metered "a value with its meter, if there is one, and no limiter to ask"
+        /// [Some]: crate::specs::library#Some "the value x, of an \`Option\`"
+        #[inline(always)]
+        pub(crate) fn copy(
+            &mut self,
+            dst_index: usize,
+            dst: u64,
+            src_index: usize,
+            src: u64,
+            len: u64,
+            fuel: &mut Fuel,
+        ) -> Reply {
+            if dst_index == src_index {
+                return self.copy_in_one(dst_index, dst, src, len, fuel);
+            }
+            if dst_index >= self.slots.len() || src_index >= self.slots.len() {
+                return Reply::NoSuch;
+            }
+            let range = CopyRange { dst, src, len };
+            copy_to_other(self.slots.as_mut_slice(), dst_index, src_index, range, fuel)
+        }
+
+        /// Copies a range of a table within it.
+        ///
+        /// # Contract
+        ///
+        /// <span></span><pre><code>ensures: [WithCharge]
+        /// &#32;&#32;&#32;&#32;([WritesTableFrom] ([live_at] self.old.slots.items index) index ([copy_of] dst src len))
+        /// &#32;&#32;&#32;&#32;([metered] self.old.slots.items ([Some] fuel.old)) result
+        /// &#32;&#32;&#32;&#32;([metered] self.new.slots.items ([Some] fuel.new))</code></pre>
+        ///
+        /// [WithCharge]: crate::specs::store::Growth#WithCharge "a call on a value takes place, with some charge"
+        /// [WritesTableFrom]: crate::specs::machine::TableEffects#WritesTableFrom "a part of the table of an index is written over with what a source has, with its charge; without a source the reply is \`NoSuch\`, and nothing has changed"
+        /// [live_at]: crate::specs::machine::State#live_at "the live value of an index, if there is one"
+        /// [copy_of]: crate::specs::store::Table#copy_of "so many elements from src on of a table, perhaps the same one, are copied over those from dst on"
+        /// [metered]: crate::specs::store::Growth#metered "a value with its meter, if there is one, and no limiter to ask"
+        /// [Some]: crate::specs::library#Some "the value x, of an \`Option\`"
+        #[inline(always)]
+        fn copy_in_one(
+            &mut self,
+            index: usize,
+            dst: u64,
+            src: u64,
+            len: u64,
+            fuel: &mut Fuel,
+        ) -> Reply {
+            let Some(table) = self.live_mut(index) else {
+                return Reply::NoSuch;
+            };
+            done(table.copy_within_metered(dst, src, len, fuel))
+        }
+    }
+
+    /// Which elements are copied to where.
+    #[derive(Clone, Copy)]
+    struct CopyRange {
+        dst: u64,
+        src: u64,
+        len: u64,
+    }
+
+    /// Copies a range of a table to another one.
+    ///
+    /// # Contract
+    ///
+    /// <span></span><pre><code>requires dst: dst_index < [length] slots.old
+    /// requires src: src_index < [length] slots.old
+    /// requires other: dst_index ≢ src_index
+    /// ensures copied: [WithCharge]
+    /// &#32;&#32;&#32;&#32;([WritesTableFrom] ([live_at] slots.old src_index) dst_index
+    /// &#32;&#32;&#32;&#32;([copy_of] range.dst range.src range.len))
+    /// &#32;&#32;&#32;&#32;([metered] slots.old ([Some] fuel.old)) result ([metered] slots.new ([Some] fuel.new))</code></pre>
+    ///
+    /// [length]: crate::specs::library#length "the number of elements of a list"
+    /// [WithCharge]: crate::specs::store::Growth#WithCharge "a call on a value takes place, with some charge"
+    /// [WritesTableFrom]: crate::specs::machine::TableEffects#WritesTableFrom "a part of the table of an index is written over with what a source has, with its charge; without a source the reply is \`NoSuch\`, and nothing has changed"
+    /// [live_at]: crate::specs::machine::State#live_at "the live value of an index, if there is one"
+    /// [copy_of]: crate::specs::store::Table#copy_of "so many elements from src on of a table, perhaps the same one, are copied over those from dst on"
+    /// [metered]: crate::specs::store::Growth#metered "a value with its meter, if there is one, and no limiter to ask"
+    /// [Some]: crate::specs::library#Some "the value x, of an \`Option\`"
+    #[inline(always)]
+    fn copy_to_other(
+        slots: &mut [Slot<Table>],
+        dst_index: usize,
+        src_index: usize,
+        range: CopyRange,
+        fuel: &mut Fuel,
+    ) -> Reply {
+        if dst_index < src_index {
+            let (front, back) = slots.split_at_mut(src_index);
+            copy_from_slot(&mut front[dst_index], &back[0], range, fuel)
+        } else {
+            let (front, back) = slots.split_at_mut(dst_index);
+            copy_from_slot(&mut back[0], &front[src_index], range, fuel)
+        }
+    }
+
+    /// Copies a range of the table in a slot to that in another one, if both are live.
+    ///
+    /// # Contract
+    ///
+    /// <span></span><pre><code>ensures: [WithCharge] ([CopiesSlot] ([copy_of] range.dst range.src range.len) source.now)
+    /// &#32;&#32;&#32;&#32;([metered] slot.old ([Some] fuel.old)) result ([metered] slot.new ([Some] fuel.new))</code></pre>
+    ///
+    /// [WithCharge]: crate::specs::store::Growth#WithCharge "a call on a value takes place, with some charge"
+    /// [CopiesSlot]: crate::specs::machine::TableEffects#CopiesSlot "a slot\'s table is written over with what another slot\'s table has"
+    /// [copy_of]: crate::specs::store::Table#copy_of "so many elements from src on of a table, perhaps the same one, are copied over those from dst on"
+    /// [metered]: crate::specs::store::Growth#metered "a value with its meter, if there is one, and no limiter to ask"
+    /// [Some]: crate::specs::library#Some "the value x, of an \`Option\`"
+    #[inline(always)]
+    fn copy_from_slot(
+        slot: &mut Slot<Table>,
+        source: &Slot<Table>,
+        range: CopyRange,
+        fuel: &mut Fuel,
+    ) -> Reply {
+        match (slot, source) {
+            (Slot::Live(table), Slot::Live(source)) => {
+                let CopyRange { dst, src, len } = range;
+                done(table.copy_metered(dst, source, src, len, fuel))
+            }
+            _ => Reply::NoSuch,
+        }
+    }
+
+    /// The reply to a call on a table that returns nothing.
+    ///
+    /// # Contract
+    ///
+    /// <span></span><pre><code>ensures: result ≡ [reply_of] (λ \_. [Reply.Done]) [Reply.Table] answer</code></pre>
+    ///
+    /// [reply_of]: crate::specs::machine::Effects#reply_of "the reply to a call that returns a value or is refused"
+    /// [Reply.Done]: crate::proved::machine::Reply::Done
+    /// [Reply.Table]: crate::proved::machine::Reply::Table
+    #[inline(always)]
+    fn done(answer: Result<(), TableError>) -> Reply {
+        answer.map_or_else(Reply::Table, |()| Reply::Done)
+    }
+}
+mod values {
+    //! The element segments and globals of a machine, by their indices. These are functions of one
+    //! list of the store each, so that what else the store has stays out of their contracts.
+
+    use crate::proved::machine::calls::Reply;
+    use crate::proved::raw::{RawRef, RawVal};
+    use crate::proved::store::{ElementSegment, SegmentError};
+    use crate::proved::typed::{Global, GlobalType, TypedRawVal};
+    use crate::proved::types::RefType;
+    use crate::rattle::Vec;
+
+    /// The element segment or global of an index, if there is one.
+    ///
+    /// # Contract
+    ///
+    /// <span></span><pre><code>ensures: [option_copied] result ≡ [slice_get] values.now index</code></pre>
+    ///
+    /// [option_copied]: crate::specs::library#option_copied "the value behind an optional reference, if there is one"
+    /// [slice_get]: crate::specs::library#slice_get "element i, if there is one"
+    #[inline]
+    pub(crate) fn value_at<T>(values: &[T], index: usize) -> Option<&T> {
+        values.get(index)
+    }
+
+    /// Makes an element segment.
+    ///
+    /// # Contract
+    ///
+    /// <span></span><pre><code>ensures: [CreatesSegment] ty items.now segments.old.items result segments.new.items</code></pre>
+    ///
+    /// [CreatesSegment]: crate::specs::machine::ValueEffects#CreatesSegment "an element segment is made"
+    #[inline(always)]
+    pub(crate) fn create_segment(
+        segments: &mut Vec<ElementSegment>,
+        ty: RefType,
+        items: &[RawRef],
+    ) -> Reply {
+        if segments.try_reserve(1).is_err() {
+            return Reply::NoRoom;
+        }
+        match segment(ty, items) {
+            Ok(segment) => {
+                let index = segments.len();
+                segments.push_reserved(segment);
+                Reply::Made(index)
+            }
+            Err(error) => Reply::Segment(error),
+        }
+    }
+
+    /// The element segment of these items.
+    ///
+    /// # Contract
+    ///
+    /// <span></span><pre><code>ensures: [IsSegmentOf] ty items.now result</code></pre>
+    ///
+    /// [IsSegmentOf]: crate::specs::machine::ValueEffects#IsSegmentOf "the segment of these items, unless there are too many, or memory is refused for some"
+    #[inline]
+    fn segment(ty: RefType, items: &[RawRef]) -> Result<ElementSegment, SegmentError> {
+        ElementSegment::new(ty, items.iter().copied())
+    }
+
+    /// Drops the items of an element segment.
+    ///
+    /// # Contract
+    ///
+    /// <span></span><pre><code>ensures: [DropsItemsAt] index segments.old.items result segments.new.items</code></pre>
+    ///
+    /// [DropsItemsAt]: crate::specs::machine::ValueEffects#DropsItemsAt "the items of the element segment of an index are dropped"
+    #[inline(always)]
+    pub(crate) fn drop_items(segments: &mut Vec<ElementSegment>, index: usize) -> Reply {
+        let Some(segment) = segments.get_mut(index) else {
+            return Reply::NoSuch;
+        };
+        segment.drop_items();
+        Reply::Done
+    }
+
+    /// Makes a global.
+    ///
+    /// # Contract
+    ///
+    /// <span></span><pre><code>ensures: [CreatesGlobal]
+    /// &#32;&#32;&#32;&#32;(record { value = value; ty = ty }) globals.old.items result globals.new.items</code></pre>
+    ///
+    /// [CreatesGlobal]: crate::specs::machine::ValueEffects#CreatesGlobal "a global is made"
+    #[inline(always)]
+    pub(crate) fn create_global(globals: &mut Vec<Global>, value: RawVal, ty: GlobalType) -> Reply {
+        if globals.try_reserve(1).is_err() {
+            return Reply::NoRoom;
+        }
+        let index = globals.len();
+        globals.push_reserved(Global::new(value, ty));
+        Reply::Made(index)
+    }
+
+    /// Sets a global.
+    ///
+    /// # Contract
+    ///
+    /// <span></span><pre><code>ensures: [SetsGlobalAt] index value globals.old.items result globals.new.items</code></pre>
+    ///
+    /// [SetsGlobalAt]: crate::specs::machine::ValueEffects#SetsGlobalAt "the global of an index is set, or the call is refused"
+    #[inline(always)]
+    pub(crate) fn set_global(globals: &mut Vec<Global>, index: usize, value: TypedRawVal) -> Reply {
+        let Some(global) = globals.get_mut(index) else {
+            return Reply::NoSuch;
+        };
+        match global.set(value) {
+            Ok(()) => Reply::Done,
+            Err(error) => Reply::Global(error),
+        }
+    }
+
+    /// The value of a global.
+    ///
+    /// # Contract
+    ///
+    /// <span></span><pre><code>ensures: [GetsGlobalAt] index globals.now result</code></pre>
+    ///
+    /// [GetsGlobalAt]: crate::specs::machine::ValueEffects#GetsGlobalAt "the reply to a call for the value of the global of an index"
+    #[inline(always)]
+    pub(crate) fn get_global(globals: &[Global], index: usize) -> Reply {
+        match globals.get(index) {
+            Some(global) => Reply::Value(*global.get_raw()),
+            None => Reply::NoSuch,
+        }
+    }
+}
+pub mod wasm {
+    //! The scalar integer instructions, and the loads and stores of the integer types.
+    //!
+    //! A load or store without `_at` accesses the address `ptr + offset`, one with `_at` the given
+    //! address; addresses count bytes. The only error of all 38 is `TrapCode::MemoryOutOfBounds`, if
+    //! the access ends past the end of the memory; then nothing is written.
+    //!
+    //! Upstream: `wasmi_core::wasm`.
+
+    // Loads and stores.
+    pub use crate::proved::accesses::wasm::{
+        i32_load8_s, i32_load8_s_at, i32_load8_u, i32_load8_u_at, i32_load16_s, i32_load16_s_at,
+        i32_load16_u, i32_load16_u_at, i32_store8, i32_store8_at, i32_store16, i32_store16_at,
+        i64_load8_s, i64_load8_s_at, i64_load8_u, i64_load8_u_at, i64_load16_s, i64_load16_s_at,
+        i64_load16_u, i64_load16_u_at, i64_load32_s, i64_load32_s_at, i64_load32_u,
+        i64_load32_u_at, i64_store8, i64_store8_at, i64_store16, i64_store16_at, i64_store32,
+        i64_store32_at, load_u32, load_u32_at, load_u64, load_u64_at, store32, store32_at, store64,
+        store64_at,
+    };
+
+    // Integer instructions.
+    pub use crate::proved::scalar::wasm::{
+        i32_add, i32_bitand, i32_bitor, i32_bitxor, i32_clz, i32_ctz, i32_div_s, i32_div_u, i32_eq,
+        i32_eqz, i32_extend8_s, i32_extend16_s, i32_ge_s, i32_ge_u, i32_gt_s, i32_gt_u, i32_le_s,
+        i32_le_u, i32_lt_s, i32_lt_u, i32_mul, i32_ne, i32_popcnt, i32_rem_s, i32_rem_u, i32_rotl,
+        i32_rotr, i32_shl, i32_shr_s, i32_shr_u, i32_sub, i32_wrap_i64, i64_add, i64_add128,
+        i64_bitand, i64_bitor, i64_bitxor, i64_clz, i64_ctz, i64_div_s, i64_div_u, i64_eq, i64_eqz,
+        i64_extend_i32_s, i64_extend_i32_u, i64_extend8_s, i64_extend16_s, i64_extend32_s,
+        i64_ge_s, i64_ge_u, i64_gt_s, i64_gt_u, i64_le_s, i64_le_u, i64_lt_s, i64_lt_u, i64_mul,
+        i64_mul_wide_s, i64_mul_wide_u, i64_ne, i64_popcnt, i64_rem_s, i64_rem_u, i64_rotl,
+        i64_rotr, i64_shl, i64_shr_s, i64_shr_u, i64_sub, i64_sub128,
+    };
+}
+
+pub use crate::proved::accesses::access;
+#[cfg(any(doc, test))]
+pub use crate::proved::accesses::laws as access_laws;
+#[cfg(any(doc, test))]
+pub use crate::proved::lanes::laws as lane_laws;
+pub use crate::proved::lanes::{on_vectors, words};
+pub use crate::proved::meter::{
+    Amounts, AnswerList, AnyLimiter, CustomFuelCosts, Fuel, FuelCosts, FuelCostsProvider,
+    FuelError, Holdings, Kind, Lender, LimiterAnswer, LimiterByKind, LimiterError, LimiterRef,
+    MemoryError, NoLimits, Quota, Reserving, ResourceLimiter, ResourceLimiterRef, TableError,
+    ValueSize, growth,
+};
+pub use crate::proved::ops::{
+    BinaryOp, ExtractOp, LoadLaneOp, LoadOp, MakeOp, ReplaceOp, ScalarBinaryOp, ScalarUnaryOp,
+    ShiftOp, StoreLaneOp, StoreOp, TernaryOp, TestOp, UnaryOp, VectorLoadOp,
+};
+#[cfg(any(doc, test))]
+pub use crate::proved::raw::laws as raw_laws;
+pub use crate::proved::raw::{F32, F64, Number, RawRef, RawVal, ReadAs, ReadBack, V128, WriteAs};
+pub use crate::proved::scalar::value::{Integer, SignExtendFrom, Unsigned};
+#[cfg(any(doc, test))]
+pub use crate::proved::store::laws as store_laws;
+pub use crate::proved::store::{
+    Buffer, ByteBuffer, ElementSegment, ElementSegmentRef, LinearMemory, Memory, MemoryType,
+    MemoryTypeBuilder, Region, SegmentError, Table, TableType,
+};
+pub use crate::proved::typed::{
+    Global, GlobalError, GlobalType, IntoShiftAmount, Mutability, NotAReference, ShiftAmount,
+    Typed, TypedRawRef, TypedRawVal,
+};
+pub use crate::proved::types::{
+    FuncType, FuncTypeError, HostError, IndexType, InvalidTrapCode, RefType, Trap, TrapCode,
+    ValType, hint,
+};
+#[cfg(any(doc, test))]
+pub use crate::proved::widening::laws as widening_laws;
+pub use calls::{ByteList, Call, Reply};
+pub use machine::Machine;
+pub use running::{run, run_lending, run_reserving};

@@ -1,3 +1,0 @@
-//! The scalar integer instructions of WebAssembly.
-pub mod value;
-pub mod wasm;

@@ -1,0 +1,1465 @@
+//! Scripts of calls on a metered machine: reading, running, printing.
+mod error {
+    //! Why a script isn't run to its end.
+
+    use crate::proved::grammar::ParseError;
+    use crate::rattle::alloc::{AllocError, AllocFailed};
+    use std::fmt;
+
+    /// Why a script isn't run. The text is what the program prints.
+    #[derive(Clone, Copy, Debug, PartialEq, Eq)]
+    pub enum ReplayError {
+        /// A line is no command, or there wasn't enough memory: to read, to parse or for the replies.
+        Parse(ParseError),
+        /// More bytes than a script may have.
+        TooLong,
+        /// The reader returned an error.
+        ReadFault,
+    }
+
+    /// # Contract
+    ///
+    /// <span></span><pre><code>output = λ error. [Some] ([error_text] error)</code></pre>
+    ///
+    /// [Some]: crate::specs::library#Some "the value x, of an \`Option\`"
+    /// [error_text]: crate::specs::script::Texts#error_text "why a script isn\'t run"
+    impl fmt::Display for ReplayError {
+        #[inline]
+        fn fmt(&self, f: &mut fmt::Formatter<'_>) -> fmt::Result {
+            match self {
+                Self::Parse(ParseError::BadCommand { line }) => {
+                    write!(f, "line {line}: bad command")
+                }
+                Self::Parse(ParseError::OutOfMemory) => f.write_str("out of memory"),
+                Self::TooLong => f.write_str("script too long"),
+                Self::ReadFault => f.write_str("read fault"),
+            }
+        }
+    }
+
+    impl std::error::Error for ReplayError {}
+
+    /// # Contract
+    ///
+    /// <span></span><pre><code>from_gives = λ \_ error. error ≡ [Parse] [OutOfMemory]</code></pre>
+    ///
+    /// [Parse]: crate::proved::script::ReplayError::Parse
+    /// [OutOfMemory]: crate::proved::grammar::ParseError::OutOfMemory
+    impl From<AllocError> for ReplayError {
+        #[inline]
+        fn from(_: AllocError) -> Self {
+            ReplayError::Parse(ParseError::OutOfMemory)
+        }
+    }
+
+    /// # Contract
+    ///
+    /// <span></span><pre><code>from_gives = λ \_ error. error ≡ [Parse] [OutOfMemory]</code></pre>
+    ///
+    /// [Parse]: crate::proved::script::ReplayError::Parse
+    /// [OutOfMemory]: crate::proved::grammar::ParseError::OutOfMemory
+    impl<T> From<AllocFailed<T>> for ReplayError {
+        #[inline]
+        fn from(_: AllocFailed<T>) -> Self {
+            ReplayError::Parse(ParseError::OutOfMemory)
+        }
+    }
+
+    /// # Contract
+    ///
+    /// <span></span><pre><code>from_gives = λ error replayed. replayed ≡ [Parse] error</code></pre>
+    ///
+    /// [Parse]: crate::proved::script::ReplayError::Parse
+    impl From<ParseError> for ReplayError {
+        #[inline]
+        fn from(error: ParseError) -> Self {
+            ReplayError::Parse(error)
+        }
+    }
+}
+mod front {
+    //! Texts that are written to the front of bytes, one after the other, as far as they fit.
+
+    /// Writes a text after those of `written` bytes in all that were written before, as much of it as
+    /// fits, and returns the length of all of them, or 2^64 - 1 if they are longer.
+    ///
+    /// # Contract
+    ///
+    /// <span></span><pre><code>ensures: [AddsToFront] text.now bytes.old written bytes.new result</code></pre>
+    ///
+    /// [AddsToFront]: crate::specs::script::Fronts#AddsToFront "One text more is written to the front of bytes: whatever text was there before and whatever the bytes were at the start, that text followed by this one is there afterwards."
+    #[inline]
+    pub fn put(bytes: &mut [u8], written: usize, text: &[u8]) -> usize {
+        let start = written.min(bytes.len());
+        let count = text.len().min(bytes.len() - start);
+        bytes[start..start + count].copy_from_slice(&text[..count]);
+        written.saturating_add(text.len())
+    }
+
+    /// Writes a number in decimal, as [`put`] does a text.
+    ///
+    /// # Contract
+    ///
+    /// <span></span><pre><code>ensures: [AddsToFront] ([decimal] number) bytes.old written bytes.new result</code></pre>
+    ///
+    /// [AddsToFront]: crate::specs::script::Fronts#AddsToFront "One text more is written to the front of bytes: whatever text was there before and whatever the bytes were at the start, that text followed by this one is there afterwards."
+    /// [decimal]: crate::specs::library#decimal "the digits of a number, as characters"
+    #[inline]
+    pub fn put_number(bytes: &mut [u8], written: usize, number: u64) -> usize {
+        let digit = [b'0' + (number % 10) as u8];
+        if number < 10 {
+            return put(bytes, written, &digit);
+        }
+        let before_last = put_number(bytes, written, number / 10);
+        put(bytes, before_last, &digit)
+    }
+
+    /// Writes a number in decimal after a text, if there is a number, as [`put`] does a text.
+    ///
+    /// # Contract
+    ///
+    /// <span></span><pre><code>ensures: [AddsToFront] ([number_text] before.now number) bytes.old written bytes.new result</code></pre>
+    ///
+    /// [AddsToFront]: crate::specs::script::Fronts#AddsToFront "One text more is written to the front of bytes: whatever text was there before and whatever the bytes were at the start, that text followed by this one is there afterwards."
+    /// [number_text]: crate::specs::script::Fronts#number_text "a number, if there is one, after what stands before it"
+    #[inline]
+    pub fn put_optional(
+        bytes: &mut [u8],
+        written: usize,
+        before: &str,
+        number: Option<u64>,
+    ) -> usize {
+        match number {
+            None => written,
+            Some(number) => {
+                let begun = put(bytes, written, before.as_bytes());
+                put_number(bytes, begun, number)
+            }
+        }
+    }
+}
+#[cfg(any(doc, test))]
+pub mod laws {
+    //! What holds of all scripts and of all that run them. These functions do nothing: each states a
+    //! law as its contract.
+
+    use crate::proved::budget::laws::tenants_leave_no_choice;
+
+    /// A limiter that answers from a list is deterministic.
+    ///
+    /// # Contract
+    ///
+    /// <span></span><pre><code>ensures: [IsDeterministic] [answer_list_rules]</code></pre>
+    ///
+    /// [IsDeterministic]: crate::specs::machine::Determinism#IsDeterministic "each question and each notice has one answer, and leaves one state"
+    /// [answer_list_rules]: crate::specs::meter::AnswerList#answer_list_rules "the rules of such a limiter, whatever is asked: a notice is answered as the last question\'s answer says, and takes none"
+    #[inline]
+    pub fn answers_leave_no_choice() {}
+
+    /// A limiter whose list has no `Complain` accepts each notice, and stays such a limiter.
+    ///
+    /// # Contract
+    ///
+    /// <span></span><pre><code>ensures: [QuietListsAcceptNotices]</code></pre>
+    ///
+    /// [QuietListsAcceptNotices]: crate::specs::script::QuietLists#QuietListsAcceptNotices "such a limiter accepts each notice, and stays one"
+    #[inline]
+    pub fn quiet_lists_accept_notices() {}
+
+    /// If no memory is refused, such a limiter makes runs deterministic: two runs of one list of calls
+    /// from one machine under it have the same replies and end alike.
+    ///
+    /// # Contract
+    ///
+    /// <span></span><pre><code>ensures: [QuietListsDecideReplies]</code></pre>
+    ///
+    /// [QuietListsDecideReplies]: crate::specs::script::QuietLists#QuietListsDecideReplies "two runs of one list of calls from one machine under such a limiter, in which no reply says out of memory, have the same replies and end in one world"
+    #[inline]
+    pub fn quiet_lists_decide_replies() {}
+
+    /// If no memory is refused and the reader doesn't fail, the bytes of the reader decide what is
+    /// printed and how the replay ends: two outcomes of them have the same text and the same status. A
+    /// word `complain` is left out: the answer to a notice hides whether memory was refused.
+    ///
+    /// # Contract
+    ///
+    /// <span></span><pre><code>ensures: [OutcomesAreOne]</code></pre>
+    ///
+    /// [OutcomesAreOne]: crate::specs::script::Decided#OutcomesAreOne "two outcomes of the same bytes that these decide end alike"
+    #[inline]
+    pub fn outcomes_are_one() {
+        tenants_leave_no_choice();
+    }
+}
+mod lines {
+    //! The lines that a script prints for calls and their replies, in bytes that are there already.
+
+    use crate::proved::machine::{Call, Reply};
+    use crate::proved::script::front::{put, put_number};
+    use crate::proved::script::printing::bytes_of;
+    use crate::proved::script::wording::Wording;
+
+    /// Writes a line for each call with its reply to the front of bytes, as much of the lines as fits.
+    /// It returns the length of all the lines, or 2^64 - 1 if they are longer. It takes no memory.
+    ///
+    /// # Contract
+    ///
+    /// <span></span><pre><code>ensures front: [FillsFront] ([replies_text] calls.now replies.now) bytes.old bytes.new
+    /// ensures length: result ≡ [min] ([length] ([replies_text] calls.now replies.now)) (2 ^ 64 - 1)</code></pre>
+    ///
+    /// [FillsFront]: crate::specs::script::Fronts#FillsFront "as much of a text as fits stands at the front of bytes, and those after it stay"
+    /// [replies_text]: crate::specs::script::Outcomes#replies_text "a line for each call, with its reply"
+    /// [min]: crate::specs::library#min "the greater and the smaller of two numbers"
+    /// [length]: crate::specs::library#length "the number of elements of a list"
+    #[inline]
+    pub fn write_lines(bytes: &mut [u8], calls: &[Call], replies: &[Reply]) -> usize {
+        put_lines(bytes, 0, calls, replies)
+    }
+
+    /// A line for each call with its reply, as [`put`] does a text.
+    ///
+    /// # Contract
+    ///
+    /// <span></span><pre><code>ensures: [AddsToFront] ([replies_text] calls.now replies.now) bytes.old written bytes.new result</code></pre>
+    ///
+    /// [AddsToFront]: crate::specs::script::Fronts#AddsToFront "One text more is written to the front of bytes: whatever text was there before and whatever the bytes were at the start, that text followed by this one is there afterwards."
+    /// [replies_text]: crate::specs::script::Outcomes#replies_text "a line for each call, with its reply"
+    #[inline]
+    fn put_lines(bytes: &mut [u8], written: usize, calls: &[Call], replies: &[Reply]) -> usize {
+        let mut end = written;
+        for (call, reply) in calls.iter().zip(replies) {
+            end = put_line(bytes, end, call, reply);
+        }
+        end
+    }
+
+    /// A call's reply and a line feed, as [`put`] does a text.
+    ///
+    /// # Contract
+    ///
+    /// <span></span><pre><code>ensures: [AddsToFront] ([line] ([reply_text] call.now reply.now)) bytes.old written bytes.new
+    /// &#32;&#32;&#32;&#32;result</code></pre>
+    ///
+    /// [AddsToFront]: crate::specs::script::Fronts#AddsToFront "One text more is written to the front of bytes: whatever text was there before and whatever the bytes were at the start, that text followed by this one is there afterwards."
+    /// [line]: crate::specs::script::Printing#line "a text as a line"
+    /// [reply_text]: crate::specs::script::Texts#reply_text "the reply to a call: its head, and a number for each byte that it tells"
+    #[inline]
+    fn put_line(bytes: &mut [u8], written: usize, call: &Call, reply: &Reply) -> usize {
+        let worded = Wording::of(call, reply).put(bytes, written);
+        let told = put_bytes(bytes, worded, bytes_of(reply));
+        put(bytes, told, b"\n")
+    }
+
+    /// A space and a number for each of the bytes that were told, as [`put`] does a text.
+    ///
+    /// # Contract
+    ///
+    /// <span></span><pre><code>ensures: [AddsToFront] ([bytes_text] told.now) bytes.old written bytes.new result</code></pre>
+    ///
+    /// [AddsToFront]: crate::specs::script::Fronts#AddsToFront "One text more is written to the front of bytes: whatever text was there before and whatever the bytes were at the start, that text followed by this one is there afterwards."
+    /// [bytes_text]: crate::specs::script::Texts#bytes_text "a space and a number for each byte"
+    #[inline]
+    fn put_bytes(bytes: &mut [u8], written: usize, told: &[u8]) -> usize {
+        let mut end = written;
+        for byte in told {
+            let spaced = put(bytes, end, b" ");
+            end = put_number(bytes, spaced, u64::from(*byte));
+        }
+        end
+    }
+}
+mod printing {
+    //! The lines that a replay prints, by its outcome, and the printer that they go through.
+
+    use crate::proved::budget::Pool;
+    use crate::proved::grammar::Script;
+    use crate::proved::machine::{Call, Reply};
+    use crate::proved::meter::Amounts;
+    use crate::proved::script::error::ReplayError;
+    use crate::proved::script::running::{Held, Ran};
+    use crate::proved::script::wording::Wording;
+    use crate::rattle::arrayvec::ArrayString;
+    use std::fmt::Display;
+    use std::{fmt, io};
+
+    /// How many bytes wait at most before they go to the writer.
+    const CHUNK: usize = 4096;
+
+    /// How long a text may be that is printed at once, with a line feed.
+    const LONGEST: usize = 256;
+
+    /// A script and the outcome of its run.
+    pub struct Replayed {
+        /// What was run.
+        pub script: Script,
+        /// The outcome.
+        pub ran: Ran,
+    }
+
+    /// Prints the outcome to its last byte.
+    ///
+    /// # Contract
+    ///
+    /// <span></span><pre><code>ensures ok: [OnOk] result
+    /// &#32;&#32;&#32;&#32;([Appends] ([W.contents] writer.old) ([W.contents] writer.new) ([outcome_text] outcome.now))
+    /// ensures front: [OnErr] result
+    /// &#32;&#32;&#32;&#32;([AppendsFront] ([W.contents] writer.old) ([W.contents] writer.new) ([outcome_text] outcome.now))</code></pre>
+    ///
+    /// [OnOk]: crate::specs::library#OnOk "P, if r is a value"
+    /// [Appends]: crate::specs::library#Appends "\`new\` is \`old\` followed by the bytes of the text"
+    /// [W.contents]: crate::specs::library#contents "the bytes that a writer holds, where they are known"
+    /// [outcome_text]: crate::specs::script::Outcomes#outcome_text "what is printed: the replies and what is held then, or why the script isn\'t run"
+    /// [OnErr]: crate::specs::library#OnErr "P, if r is an error"
+    /// [AppendsFront]: crate::specs::script::Printing#AppendsFront "known bytes grow by the front of a text, up to some place in it"
+    #[inline]
+    pub fn print<W: io::Write>(
+        writer: &mut W,
+        outcome: &Result<Replayed, ReplayError>,
+    ) -> fmt::Result {
+        let mut printer = Printer::new(writer);
+        let printed = print_all(&mut printer, outcome);
+        // No effect at run time: the proof reads what the writer has from this use.
+        let _ = &*printer.into_writer();
+        printed
+    }
+
+    /// Prints a line for each call with its reply, to the last byte.
+    ///
+    /// # Contract
+    ///
+    /// <span></span><pre><code>ensures ok: [OnOk] result ([Appends] ([W.contents] writer.old) ([W.contents] writer.new)
+    /// &#32;&#32;&#32;&#32;([replies_text] calls.now replies.now))
+    /// ensures front: [OnErr] result ([AppendsFront] ([W.contents] writer.old) ([W.contents] writer.new)
+    /// &#32;&#32;&#32;&#32;([replies_text] calls.now replies.now))</code></pre>
+    ///
+    /// [OnOk]: crate::specs::library#OnOk "P, if r is a value"
+    /// [Appends]: crate::specs::library#Appends "\`new\` is \`old\` followed by the bytes of the text"
+    /// [W.contents]: crate::specs::library#contents "the bytes that a writer holds, where they are known"
+    /// [replies_text]: crate::specs::script::Outcomes#replies_text "a line for each call, with its reply"
+    /// [OnErr]: crate::specs::library#OnErr "P, if r is an error"
+    /// [AppendsFront]: crate::specs::script::Printing#AppendsFront "known bytes grow by the front of a text, up to some place in it"
+    #[inline]
+    pub fn print_lines<W: io::Write>(
+        writer: &mut W,
+        calls: &[Call],
+        replies: &[Reply],
+    ) -> fmt::Result {
+        let mut printer = Printer::new(writer);
+        let printed = print_all_replies(&mut printer, calls, replies);
+        // No effect at run time: the proof reads what the writer has from this use.
+        let _ = &*printer.into_writer();
+        printed
+    }
+
+    /// Prints a line for each call with its reply, and flushes the writer.
+    ///
+    /// # Contract
+    ///
+    /// <span></span><pre><code>ensures ok: [OnOk] result
+    /// &#32;&#32;&#32;&#32;([PrintsOut] [W.contents] printer.old printer.new ([replies_text] calls.now replies.now))
+    /// ensures front: [OnErr] result
+    /// &#32;&#32;&#32;&#32;([PrintsFront] [W.contents] printer.old printer.new ([replies_text] calls.now replies.now))</code></pre>
+    ///
+    /// [OnOk]: crate::specs::library#OnOk "P, if r is a value"
+    /// [PrintsOut]: crate::specs::script::Printing#PrintsOut "a text is out: the writer gets what waits and the text"
+    /// [W.contents]: crate::specs::library#contents "the bytes that a writer holds, where they are known"
+    /// [replies_text]: crate::specs::script::Outcomes#replies_text "a line for each call, with its reply"
+    /// [OnErr]: crate::specs::library#OnErr "P, if r is an error"
+    /// [PrintsFront]: crate::specs::script::Printing#PrintsFront "a text is printed in part: the writer gets the front of what waits and of the text"
+    #[inline]
+    fn print_all_replies<W: io::Write>(
+        printer: &mut Printer<'_, W>,
+        calls: &[Call],
+        replies: &[Reply],
+    ) -> fmt::Result {
+        print_replies(printer, calls, replies)?;
+        printer.flush()
+    }
+
+    /// Prints the outcome and flushes the writer.
+    ///
+    /// # Contract
+    ///
+    /// <span></span><pre><code>ensures ok: [OnOk] result
+    /// &#32;&#32;&#32;&#32;([PrintsOut] [W.contents] printer.old printer.new ([outcome_text] outcome.now))
+    /// ensures front: [OnErr] result
+    /// &#32;&#32;&#32;&#32;([PrintsFront] [W.contents] printer.old printer.new ([outcome_text] outcome.now))</code></pre>
+    ///
+    /// [OnOk]: crate::specs::library#OnOk "P, if r is a value"
+    /// [PrintsOut]: crate::specs::script::Printing#PrintsOut "a text is out: the writer gets what waits and the text"
+    /// [W.contents]: crate::specs::library#contents "the bytes that a writer holds, where they are known"
+    /// [outcome_text]: crate::specs::script::Outcomes#outcome_text "what is printed: the replies and what is held then, or why the script isn\'t run"
+    /// [OnErr]: crate::specs::library#OnErr "P, if r is an error"
+    /// [PrintsFront]: crate::specs::script::Printing#PrintsFront "a text is printed in part: the writer gets the front of what waits and of the text"
+    #[inline]
+    fn print_all<W: io::Write>(
+        printer: &mut Printer<'_, W>,
+        outcome: &Result<Replayed, ReplayError>,
+    ) -> fmt::Result {
+        print_outcome(printer, outcome)?;
+        printer.flush()
+    }
+
+    /// Prints a line for each call and what is held, or why the script isn't run.
+    ///
+    /// # Contract
+    ///
+    /// <span></span><pre><code>ensures ok: [OnOk] result
+    /// &#32;&#32;&#32;&#32;([Prints] [W.contents] printer.old printer.new ([outcome_text] outcome.now))
+    /// ensures front: [OnErr] result
+    /// &#32;&#32;&#32;&#32;([PrintsFront] [W.contents] printer.old printer.new ([outcome_text] outcome.now))</code></pre>
+    ///
+    /// [OnOk]: crate::specs::library#OnOk "P, if r is a value"
+    /// [Prints]: crate::specs::script::Printing#Prints "A printer before and after a text is printed, by the bytes that its writer is known to have: it keeps its writer, and the text comes after what waits."
+    /// [W.contents]: crate::specs::library#contents "the bytes that a writer holds, where they are known"
+    /// [outcome_text]: crate::specs::script::Outcomes#outcome_text "what is printed: the replies and what is held then, or why the script isn\'t run"
+    /// [OnErr]: crate::specs::library#OnErr "P, if r is an error"
+    /// [PrintsFront]: crate::specs::script::Printing#PrintsFront "a text is printed in part: the writer gets the front of what waits and of the text"
+    #[inline]
+    fn print_outcome<W: io::Write>(
+        printer: &mut Printer<'_, W>,
+        outcome: &Result<Replayed, ReplayError>,
+    ) -> fmt::Result {
+        match outcome {
+            Ok(replayed) => {
+                let calls = replayed.script.parts.calls();
+                print_replies(printer, calls, &replayed.ran.replies)?;
+                print_held(printer, &replayed.ran.held)
+            }
+            Err(error) => printer.print_line(&error),
+        }
+    }
+
+    /// A line for each call, with its reply.
+    ///
+    /// # Contract
+    ///
+    /// <span></span><pre><code>ensures ok: [OnOk] result
+    /// &#32;&#32;&#32;&#32;([Prints] [W.contents] printer.old printer.new ([replies_text] calls.now replies.now))
+    /// ensures front: [OnErr] result
+    /// &#32;&#32;&#32;&#32;([PrintsFront] [W.contents] printer.old printer.new ([replies_text] calls.now replies.now))</code></pre>
+    ///
+    /// [OnOk]: crate::specs::library#OnOk "P, if r is a value"
+    /// [Prints]: crate::specs::script::Printing#Prints "A printer before and after a text is printed, by the bytes that its writer is known to have: it keeps its writer, and the text comes after what waits."
+    /// [W.contents]: crate::specs::library#contents "the bytes that a writer holds, where they are known"
+    /// [replies_text]: crate::specs::script::Outcomes#replies_text "a line for each call, with its reply"
+    /// [OnErr]: crate::specs::library#OnErr "P, if r is an error"
+    /// [PrintsFront]: crate::specs::script::Printing#PrintsFront "a text is printed in part: the writer gets the front of what waits and of the text"
+    #[inline]
+    fn print_replies<W: io::Write>(
+        printer: &mut Printer<'_, W>,
+        calls: &[Call],
+        replies: &[Reply],
+    ) -> fmt::Result {
+        for (call, reply) in calls.iter().zip(replies) {
+            print_reply(printer, call, reply)?;
+        }
+        Ok(())
+    }
+
+    /// A call's reply. The numbers of bytes are printed one after the other, since they may be many.
+    ///
+    /// # Contract
+    ///
+    /// <span></span><pre><code>ensures ok: [OnOk] result
+    /// &#32;&#32;&#32;&#32;([Prints] [W.contents] printer.old printer.new ([line] ([reply_text] call.now reply.now)))
+    /// ensures front: [OnErr] result
+    /// &#32;&#32;&#32;&#32;([PrintsFront] [W.contents] printer.old printer.new ([line] ([reply_text] call.now reply.now)))</code></pre>
+    ///
+    /// [OnOk]: crate::specs::library#OnOk "P, if r is a value"
+    /// [Prints]: crate::specs::script::Printing#Prints "A printer before and after a text is printed, by the bytes that its writer is known to have: it keeps its writer, and the text comes after what waits."
+    /// [W.contents]: crate::specs::library#contents "the bytes that a writer holds, where they are known"
+    /// [line]: crate::specs::script::Printing#line "a text as a line"
+    /// [reply_text]: crate::specs::script::Texts#reply_text "the reply to a call: its head, and a number for each byte that it tells"
+    /// [OnErr]: crate::specs::library#OnErr "P, if r is an error"
+    /// [PrintsFront]: crate::specs::script::Printing#PrintsFront "a text is printed in part: the writer gets the front of what waits and of the text"
+    #[inline]
+    fn print_reply<W: io::Write>(
+        printer: &mut Printer<'_, W>,
+        call: &Call,
+        reply: &Reply,
+    ) -> fmt::Result {
+        printer.print(ReplyHead { call, reply })?;
+        for byte in bytes_of(reply) {
+            printer.print((" ", &byte))?;
+        }
+        printer.print("\n")
+    }
+
+    /// The bytes of a reply: none unless some were read.
+    ///
+    /// # Contract
+    ///
+    /// <span></span><pre><code>ensures: result.now ≡ [bytes_in] reply.now</code></pre>
+    ///
+    /// [bytes_in]: crate::specs::script::Texts#bytes_in "the bytes that a reply tells"
+    #[inline]
+    pub fn bytes_of(reply: &Reply) -> &[u8] {
+        match reply {
+            Reply::Bytes(bytes) => bytes.as_slice(),
+            _ => &[],
+        }
+    }
+
+    /// What a quota holds, or what each tenant of a pool holds.
+    ///
+    /// # Contract
+    ///
+    /// <span></span><pre><code>ensures ok: [OnOk] result ([Prints] [W.contents] printer.old printer.new ([held_text] held.now))
+    /// ensures front: [OnErr] result
+    /// &#32;&#32;&#32;&#32;([PrintsFront] [W.contents] printer.old printer.new ([held_text] held.now))</code></pre>
+    ///
+    /// [OnOk]: crate::specs::library#OnOk "P, if r is a value"
+    /// [Prints]: crate::specs::script::Printing#Prints "A printer before and after a text is printed, by the bytes that its writer is known to have: it keeps its writer, and the text comes after what waits."
+    /// [W.contents]: crate::specs::library#contents "the bytes that a writer holds, where they are known"
+    /// [held_text]: crate::specs::script::Outcomes#held_text "what is held after a run"
+    /// [OnErr]: crate::specs::library#OnErr "P, if r is an error"
+    /// [PrintsFront]: crate::specs::script::Printing#PrintsFront "a text is printed in part: the writer gets the front of what waits and of the text"
+    #[inline]
+    fn print_held<W: io::Write>(printer: &mut Printer<'_, W>, held: &Held) -> fmt::Result {
+        match held {
+            Held::Nothing => Ok(()),
+            Held::Quota(Amounts { bytes, elements }) => {
+                printer.print_line(("held ", &bytes, " ", &elements))
+            }
+            Held::Tenants(pool) => print_tenants(printer, pool),
+        }
+    }
+
+    /// What each tenant of a pool holds.
+    ///
+    /// # Contract
+    ///
+    /// <span></span><pre><code>ensures ok: [OnOk] result
+    /// &#32;&#32;&#32;&#32;([Prints] [W.contents] printer.old printer.new ([tenants_text] pool.now.machines))
+    /// ensures front: [OnErr] result
+    /// &#32;&#32;&#32;&#32;([PrintsFront] [W.contents] printer.old printer.new ([tenants_text] pool.now.machines))</code></pre>
+    ///
+    /// [OnOk]: crate::specs::library#OnOk "P, if r is a value"
+    /// [Prints]: crate::specs::script::Printing#Prints "A printer before and after a text is printed, by the bytes that its writer is known to have: it keeps its writer, and the text comes after what waits."
+    /// [W.contents]: crate::specs::library#contents "the bytes that a writer holds, where they are known"
+    /// [tenants_text]: crate::specs::script::Outcomes#tenants_text "a line for each tenant"
+    /// [OnErr]: crate::specs::library#OnErr "P, if r is an error"
+    /// [PrintsFront]: crate::specs::script::Printing#PrintsFront "a text is printed in part: the writer gets the front of what waits and of the text"
+    #[inline]
+    fn print_tenants<W: io::Write>(printer: &mut Printer<'_, W>, pool: &Pool) -> fmt::Result {
+        for index in 0..pool.len() {
+            let bytes = pool.held_bytes(index).unwrap();
+            let elements = pool.held_elements(index).unwrap();
+            printer.print_line(("held ", &index, " ", &bytes, " ", &elements))?;
+        }
+        Ok(())
+    }
+
+    /// A call's reply, as the program prints it, without the numbers that follow `bytes`.
+    #[derive(Clone, Copy)]
+    pub struct ReplyHead<'a> {
+        /// The call, which says what a creation has made.
+        pub call: &'a Call,
+        /// Its reply.
+        pub reply: &'a Reply,
+    }
+
+    /// # Contract
+    ///
+    /// <span></span><pre><code>output = λ head. [Some] ([head_text] head.call.now head.reply.now)</code></pre>
+    ///
+    /// [Some]: crate::specs::library#Some "the value x, of an \`Option\`"
+    /// [head_text]: crate::specs::script::Texts#head_text "the reply to a call, but for the numbers of its bytes"
+    impl crate::rattle::arrayvec::Show for ReplyHead<'_> {
+        #[inline]
+        fn show<W: crate::rattle::arrayvec::Sink>(&self, f: &mut W) -> fmt::Result {
+            let wording = Wording::of(self.call, self.reply);
+            f.write_str(wording.start)?;
+            f.write_str(wording.words)?;
+            if let Some(first) = wording.first {
+                crate::rattle::arrayvec::Show::show(&&first, f)?;
+            }
+            match wording.second {
+                Some(second) => crate::rattle::arrayvec::Show::show(&(" ", &second), f),
+                None => Ok(()),
+            }
+        }
+    }
+
+    impl std::fmt::Display for ReplyHead<'_> {
+        fn fmt(&self, f: &mut std::fmt::Formatter<'_>) -> std::fmt::Result {
+            crate::rattle::arrayvec::Show::show(self, f)
+        }
+    }
+
+    /// Text that goes to a writer in chunks, without memory. Any error of the writer ends the printing,
+    /// and so does a write that takes no byte.
+    pub struct Printer<'w, W> {
+        writer: &'w mut W,
+        chunk: ArrayString<CHUNK>,
+    }
+
+    impl<'w, W: io::Write> Printer<'w, W> {
+        /// Text that goes to this writer.
+        ///
+        /// # Contract
+        ///
+        /// <span></span><pre><code>ensures writer: result.writer ≡ writer.entry
+        /// ensures chunk: result.chunk.bytes ≡ \[\]</code></pre>
+        #[inline]
+        pub fn new(writer: &'w mut W) -> Self {
+            Printer {
+                writer,
+                chunk: ArrayString::new(),
+            }
+        }
+
+        /// Prints a text of less than `LONGEST` bytes.
+        ///
+        /// # Contract
+        ///
+        /// <span></span><pre><code>requires short: [IsShort] ([D.output] text)
+        /// ensures ok: [OnOk] result
+        /// &#32;&#32;&#32;&#32;([IfSome] ([D.output] text) (λ bytes. [Prints] [W.contents] self.old self.new bytes))
+        /// ensures front: [OnErr] result
+        /// &#32;&#32;&#32;&#32;([IfSome] ([D.output] text) (λ bytes. [PrintsFront] [W.contents] self.old self.new bytes))</code></pre>
+        ///
+        /// [IsShort]: crate::specs::script::Printing#IsShort "a text, where it is known, that may be printed at once"
+        /// [D.output]: crate::specs::library#output "what \`Display\` prints of x, if it is known"
+        /// [OnOk]: crate::specs::library#OnOk "P, if r is a value"
+        /// [IfSome]: crate::specs::library#IfSome "P of the value, if there is one"
+        /// [Prints]: crate::specs::script::Printing#Prints "A printer before and after a text is printed, by the bytes that its writer is known to have: it keeps its writer, and the text comes after what waits."
+        /// [W.contents]: crate::specs::library#contents "the bytes that a writer holds, where they are known"
+        /// [OnErr]: crate::specs::library#OnErr "P, if r is an error"
+        /// [PrintsFront]: crate::specs::script::Printing#PrintsFront "a text is printed in part: the writer gets the front of what waits and of the text"
+        #[inline]
+        pub fn print<D: crate::rattle::arrayvec::Show>(&mut self, text: D) -> fmt::Result {
+            self.make_room()?;
+            self.chunk.write(text)
+        }
+
+        /// Prints a line of at most `LONGEST` bytes with its feed.
+        ///
+        /// # Contract
+        ///
+        /// <span></span><pre><code>requires short: [IsShort] ([D.output] text)
+        /// ensures ok: [OnOk] result
+        /// &#32;&#32;&#32;&#32;([IfSome] ([D.output] text) (λ bytes. [Prints] [W.contents] self.old self.new ([line] bytes)))
+        /// ensures front: [OnErr] result
+        /// &#32;&#32;&#32;&#32;([IfSome] ([D.output] text)
+        /// &#32;&#32;&#32;&#32;(λ bytes. [PrintsFront] [W.contents] self.old self.new ([line] bytes)))</code></pre>
+        ///
+        /// [IsShort]: crate::specs::script::Printing#IsShort "a text, where it is known, that may be printed at once"
+        /// [D.output]: crate::specs::library#output "what \`Display\` prints of x, if it is known"
+        /// [OnOk]: crate::specs::library#OnOk "P, if r is a value"
+        /// [IfSome]: crate::specs::library#IfSome "P of the value, if there is one"
+        /// [Prints]: crate::specs::script::Printing#Prints "A printer before and after a text is printed, by the bytes that its writer is known to have: it keeps its writer, and the text comes after what waits."
+        /// [W.contents]: crate::specs::library#contents "the bytes that a writer holds, where they are known"
+        /// [line]: crate::specs::script::Printing#line "a text as a line"
+        /// [OnErr]: crate::specs::library#OnErr "P, if r is an error"
+        /// [PrintsFront]: crate::specs::script::Printing#PrintsFront "a text is printed in part: the writer gets the front of what waits and of the text"
+        #[inline]
+        pub fn print_line<D: crate::rattle::arrayvec::Show>(&mut self, text: D) -> fmt::Result {
+            self.make_room()?;
+            self.chunk.writeln(text)
+        }
+
+        /// Makes room for the longest text.
+        ///
+        /// # Contract
+        ///
+        /// <span></span><pre><code>ensures ok: [OnOk] result ([Prints] [W.contents] self.old self.new \[\])
+        /// ensures front: [OnErr] result ([SendsFront] [W.contents] self.old self.new)
+        /// ensures room: [OnOk] result ([length] self.new.chunk.bytes + LONGEST ≤ CHUNK)</code></pre>
+        ///
+        /// [OnOk]: crate::specs::library#OnOk "P, if r is a value"
+        /// [Prints]: crate::specs::script::Printing#Prints "A printer before and after a text is printed, by the bytes that its writer is known to have: it keeps its writer, and the text comes after what waits."
+        /// [W.contents]: crate::specs::library#contents "the bytes that a writer holds, where they are known"
+        /// [OnErr]: crate::specs::library#OnErr "P, if r is an error"
+        /// [SendsFront]: crate::specs::script::Printing#SendsFront "a front of what waits is out"
+        /// [length]: crate::specs::library#length "the number of elements of a list"
+        #[inline]
+        fn make_room(&mut self) -> fmt::Result {
+            if self.chunk.remaining_capacity() < LONGEST {
+                self.send()?;
+            }
+            Ok(())
+        }
+
+        /// Sends what waits to the writer, and flushes it.
+        ///
+        /// # Contract
+        ///
+        /// <span></span><pre><code>ensures ok: [OnOk] result ([Sends] [W.contents] self.old self.new)
+        /// ensures front: [OnErr] result ([SendsFront] [W.contents] self.old self.new)</code></pre>
+        ///
+        /// [OnOk]: crate::specs::library#OnOk "P, if r is a value"
+        /// [Sends]: crate::specs::script::Printing#Sends "what waits is out"
+        /// [W.contents]: crate::specs::library#contents "the bytes that a writer holds, where they are known"
+        /// [OnErr]: crate::specs::library#OnErr "P, if r is an error"
+        /// [SendsFront]: crate::specs::script::Printing#SendsFront "a front of what waits is out"
+        #[inline]
+        pub fn flush(&mut self) -> fmt::Result {
+            self.send()?;
+            self.writer.flush().map_err(|_| fmt::Error)
+        }
+
+        /// The writer.
+        ///
+        /// # Contract
+        ///
+        /// <span></span><pre><code>ensures: result ≡ self.entry.writer</code></pre>
+        #[inline]
+        pub fn into_writer(self) -> &'w mut W {
+            self.writer
+        }
+
+        /// Sends what waits to the writer.
+        ///
+        /// # Contract
+        ///
+        /// <span></span><pre><code>ensures ok: [OnOk] result ([Sends] [W.contents] self.old self.new)
+        /// ensures empty: [OnOk] result (self.new.chunk.bytes ≡ \[\])
+        /// ensures front: [OnErr] result ([SendsFront] [W.contents] self.old self.new)</code></pre>
+        ///
+        /// [OnOk]: crate::specs::library#OnOk "P, if r is a value"
+        /// [Sends]: crate::specs::script::Printing#Sends "what waits is out"
+        /// [W.contents]: crate::specs::library#contents "the bytes that a writer holds, where they are known"
+        /// [OnErr]: crate::specs::library#OnErr "P, if r is an error"
+        /// [SendsFront]: crate::specs::script::Printing#SendsFront "a front of what waits is out"
+        #[inline]
+        fn send(&mut self) -> fmt::Result {
+            send_all(self.writer, self.chunk.as_str())?;
+            self.chunk.clear();
+            Ok(())
+        }
+    }
+
+    /// Writes a whole text.
+    ///
+    /// # Contract
+    ///
+    /// <span></span><pre><code>ensures ok: [IsOk] result → [Appends] ([W.contents] writer.old) ([W.contents] writer.new) text.now
+    /// ensures front: [AppendsFront] ([W.contents] writer.old) ([W.contents] writer.new) text.now</code></pre>
+    ///
+    /// [IsOk]: crate::specs::library#IsOk "r is a value"
+    /// [Appends]: crate::specs::library#Appends "\`new\` is \`old\` followed by the bytes of the text"
+    /// [W.contents]: crate::specs::library#contents "the bytes that a writer holds, where they are known"
+    /// [AppendsFront]: crate::specs::script::Printing#AppendsFront "known bytes grow by the front of a text, up to some place in it"
+    #[inline]
+    fn send_all<W: io::Write>(writer: &mut W, text: &str) -> fmt::Result {
+        let mut rest = text.as_bytes();
+        while !rest.is_empty() {
+            match writer.write(rest) {
+                Ok(0) => return Err(fmt::Error),
+                Ok(count) => rest = &rest[count..],
+                Err(_) => return Err(fmt::Error),
+            }
+        }
+        Ok(())
+    }
+}
+mod replaying {
+    //! A script from its reader to the printed lines.
+
+    use crate::proved::grammar::{ParseError, parse};
+    use crate::proved::script::error::ReplayError;
+    use crate::proved::script::printing::{Replayed, print};
+    use crate::proved::script::running::run_script;
+    use crate::rattle::Vec;
+    use std::io;
+
+    /// The most bytes that a script may have.
+    pub const LIMIT: usize = 1_048_576;
+
+    /// How a replay ended.
+    #[derive(Clone, Copy, Debug, PartialEq, Eq)]
+    pub enum Status {
+        /// Each call has a reply, which may be a refusal.
+        Answered,
+        /// A line is no command, or the script is too long.
+        BadScript,
+        /// There wasn't enough memory to read, to parse or for the replies.
+        OutOfMemory,
+        /// The reader or the writer failed.
+        Fault,
+    }
+
+    impl Status {
+        /// The exit status of the program.
+        ///
+        /// # Contract
+        ///
+        /// <span></span><pre><code>ensures: result ≡ [status_number] self</code></pre>
+        ///
+        /// [status_number]: crate::specs::script::Status#status_number "the number that a process ends with"
+        #[inline]
+        pub fn code(self) -> u8 {
+            match self {
+                Status::Answered => 0,
+                Status::BadScript => 2,
+                Status::OutOfMemory => 3,
+                Status::Fault => 4,
+            }
+        }
+    }
+
+    /// Reads the script, runs it and prints its replies, or prints why it isn't run. A line that can't
+    /// be printed makes the status [`Fault`]; what went out before it stays.
+    ///
+    /// # Examples
+    ///
+    /// ```
+    /// use wasmi_core_proved::script::{Status, replay};
+    ///
+    /// let script = "memory 1 2 16 32\ngrow 0 1\ngrow 0 1\n";
+    /// let mut printed = Vec::new();
+    /// let status = replay(&mut script.as_bytes(), &mut printed);
+    /// assert_eq!(status, Status::Answered);
+    /// let printed = String::from_utf8(printed)?;
+    /// assert!(printed.starts_with("memory 0\nvalue 1\n"));
+    /// # Ok::<(), Box<dyn std::error::Error>>(())
+    /// ```
+    ///
+    /// # Contract
+    ///
+    /// <span></span><pre><code>ensures ends: [Replays] ([R.remaining] reader.old) ([W.contents] writer.old)
+    /// &#32;&#32;&#32;&#32;([W.contents] writer.new) result</code></pre>
+    ///
+    /// [Replays]: crate::specs::script::Outcomes#Replays "the bytes of a reader have an outcome, and a writer has got it"
+    /// [R.remaining]: crate::specs::library#remaining "the bytes that a reader still has"
+    /// [W.contents]: crate::specs::library#contents "the bytes that a writer holds, where they are known"
+    /// [`Fault`]: crate::proved::script::Status::Fault
+    #[inline]
+    pub fn replay<R: io::Read, W: io::Write>(reader: &mut R, writer: &mut W) -> Status {
+        let outcome = outcome_of(reader);
+        match print(writer, &outcome) {
+            Ok(()) => status_of(&outcome),
+            Err(_) => Status::Fault,
+        }
+    }
+
+    /// Reads the script and runs it.
+    ///
+    /// # Contract
+    ///
+    /// <span></span><pre><code>ensures outcome: [IsOutcomeOfReader] ([R.remaining] reader.old) result</code></pre>
+    ///
+    /// [IsOutcomeOfReader]: crate::specs::script::Outcomes#IsOutcomeOfReader "an outcome of some bytes, which are those of a reader where it tells them"
+    /// [R.remaining]: crate::specs::library#remaining "the bytes that a reader still has"
+    #[inline]
+    fn outcome_of<R: io::Read>(reader: &mut R) -> Result<Replayed, ReplayError> {
+        let bytes = read(&mut Turns::new(reader))?;
+        let script = parse(bytes.as_slice())?;
+        let ran = run_script(&script)?;
+        Ok(Replayed { script, ran })
+    }
+
+    /// How the replay ends if its lines can be printed.
+    ///
+    /// # Contract
+    ///
+    /// <span></span><pre><code>ensures: result ≡ [status_after] outcome.now</code></pre>
+    ///
+    /// [status_after]: crate::specs::script::Status#status_after "how a replay ends whose lines could be printed"
+    #[inline]
+    fn status_of(outcome: &Result<Replayed, ReplayError>) -> Status {
+        match outcome {
+            Ok(_) => Status::Answered,
+            Err(ReplayError::Parse(ParseError::BadCommand { .. }) | ReplayError::TooLong) => {
+                Status::BadScript
+            }
+            Err(ReplayError::Parse(ParseError::OutOfMemory)) => Status::OutOfMemory,
+            Err(ReplayError::ReadFault) => Status::Fault,
+        }
+    }
+
+    /// A reader whose turns are counted.
+    struct Turns<'r, R> {
+        reader: &'r mut R,
+        /// How many turns it took.
+        taken: usize,
+    }
+
+    impl<'r, R: io::Read> Turns<'r, R> {
+        /// A reader that took no turn yet.
+        ///
+        /// # Contract
+        ///
+        /// <span></span><pre><code>ensures reader: result.reader ≡ reader.entry
+        /// ensures taken: result.taken ≡ 0</code></pre>
+        #[inline]
+        fn new(reader: &'r mut R) -> Self {
+            Turns { reader, taken: 0 }
+        }
+
+        /// One turn more.
+        ///
+        /// # Contract
+        ///
+        /// <span></span><pre><code>requires turns: self.old.taken ≤ [script_limit]
+        /// ensures taken: self.new.taken ≡ self.old.taken + 1
+        /// ensures bound: [ReadsAtMost] result buffer.new
+        /// ensures bytes: [ReadConsumes] ([R.remaining] self.old.reader.now)
+        /// &#32;&#32;&#32;&#32;([R.remaining] self.new.reader.now) result buffer.new</code></pre>
+        ///
+        /// [script_limit]: crate::specs::script::Refusals#script_limit "the most bytes that a script may have"
+        /// [ReadsAtMost]: crate::specs::library#ReadsAtMost "if r is a number, there are so many bytes"
+        /// [ReadConsumes]: crate::specs::library#ReadConsumes "a reader gave the bytes that r counts, and has the rest"
+        /// [R.remaining]: crate::specs::library#remaining "the bytes that a reader still has"
+        #[inline]
+        fn turn(&mut self, buffer: &mut [u8]) -> io::Result<usize> {
+            self.taken += 1;
+            self.reader.read(buffer)
+        }
+    }
+
+    /// The bytes of the reader up to its end, in at most `LIMIT + 1` turns: a turn that gives nothing
+    /// is the end.
+    ///
+    /// # Contract
+    ///
+    /// <span></span><pre><code>requires fresh: reader.old.taken ≡ 0
+    /// ensures bounded: [IfOk] result (λ script. [vec_len] script ≤ LIMIT)
+    /// ensures whole: [IfOk] result
+    /// &#32;&#32;&#32;&#32;(λ script. [IfSome] ([R.remaining] reader.old.reader.now) (λ bytes. script.items ≡ bytes))
+    /// ensures refused: [IfErr] result ([IsReadError] ([R.remaining] reader.old.reader.now))
+    /// ensures turns: reader.new.taken ≤ [script_limit] + 1</code></pre>
+    ///
+    /// [IfOk]: crate::specs::library#IfOk "P of the value, if r is a value"
+    /// [vec_len]: crate::specs::library#vec_len "the length of a \`Vec\`"
+    /// [IfSome]: crate::specs::library#IfSome "P of the value, if there is one"
+    /// [R.remaining]: crate::specs::library#remaining "the bytes that a reader still has"
+    /// [IfErr]: crate::specs::library#IfErr "P of the error, if r is an error"
+    /// [IsReadError]: crate::specs::script::Refusals#IsReadError "why the bytes that a reader has left aren\'t read"
+    /// [script_limit]: crate::specs::script::Refusals#script_limit "the most bytes that a script may have"
+    #[inline]
+    fn read<R: io::Read>(reader: &mut Turns<'_, R>) -> Result<Vec<u8>, ReplayError> {
+        let mut script = Vec::new();
+        let mut chunk = [0u8; 4096];
+        for _turn in 0..LIMIT + 1 {
+            let Ok(count) = reader.turn(&mut chunk) else {
+                return Err(ReplayError::ReadFault);
+            };
+            if count == 0 {
+                return Ok(script);
+            }
+            if LIMIT - script.len() < count {
+                return Err(ReplayError::TooLong);
+            }
+            script.extend_from_slice(&chunk[..count])?;
+        }
+        Err(ReplayError::TooLong)
+    }
+}
+mod running {
+    //! The run of a script's calls.
+
+    use crate::proved::budget::Pool;
+    use crate::proved::grammar::{Header, LimiterLine, MeterLine, RegionLine, Script, TenantsLine};
+    use crate::proved::machine::{
+        Call, CustomFuelCosts, Fuel, FuelCostsProvider, Machine, NoLimits, Quota, Reply,
+        ResourceLimiterRef, run, run_lending, run_reserving,
+    };
+    use crate::proved::meter::{Amounts, AnswerList, LimiterAnswer};
+    use crate::rattle::alloc::AllocError;
+    use crate::rattle::{SliceExt, Vec};
+
+    /// The replies of a script's run, and what is held afterwards.
+    pub struct Ran {
+        /// A reply to each call, in order.
+        pub replies: Vec<Reply>,
+        /// What is held afterwards.
+        pub held: Held,
+    }
+
+    /// What is held after a run, as far as it is printed.
+    pub enum Held {
+        /// Nothing is counted without a limiter that counts.
+        Nothing,
+        /// What a quota holds.
+        Quota(Amounts),
+        /// What the tenants of a pool hold.
+        Tenants(Pool<'static>),
+    }
+
+    /// Runs the script's calls on a new machine with its meter and its region, or its parts on a pool
+    /// of machines.
+    ///
+    /// # Contract
+    ///
+    /// <span></span><pre><code>ensures: [IfOk] result ([IsReplayOf] script.now)</code></pre>
+    ///
+    /// [IfOk]: crate::specs::library#IfOk "P of the value, if r is a value"
+    /// [IsReplayOf]: crate::specs::script::ScriptRuns#IsReplayOf "the replies are those of a run as the script\'s header lines ask for it"
+    #[inline]
+    pub fn run_script(script: &Script) -> Result<Ran, AllocError> {
+        let header = &script.header;
+        let calls = script.parts.calls();
+        match &header.limiter {
+            None => run_freely(header, calls),
+            Some(LimiterLine::Quota(caps)) => run_under_quota(header, calls, *caps),
+            Some(LimiterLine::Answers(answers)) => run_answered(header, calls, answers),
+            Some(LimiterLine::Tenants(line)) => run_pool(script, *line),
+        }
+    }
+
+    /// The meter that the header lines ask for. Without a `meter` line it is off.
+    ///
+    /// # Contract
+    ///
+    /// <span></span><pre><code>ensures: result ≡ [meter_of] header.now</code></pre>
+    ///
+    /// [meter_of]: crate::specs::grammar::Headers#meter_of "the meter that a script starts with: off without a line that says more"
+    #[inline]
+    fn fuel_of(header: &Header) -> Fuel {
+        match header.meter {
+            Some(MeterLine::On(bytes_copied_per_fuel)) => {
+                let costs = CustomFuelCosts {
+                    bytes_copied_per_fuel,
+                    fuel_per_bytes_translated: 7,
+                    fuel_per_bytes_validated: 2,
+                };
+                Fuel::new(true, FuelCostsProvider::custom(costs))
+            }
+            Some(MeterLine::Off) | None => Fuel::new(false, FuelCostsProvider::default()),
+        }
+    }
+
+    /// The bytes of the region that the header lines ask for, if there is one.
+    ///
+    /// # Contract
+    ///
+    /// <span></span><pre><code>ensures: [IfOk] result (λ region. [option_map] (λ bytes. bytes.items) region
+    /// &#32;&#32;&#32;&#32;≡ [option_map] [region_bytes] header.now.region)</code></pre>
+    ///
+    /// [IfOk]: crate::specs::library#IfOk "P of the value, if r is a value"
+    /// [option_map]: crate::specs::library#option_map "f of the value, if there is one"
+    /// [region_bytes]: crate::specs::grammar::Headers#region_bytes "the bytes of a region that a line asks for"
+    #[inline]
+    fn region_of(header: &Header) -> Result<Option<Vec<u8>>, AllocError> {
+        match header.region {
+            None => Ok(None),
+            Some(RegionLine { len, byte }) => Ok(Some(Vec::filled(byte, len)?)),
+        }
+    }
+
+    /// A new machine with the meter of the header, which is lent this region if there is one.
+    ///
+    /// # Contract
+    ///
+    /// <span></span><pre><code>ensures: result ≡ record ([new_state] ([meter_of] header.now))
+    /// &#32;&#32;&#32;&#32;{ spare = [option_map] (λ bytes. bytes.items) ([option_copied_mut] region.entry) }</code></pre>
+    ///
+    /// [new_state]: crate::specs::machine::State#new_state "a machine on which nothing was made yet, with 16 registers of zeros"
+    /// [meter_of]: crate::specs::grammar::Headers#meter_of "the meter that a script starts with: off without a line that says more"
+    /// [option_map]: crate::specs::library#option_map "f of the value, if there is one"
+    /// [option_copied_mut]: crate::specs::library#option_copied_mut "the value behind an optional \`&mut\`, if there is one"
+    #[inline]
+    fn machine_of<'r>(header: &Header, region: Option<&'r mut Vec<u8>>) -> Machine<'r> {
+        let fuel = fuel_of(header);
+        match region {
+            None => Machine::new(fuel),
+            Some(bytes) => Machine::with_region(fuel, bytes.as_mut_slice()),
+        }
+    }
+
+    /// Runs the calls on a new machine without a limiter.
+    ///
+    /// # Contract
+    ///
+    /// <span></span><pre><code>ensures: [IfOk] result ([IsReplayOnOne] [None] header.now calls.now)</code></pre>
+    ///
+    /// [IfOk]: crate::specs::library#IfOk "P of the value, if r is a value"
+    /// [IsReplayOnOne]: crate::specs::script::ScriptRuns#IsReplayOnOne "the replies are those of a run of the calls on a new machine with the meter and the region of these header lines"
+    /// [None]: crate::specs::library#None "no value, of an \`Option\`"
+    #[inline]
+    fn run_freely(header: &Header, calls: &[Call]) -> Result<Ran, AllocError> {
+        let mut region = region_of(header)?;
+        let mut machine = machine_of(header, region.as_mut());
+        let mut limiter = ResourceLimiterRef::<NoLimits>::default();
+        let replies = run(&mut machine, calls, &mut limiter)?;
+        let held = Held::Nothing;
+        Ok(Ran { replies, held })
+    }
+
+    /// Runs the calls on a new machine under a quota of these caps.
+    ///
+    /// # Contract
+    ///
+    /// <span></span><pre><code>ensures: [IfOk] result ([IsReplayOnOne] ([Some] ([LimiterLine.Quota] caps)) header.now calls.now)</code></pre>
+    ///
+    /// [IfOk]: crate::specs::library#IfOk "P of the value, if r is a value"
+    /// [IsReplayOnOne]: crate::specs::script::ScriptRuns#IsReplayOnOne "the replies are those of a run of the calls on a new machine with the meter and the region of these header lines"
+    /// [Some]: crate::specs::library#Some "the value x, of an \`Option\`"
+    /// [LimiterLine.Quota]: crate::proved::grammar::LimiterLine::Quota
+    #[inline]
+    fn run_under_quota(header: &Header, calls: &[Call], caps: Amounts) -> Result<Ran, AllocError> {
+        let mut region = region_of(header)?;
+        let mut machine = machine_of(header, region.as_mut());
+        let mut quota = Quota::new(caps.bytes, caps.elements);
+        let replies = run_reserving(&mut machine, calls, &mut quota)?;
+        let held = Held::Quota(Amounts {
+            bytes: quota.held_bytes(),
+            elements: quota.held_elements(),
+        });
+        Ok(Ran { replies, held })
+    }
+
+    /// Runs the calls on a new machine under a limiter that answers from a list.
+    ///
+    /// # Contract
+    ///
+    /// <span></span><pre><code>ensures: [IfOk] result (λ ran.
+    /// &#32;&#32;&#32;&#32;[IsListedReplay] answers.now ([start_of] header.now) calls.now ran.replies.items ran.held)</code></pre>
+    ///
+    /// [IfOk]: crate::specs::library#IfOk "P of the value, if r is a value"
+    /// [IsListedReplay]: crate::specs::script::ScriptRuns#IsListedReplay "The replies, with what is held, are those of a run of the calls from a machine, under a limiter that has these answers."
+    /// [start_of]: crate::specs::grammar::Headers#start_of "the machine that a script starts with: new, with its meter and its region"
+    #[inline]
+    fn run_answered(
+        header: &Header,
+        calls: &[Call],
+        answers: &[LimiterAnswer],
+    ) -> Result<Ran, AllocError> {
+        let mut region = region_of(header)?;
+        let mut machine = machine_of(header, region.as_mut());
+        let mut limiter = AnswerList::new(answers.try_to_vec()?);
+        let replies = run_lending(&mut machine, calls, &mut limiter)?;
+        let held = Held::Nothing;
+        Ok(Ran { replies, held })
+    }
+
+    /// Runs the script's parts, each by its tenant, on a pool of new machines with the script's meter.
+    ///
+    /// # Contract
+    ///
+    /// <span></span><pre><code>ensures: [IfOk] result ([IsPoolReplay] line script.now)</code></pre>
+    ///
+    /// [IfOk]: crate::specs::library#IfOk "P of the value, if r is a value"
+    /// [IsPoolReplay]: crate::specs::script::ScriptRuns#IsPoolReplay "The replies are those of the parts, one after another, on a pool of new machines with the script\'s meter. What is held is what the pool\'s machines have then."
+    #[inline]
+    fn run_pool(script: &Script, line: TenantsLine) -> Result<Ran, AllocError> {
+        let mut pool = pool_of(&script.header, line)?;
+        let parts = &script.parts;
+        let mut replies = Vec::with_capacity(parts.calls().len())?;
+        for index in 0..parts.len() {
+            let (tenant, calls) = parts.get(index).unwrap();
+            let mut answered = run_part(&mut pool, tenant, calls)?;
+            replies.append(&mut answered)?;
+        }
+        let held = Held::Tenants(pool);
+        Ok(Ran { replies, held })
+    }
+
+    /// A pool of new machines with the meter of the header, under the caps of the line.
+    ///
+    /// # Contract
+    ///
+    /// <span></span><pre><code>ensures: [IfOk] result (λ pool. pool ≡ [new_pool] line ([new_state] ([meter_of] header.now)))</code></pre>
+    ///
+    /// [IfOk]: crate::specs::library#IfOk "P of the value, if r is a value"
+    /// [new_pool]: crate::specs::script::ScriptRuns#new_pool "a pool of new machines, as many as a line says, under its caps"
+    /// [new_state]: crate::specs::machine::State#new_state "a machine on which nothing was made yet, with 16 registers of zeros"
+    /// [meter_of]: crate::specs::grammar::Headers#meter_of "the meter that a script starts with: off without a line that says more"
+    #[inline]
+    fn pool_of(header: &Header, line: TenantsLine) -> Result<Pool<'static>, AllocError> {
+        let mut pool = Pool::new(line.caps.bytes, line.caps.elements);
+        for _index in 0..line.count {
+            // A new machine has nothing, so room alone can be wanting.
+            if pool.add(Machine::new(fuel_of(header))).is_err() {
+                return Err(AllocError);
+            }
+        }
+        Ok(pool)
+    }
+
+    /// Runs the calls of one part.
+    ///
+    /// # Contract
+    ///
+    /// <span></span><pre><code>ensures: [IfOk] result (λ replies.
+    /// &#32;&#32;&#32;&#32;[RunsTenant] pool.old tenant calls.now replies.items pool.new)</code></pre>
+    ///
+    /// [IfOk]: crate::specs::library#IfOk "P of the value, if r is a value"
+    /// [RunsTenant]: crate::specs::budget::Pool#RunsTenant "the machine of an index has run these calls under its limiter by a tenant\'s rules, and all else is the same"
+    #[inline]
+    fn run_part(pool: &mut Pool, tenant: usize, calls: &[Call]) -> Result<Vec<Reply>, AllocError> {
+        // No script names a tenant that its pool lacks, so memory is wanting after an error.
+        pool.run(tenant, calls).map_err(|_| AllocError)
+    }
+}
+mod wording {
+    //! What a reply says, as words and numbers.
+
+    use crate::proved::machine::{Call, RefType, Reply};
+    use crate::proved::meter::{FuelError, MemoryError, TableError};
+    use crate::proved::script::front::{put, put_optional};
+    use crate::proved::store::SegmentError;
+    use crate::proved::typed::GlobalError;
+
+    /// Words in two parts, then a number, if there is one, and then a second one after a space.
+    #[derive(Clone, Copy)]
+    pub struct Wording {
+        /// The first words.
+        pub start: &'static str,
+        /// The words after them, which may be none.
+        pub words: &'static str,
+        /// The number after the words.
+        pub first: Option<u64>,
+        /// The number after that one and a space.
+        pub second: Option<u64>,
+    }
+
+    impl Wording {
+        /// What a reply says but for its bytes.
+        ///
+        /// # Contract
+        ///
+        /// <span></span><pre><code>ensures: [wording_text] result ≡ [head_text] call.now reply.now</code></pre>
+        ///
+        /// [wording_text]: crate::specs::script::Wording#wording_text "the words of a wording, and then its numbers, the second after a space"
+        /// [head_text]: crate::specs::script::Texts#head_text "the reply to a call, but for the numbers of its bytes"
+        #[inline]
+        pub fn of(call: &Call, reply: &Reply) -> Wording {
+            match reply {
+                Reply::Done => Wording::of_words("done", ""),
+                Reply::Bytes(_) => Wording::of_words("bytes", ""),
+                Reply::Reference(None) => Wording::of_words("none", ""),
+                Reply::NoSuch => Wording::of_words("no such", ""),
+                Reply::NoRegion => Wording::of_words("no region", ""),
+                Reply::NoRoom => Wording::of_words("no room", ""),
+                Reply::Made(index) => Wording::with_number(made_word(call), " ", *index as u64),
+                Reply::Value(value) => Wording {
+                    start: "raw ",
+                    words: "",
+                    first: Some(value.lo),
+                    second: Some(value.hi),
+                },
+                Reply::Number(number) => Wording::with_number("value ", "", *number),
+                Reply::Reference(Some(reference)) => {
+                    let raw = u64::from(u32::from(reference.raw));
+                    Wording::with_number(reference_word_of(reference.ty), " ", raw)
+                }
+                Reply::Memory(error) => Wording::of_memory(error),
+                Reply::Table(error) => Wording::of_table(error),
+                Reply::Fuel(error) => Wording::of_fuel(error),
+                Reply::Global(error) => Wording::of_global(error),
+                Reply::Segment(error) => Wording::of_segment(error),
+                Reply::Trap(code) => Wording::of_words("error ", code.trap_message()),
+            }
+        }
+
+        /// # Contract
+        ///
+        /// <span></span><pre><code>ensures: [wording_text] result ≡ start.now ++ words.now</code></pre>
+        ///
+        /// [wording_text]: crate::specs::script::Wording#wording_text "the words of a wording, and then its numbers, the second after a space"
+        #[inline]
+        fn of_words(start: &'static str, words: &'static str) -> Wording {
+            Wording {
+                start,
+                words,
+                first: None,
+                second: None,
+            }
+        }
+
+        /// # Contract
+        ///
+        /// <span></span><pre><code>ensures: [wording_text] result ≡ start.now ++ (words.now ++ [decimal] number)</code></pre>
+        ///
+        /// [wording_text]: crate::specs::script::Wording#wording_text "the words of a wording, and then its numbers, the second after a space"
+        /// [decimal]: crate::specs::library#decimal "the digits of a number, as characters"
+        #[inline]
+        fn with_number(start: &'static str, words: &'static str, number: u64) -> Wording {
+            Wording {
+                start,
+                words,
+                first: Some(number),
+                second: None,
+            }
+        }
+
+        /// # Contract
+        ///
+        /// <span></span><pre><code>ensures: [wording_text] result ≡ [codes] \"error \" ++ [memory_error_text] error.now</code></pre>
+        ///
+        /// [wording_text]: crate::specs::script::Wording#wording_text "the words of a wording, and then its numbers, the second after a space"
+        /// [codes]: crate::specs::library#codes "the characters of a text, by their numbers"
+        /// [memory_error_text]: crate::specs::meter::Texts#memory_error_text "the text of an error of a memory"
+        #[inline]
+        fn of_memory(error: &MemoryError) -> Wording {
+            let words = match error {
+                MemoryError::OutOfSystemMemory => {
+                    "tried to allocate more virtual memory than available on the system"
+                }
+                MemoryError::OutOfBoundsGrowth => "out of bounds memory growth",
+                MemoryError::OutOfBoundsAccess => "out of bounds memory access",
+                MemoryError::InvalidMemoryType => "tried to create an invalid linear memory type",
+                MemoryError::InvalidStaticBufferSize => "tried to use too small static buffer",
+                MemoryError::ResourceLimiterDeniedAllocation => {
+                    "a resource limiter denied to allocate or grow the linear memory"
+                }
+                MemoryError::MinimumSizeOverflow => {
+                    "the minimum size of the memory type overflows the system index type"
+                }
+                MemoryError::MaximumSizeOverflow => {
+                    "the maximum size of the memory type overflows the system index type"
+                }
+                MemoryError::OutOfFuel { required_fuel } => {
+                    return Wording::with_number(
+                        "error ",
+                        "not enough fuel. required=",
+                        *required_fuel,
+                    );
+                }
+            };
+            Wording::of_words("error ", words)
+        }
+
+        /// # Contract
+        ///
+        /// <span></span><pre><code>ensures: [wording_text] result ≡ [codes] \"error \" ++ [table_error_text] error.now</code></pre>
+        ///
+        /// [wording_text]: crate::specs::script::Wording#wording_text "the words of a wording, and then its numbers, the second after a space"
+        /// [codes]: crate::specs::library#codes "the characters of a text, by their numbers"
+        /// [table_error_text]: crate::specs::meter::Texts#table_error_text "the text of an error of a table"
+        #[inline]
+        fn of_table(error: &TableError) -> Wording {
+            let words = match error {
+                TableError::OutOfSystemMemory => {
+                    "tried to allocate more virtual memory than available on the system"
+                }
+                TableError::MinimumSizeOverflow => {
+                    "the minimum table size overflows the system bounds"
+                }
+                TableError::MaximumSizeOverflow => {
+                    "the maximum table size overflows the system bounds"
+                }
+                TableError::ResourceLimiterDeniedAllocation => {
+                    "a resource limiter denied to allocate or grow the table"
+                }
+                TableError::GrowOutOfBounds => "out of bounds table access: `table.growth`",
+                TableError::InitOutOfBounds => "out of bounds table access: `table.init`",
+                TableError::FillOutOfBounds => "out of bounds table access: `table.fill`",
+                TableError::SetOutOfBounds => "out of bounds table access: `table.set`",
+                TableError::CopyOutOfBounds => "out of bounds table access: `table.copy`",
+                TableError::ElementTypeMismatch => "encountered mismatching table element type",
+                TableError::OutOfFuel { required_fuel } => {
+                    return Wording::with_number(
+                        "error ",
+                        "not enough fuel: required=",
+                        *required_fuel,
+                    );
+                }
+            };
+            Wording::of_words("error ", words)
+        }
+
+        /// # Contract
+        ///
+        /// <span></span><pre><code>ensures: [wording_text] result ≡ [codes] \"error \" ++ [fuel_error_text] error.now</code></pre>
+        ///
+        /// [wording_text]: crate::specs::script::Wording#wording_text "the words of a wording, and then its numbers, the second after a space"
+        /// [codes]: crate::specs::library#codes "the characters of a text, by their numbers"
+        /// [fuel_error_text]: crate::specs::meter::Texts#fuel_error_text "the text of an error of the meter"
+        #[inline]
+        fn of_fuel(error: &FuelError) -> Wording {
+            match error {
+                FuelError::FuelMeteringDisabled => {
+                    Wording::of_words("error ", "fuel metering is disabled")
+                }
+                FuelError::OutOfFuel { required_fuel } => {
+                    Wording::with_number("error ", "ouf of fuel. required=", *required_fuel)
+                }
+            }
+        }
+
+        /// # Contract
+        ///
+        /// <span></span><pre><code>ensures: [wording_text] result ≡ [codes] \"error \" ++ [global_error_text] error.now</code></pre>
+        ///
+        /// [wording_text]: crate::specs::script::Wording#wording_text "the words of a wording, and then its numbers, the second after a space"
+        /// [codes]: crate::specs::library#codes "the characters of a text, by their numbers"
+        /// [global_error_text]: crate::specs::typed::GlobalError#global_error_text "the text of an error of a global variable"
+        #[inline]
+        fn of_global(error: &GlobalError) -> Wording {
+            let words = match error {
+                GlobalError::ImmutableWrite => "tried to write to immutable global variable",
+                GlobalError::TypeMismatch => {
+                    "tried to write value of non-matching type to global variable"
+                }
+            };
+            Wording::of_words("error ", words)
+        }
+
+        /// # Contract
+        ///
+        /// <span></span><pre><code>ensures: [wording_text] result ≡ [codes] \"error \" ++ [segment_error_text] error.now</code></pre>
+        ///
+        /// [wording_text]: crate::specs::script::Wording#wording_text "the words of a wording, and then its numbers, the second after a space"
+        /// [codes]: crate::specs::library#codes "the characters of a text, by their numbers"
+        /// [segment_error_text]: crate::specs::store::SegmentError#segment_error_text "the text of an error of an element segment"
+        #[inline]
+        fn of_segment(error: &SegmentError) -> Wording {
+            let words = match error {
+                SegmentError::TooManyItems => "too many items in an element segment",
+                SegmentError::OutOfSystemMemory => "out of memory",
+            };
+            Wording::of_words("error ", words)
+        }
+
+        /// Writes it to the front of bytes, as [`put`] does a text.
+        ///
+        /// # Contract
+        ///
+        /// <span></span><pre><code>ensures: [AddsToFront] ([wording_text] self) bytes.old written bytes.new result</code></pre>
+        ///
+        /// [AddsToFront]: crate::specs::script::Fronts#AddsToFront "One text more is written to the front of bytes: whatever text was there before and whatever the bytes were at the start, that text followed by this one is there afterwards."
+        /// [wording_text]: crate::specs::script::Wording#wording_text "the words of a wording, and then its numbers, the second after a space"
+        #[inline]
+        pub fn put(self, bytes: &mut [u8], written: usize) -> usize {
+            let started = put(bytes, written, self.start.as_bytes());
+            let worded = put(bytes, started, self.words.as_bytes());
+            let numbered = put_optional(bytes, worded, "", self.first);
+            put_optional(bytes, numbered, " ", self.second)
+        }
+    }
+
+    /// The word for what the call makes. Only creations make anything, and `Made` answers no other
+    /// call.
+    ///
+    /// # Contract
+    ///
+    /// <span></span><pre><code>ensures: result.now ≡ [kind_text] call.now</code></pre>
+    ///
+    /// [kind_text]: crate::specs::script::Texts#kind_text "the word for what a call makes; only creations make anything"
+    #[inline]
+    fn made_word(call: &Call) -> &'static str {
+        match call {
+            Call::NewMemory(_) | Call::NewLentMemory(_) => "memory",
+            Call::NewTable { .. } => "table",
+            Call::NewSegment { .. } => "segment",
+            Call::NewGlobal { .. } => "global",
+            _ => "nothing",
+        }
+    }
+
+    /// The word of a reference type.
+    ///
+    /// # Contract
+    ///
+    /// <span></span><pre><code>ensures: result.now ≡ [reference_word] ty</code></pre>
+    ///
+    /// [reference_word]: crate::specs::operands::TypeWords#reference_word "the word of a reference type"
+    #[inline]
+    fn reference_word_of(ty: RefType) -> &'static str {
+        match ty {
+            RefType::Func => "func",
+            RefType::Extern => "extern",
+        }
+    }
+}
+
+pub use crate::proved::grammar::ParseError;
+pub use error::ReplayError;
+pub use lines::write_lines;
+pub use printing::{ReplyHead, print_lines};
+pub use replaying::{LIMIT, Status, replay};

@@ -1,0 +1,1092 @@
+//! The value types, traps and function types of WebAssembly.
+mod func_type {
+    //! Function types, and the errors of making one.
+
+    use crate::proved::types::ValType;
+    use crate::rattle::Vec;
+    use crate::rattle::alloc::AllocError;
+    use crate::rattle::rc::RcSlice;
+    use core::cmp::Ordering;
+    use core::error::Error;
+    use core::fmt;
+    use core::hash::{Hash, Hasher};
+
+    /// Why a function type cannot be made.
+    ///
+    /// Upstream: `wasmi_core::FuncTypeError`.
+    #[derive(Clone, Copy, Debug, PartialEq, Eq)]
+    pub enum FuncTypeError {
+        /// There are more than 1,000 parameters.
+        TooManyFunctionParams,
+        /// There are more than 1,000 results.
+        TooManyFunctionResults,
+        /// The system refused memory.
+        OutOfMemory,
+    }
+
+    /// # Contract
+    ///
+    /// <span></span><pre><code>output = λ error. [Some] ([func_type_error_text] error)</code></pre>
+    ///
+    /// [Some]: crate::specs::library#Some "the value x, of an \`Option\`"
+    /// [func_type_error_text]: crate::specs::types::FuncTypeError#func_type_error_text "the text of an error of a function type"
+    impl fmt::Display for FuncTypeError {
+        #[inline]
+        fn fmt(&self, f: &mut fmt::Formatter<'_>) -> fmt::Result {
+            f.write_str(match self {
+                Self::TooManyFunctionParams => "encountered a function with too many parameters",
+                Self::TooManyFunctionResults => "encountered a function with too many results",
+                Self::OutOfMemory => "out of memory",
+            })
+        }
+    }
+
+    impl Error for FuncTypeError {}
+
+    /// The type of a function: the types of its parameters and those of its results, at most 1,000
+    /// each.
+    ///
+    /// Up to 21 of them together stand in the value; more are shared by all clones of it.
+    /// Core specification 2.3, function types. Upstream: `wasmi_core::FuncType`.
+    ///
+    /// # Model
+    ///
+    /// <span></span><pre><code>Value = [FunctionType]
+    /// view = λ ty. [function_type_of] ty.inner
+    /// invariant = λ ty. [IsKept] ty.inner</code></pre>
+    ///
+    /// [FunctionType]: crate::specs::types::FunctionType#FunctionType "the parameters and the results of a function"
+    /// [function_type_of]: crate::specs::types::FuncTypeInner#function_type_of "the function type that is kept"
+    /// [IsKept]: crate::specs::types::FuncTypeInner#IsKept "at most 21 entries stand inline, and more on the heap, of at most 1,000 parameters and 1,000 results"
+    pub struct FuncType {
+        inner: FuncTypeInner,
+    }
+
+    enum FuncTypeInner {
+        /// The parameters, then the results, then entries that mean nothing.
+        Inline {
+            len_params: u8,
+            len_results: u8,
+            params_results: [ValType; INLINE_SIZE],
+        },
+        /// The parameters, then the results.
+        Big {
+            len_params: u16,
+            params_results: RcSlice<ValType>,
+        },
+    }
+
+    /// How many parameters there are at most, and how many results.
+    const MAX_LEN: u16 = 1_000;
+
+    /// How many entries stand inline at most.
+    const INLINE_SIZE: usize = 21;
+
+    impl FuncType {
+        /// Makes the type of a function with these parameters and results, which `read` reads: its
+        /// contract says what each answer means.
+        ///
+        /// The iterator that `params` becomes can be read, and after its end the one that `results`
+        /// becomes.
+        ///
+        /// Upstream: `FuncType::new`, there of iterators that know their lengths.
+        ///
+        /// # Contract
+        ///
+        /// <span></span><pre><code>requires params: [EachBecomes] [P.into_iter_gives] params [P.IntoIter].can_next
+        /// requires results: [EachBecomes] [P.into_iter_gives] params
+        /// &#32;&#32;&#32;&#32;(λ first. [EachBecomes] [R.into_iter_gives] results
+        /// &#32;&#32;&#32;&#32;(λ second. [AfterAll] [P.IntoIter].next_gives first ([R.IntoIter].can_next second)))
+        /// ensures reading: [IsReadingOf] [P.into_iter_gives] [P.IntoIter].next_gives [R.into_iter_gives]
+        /// &#32;&#32;&#32;&#32;[R.IntoIter].next_gives params results result</code></pre>
+        ///
+        /// [EachBecomes]: crate::specs::types::Iteration#EachBecomes "each iterator that a value becomes has a fact"
+        /// [P.into_iter_gives]: crate::specs::library#into_iter_gives "what \`into_iter\` gives for xs may be it"
+        /// [P.IntoIter]: crate::specs::library#IntoIter "the iterator that \`into_iter\` gives"
+        /// [R.into_iter_gives]: crate::specs::library#into_iter_gives "what \`into_iter\` gives for xs may be it"
+        /// [AfterAll]: crate::specs::types::Reading#AfterAll "a fact that holds once calls from s gave all types, and then the end"
+        /// [R.IntoIter]: crate::specs::library#IntoIter "the iterator that \`into_iter\` gives"
+        /// [IsReadingOf]: crate::specs::types::Reading#IsReadingOf "the answer after reading the iterators that x and y become"
+        #[inline]
+        pub fn new<P, R>(params: P, results: R) -> Result<Self, FuncTypeError>
+        where
+            P: IntoIterator<Item = ValType>,
+            R: IntoIterator<Item = ValType>,
+        {
+            let mut params = params.into_iter();
+            let mut results = results.into_iter();
+            Self::read(&mut params, &mut results)
+        }
+
+        /// Reads the parameters, then the results, each up to the first `None`, which is taken as the
+        /// end.
+        ///
+        /// Of each it reads at most 1,001 items: more than 1,000 parameters are refused before any
+        /// result is read, then more than 1,000 results. Memory is taken, and can be refused, only
+        /// where there are more than 21 items. Of an iterator nothing is read after its end or after
+        /// its item number 1,001, and the results are read only once the parameters have ended.
+        ///
+        /// Own: `new` takes its iterators by value, so that its contract can't say what is left of
+        /// them.
+        ///
+        /// # Contract
+        ///
+        /// <span></span><pre><code>requires params: [P.can_next] params.old
+        /// requires results: [AfterAll] [P.next_gives] params.old ([R.can_next] results.old)
+        /// ensures reading: [IsReading] [P.next_gives] [R.next_gives] params.old results.old result
+        /// &#32;&#32;&#32;&#32;params.new
+        /// &#32;&#32;&#32;&#32;results.new</code></pre>
+        ///
+        /// [P.can_next]: crate::specs::library#can_next "whether \`next\` may be called on the iterator"
+        /// [AfterAll]: crate::specs::types::Reading#AfterAll "a fact that holds once calls from s gave all types, and then the end"
+        /// [P.next_gives]: crate::specs::library#next_gives "\`next\` on it may give x and leave it\'"
+        /// [R.can_next]: crate::specs::library#can_next "whether \`next\` may be called on the iterator"
+        /// [IsReading]: crate::specs::types::Reading#IsReading "the answer after calls from p to p\' and from r to r\': the function type of all that came, or the refusal"
+        /// [R.next_gives]: crate::specs::library#next_gives "\`next\` on it may give x and leave it\'"
+        #[inline]
+        pub fn read<P, R>(params: &mut P, results: &mut R) -> Result<Self, FuncTypeError>
+        where
+            P: Iterator<Item = ValType>,
+            R: Iterator<Item = ValType>,
+        {
+            let mut entries = Entries::new();
+            let len_params = entries.read(params, FuncTypeError::TooManyFunctionParams)?;
+            let len_results = entries.read(results, FuncTypeError::TooManyFunctionResults)?;
+            match Self::from_entries(&entries, len_params, len_results) {
+                Ok(ty) => Ok(ty),
+                Err(_) => Err(FuncTypeError::OutOfMemory),
+            }
+        }
+
+        /// The function type of entries of which so many are parameters.
+        ///
+        /// # Contract
+        ///
+        /// <span></span><pre><code>requires count: [length] [entries].now ≡ len_params + len_results
+        /// requires params: len_params ≤ 1000
+        /// requires results: len_results ≤ 1000
+        /// ensures params: [IfOk] result (λ ty. ty.params ≡ [take] len_params [entries].now)
+        /// ensures results: [IfOk] result (λ ty. ty.results ≡ [drop] len_params [entries].now)
+        /// ensures refused: [IsErr] result → 21 < [length] [entries].now</code></pre>
+        ///
+        /// [length]: crate::specs::library#length "the number of elements of a list"
+        /// [entries]: crate::specs::types::FunctionType#entries "the parameters, then the results"
+        /// [IfOk]: crate::specs::library#IfOk "P of the value, if r is a value"
+        /// [take]: crate::specs::library#take "the first n elements"
+        /// [drop]: crate::specs::library#drop "all but the first n elements"
+        /// [IsErr]: crate::specs::library#IsErr "r is an error"
+        #[inline]
+        fn from_entries(
+            entries: &Entries,
+            len_params: u16,
+            len_results: u16,
+        ) -> Result<Self, AllocError> {
+            if entries.rest.is_empty() {
+                return Ok(FuncType {
+                    inner: FuncTypeInner::Inline {
+                        len_params: len_params as u8,
+                        len_results: len_results as u8,
+                        params_results: entries.inline,
+                    },
+                });
+            }
+            let mut params_results = Vec::from_slice(&entries.inline)?;
+            params_results.extend_from_slice(entries.rest.as_slice())?;
+            Ok(FuncType {
+                inner: FuncTypeInner::Big {
+                    len_params,
+                    params_results: RcSlice::from_vec(params_results)?,
+                },
+            })
+        }
+
+        /// The types of the parameters.
+        ///
+        /// # Contract
+        ///
+        /// <span></span><pre><code>ensures: result.now ≡ self.now.params</code></pre>
+        #[inline]
+        pub fn params(&self) -> &[ValType] {
+            self.params_results().0
+        }
+
+        /// The types of the results.
+        ///
+        /// # Contract
+        ///
+        /// <span></span><pre><code>ensures: result.now ≡ self.now.results</code></pre>
+        #[inline]
+        pub fn results(&self) -> &[ValType] {
+            self.params_results().1
+        }
+
+        /// How many parameters there are.
+        ///
+        /// # Contract
+        ///
+        /// <span></span><pre><code>ensures: result ≡ [length] self.now.params</code></pre>
+        ///
+        /// [length]: crate::specs::library#length "the number of elements of a list"
+        #[inline]
+        pub fn len_params(&self) -> u16 {
+            match &self.inner {
+                FuncTypeInner::Inline { len_params, .. } => u16::from(*len_params),
+                FuncTypeInner::Big { len_params, .. } => *len_params,
+            }
+        }
+
+        /// How many results there are.
+        ///
+        /// # Contract
+        ///
+        /// <span></span><pre><code>ensures: result ≡ [length] self.now.results</code></pre>
+        ///
+        /// [length]: crate::specs::library#length "the number of elements of a list"
+        #[inline]
+        pub fn len_results(&self) -> u16 {
+            match &self.inner {
+                FuncTypeInner::Inline { len_results, .. } => u16::from(*len_results),
+                FuncTypeInner::Big {
+                    len_params,
+                    params_results,
+                } => params_results.len() as u16 - *len_params,
+            }
+        }
+
+        /// The types of the parameters, and those of the results.
+        ///
+        /// # Contract
+        ///
+        /// <span></span><pre><code>ensures params: result.0.now ≡ self.now.params
+        /// ensures results: result.1.now ≡ self.now.results</code></pre>
+        #[inline]
+        pub fn params_results(&self) -> (&[ValType], &[ValType]) {
+            self.entries().split_at(usize::from(self.len_params()))
+        }
+
+        /// What function types are ordered by, place by place.
+        ///
+        /// # Contract
+        ///
+        /// <span></span><pre><code>ensures big: result.0 ≡ [not] ([nat_le] ([entry_count] self.now) 21)
+        /// ensures params: result.1 ≡ [length] self.now.params
+        /// ensures results: result.2
+        /// &#32;&#32;&#32;&#32;≡ (if [nat_le] ([entry_count] self.now) 21 then [length] self.now.results else 0)
+        /// ensures entries: result.3.now ≡ [entries] self.now</code></pre>
+        ///
+        /// [not]: crate::specs::library#not "the other Boolean"
+        /// [nat_le]: crate::specs::library#nat_le "whether m is at most n, as a Boolean"
+        /// [entry_count]: crate::specs::types::FunctionType#entry_count "how many parameters and results there are together"
+        /// [length]: crate::specs::library#length "the number of elements of a list"
+        /// [entries]: crate::specs::types::FunctionType#entries "the parameters, then the results"
+        #[inline]
+        fn order_key(&self) -> (bool, u16, u16, &[ValType]) {
+            let entries = self.entries();
+            let is_big = entries.len() > INLINE_SIZE;
+            let len_results = if is_big { 0 } else { self.len_results() };
+            (is_big, self.len_params(), len_results, entries)
+        }
+
+        /// The types of the parameters, then those of the results.
+        ///
+        /// # Contract
+        ///
+        /// <span></span><pre><code>ensures: result.now ≡ [entries] self.now</code></pre>
+        ///
+        /// [entries]: crate::specs::types::FunctionType#entries "the parameters, then the results"
+        #[inline]
+        fn entries(&self) -> &[ValType] {
+            match &self.inner {
+                FuncTypeInner::Inline {
+                    len_params,
+                    len_results,
+                    params_results,
+                } => &params_results[..usize::from(*len_params) + usize::from(*len_results)],
+                FuncTypeInner::Big { params_results, .. } => params_results.as_slice(),
+            }
+        }
+    }
+
+    /// # Contract
+    ///
+    /// <span></span><pre><code>is_clone = λ ty copy. copy ≡ ty</code></pre>
+    impl crate::rattle::TryClone for FuncType {
+        /// The same function type. Memory can be refused only where it has more than 21 entries.
+        ///
+        /// # Contract
+        ///
+        /// <span></span><pre><code>ensures is_clone: [IfOk] result (λ copy. copy ≡ self.now)
+        /// ensures refused: [IsErr] result → 21 < [entry_count] self.now</code></pre>
+        ///
+        /// [IfOk]: crate::specs::library#IfOk "P of the value, if r is a value"
+        /// [IsErr]: crate::specs::library#IsErr "r is an error"
+        /// [entry_count]: crate::specs::types::FunctionType#entry_count "how many parameters and results there are together"
+        #[inline]
+        fn try_clone(&self) -> Result<Self, AllocError> {
+            Ok(FuncType {
+                inner: match &self.inner {
+                    FuncTypeInner::Inline {
+                        len_params,
+                        len_results,
+                        params_results,
+                    } => FuncTypeInner::Inline {
+                        len_params: *len_params,
+                        len_results: *len_results,
+                        params_results: *params_results,
+                    },
+                    FuncTypeInner::Big {
+                        len_params,
+                        params_results,
+                    } => FuncTypeInner::Big {
+                        len_params: *len_params,
+                        params_results: params_results.try_clone()?,
+                    },
+                },
+            })
+        }
+    }
+
+    /// # Contract
+    ///
+    /// <span></span><pre><code>eq = [same_lists] ⟦\<ValType as PartialEq>⟧.eq</code></pre>
+    ///
+    /// [same_lists]: crate::specs::types::FunctionType#same_lists "whether both lists are the same, by a test of value types"
+    impl PartialEq for FuncType {
+        /// # Contract
+        ///
+        /// <span></span><pre><code>ensures eq: result ≡ [same_lists] ⟦\<ValType as PartialEq>⟧.eq self.now other.now
+        /// ensures same: [IsTrue] result ↔ (self.now ≡ other.now)</code></pre>
+        ///
+        /// [same_lists]: crate::specs::types::FunctionType#same_lists "whether both lists are the same, by a test of value types"
+        /// [IsTrue]: crate::specs::library#IsTrue "b is true"
+        #[inline]
+        fn eq(&self, other: &Self) -> bool {
+            self.params_results() == other.params_results()
+        }
+    }
+
+    impl Eq for FuncType {}
+
+    /// # Contract
+    ///
+    /// <span></span><pre><code>cmp = [function_type_cmp]
+    /// total = [on_texts] [order_key]</code></pre>
+    ///
+    /// [function_type_cmp]: crate::specs::types::FunctionType#function_type_cmp "the order of two function types"
+    /// [on_texts]: crate::specs::library#on_texts "the order of lists, element by element, by a number for each"
+    /// [order_key]: crate::specs::types::FunctionType#order_key "what function types are ordered by, place by place: small ones (at most 21 entries) come first, then the number of parameters counts, among small ones then that of results, then the entries"
+    impl Ord for FuncType {
+        /// # Contract
+        ///
+        /// <span></span><pre><code>ensures cmp: result ≡ [function_type_cmp] self.now other.now
+        /// ensures equal: (result ≡ [Ordering].Equal) ↔ (self.now ≡ other.now)</code></pre>
+        ///
+        /// [function_type_cmp]: crate::specs::types::FunctionType#function_type_cmp "the order of two function types"
+        /// [Ordering]: crate::specs::library#Ordering "less, equal or greater"
+        #[inline]
+        fn cmp(&self, other: &Self) -> Ordering {
+            self.order_key().cmp(&other.order_key())
+        }
+    }
+
+    /// # Contract
+    ///
+    /// <span></span><pre><code>partial_cmp = [as_partial_cmp] [function_type_cmp]</code></pre>
+    ///
+    /// [as_partial_cmp]: crate::specs::library#as_partial_cmp "the order \`cmp\`, as \`partial_cmp\` gives it"
+    /// [function_type_cmp]: crate::specs::types::FunctionType#function_type_cmp "the order of two function types"
+    impl PartialOrd for FuncType {
+        #[inline]
+        fn partial_cmp(&self, other: &Self) -> Option<Ordering> {
+            Some(self.cmp(other))
+        }
+    }
+
+    /// # Contract
+    ///
+    /// <span></span><pre><code>hash_input = [lists_input] ⟦\<ValType as Hash>⟧.hash_input</code></pre>
+    ///
+    /// [lists_input]: crate::specs::types::FunctionType#lists_input "what a function type gives to a hasher: the parameters, then the results"
+    impl Hash for FuncType {
+        #[inline]
+        fn hash<H: Hasher>(&self, state: &mut H) {
+            self.params().hash(state);
+            self.results().hash(state);
+        }
+    }
+
+    impl fmt::Debug for FuncType {
+        #[inline]
+        fn fmt(&self, f: &mut fmt::Formatter<'_>) -> fmt::Result {
+            f.debug_struct("FuncType")
+                .field("params", &self.params())
+                .field("results", &self.results())
+                .finish()
+        }
+    }
+
+    /// The entries of a function type while they are read.
+    ///
+    /// # Model
+    ///
+    /// <span></span><pre><code>Value = [List] [ValType]
+    /// view = λ [entries]. [take] [entries].len [entries].inline ++ [entries].rest.items
+    /// invariant = λ [entries]. ([length] [entries].inline ≡ 21) × ([entries].len ≤ 21)
+    /// &#32;&#32;&#32;&#32;× ([entries].len < 21 → [entries].rest.items ≡ \[\])</code></pre>
+    ///
+    /// [List]: crate::specs::library#List "the finite lists"
+    /// [ValType]: crate::proved::types::ValType
+    /// [entries]: crate::specs::types::FunctionType#entries "the parameters, then the results"
+    /// [take]: crate::specs::library#take "the first n elements"
+    /// [length]: crate::specs::library#length "the number of elements of a list"
+    struct Entries {
+        /// The first 21 entries, then types that mean nothing.
+        inline: [ValType; INLINE_SIZE],
+        /// How many entries stand inline.
+        len: usize,
+        /// The entries after the first 21.
+        rest: Vec<ValType>,
+    }
+
+    impl Entries {
+        /// # Contract
+        ///
+        /// <span></span><pre><code>ensures: result ≡ \[\]</code></pre>
+        #[inline]
+        fn new() -> Self {
+            Entries {
+                inline: [ValType::I32; INLINE_SIZE],
+                len: 0,
+                rest: Vec::new(),
+            }
+        }
+
+        /// Appends a type. Memory is taken only after the first 21.
+        ///
+        /// # Contract
+        ///
+        /// <span></span><pre><code>ensures ok: [OnOk] result (self.new ≡ self.old ++ ty ∷ \[\])
+        /// ensures refused: [OnErr] result (21 ≤ [length] self.old)</code></pre>
+        ///
+        /// [OnOk]: crate::specs::library#OnOk "P, if r is a value"
+        /// [OnErr]: crate::specs::library#OnErr "P, if r is an error"
+        /// [length]: crate::specs::library#length "the number of elements of a list"
+        #[inline]
+        fn push(&mut self, ty: ValType) -> Result<(), AllocError> {
+            if self.len < INLINE_SIZE {
+                self.inline[self.len] = ty;
+                self.len += 1;
+            } else {
+                self.rest.push(ty)?;
+            }
+            Ok(())
+        }
+
+        /// Appends the next type, and answers whether there was one.
+        ///
+        /// # Contract
+        ///
+        /// <span></span><pre><code>requires readable: [I.can_next] types.old
+        /// ensures read: [ReadsNextType] [I.next_gives] [I.can_next] types.old self.old result types.new
+        /// &#32;&#32;&#32;&#32;self.new</code></pre>
+        ///
+        /// [I.can_next]: crate::specs::library#can_next "whether \`next\` may be called on the iterator"
+        /// [ReadsNextType]: crate::specs::types::Reading#ReadsNextType "a call from s to t gave a type that was appended, or was refused memory after 21, or gave the end"
+        /// [I.next_gives]: crate::specs::library#next_gives "\`next\` on it may give x and leave it\'"
+        #[inline]
+        fn push_next<I>(&mut self, types: &mut I) -> Result<bool, AllocError>
+        where
+            I: Iterator<Item = ValType>,
+        {
+            match types.next() {
+                Some(ty) => {
+                    self.push(ty)?;
+                    Ok(true)
+                }
+                None => Ok(false),
+            }
+        }
+
+        /// Appends what an iterator gives until its first `None`, and answers how many came.
+        ///
+        /// # Contract
+        ///
+        /// <span></span><pre><code>requires readable: [I.can_next] types.old
+        /// ensures ok: [IfOk] result
+        /// &#32;&#32;&#32;&#32;(λ count. [ReadsTypes] [I.next_gives] types.old self.old count types.new self.new)
+        /// ensures err: [IfErr] result
+        /// &#32;&#32;&#32;&#32;(λ error. [IsReadingRefusal] [I.next_gives] too_many types.old self.old error types.new)</code></pre>
+        ///
+        /// [I.can_next]: crate::specs::library#can_next "whether \`next\` may be called on the iterator"
+        /// [IfOk]: crate::specs::library#IfOk "P of the value, if r is a value"
+        /// [ReadsTypes]: crate::specs::types::Reading#ReadsTypes "calls from s to t gave so many types, at most 1,000, and then the end; they follow those before"
+        /// [I.next_gives]: crate::specs::library#next_gives "\`next\` on it may give x and leave it\'"
+        /// [IfErr]: crate::specs::library#IfErr "P of the error, if r is an error"
+        /// [IsReadingRefusal]: crate::specs::types::Reading#IsReadingRefusal "why a part was not read"
+        #[inline]
+        fn read<I>(&mut self, types: &mut I, too_many: FuncTypeError) -> Result<u16, FuncTypeError>
+        where
+            I: Iterator<Item = ValType>,
+        {
+            for count in 0..MAX_LEN {
+                match self.push_next(types) {
+                    Ok(true) => {}
+                    Ok(false) => return Ok(count),
+                    Err(_) => return Err(FuncTypeError::OutOfMemory),
+                }
+            }
+            match types.next() {
+                Some(_) => Err(too_many),
+                None => Ok(MAX_LEN),
+            }
+        }
+    }
+}
+pub mod hint {
+    //! Hints on which branch is taken.
+
+    /// Does nothing. A branch that calls it is unlikely.
+    ///
+    /// Upstream: `wasmi_core::hint::cold`.
+    #[cold]
+    pub fn cold() {}
+
+    /// The condition, which is likely true.
+    ///
+    /// Upstream: `wasmi_core::hint::likely`.
+    ///
+    /// # Contract
+    ///
+    /// <span></span><pre><code>ensures: result ≡ condition</code></pre>
+    #[inline]
+    pub fn likely(condition: bool) -> bool {
+        if !condition {
+            cold();
+        }
+        condition
+    }
+
+    /// The condition, which is unlikely true.
+    ///
+    /// Upstream: `wasmi_core::hint::unlikely`.
+    ///
+    /// # Contract
+    ///
+    /// <span></span><pre><code>ensures: result ≡ condition</code></pre>
+    #[inline]
+    pub fn unlikely(condition: bool) -> bool {
+        if condition {
+            cold();
+        }
+        condition
+    }
+}
+mod host_error {
+    //! Errors of the host.
+
+    use core::fmt::{Debug, Display};
+
+    /// An error of the host, which a [`Trap`](crate::Trap) can carry.
+    ///
+    /// Upstream: `wasmi_core::HostError`.
+    pub trait HostError: Display + Debug {}
+}
+mod index_ty {
+    //! The types of addresses and of table indices.
+
+    use crate::proved::types::ValType;
+
+    /// The type of the addresses of a linear memory, or of the indices of a table.
+    ///
+    /// The memory64 proposal, address types. Upstream: `wasmi_core::IndexType`.
+    #[derive(Clone, Copy, Debug, PartialEq, Eq)]
+    pub enum IndexType {
+        /// 32-bit addresses.
+        I32,
+        /// 64-bit addresses.
+        I64,
+    }
+
+    impl IndexType {
+        /// The value type of an address.
+        ///
+        /// # Contract
+        ///
+        /// <span></span><pre><code>ensures: result ≡ [address_type] self.now</code></pre>
+        ///
+        /// [address_type]: crate::specs::types::IndexType#address_type "the value type of an address"
+        #[inline]
+        pub fn ty(&self) -> ValType {
+            match self {
+                Self::I32 => ValType::I32,
+                Self::I64 => ValType::I64,
+            }
+        }
+
+        /// Whether addresses have 64 bits.
+        ///
+        /// # Contract
+        ///
+        /// <span></span><pre><code>ensures: [IsTrue] result ↔ (self.now ≡ [IndexType.I64])</code></pre>
+        ///
+        /// [IsTrue]: crate::specs::library#IsTrue "b is true"
+        /// [IndexType.I64]: crate::proved::types::IndexType::I64
+        #[inline]
+        pub fn is_64(&self) -> bool {
+            matches!(self, Self::I64)
+        }
+
+        /// How many addresses there are: 2^32 or 2^64.
+        ///
+        /// # Contract
+        ///
+        /// <span></span><pre><code>ensures: result ≡ 2 ^ [address_bits] self.now</code></pre>
+        ///
+        /// [address_bits]: crate::specs::types::IndexType#address_bits "how many bits an address has"
+        #[inline]
+        pub fn max_size(&self) -> u128 {
+            const MAX_SIZE_32: u128 = 1 << 32;
+            const MAX_SIZE_64: u128 = 1 << 64;
+            match self {
+                Self::I32 => MAX_SIZE_32,
+                Self::I64 => MAX_SIZE_64,
+            }
+        }
+
+        /// The narrower of the two: `I64` only where both are.
+        ///
+        /// # Contract
+        ///
+        /// <span></span><pre><code>ensures: result ≡ [narrower] self.now other.now</code></pre>
+        ///
+        /// [narrower]: crate::specs::types::IndexType#narrower "the narrower of two address types"
+        #[inline]
+        pub fn min(&self, other: &Self) -> Self {
+            match (self, other) {
+                (Self::I64, Self::I64) => Self::I64,
+                _ => Self::I32,
+            }
+        }
+    }
+}
+mod trap {
+    //! Traps: why a call ended early.
+
+    use crate::proved::types::HostError;
+    use alloc::string::String;
+    use core::error::Error;
+    use core::fmt;
+
+    /// Why a call of WebAssembly code or of the host ended early: a trap code, an exit status, a
+    /// message or an error of the host. It stands in the value, and nothing is allocated for it.
+    ///
+    /// Upstream: `wasmi_core::Trap`.
+    ///
+    /// # Model
+    ///
+    /// <span></span><pre><code>Value = TrapReason H
+    /// view = λ trap. trap.reason</code></pre>
+    #[derive(Debug)]
+    pub struct Trap<H> {
+        reason: TrapReason<H>,
+    }
+
+    #[derive(Debug)]
+    enum TrapReason<H> {
+        InstructionTrap(TrapCode),
+        I32Exit(i32),
+        Message(String),
+        Host(H),
+    }
+
+    impl<H: HostError> Trap<H> {
+        /// A trap that a message describes.
+        ///
+        /// # Contract
+        ///
+        /// <span></span><pre><code>ensures: result ≡ reason.Message message</code></pre>
+        #[inline]
+        pub fn new(message: String) -> Self {
+            Trap {
+                reason: TrapReason::Message(message),
+            }
+        }
+
+        /// An exit of the program with a status.
+        ///
+        /// # Contract
+        ///
+        /// <span></span><pre><code>ensures: result ≡ reason.I32Exit status</code></pre>
+        #[inline]
+        pub fn i32_exit(status: i32) -> Self {
+            Trap {
+                reason: TrapReason::I32Exit(status),
+            }
+        }
+
+        /// The exit status, if this is an exit.
+        ///
+        /// # Contract
+        ///
+        /// <span></span><pre><code>ensures: result ≡ [exit_status_of] self.now</code></pre>
+        ///
+        /// [exit_status_of]: crate::specs::types::TrapReason#exit_status_of "the exit status of a reason, if it is one"
+        #[inline]
+        pub fn i32_exit_status(&self) -> Option<i32> {
+            match &self.reason {
+                TrapReason::I32Exit(status) => Some(*status),
+                _ => None,
+            }
+        }
+
+        /// The trap code, if an instruction trapped.
+        ///
+        /// # Contract
+        ///
+        /// <span></span><pre><code>ensures: result ≡ [code_of] self.now</code></pre>
+        ///
+        /// [code_of]: crate::specs::types::TrapReason#code_of "the trap code of a reason, if it is one"
+        #[inline]
+        pub fn trap_code(&self) -> Option<TrapCode> {
+            match &self.reason {
+                TrapReason::InstructionTrap(code) => Some(*code),
+                _ => None,
+            }
+        }
+
+        /// The error of the host, if this carries one.
+        ///
+        /// # Contract
+        ///
+        /// <span></span><pre><code>ensures: [option_copied] result ≡ [host_error_of] self.now</code></pre>
+        ///
+        /// [option_copied]: crate::specs::library#option_copied "the value behind an optional reference, if there is one"
+        /// [host_error_of]: crate::specs::types::TrapReason#host_error_of "the host\'s error of a reason, if it is one"
+        #[inline]
+        pub fn downcast_ref(&self) -> Option<&H> {
+            match &self.reason {
+                TrapReason::Host(error) => Some(error),
+                _ => None,
+            }
+        }
+
+        /// The error of the host to be changed, if this carries one.
+        ///
+        /// # Contract
+        ///
+        /// <span></span><pre><code>ensures\* writes_back: [sem] 𝓛 ([LendsIf] ([the_row] [H.row]) [H.row] self.entry result
+        /// &#32;&#32;&#32;&#32;([with_host_error] self.old) self.old)
+        /// ensures value: [option_copied_mut] result ≡ [host_error_of] self.old</code></pre>
+        ///
+        /// [sem]: crate::specs::library#sem "the fixed form of a clause on a loan"
+        /// [LendsIf]: crate::specs::library#LendsIf "as \`Lends\` where the result is a value; else x is v"
+        /// [the_row]: crate::specs::library#the_row "the type itself, in a clause on a loan"
+        /// [H.row]: crate::specs::library#row "a type, in a clause on a loan"
+        /// [with_host_error]: crate::specs::types::TrapReason#with_host_error "the reason with another error of the host, if it carries one"
+        /// [option_copied_mut]: crate::specs::library#option_copied_mut "the value behind an optional \`&mut\`, if there is one"
+        /// [host_error_of]: crate::specs::types::TrapReason#host_error_of "the host\'s error of a reason, if it is one"
+        #[inline]
+        pub fn downcast_mut(&mut self) -> Option<&mut H> {
+            self.reason.as_host_mut()
+        }
+
+        /// The error of the host, if this carries one. A trap without one is dropped.
+        ///
+        /// # Contract
+        ///
+        /// <span></span><pre><code>ensures: result ≡ [host_error_of] self</code></pre>
+        ///
+        /// [host_error_of]: crate::specs::types::TrapReason#host_error_of "the host\'s error of a reason, if it is one"
+        #[inline]
+        pub fn downcast(self) -> Option<H> {
+            match self.reason {
+                TrapReason::Host(error) => Some(error),
+                _ => None,
+            }
+        }
+    }
+
+    impl<H> TrapReason<H> {
+        /// # Contract
+        ///
+        /// <span></span><pre><code>ensures\* writes_back: [sem] 𝓛 ([LendsIf] ([the_row] [H.row]) [H.row] self.entry result
+        /// &#32;&#32;&#32;&#32;([with_host_error] self.old) self.old)
+        /// ensures value: [option_copied_mut] result ≡ [host_error_of] self.old</code></pre>
+        ///
+        /// [sem]: crate::specs::library#sem "the fixed form of a clause on a loan"
+        /// [LendsIf]: crate::specs::library#LendsIf "as \`Lends\` where the result is a value; else x is v"
+        /// [the_row]: crate::specs::library#the_row "the type itself, in a clause on a loan"
+        /// [H.row]: crate::specs::library#row "a type, in a clause on a loan"
+        /// [with_host_error]: crate::specs::types::TrapReason#with_host_error "the reason with another error of the host, if it carries one"
+        /// [option_copied_mut]: crate::specs::library#option_copied_mut "the value behind an optional \`&mut\`, if there is one"
+        /// [host_error_of]: crate::specs::types::TrapReason#host_error_of "the host\'s error of a reason, if it is one"
+        #[inline]
+        fn as_host_mut(&mut self) -> Option<&mut H> {
+            match self {
+                TrapReason::Host(error) => Some(error),
+                _ => None,
+            }
+        }
+    }
+
+    /// # Contract
+    ///
+    /// <span></span><pre><code>output = [text_of] [H.output]</code></pre>
+    ///
+    /// [text_of]: crate::specs::types::TrapReason#text_of "the text of a reason, where \`host_text\` is that of the host\'s error"
+    /// [H.output]: crate::specs::library#output "what \`Display\` prints of x, if it is known"
+    impl<H: HostError> fmt::Display for Trap<H> {
+        #[inline]
+        fn fmt(&self, f: &mut fmt::Formatter<'_>) -> fmt::Result {
+            match &self.reason {
+                TrapReason::InstructionTrap(code) => fmt::Display::fmt(code, f),
+                TrapReason::I32Exit(status) => write!(f, "Exited with i32 exit status {status}"),
+                TrapReason::Message(message) => f.write_str(message),
+                TrapReason::Host(error) => fmt::Display::fmt(error, f),
+            }
+        }
+    }
+
+    impl<H: HostError> Error for Trap<H> {}
+
+    /// # Contract
+    ///
+    /// <span></span><pre><code>from_gives = λ code trap. trap ≡ reason.InstructionTrap code</code></pre>
+    impl<H: HostError> From<TrapCode> for Trap<H> {
+        #[inline]
+        fn from(code: TrapCode) -> Self {
+            Trap {
+                reason: TrapReason::InstructionTrap(code),
+            }
+        }
+    }
+
+    /// # Contract
+    ///
+    /// <span></span><pre><code>from_gives = λ error trap. trap ≡ reason.Host error</code></pre>
+    impl<H: HostError> From<H> for Trap<H> {
+        #[inline]
+        fn from(error: H) -> Self {
+            Trap {
+                reason: TrapReason::Host(error),
+            }
+        }
+    }
+
+    /// A number that no trap code has.
+    ///
+    /// Upstream: `wasmi_core::InvalidTrapCode`.
+    #[derive(Clone, Copy, Debug, PartialEq, Eq)]
+    pub struct InvalidTrapCode;
+
+    /// Why an instruction trapped, as the numbers 1 to 12.
+    ///
+    /// Upstream: `wasmi_core::TrapCode`.
+    #[derive(Clone, Copy, Debug, PartialEq, Eq)]
+    #[repr(u8)]
+    pub enum TrapCode {
+        /// The instruction `unreachable` was executed.
+        UnreachableCodeReached = 1,
+        /// An access to a linear memory past its end.
+        MemoryOutOfBounds = 2,
+        /// An access to a table past its end.
+        TableOutOfBounds = 3,
+        /// An indirect call through a null reference.
+        IndirectCallToNull = 4,
+        /// An integer division or remainder by 0.
+        IntegerDivisionByZero = 5,
+        /// The quotient of a signed division does not fit its type.
+        IntegerOverflow = 6,
+        /// A float that is a NaN or does not fit was converted to an integer.
+        BadConversionToInteger = 7,
+        /// The calls are nested too deeply.
+        StackOverflow = 8,
+        /// An indirect call of a function of another type.
+        BadSignature = 9,
+        /// The fuel is used up.
+        OutOfFuel = 10,
+        /// A resource limiter answered a growth with an error.
+        GrowthOperationLimited = 11,
+        /// The system refused memory.
+        OutOfSystemMemory = 12,
+    }
+
+    impl TrapCode {
+        /// The message of this code, mostly that of the core specification's test suite.
+        ///
+        /// # Contract
+        ///
+        /// <span></span><pre><code>ensures: result.now ≡ [code_message] self.now</code></pre>
+        ///
+        /// [code_message]: crate::specs::types::Trap#code_message "the text of a trap code"
+        #[inline]
+        pub fn trap_message(&self) -> &'static str {
+            match self {
+                Self::UnreachableCodeReached => "wasm `unreachable` instruction executed",
+                Self::MemoryOutOfBounds => "out of bounds memory access",
+                Self::TableOutOfBounds => "undefined element: out of bounds table access",
+                Self::IndirectCallToNull => "uninitialized element 2",
+                Self::IntegerDivisionByZero => "integer divide by zero",
+                Self::IntegerOverflow => "integer overflow",
+                Self::BadConversionToInteger => "invalid conversion to integer",
+                Self::StackOverflow => "call stack exhausted",
+                Self::BadSignature => "indirect call type mismatch",
+                Self::OutOfFuel => "all fuel consumed by WebAssembly",
+                Self::GrowthOperationLimited => "growth operation limited",
+                Self::OutOfSystemMemory => "out of system memory",
+            }
+        }
+    }
+
+    /// # Contract
+    ///
+    /// <span></span><pre><code>output = λ code. [Some] ([code_message] code)</code></pre>
+    ///
+    /// [Some]: crate::specs::library#Some "the value x, of an \`Option\`"
+    /// [code_message]: crate::specs::types::Trap#code_message "the text of a trap code"
+    impl fmt::Display for TrapCode {
+        #[inline]
+        fn fmt(&self, f: &mut fmt::Formatter<'_>) -> fmt::Result {
+            f.write_str(self.trap_message())
+        }
+    }
+
+    /// # Contract
+    ///
+    /// <span></span><pre><code>from_gives = λ code number. number ≡ [code_number] code</code></pre>
+    ///
+    /// [code_number]: crate::specs::types::Trap#code_number "the number that stands for a trap code"
+    impl From<TrapCode> for u8 {
+        #[inline]
+        fn from(code: TrapCode) -> u8 {
+            code as u8
+        }
+    }
+
+    /// # Contract
+    ///
+    /// <span></span><pre><code>try_from_gives = [IsCodeOf]</code></pre>
+    ///
+    /// [IsCodeOf]: crate::specs::types::Trap#IsCodeOf "the answer is the trap code with this number, or the error where no trap code has it"
+    impl TryFrom<u8> for TrapCode {
+        type Error = InvalidTrapCode;
+
+        #[inline]
+        fn try_from(number: u8) -> Result<Self, InvalidTrapCode> {
+            match number {
+                1 => Ok(TrapCode::UnreachableCodeReached),
+                2 => Ok(TrapCode::MemoryOutOfBounds),
+                3 => Ok(TrapCode::TableOutOfBounds),
+                4 => Ok(TrapCode::IndirectCallToNull),
+                5 => Ok(TrapCode::IntegerDivisionByZero),
+                6 => Ok(TrapCode::IntegerOverflow),
+                7 => Ok(TrapCode::BadConversionToInteger),
+                8 => Ok(TrapCode::StackOverflow),
+                9 => Ok(TrapCode::BadSignature),
+                10 => Ok(TrapCode::OutOfFuel),
+                11 => Ok(TrapCode::GrowthOperationLimited),
+                12 => Ok(TrapCode::OutOfSystemMemory),
+                _ => Err(InvalidTrapCode),
+            }
+        }
+    }
+}
+mod value {
+    //! Value types and reference types.
+
+    /// The type of a value. Ordered as listed.
+    ///
+    /// Core specification 2.3, value types. Upstream: `wasmi_core::ValType`.
+    #[derive(Clone, Copy, Debug, PartialEq, Eq, PartialOrd, Ord, Hash)]
+    pub enum ValType {
+        /// A 32-bit integer.
+        I32,
+        /// A 64-bit integer.
+        I64,
+        /// A 32-bit float.
+        F32,
+        /// A 64-bit float.
+        F64,
+        /// A 128-bit vector.
+        V128,
+        /// A reference to a function, or null.
+        FuncRef,
+        /// A reference to an object of the host, or null.
+        ExternRef,
+    }
+
+    impl ValType {
+        /// Whether this is a number type: `I32`, `I64`, `F32` or `F64`.
+        ///
+        /// # Contract
+        ///
+        /// <span></span><pre><code>ensures: result ≡ [is_number_type] self.now</code></pre>
+        ///
+        /// [is_number_type]: crate::specs::types::Value#is_number_type "whether a value type is a number type"
+        #[inline]
+        pub fn is_num(&self) -> bool {
+            matches!(self, Self::I32 | Self::I64 | Self::F32 | Self::F64)
+        }
+
+        /// Whether this is a reference type: `FuncRef` or `ExternRef`.
+        ///
+        /// # Contract
+        ///
+        /// <span></span><pre><code>ensures: result ≡ [is_some] ([reference_of] self.now)</code></pre>
+        ///
+        /// [is_some]: crate::specs::library#is_some "whether there is a value, as a Boolean"
+        /// [reference_of]: crate::specs::types::Value#reference_of "the reference type of a value type, if it is one"
+        #[inline]
+        pub fn is_ref(&self) -> bool {
+            matches!(self, Self::FuncRef | Self::ExternRef)
+        }
+
+        /// The reference type, or `None` where this is none.
+        ///
+        /// # Contract
+        ///
+        /// <span></span><pre><code>ensures: result ≡ [reference_of] self.now</code></pre>
+        ///
+        /// [reference_of]: crate::specs::types::Value#reference_of "the reference type of a value type, if it is one"
+        #[inline]
+        pub fn as_ref(&self) -> Option<RefType> {
+            match self {
+                Self::FuncRef => Some(RefType::Func),
+                Self::ExternRef => Some(RefType::Extern),
+                _ => None,
+            }
+        }
+    }
+
+    /// The type of a reference. `Func` is below `Extern`.
+    ///
+    /// Core specification 2.3, reference types. Upstream: `wasmi_core::RefType`.
+    #[derive(Clone, Copy, Debug, PartialEq, Eq, PartialOrd, Ord, Hash)]
+    pub enum RefType {
+        /// A reference to a function.
+        Func,
+        /// A reference to an object of the host.
+        Extern,
+    }
+
+    /// # Contract
+    ///
+    /// <span></span><pre><code>from_gives = λ ty value. value ≡ [value_of] ty</code></pre>
+    ///
+    /// [value_of]: crate::specs::types::Value#value_of "the value type of a reference type"
+    impl From<RefType> for ValType {
+        #[inline]
+        fn from(ty: RefType) -> ValType {
+            match ty {
+                RefType::Func => ValType::FuncRef,
+                RefType::Extern => ValType::ExternRef,
+            }
+        }
+    }
+}
+
+pub use func_type::{FuncType, FuncTypeError};
+pub use host_error::HostError;
+pub use index_ty::IndexType;
+pub use trap::{InvalidTrapCode, Trap, TrapCode};
+pub use value::{RefType, ValType};

@@ -1,0 +1,2074 @@
+//! The vector instructions of WebAssembly that widen, narrow, shift or test lanes, and the relaxed
+//! ones.
+#[cfg(any(doc, test))]
+pub mod laws {
+    //! Laws on lanes that are made of lanes of another width, on tests of lanes and on the bits that
+    //! they give.
+
+    /// Lane i of a vector that is made of half of the narrow lanes is the row of the narrow lanes
+    /// `first + i`, wrapped to the wide width. `A` is the integer as which a narrow lane is read.
+    ///
+    /// # Contract
+    ///
+    /// <span></span><pre><code>ensures unary: (narrow wide : [Width]) (first : [ℕ]) (read : [ℕ] → A) (row : A → [ℕ]) (v i : [ℕ])
+    /// &#32;&#32;&#32;&#32;→ i < [lane_count] wide
+    /// &#32;&#32;&#32;&#32;→ [lane] wide ([half_unary] narrow wide first read row v) i
+    /// &#32;&#32;&#32;&#32;≡ row (read ([lane] narrow v (first + i))) % 2 ^ [bits] wide
+    /// ensures binary: (narrow wide : [Width]) (first : [ℕ]) (read : [ℕ] → A) (row : A → A → [ℕ]) (a b i : [ℕ])
+    /// &#32;&#32;&#32;&#32;→ i < [lane_count] wide
+    /// &#32;&#32;&#32;&#32;→ [lane] wide ([half_binary] narrow wide first read row a b) i
+    /// &#32;&#32;&#32;&#32;≡ row (read ([lane] narrow a (first + i)))
+    /// &#32;&#32;&#32;&#32;(read ([lane] narrow b (first + i))) % 2 ^ [bits] wide</code></pre>
+    ///
+    /// [Width]: crate::specs::library#Width "the widths of integers: 8, 16, 32, 64 or 128 bits"
+    /// [ℕ]: crate::specs::library#%E2%84%95 "the whole numbers from 0 on"
+    /// [lane_count]: crate::specs::widening::Widening#lane_count "how many lanes of a width a vector has"
+    /// [lane]: crate::specs::lanes::Lane#lane "lane i of the vector v"
+    /// [half_unary]: crate::specs::widening::Widening#half_unary "lane i is the row of the narrow lanes first + i: 0 is the first one of the lower half, \`lane_count wide\` that of the upper"
+    /// [bits]: crate::specs::library#bits "the number of bits of a width"
+    /// [half_binary]: crate::specs::widening::Widening#half_binary "the wide vector whose lane i is the row of the narrow lanes at first + i of two vectors"
+    #[inline]
+    pub fn lanes_of_halves<A>() {}
+
+    /// Lane i of half of a vector, extended, is read as the narrow lane is: the lanes of the lower half
+    /// keep their index, and those of the upper half are counted on.
+    ///
+    /// # Contract
+    ///
+    /// <span></span><pre><code>ensures low_s: (narrow wide : [Width]) (v i : [ℕ]) → [bits] narrow ≤ [bits] wide → i < [lane_count] wide
+    /// &#32;&#32;&#32;&#32;→ [signed] wide ([lane] wide ([vector.extend_low_s] narrow wide v) i)
+    /// &#32;&#32;&#32;&#32;≡ [signed] narrow ([lane] narrow v i)
+    /// ensures low_u: (narrow wide : [Width]) (v i : [ℕ]) → [bits] narrow ≤ [bits] wide → i < [lane_count] wide
+    /// &#32;&#32;&#32;&#32;→ [lane] wide ([vector.extend_low_u] narrow wide v) i ≡ [lane] narrow v i
+    /// ensures high_s: (narrow wide : [Width]) (v i : [ℕ]) → [bits] narrow ≤ [bits] wide → i < [lane_count] wide
+    /// &#32;&#32;&#32;&#32;→ [signed] wide ([lane] wide ([vector.extend_high_s] narrow wide v) i)
+    /// &#32;&#32;&#32;&#32;≡ [signed] narrow ([lane] narrow v ([lane_count] wide + i))
+    /// ensures high_u: (narrow wide : [Width]) (v i : [ℕ]) → [bits] narrow ≤ [bits] wide → i < [lane_count] wide
+    /// &#32;&#32;&#32;&#32;→ [lane] wide ([vector.extend_high_u] narrow wide v) i ≡ [lane] narrow v ([lane_count] wide + i)</code></pre>
+    ///
+    /// [Width]: crate::specs::library#Width "the widths of integers: 8, 16, 32, 64 or 128 bits"
+    /// [ℕ]: crate::specs::library#%E2%84%95 "the whole numbers from 0 on"
+    /// [bits]: crate::specs::library#bits "the number of bits of a width"
+    /// [lane_count]: crate::specs::widening::Widening#lane_count "how many lanes of a width a vector has"
+    /// [signed]: crate::specs::library#cast_signed "the number from 0 up to 2 ^ w read as signed, in two\'s complement"
+    /// [lane]: crate::specs::lanes::Lane#lane "lane i of the vector v"
+    /// [vector.extend_low_s]: crate::specs::widening::WideningTable#extend_low_s "the low lanes read signed, at twice their width"
+    /// [vector.extend_low_u]: crate::specs::widening::WideningTable#extend_low_u "the low lanes read unsigned, at twice their width"
+    /// [vector.extend_high_s]: crate::specs::widening::WideningTable#extend_high_s "the high lanes read signed, at twice their width"
+    /// [vector.extend_high_u]: crate::specs::widening::WideningTable#extend_high_u "the high lanes read unsigned, at twice their width"
+    #[inline]
+    pub fn extended_lanes() {}
+
+    /// A number that is wrapped to a width is below 2 to the power of the width, and one in the signed
+    /// range is read as itself.
+    ///
+    /// # Contract
+    ///
+    /// <span></span><pre><code>ensures below: (w : [Width]) (z : [ℤ]) → [wrap] w z < 2 ^ [bits] w
+    /// ensures signed: (w : [Width]) (z : [ℤ]) → [FitsSigned] w z → [signed] w ([wrap] w z) ≡ z</code></pre>
+    ///
+    /// [Width]: crate::specs::library#Width "the widths of integers: 8, 16, 32, 64 or 128 bits"
+    /// [ℤ]: crate::specs::library#%E2%84%A4 "the whole numbers, with a sign"
+    /// [wrap]: crate::specs::types::Wrapping#wrap "the number below 2 ^ w that differs from z by a multiple of 2 ^ w"
+    /// [bits]: crate::specs::library#bits "the number of bits of a width"
+    /// [FitsSigned]: crate::specs::library#FitsSigned "z is in the range of the signed integers of a width"
+    /// [signed]: crate::specs::library#cast_signed "the number from 0 up to 2 ^ w read as signed, in two\'s complement"
+    #[inline]
+    pub fn wrapped_numbers() {}
+
+    /// Lane i of a vector that is made of neighbouring narrow lanes is the row of the narrow lanes 2i
+    /// and 2i + 1, wrapped to the wide width. `A` is the integer as which a narrow lane is read.
+    ///
+    /// # Contract
+    ///
+    /// <span></span><pre><code>ensures unary: (narrow wide : [Width]) (read : [ℕ] → A) (row : A → A → [ℕ]) (v i : [ℕ])
+    /// &#32;&#32;&#32;&#32;→ i < [lane_count] wide
+    /// &#32;&#32;&#32;&#32;→ [lane] wide ([pairwise_unary] narrow wide read row v) i
+    /// &#32;&#32;&#32;&#32;≡ row (read ([lane] narrow v (2 \* i)))
+    /// &#32;&#32;&#32;&#32;(read ([lane] narrow v (2 \* i + 1))) % 2 ^ [bits] wide
+    /// ensures binary: (narrow wide : [Width]) (read : [ℕ] → A) (row : A → A → A → A → [ℕ]) (a b i : [ℕ])
+    /// &#32;&#32;&#32;&#32;→ i < [lane_count] wide
+    /// &#32;&#32;&#32;&#32;→ [lane] wide ([pairwise_binary] narrow wide read row a b) i
+    /// &#32;&#32;&#32;&#32;≡ row (read ([lane] narrow a (2 \* i))) (read ([lane] narrow a (2 \* i + 1)))
+    /// &#32;&#32;&#32;&#32;(read ([lane] narrow b (2 \* i))) (read ([lane] narrow b (2 \* i + 1))) % 2 ^ [bits] wide</code></pre>
+    ///
+    /// [Width]: crate::specs::library#Width "the widths of integers: 8, 16, 32, 64 or 128 bits"
+    /// [ℕ]: crate::specs::library#%E2%84%95 "the whole numbers from 0 on"
+    /// [lane_count]: crate::specs::widening::Widening#lane_count "how many lanes of a width a vector has"
+    /// [lane]: crate::specs::lanes::Lane#lane "lane i of the vector v"
+    /// [pairwise_unary]: crate::specs::widening::Widening#pairwise_unary "lane i is the row of the narrow lanes 2 \* i and 2 \* i + 1, of the first operand and then of the second"
+    /// [bits]: crate::specs::library#bits "the number of bits of a width"
+    /// [pairwise_binary]: crate::specs::widening::Widening#pairwise_binary "the wide vector whose lane i is the row of the narrow lanes 2 \* i and 2 \* i + 1 of two vectors"
+    #[inline]
+    pub fn pairwise_lanes<A>() {}
+
+    /// The lanes of a vector that is made of the wide lanes of two vectors are the rows of the first
+    /// one's, then those of the second one's, wrapped to the narrow width. `A` is the integer as which
+    /// a wide lane is read.
+    ///
+    /// # Contract
+    ///
+    /// <span></span><pre><code>ensures low: (wide narrow : [Width]) (read : [ℕ] → A) (row : A → [ℕ]) (low high i : [ℕ])
+    /// &#32;&#32;&#32;&#32;→ i < [lane_count] wide → i < [lane_count] narrow
+    /// &#32;&#32;&#32;&#32;→ [lane] narrow ([from_low_high] wide narrow read row low high) i
+    /// &#32;&#32;&#32;&#32;≡ row (read ([lane] wide low i)) % 2 ^ [bits] narrow
+    /// ensures high: (wide narrow : [Width]) (read : [ℕ] → A) (row : A → [ℕ]) (low high i : [ℕ])
+    /// &#32;&#32;&#32;&#32;→ [lane_count] wide + i < [lane_count] narrow
+    /// &#32;&#32;&#32;&#32;→ [lane] narrow ([from_low_high] wide narrow read row low high) ([lane_count] wide + i)
+    /// &#32;&#32;&#32;&#32;≡ row (read ([lane] wide high i)) % 2 ^ [bits] narrow</code></pre>
+    ///
+    /// [Width]: crate::specs::library#Width "the widths of integers: 8, 16, 32, 64 or 128 bits"
+    /// [ℕ]: crate::specs::library#%E2%84%95 "the whole numbers from 0 on"
+    /// [lane_count]: crate::specs::widening::Widening#lane_count "how many lanes of a width a vector has"
+    /// [lane]: crate::specs::lanes::Lane#lane "lane i of the vector v"
+    /// [from_low_high]: crate::specs::widening::Widening#from_low_high "the rows of the wide lanes of \`low\`, then those of \`high\`"
+    /// [bits]: crate::specs::library#bits "the number of bits of a width"
+    #[inline]
+    pub fn lanes_of_wide_lanes<A>() {}
+
+    /// Bit i of the number that is made of a test of each lane tells whether the test holds of lane i,
+    /// and no other bit is 1. `A` is the integer as which a lane is read.
+    ///
+    /// # Contract
+    ///
+    /// <span></span><pre><code>ensures bit: (w : [Width]) (read : [ℕ] → A) (test : A → [Bool]) (v i : [ℕ]) → i < [lane_count] w
+    /// &#32;&#32;&#32;&#32;→ [bit_at] ([lane_bits] w read test v) i ≡ (if test (read ([lane] w v i)) then 1 else 0)
+    /// ensures below: (w : [Width]) (read : [ℕ] → A) (test : A → [Bool]) (v : [ℕ])
+    /// &#32;&#32;&#32;&#32;→ [lane_bits] w read test v < 2 ^ [lane_count] w
+    /// ensures bit_of_test: (n : [ℕ]) (test : [ℕ] → [Bool]) (i : [ℕ]) → i < n
+    /// &#32;&#32;&#32;&#32;→ [bit_at] ([first_bits] n test) i ≡ (if test i then 1 else 0)
+    /// ensures tests_below: (n : [ℕ]) (test : [ℕ] → [Bool]) → [first_bits] n test < 2 ^ n</code></pre>
+    ///
+    /// [Width]: crate::specs::library#Width "the widths of integers: 8, 16, 32, 64 or 128 bits"
+    /// [ℕ]: crate::specs::library#%E2%84%95 "the whole numbers from 0 on"
+    /// [Bool]: crate::specs::library#Bool "the Booleans \`true\` and \`false\`"
+    /// [lane_count]: crate::specs::widening::Widening#lane_count "how many lanes of a width a vector has"
+    /// [bit_at]: crate::specs::library#bit_at "bit i of n, as 0 or 1; bit 0 is the lowest"
+    /// [lane_bits]: crate::specs::widening::Widening#lane_bits "the number whose bit i is 1 where the test holds of lane i"
+    /// [lane]: crate::specs::lanes::Lane#lane "lane i of the vector v"
+    /// [first_bits]: crate::specs::widening::Widening#first_bits "the number whose bit i, of the lowest n, is 1 where the test holds of i, and whose others are 0"
+    #[inline]
+    pub fn bits_of_lanes<A>() {}
+
+    /// A test of every lane holds exactly where it holds of each. `A` is the integer as which a lane is
+    /// read.
+    ///
+    /// # Contract
+    ///
+    /// <span></span><pre><code>ensures lanes: (w : [Width]) (read : [ℕ] → A) (test : A → [Bool]) (v : [ℕ])
+    /// &#32;&#32;&#32;&#32;→ [IsTrue] ([every_lane] w read test v)
+    /// &#32;&#32;&#32;&#32;↔ ((i : [ℕ]) → i < [lane_count] w → [IsTrue] (test (read ([lane] w v i))))
+    /// ensures numbers: (n : [ℕ]) (test : [ℕ] → [Bool])
+    /// &#32;&#32;&#32;&#32;→ [IsTrue] ([holds_below] n test) ↔ ((i : [ℕ]) → i < n → [IsTrue] (test i))</code></pre>
+    ///
+    /// [Width]: crate::specs::library#Width "the widths of integers: 8, 16, 32, 64 or 128 bits"
+    /// [ℕ]: crate::specs::library#%E2%84%95 "the whole numbers from 0 on"
+    /// [Bool]: crate::specs::library#Bool "the Booleans \`true\` and \`false\`"
+    /// [IsTrue]: crate::specs::library#IsTrue "b is true"
+    /// [every_lane]: crate::specs::widening::Widening#every_lane "whether the test holds of every lane"
+    /// [lane_count]: crate::specs::widening::Widening#lane_count "how many lanes of a width a vector has"
+    /// [lane]: crate::specs::lanes::Lane#lane "lane i of the vector v"
+    /// [holds_below]: crate::specs::widening::Widening#holds_below "whether the test holds of each number below n"
+    #[inline]
+    pub fn tests_of_lanes<A>() {}
+}
+pub mod simd {
+    //! The vector instructions that widen, narrow, shift or test lanes, and the relaxed ones.
+    //!
+    //! Each function is the instruction of its name: `i16x8_extend_low_i8x16_s` is
+    //! `i16x8.extend_low_i8x16_s`, which makes 8 lanes of 16 bits of 16 lanes of 8 bits. Core
+    //! specification: vector instructions; what each gives stands in `specs/WideningTable.antt`.
+    //! Upstream: `wasmi_core::simd`.
+
+    mod even_odd {
+        //! The lanes with an even number and those with an odd one, at twice their width, as `core::simd`
+        //! vectors: a lane of twice the width is two neighbouring lanes, and shifts take each out of it.
+
+        use super::vectors::{i16x8_of, i32x4_of};
+        use crate::proved::lanes::SimdLane;
+        use crate::proved::raw::V128;
+        use crate::rattle::simd::prelude::*;
+
+        /// The lanes of 8 bits with an even number.
+        ///
+        /// # Contract
+        ///
+        /// <span></span><pre><code>ensures lanes: (i : [ℕ]) → i < 8 → [slice_index] result i ≡ [lane] [w8] v (2 \* i)</code></pre>
+        ///
+        /// [ℕ]: crate::specs::library#%E2%84%95 "the whole numbers from 0 on"
+        /// [slice_index]: crate::specs::library#slice_index "element i of a list of numbers; 0 past its end"
+        /// [lane]: crate::specs::lanes::Lane#lane "lane i of the vector v"
+        /// [w8]: crate::specs::library#w8 "the widths of integers in bits"
+        #[inline(always)]
+        pub(super) fn even_u8x16(v: V128) -> u16x8 {
+            u16::lanes_of(v) & u16x8::splat(0xff)
+        }
+
+        /// The lanes of 8 bits with an odd number.
+        ///
+        /// # Contract
+        ///
+        /// <span></span><pre><code>ensures lanes: (i : [ℕ]) → i < 8 → [slice_index] result i ≡ [lane] [w8] v (2 \* i + 1)</code></pre>
+        ///
+        /// [ℕ]: crate::specs::library#%E2%84%95 "the whole numbers from 0 on"
+        /// [slice_index]: crate::specs::library#slice_index "element i of a list of numbers; 0 past its end"
+        /// [lane]: crate::specs::lanes::Lane#lane "lane i of the vector v"
+        /// [w8]: crate::specs::library#w8 "the widths of integers in bits"
+        #[inline(always)]
+        pub(super) fn odd_u8x16(v: V128) -> u16x8 {
+            u16::lanes_of(v) >> 8
+        }
+
+        /// The lanes of 8 bits with an even number, the sign copied.
+        ///
+        /// # Contract
+        ///
+        /// <span></span><pre><code>ensures lanes: (i : [ℕ]) → i < 8
+        /// &#32;&#32;&#32;&#32;→ [slice_index] result i ≡ [cast_unsigned] [w16] ([signed] [w8] ([lane] [w8] v (2 \* i)))</code></pre>
+        ///
+        /// [ℕ]: crate::specs::library#%E2%84%95 "the whole numbers from 0 on"
+        /// [slice_index]: crate::specs::library#slice_index "element i of a list of numbers; 0 past its end"
+        /// [cast_unsigned]: crate::specs::library#cast_unsigned "the signed number as one from 0 up to 2 ^ w, in two\'s complement"
+        /// [w16]: crate::specs::library#w16 "the widths of integers in bits"
+        /// [signed]: crate::specs::library#cast_signed "the number from 0 up to 2 ^ w read as signed, in two\'s complement"
+        /// [w8]: crate::specs::library#w8 "the widths of integers in bits"
+        /// [lane]: crate::specs::lanes::Lane#lane "lane i of the vector v"
+        #[inline(always)]
+        pub(super) fn even_i8x16(v: V128) -> u16x8 {
+            u16x8::from_le_bytes(((i16x8_of(v) << 8) >> 8).to_le_bytes())
+        }
+
+        /// The lanes of 8 bits with an odd number, the sign copied.
+        ///
+        /// # Contract
+        ///
+        /// <span></span><pre><code>ensures lanes: (i : [ℕ]) → i < 8
+        /// &#32;&#32;&#32;&#32;→ [slice_index] result i ≡ [cast_unsigned] [w16] ([signed] [w8] ([lane] [w8] v (2 \* i + 1)))</code></pre>
+        ///
+        /// [ℕ]: crate::specs::library#%E2%84%95 "the whole numbers from 0 on"
+        /// [slice_index]: crate::specs::library#slice_index "element i of a list of numbers; 0 past its end"
+        /// [cast_unsigned]: crate::specs::library#cast_unsigned "the signed number as one from 0 up to 2 ^ w, in two\'s complement"
+        /// [w16]: crate::specs::library#w16 "the widths of integers in bits"
+        /// [signed]: crate::specs::library#cast_signed "the number from 0 up to 2 ^ w read as signed, in two\'s complement"
+        /// [w8]: crate::specs::library#w8 "the widths of integers in bits"
+        /// [lane]: crate::specs::lanes::Lane#lane "lane i of the vector v"
+        #[inline(always)]
+        pub(super) fn odd_i8x16(v: V128) -> u16x8 {
+            u16x8::from_le_bytes((i16x8_of(v) >> 8).to_le_bytes())
+        }
+
+        /// The lanes of 16 bits with an even number.
+        ///
+        /// # Contract
+        ///
+        /// <span></span><pre><code>ensures lanes: (i : [ℕ]) → i < 4 → [slice_index] result i ≡ [lane] [w16] v (2 \* i)</code></pre>
+        ///
+        /// [ℕ]: crate::specs::library#%E2%84%95 "the whole numbers from 0 on"
+        /// [slice_index]: crate::specs::library#slice_index "element i of a list of numbers; 0 past its end"
+        /// [lane]: crate::specs::lanes::Lane#lane "lane i of the vector v"
+        /// [w16]: crate::specs::library#w16 "the widths of integers in bits"
+        #[inline(always)]
+        pub(super) fn even_u16x8(v: V128) -> u32x4 {
+            u32::lanes_of(v) & u32x4::splat(0xffff)
+        }
+
+        /// The lanes of 16 bits with an odd number.
+        ///
+        /// # Contract
+        ///
+        /// <span></span><pre><code>ensures lanes: (i : [ℕ]) → i < 4 → [slice_index] result i ≡ [lane] [w16] v (2 \* i + 1)</code></pre>
+        ///
+        /// [ℕ]: crate::specs::library#%E2%84%95 "the whole numbers from 0 on"
+        /// [slice_index]: crate::specs::library#slice_index "element i of a list of numbers; 0 past its end"
+        /// [lane]: crate::specs::lanes::Lane#lane "lane i of the vector v"
+        /// [w16]: crate::specs::library#w16 "the widths of integers in bits"
+        #[inline(always)]
+        pub(super) fn odd_u16x8(v: V128) -> u32x4 {
+            u32::lanes_of(v) >> 16
+        }
+
+        /// The lanes of 16 bits with an even number, the sign copied.
+        ///
+        /// # Contract
+        ///
+        /// <span></span><pre><code>ensures lanes: (i : [ℕ]) → i < 4
+        /// &#32;&#32;&#32;&#32;→ [slice_index] result i ≡ [cast_unsigned] [w32] ([signed] [w16] ([lane] [w16] v (2 \* i)))</code></pre>
+        ///
+        /// [ℕ]: crate::specs::library#%E2%84%95 "the whole numbers from 0 on"
+        /// [slice_index]: crate::specs::library#slice_index "element i of a list of numbers; 0 past its end"
+        /// [cast_unsigned]: crate::specs::library#cast_unsigned "the signed number as one from 0 up to 2 ^ w, in two\'s complement"
+        /// [w32]: crate::specs::library#w32 "the widths of integers in bits"
+        /// [signed]: crate::specs::library#cast_signed "the number from 0 up to 2 ^ w read as signed, in two\'s complement"
+        /// [w16]: crate::specs::library#w16 "the widths of integers in bits"
+        /// [lane]: crate::specs::lanes::Lane#lane "lane i of the vector v"
+        #[inline(always)]
+        pub(super) fn even_i16x8(v: V128) -> u32x4 {
+            u32x4::from_le_bytes(((i32x4_of(v) << 16) >> 16).to_le_bytes())
+        }
+
+        /// The lanes of 16 bits with an odd number, the sign copied.
+        ///
+        /// # Contract
+        ///
+        /// <span></span><pre><code>ensures lanes: (i : [ℕ]) → i < 4
+        /// &#32;&#32;&#32;&#32;→ [slice_index] result i ≡ [cast_unsigned] [w32] ([signed] [w16] ([lane] [w16] v (2 \* i + 1)))</code></pre>
+        ///
+        /// [ℕ]: crate::specs::library#%E2%84%95 "the whole numbers from 0 on"
+        /// [slice_index]: crate::specs::library#slice_index "element i of a list of numbers; 0 past its end"
+        /// [cast_unsigned]: crate::specs::library#cast_unsigned "the signed number as one from 0 up to 2 ^ w, in two\'s complement"
+        /// [w32]: crate::specs::library#w32 "the widths of integers in bits"
+        /// [signed]: crate::specs::library#cast_signed "the number from 0 up to 2 ^ w read as signed, in two\'s complement"
+        /// [w16]: crate::specs::library#w16 "the widths of integers in bits"
+        /// [lane]: crate::specs::lanes::Lane#lane "lane i of the vector v"
+        #[inline(always)]
+        pub(super) fn odd_i16x8(v: V128) -> u32x4 {
+            u32x4::from_le_bytes((i32x4_of(v) >> 16).to_le_bytes())
+        }
+    }
+    mod extend {
+        //! Lanes extended to twice their width.
+
+        use super::halves::{
+            high_i8x16, high_i16x8, high_i32x4, high_u8x16, high_u16x8, high_u32x4, low_i8x16,
+            low_i16x8, low_i32x4, low_u8x16, low_u16x8, low_u32x4,
+        };
+        use crate::proved::lanes::SimdLane;
+        use crate::proved::raw::V128;
+        use crate::rattle::simd::prelude::*;
+
+        /// The lanes of the lower half, read signed.
+        ///
+        /// # Contract
+        ///
+        /// <span></span><pre><code>ensures: result ≡ [vector.extend_low_s] [w8] [w16] v</code></pre>
+        ///
+        /// [vector.extend_low_s]: crate::specs::widening::WideningTable#extend_low_s "the low lanes read signed, at twice their width"
+        /// [w8]: crate::specs::library#w8 "the widths of integers in bits"
+        /// [w16]: crate::specs::library#w16 "the widths of integers in bits"
+        #[inline]
+        pub fn i16x8_extend_low_i8x16_s(v: V128) -> V128 {
+            u16::vector_of(low_i8x16(v))
+        }
+
+        /// The lanes of the lower half, read unsigned.
+        ///
+        /// # Contract
+        ///
+        /// <span></span><pre><code>ensures: result ≡ [vector.extend_low_u] [w8] [w16] v</code></pre>
+        ///
+        /// [vector.extend_low_u]: crate::specs::widening::WideningTable#extend_low_u "the low lanes read unsigned, at twice their width"
+        /// [w8]: crate::specs::library#w8 "the widths of integers in bits"
+        /// [w16]: crate::specs::library#w16 "the widths of integers in bits"
+        #[inline]
+        pub fn i16x8_extend_low_i8x16_u(v: V128) -> V128 {
+            u16::vector_of(low_u8x16(v))
+        }
+
+        /// The lanes of the upper half, read signed.
+        ///
+        /// # Contract
+        ///
+        /// <span></span><pre><code>ensures: result ≡ [vector.extend_high_s] [w8] [w16] v</code></pre>
+        ///
+        /// [vector.extend_high_s]: crate::specs::widening::WideningTable#extend_high_s "the high lanes read signed, at twice their width"
+        /// [w8]: crate::specs::library#w8 "the widths of integers in bits"
+        /// [w16]: crate::specs::library#w16 "the widths of integers in bits"
+        #[inline]
+        pub fn i16x8_extend_high_i8x16_s(v: V128) -> V128 {
+            u16::vector_of(high_i8x16(v))
+        }
+
+        /// The lanes of the upper half, read unsigned.
+        ///
+        /// # Contract
+        ///
+        /// <span></span><pre><code>ensures: result ≡ [vector.extend_high_u] [w8] [w16] v</code></pre>
+        ///
+        /// [vector.extend_high_u]: crate::specs::widening::WideningTable#extend_high_u "the high lanes read unsigned, at twice their width"
+        /// [w8]: crate::specs::library#w8 "the widths of integers in bits"
+        /// [w16]: crate::specs::library#w16 "the widths of integers in bits"
+        #[inline]
+        pub fn i16x8_extend_high_i8x16_u(v: V128) -> V128 {
+            u16::vector_of(high_u8x16(v))
+        }
+
+        /// The lanes of the lower half, read signed.
+        ///
+        /// # Contract
+        ///
+        /// <span></span><pre><code>ensures: result ≡ [vector.extend_low_s] [w16] [w32] v</code></pre>
+        ///
+        /// [vector.extend_low_s]: crate::specs::widening::WideningTable#extend_low_s "the low lanes read signed, at twice their width"
+        /// [w16]: crate::specs::library#w16 "the widths of integers in bits"
+        /// [w32]: crate::specs::library#w32 "the widths of integers in bits"
+        #[inline]
+        pub fn i32x4_extend_low_i16x8_s(v: V128) -> V128 {
+            u32::vector_of(low_i16x8(v))
+        }
+
+        /// The lanes of the lower half, read unsigned.
+        ///
+        /// # Contract
+        ///
+        /// <span></span><pre><code>ensures: result ≡ [vector.extend_low_u] [w16] [w32] v</code></pre>
+        ///
+        /// [vector.extend_low_u]: crate::specs::widening::WideningTable#extend_low_u "the low lanes read unsigned, at twice their width"
+        /// [w16]: crate::specs::library#w16 "the widths of integers in bits"
+        /// [w32]: crate::specs::library#w32 "the widths of integers in bits"
+        #[inline]
+        pub fn i32x4_extend_low_i16x8_u(v: V128) -> V128 {
+            u32::vector_of(low_u16x8(v))
+        }
+
+        /// The lanes of the upper half, read signed.
+        ///
+        /// # Contract
+        ///
+        /// <span></span><pre><code>ensures: result ≡ [vector.extend_high_s] [w16] [w32] v</code></pre>
+        ///
+        /// [vector.extend_high_s]: crate::specs::widening::WideningTable#extend_high_s "the high lanes read signed, at twice their width"
+        /// [w16]: crate::specs::library#w16 "the widths of integers in bits"
+        /// [w32]: crate::specs::library#w32 "the widths of integers in bits"
+        #[inline]
+        pub fn i32x4_extend_high_i16x8_s(v: V128) -> V128 {
+            u32::vector_of(high_i16x8(v))
+        }
+
+        /// The lanes of the upper half, read unsigned.
+        ///
+        /// # Contract
+        ///
+        /// <span></span><pre><code>ensures: result ≡ [vector.extend_high_u] [w16] [w32] v</code></pre>
+        ///
+        /// [vector.extend_high_u]: crate::specs::widening::WideningTable#extend_high_u "the high lanes read unsigned, at twice their width"
+        /// [w16]: crate::specs::library#w16 "the widths of integers in bits"
+        /// [w32]: crate::specs::library#w32 "the widths of integers in bits"
+        #[inline]
+        pub fn i32x4_extend_high_i16x8_u(v: V128) -> V128 {
+            u32::vector_of(high_u16x8(v))
+        }
+
+        /// The lanes of the lower half, read signed.
+        ///
+        /// # Contract
+        ///
+        /// <span></span><pre><code>ensures: result ≡ [vector.extend_low_s] [w32] [w64] v</code></pre>
+        ///
+        /// [vector.extend_low_s]: crate::specs::widening::WideningTable#extend_low_s "the low lanes read signed, at twice their width"
+        /// [w32]: crate::specs::library#w32 "the widths of integers in bits"
+        /// [w64]: crate::specs::library#w64 "the widths of integers in bits"
+        #[inline]
+        pub fn i64x2_extend_low_i32x4_s(v: V128) -> V128 {
+            u64::vector_of(low_i32x4(v))
+        }
+
+        /// The lanes of the lower half, read unsigned.
+        ///
+        /// # Contract
+        ///
+        /// <span></span><pre><code>ensures: result ≡ [vector.extend_low_u] [w32] [w64] v</code></pre>
+        ///
+        /// [vector.extend_low_u]: crate::specs::widening::WideningTable#extend_low_u "the low lanes read unsigned, at twice their width"
+        /// [w32]: crate::specs::library#w32 "the widths of integers in bits"
+        /// [w64]: crate::specs::library#w64 "the widths of integers in bits"
+        #[inline]
+        pub fn i64x2_extend_low_i32x4_u(v: V128) -> V128 {
+            u64::vector_of(low_u32x4(v))
+        }
+
+        /// The lanes of the upper half, read signed.
+        ///
+        /// # Contract
+        ///
+        /// <span></span><pre><code>ensures: result ≡ [vector.extend_high_s] [w32] [w64] v</code></pre>
+        ///
+        /// [vector.extend_high_s]: crate::specs::widening::WideningTable#extend_high_s "the high lanes read signed, at twice their width"
+        /// [w32]: crate::specs::library#w32 "the widths of integers in bits"
+        /// [w64]: crate::specs::library#w64 "the widths of integers in bits"
+        #[inline]
+        pub fn i64x2_extend_high_i32x4_s(v: V128) -> V128 {
+            u64::vector_of(high_i32x4(v))
+        }
+
+        /// The lanes of the upper half, read unsigned.
+        ///
+        /// # Contract
+        ///
+        /// <span></span><pre><code>ensures: result ≡ [vector.extend_high_u] [w32] [w64] v</code></pre>
+        ///
+        /// [vector.extend_high_u]: crate::specs::widening::WideningTable#extend_high_u "the high lanes read unsigned, at twice their width"
+        /// [w32]: crate::specs::library#w32 "the widths of integers in bits"
+        /// [w64]: crate::specs::library#w64 "the widths of integers in bits"
+        #[inline]
+        pub fn i64x2_extend_high_i32x4_u(v: V128) -> V128 {
+            u64::vector_of(high_u32x4(v))
+        }
+
+        /// The 8 lanes of 8 bits of a number, read signed, lane 0 the lowest.
+        ///
+        /// What the extending load `v128.load8x8_s` makes of the number that it reads. Upstream's own.
+        ///
+        /// # Contract
+        ///
+        /// <span></span><pre><code>ensures: result ≡ [vector.widen_s] [w8] [w16] number</code></pre>
+        ///
+        /// [vector.widen_s]: crate::specs::widening::WideningTable#widen_s "the narrow lanes of a number of 64 bits, extended"
+        /// [w8]: crate::specs::library#w8 "the widths of integers in bits"
+        /// [w16]: crate::specs::library#w16 "the widths of integers in bits"
+        #[inline]
+        pub fn v128_widen8x8_s(number: u64) -> V128 {
+            i16x8_extend_low_i8x16_s(V128::from_word_pair(number, 0))
+        }
+
+        /// The 8 lanes of 8 bits of a number, read unsigned, lane 0 the lowest.
+        ///
+        /// What the extending load `v128.load8x8_u` makes of the number that it reads. Upstream's own.
+        ///
+        /// # Contract
+        ///
+        /// <span></span><pre><code>ensures: result ≡ [vector.widen_u] [w8] [w16] number</code></pre>
+        ///
+        /// [vector.widen_u]: crate::specs::widening::WideningTable#widen_u "the lanes of a number of 64 bits read unsigned, at twice their width"
+        /// [w8]: crate::specs::library#w8 "the widths of integers in bits"
+        /// [w16]: crate::specs::library#w16 "the widths of integers in bits"
+        #[inline]
+        pub fn v128_widen8x8_u(number: u64) -> V128 {
+            i16x8_extend_low_i8x16_u(V128::from_word_pair(number, 0))
+        }
+
+        /// The 4 lanes of 16 bits of a number, read signed, lane 0 the lowest.
+        ///
+        /// What the extending load `v128.load16x4_s` makes of the number that it reads. Upstream's own.
+        ///
+        /// # Contract
+        ///
+        /// <span></span><pre><code>ensures: result ≡ [vector.widen_s] [w16] [w32] number</code></pre>
+        ///
+        /// [vector.widen_s]: crate::specs::widening::WideningTable#widen_s "the narrow lanes of a number of 64 bits, extended"
+        /// [w16]: crate::specs::library#w16 "the widths of integers in bits"
+        /// [w32]: crate::specs::library#w32 "the widths of integers in bits"
+        #[inline]
+        pub fn v128_widen16x4_s(number: u64) -> V128 {
+            i32x4_extend_low_i16x8_s(V128::from_word_pair(number, 0))
+        }
+
+        /// The 4 lanes of 16 bits of a number, read unsigned, lane 0 the lowest.
+        ///
+        /// What the extending load `v128.load16x4_u` makes of the number that it reads. Upstream's own.
+        ///
+        /// # Contract
+        ///
+        /// <span></span><pre><code>ensures: result ≡ [vector.widen_u] [w16] [w32] number</code></pre>
+        ///
+        /// [vector.widen_u]: crate::specs::widening::WideningTable#widen_u "the lanes of a number of 64 bits read unsigned, at twice their width"
+        /// [w16]: crate::specs::library#w16 "the widths of integers in bits"
+        /// [w32]: crate::specs::library#w32 "the widths of integers in bits"
+        #[inline]
+        pub fn v128_widen16x4_u(number: u64) -> V128 {
+            i32x4_extend_low_i16x8_u(V128::from_word_pair(number, 0))
+        }
+
+        /// The 2 lanes of 32 bits of a number, read signed, lane 0 the lowest.
+        ///
+        /// What the extending load `v128.load32x2_s` makes of the number that it reads. Upstream's own.
+        ///
+        /// # Contract
+        ///
+        /// <span></span><pre><code>ensures: result ≡ [vector.widen_s] [w32] [w64] number</code></pre>
+        ///
+        /// [vector.widen_s]: crate::specs::widening::WideningTable#widen_s "the narrow lanes of a number of 64 bits, extended"
+        /// [w32]: crate::specs::library#w32 "the widths of integers in bits"
+        /// [w64]: crate::specs::library#w64 "the widths of integers in bits"
+        #[inline]
+        pub fn v128_widen32x2_s(number: u64) -> V128 {
+            i64x2_extend_low_i32x4_s(V128::from_word_pair(number, 0))
+        }
+
+        /// The 2 lanes of 32 bits of a number, read unsigned, lane 0 the lowest.
+        ///
+        /// What the extending load `v128.load32x2_u` makes of the number that it reads. Upstream's own.
+        ///
+        /// # Contract
+        ///
+        /// <span></span><pre><code>ensures: result ≡ [vector.widen_u] [w32] [w64] number</code></pre>
+        ///
+        /// [vector.widen_u]: crate::specs::widening::WideningTable#widen_u "the lanes of a number of 64 bits read unsigned, at twice their width"
+        /// [w32]: crate::specs::library#w32 "the widths of integers in bits"
+        /// [w64]: crate::specs::library#w64 "the widths of integers in bits"
+        #[inline]
+        pub fn v128_widen32x2_u(number: u64) -> V128 {
+            i64x2_extend_low_i32x4_u(V128::from_word_pair(number, 0))
+        }
+
+        /// The number in lane 0, and 0 in the others.
+        ///
+        /// What `v128.load32_zero` makes of the number that it reads. Upstream's own.
+        ///
+        /// # Contract
+        ///
+        /// <span></span><pre><code>ensures: result ≡ [vector.low_zero] [w32] number</code></pre>
+        ///
+        /// [vector.low_zero]: crate::specs::widening::WideningTable#low_zero "the number in lane 0, and 0 in the others"
+        /// [w32]: crate::specs::library#w32 "the widths of integers in bits"
+        #[inline]
+        pub fn v128_low32_zero(number: u32) -> V128 {
+            v128_low64_zero(u64::from(number))
+        }
+
+        /// The number in lane 0, and 0 in the others.
+        ///
+        /// What `v128.load64_zero` makes of the number that it reads. Upstream's own.
+        ///
+        /// # Contract
+        ///
+        /// <span></span><pre><code>ensures: result ≡ [vector.low_zero] [w64] number</code></pre>
+        ///
+        /// [vector.low_zero]: crate::specs::widening::WideningTable#low_zero "the number in lane 0, and 0 in the others"
+        /// [w64]: crate::specs::library#w64 "the widths of integers in bits"
+        #[inline]
+        pub fn v128_low64_zero(number: u64) -> V128 {
+            u32::vector_of(lower_half_alone(V128::from_word_pair(number, 0)))
+        }
+
+        // The lanes of 32 bits of the lower half, and zeros behind them: of two words LLVM makes two
+        // stores.
+        /// # Contract
+        ///
+        /// <span></span><pre><code>ensures: result ≡ [lane] [w32] v 0 ∷ [lane] [w32] v 1 ∷ 0 ∷ 0 ∷ \[\]</code></pre>
+        ///
+        /// [lane]: crate::specs::lanes::Lane#lane "lane i of the vector v"
+        /// [w32]: crate::specs::library#w32 "the widths of integers in bits"
+        #[inline(always)]
+        fn lower_half_alone(v: V128) -> u32x4 {
+            u32::lanes_of(v).shuffle(u32x4::splat(0), [0, 1, 4, 5])
+        }
+    }
+    mod extmul {
+        //! Products of lanes, of twice their width.
+
+        use super::halves::{
+            high_i8x16, high_i16x8, high_i32x4, high_u8x16, high_u16x8, high_u32x4, low_i8x16,
+            low_i16x8, low_i32x4, low_u8x16, low_u16x8, low_u32x4,
+        };
+        use super::vectors::{product_of_u16x8, product_of_u32x4, product_of_u64x2};
+        use crate::proved::lanes::SimdLane;
+        use crate::proved::raw::V128;
+
+        /// The products of the lanes of the lower halves, read signed.
+        ///
+        /// # Contract
+        ///
+        /// <span></span><pre><code>ensures: result ≡ [vector.extmul_low_s] [w8] [w16] lhs rhs</code></pre>
+        ///
+        /// [vector.extmul_low_s]: crate::specs::widening::WideningTable#extmul_low_s "the products of the low lanes read signed, at twice their width"
+        /// [w8]: crate::specs::library#w8 "the widths of integers in bits"
+        /// [w16]: crate::specs::library#w16 "the widths of integers in bits"
+        #[inline]
+        pub fn i16x8_extmul_low_i8x16_s(lhs: V128, rhs: V128) -> V128 {
+            u16::vector_of(product_of_u16x8(low_i8x16(lhs), low_i8x16(rhs)))
+        }
+
+        /// The products of the lanes of the lower halves, read unsigned.
+        ///
+        /// # Contract
+        ///
+        /// <span></span><pre><code>ensures: result ≡ [vector.extmul_low_u] [w8] [w16] lhs rhs</code></pre>
+        ///
+        /// [vector.extmul_low_u]: crate::specs::widening::WideningTable#extmul_low_u "the products of the low lanes read unsigned, at twice their width"
+        /// [w8]: crate::specs::library#w8 "the widths of integers in bits"
+        /// [w16]: crate::specs::library#w16 "the widths of integers in bits"
+        #[inline]
+        pub fn i16x8_extmul_low_i8x16_u(lhs: V128, rhs: V128) -> V128 {
+            u16::vector_of(product_of_u16x8(low_u8x16(lhs), low_u8x16(rhs)))
+        }
+
+        /// The products of the lanes of the upper halves, read signed.
+        ///
+        /// # Contract
+        ///
+        /// <span></span><pre><code>ensures: result ≡ [vector.extmul_high_s] [w8] [w16] lhs rhs</code></pre>
+        ///
+        /// [vector.extmul_high_s]: crate::specs::widening::WideningTable#extmul_high_s "the products of the high lanes read signed, at twice their width"
+        /// [w8]: crate::specs::library#w8 "the widths of integers in bits"
+        /// [w16]: crate::specs::library#w16 "the widths of integers in bits"
+        #[inline]
+        pub fn i16x8_extmul_high_i8x16_s(lhs: V128, rhs: V128) -> V128 {
+            u16::vector_of(product_of_u16x8(high_i8x16(lhs), high_i8x16(rhs)))
+        }
+
+        /// The products of the lanes of the upper halves, read unsigned.
+        ///
+        /// # Contract
+        ///
+        /// <span></span><pre><code>ensures: result ≡ [vector.extmul_high_u] [w8] [w16] lhs rhs</code></pre>
+        ///
+        /// [vector.extmul_high_u]: crate::specs::widening::WideningTable#extmul_high_u "the products of the high lanes read unsigned, at twice their width"
+        /// [w8]: crate::specs::library#w8 "the widths of integers in bits"
+        /// [w16]: crate::specs::library#w16 "the widths of integers in bits"
+        #[inline]
+        pub fn i16x8_extmul_high_i8x16_u(lhs: V128, rhs: V128) -> V128 {
+            u16::vector_of(product_of_u16x8(high_u8x16(lhs), high_u8x16(rhs)))
+        }
+
+        /// The products of the lanes of the lower halves, read signed.
+        ///
+        /// # Contract
+        ///
+        /// <span></span><pre><code>ensures: result ≡ [vector.extmul_low_s] [w16] [w32] lhs rhs</code></pre>
+        ///
+        /// [vector.extmul_low_s]: crate::specs::widening::WideningTable#extmul_low_s "the products of the low lanes read signed, at twice their width"
+        /// [w16]: crate::specs::library#w16 "the widths of integers in bits"
+        /// [w32]: crate::specs::library#w32 "the widths of integers in bits"
+        #[inline]
+        pub fn i32x4_extmul_low_i16x8_s(lhs: V128, rhs: V128) -> V128 {
+            u32::vector_of(product_of_u32x4(low_i16x8(lhs), low_i16x8(rhs)))
+        }
+
+        /// The products of the lanes of the lower halves, read unsigned.
+        ///
+        /// # Contract
+        ///
+        /// <span></span><pre><code>ensures: result ≡ [vector.extmul_low_u] [w16] [w32] lhs rhs</code></pre>
+        ///
+        /// [vector.extmul_low_u]: crate::specs::widening::WideningTable#extmul_low_u "the products of the low lanes read unsigned, at twice their width"
+        /// [w16]: crate::specs::library#w16 "the widths of integers in bits"
+        /// [w32]: crate::specs::library#w32 "the widths of integers in bits"
+        #[inline]
+        pub fn i32x4_extmul_low_i16x8_u(lhs: V128, rhs: V128) -> V128 {
+            u32::vector_of(product_of_u32x4(low_u16x8(lhs), low_u16x8(rhs)))
+        }
+
+        /// The products of the lanes of the upper halves, read signed.
+        ///
+        /// # Contract
+        ///
+        /// <span></span><pre><code>ensures: result ≡ [vector.extmul_high_s] [w16] [w32] lhs rhs</code></pre>
+        ///
+        /// [vector.extmul_high_s]: crate::specs::widening::WideningTable#extmul_high_s "the products of the high lanes read signed, at twice their width"
+        /// [w16]: crate::specs::library#w16 "the widths of integers in bits"
+        /// [w32]: crate::specs::library#w32 "the widths of integers in bits"
+        #[inline]
+        pub fn i32x4_extmul_high_i16x8_s(lhs: V128, rhs: V128) -> V128 {
+            u32::vector_of(product_of_u32x4(high_i16x8(lhs), high_i16x8(rhs)))
+        }
+
+        /// The products of the lanes of the upper halves, read unsigned.
+        ///
+        /// # Contract
+        ///
+        /// <span></span><pre><code>ensures: result ≡ [vector.extmul_high_u] [w16] [w32] lhs rhs</code></pre>
+        ///
+        /// [vector.extmul_high_u]: crate::specs::widening::WideningTable#extmul_high_u "the products of the high lanes read unsigned, at twice their width"
+        /// [w16]: crate::specs::library#w16 "the widths of integers in bits"
+        /// [w32]: crate::specs::library#w32 "the widths of integers in bits"
+        #[inline]
+        pub fn i32x4_extmul_high_i16x8_u(lhs: V128, rhs: V128) -> V128 {
+            u32::vector_of(product_of_u32x4(high_u16x8(lhs), high_u16x8(rhs)))
+        }
+
+        /// The products of the lanes of the lower halves, read signed.
+        ///
+        /// # Contract
+        ///
+        /// <span></span><pre><code>ensures: result ≡ [vector.extmul_low_s] [w32] [w64] lhs rhs</code></pre>
+        ///
+        /// [vector.extmul_low_s]: crate::specs::widening::WideningTable#extmul_low_s "the products of the low lanes read signed, at twice their width"
+        /// [w32]: crate::specs::library#w32 "the widths of integers in bits"
+        /// [w64]: crate::specs::library#w64 "the widths of integers in bits"
+        #[inline]
+        pub fn i64x2_extmul_low_i32x4_s(lhs: V128, rhs: V128) -> V128 {
+            u64::vector_of(product_of_u64x2(low_i32x4(lhs), low_i32x4(rhs)))
+        }
+
+        /// The products of the lanes of the lower halves, read unsigned.
+        ///
+        /// # Contract
+        ///
+        /// <span></span><pre><code>ensures: result ≡ [vector.extmul_low_u] [w32] [w64] lhs rhs</code></pre>
+        ///
+        /// [vector.extmul_low_u]: crate::specs::widening::WideningTable#extmul_low_u "the products of the low lanes read unsigned, at twice their width"
+        /// [w32]: crate::specs::library#w32 "the widths of integers in bits"
+        /// [w64]: crate::specs::library#w64 "the widths of integers in bits"
+        #[inline]
+        pub fn i64x2_extmul_low_i32x4_u(lhs: V128, rhs: V128) -> V128 {
+            u64::vector_of(product_of_u64x2(low_u32x4(lhs), low_u32x4(rhs)))
+        }
+
+        /// The products of the lanes of the upper halves, read signed.
+        ///
+        /// # Contract
+        ///
+        /// <span></span><pre><code>ensures: result ≡ [vector.extmul_high_s] [w32] [w64] lhs rhs</code></pre>
+        ///
+        /// [vector.extmul_high_s]: crate::specs::widening::WideningTable#extmul_high_s "the products of the high lanes read signed, at twice their width"
+        /// [w32]: crate::specs::library#w32 "the widths of integers in bits"
+        /// [w64]: crate::specs::library#w64 "the widths of integers in bits"
+        #[inline]
+        pub fn i64x2_extmul_high_i32x4_s(lhs: V128, rhs: V128) -> V128 {
+            u64::vector_of(product_of_u64x2(high_i32x4(lhs), high_i32x4(rhs)))
+        }
+
+        /// The products of the lanes of the upper halves, read unsigned.
+        ///
+        /// # Contract
+        ///
+        /// <span></span><pre><code>ensures: result ≡ [vector.extmul_high_u] [w32] [w64] lhs rhs</code></pre>
+        ///
+        /// [vector.extmul_high_u]: crate::specs::widening::WideningTable#extmul_high_u "the products of the high lanes read unsigned, at twice their width"
+        /// [w32]: crate::specs::library#w32 "the widths of integers in bits"
+        /// [w64]: crate::specs::library#w64 "the widths of integers in bits"
+        #[inline]
+        pub fn i64x2_extmul_high_i32x4_u(lhs: V128, rhs: V128) -> V128 {
+            u64::vector_of(product_of_u64x2(high_u32x4(lhs), high_u32x4(rhs)))
+        }
+    }
+    mod halves {
+        //! The lanes of half a vector at twice their width, as `core::simd` vectors: LLVM takes plain lanes
+        //! out one by one.
+
+        use super::vectors::{i16x8_of, i32x4_of};
+        use crate::proved::lanes::{SimdLane, bytes_of};
+        use crate::proved::raw::V128;
+        use crate::rattle::simd::prelude::*;
+
+        /// The lower 8 lanes of 8 bits.
+        ///
+        /// # Contract
+        ///
+        /// <span></span><pre><code>ensures lanes: (i : [ℕ]) → i < 8 → [slice_index] result i ≡ [lane] [w8] v i</code></pre>
+        ///
+        /// [ℕ]: crate::specs::library#%E2%84%95 "the whole numbers from 0 on"
+        /// [slice_index]: crate::specs::library#slice_index "element i of a list of numbers; 0 past its end"
+        /// [lane]: crate::specs::lanes::Lane#lane "lane i of the vector v"
+        /// [w8]: crate::specs::library#w8 "the widths of integers in bits"
+        #[inline(always)]
+        pub(super) fn low_u8x16(v: V128) -> u16x8 {
+            bytes_of(v).extract::<0, 8>().cast::<u16>()
+        }
+
+        /// The upper 8 lanes of 8 bits.
+        ///
+        /// # Contract
+        ///
+        /// <span></span><pre><code>ensures lanes: (i : [ℕ]) → i < 8 → [slice_index] result i ≡ [lane] [w8] v (8 + i)</code></pre>
+        ///
+        /// [ℕ]: crate::specs::library#%E2%84%95 "the whole numbers from 0 on"
+        /// [slice_index]: crate::specs::library#slice_index "element i of a list of numbers; 0 past its end"
+        /// [lane]: crate::specs::lanes::Lane#lane "lane i of the vector v"
+        /// [w8]: crate::specs::library#w8 "the widths of integers in bits"
+        #[inline(always)]
+        pub(super) fn high_u8x16(v: V128) -> u16x8 {
+            bytes_of(v).extract::<8, 8>().cast::<u16>()
+        }
+
+        /// The lower 8 lanes of 8 bits, the sign copied.
+        ///
+        /// # Contract
+        ///
+        /// <span></span><pre><code>ensures lanes: (i : [ℕ]) → i < 8
+        /// &#32;&#32;&#32;&#32;→ [slice_index] result i ≡ [cast_unsigned] [w16] ([signed] [w8] ([lane] [w8] v i))</code></pre>
+        ///
+        /// [ℕ]: crate::specs::library#%E2%84%95 "the whole numbers from 0 on"
+        /// [slice_index]: crate::specs::library#slice_index "element i of a list of numbers; 0 past its end"
+        /// [cast_unsigned]: crate::specs::library#cast_unsigned "the signed number as one from 0 up to 2 ^ w, in two\'s complement"
+        /// [w16]: crate::specs::library#w16 "the widths of integers in bits"
+        /// [signed]: crate::specs::library#cast_signed "the number from 0 up to 2 ^ w read as signed, in two\'s complement"
+        /// [w8]: crate::specs::library#w8 "the widths of integers in bits"
+        /// [lane]: crate::specs::lanes::Lane#lane "lane i of the vector v"
+        #[inline(always)]
+        pub(super) fn low_i8x16(v: V128) -> u16x8 {
+            sign_copied(low_u8x16(v))
+        }
+
+        /// The upper 8 lanes of 8 bits, the sign copied.
+        ///
+        /// # Contract
+        ///
+        /// <span></span><pre><code>ensures lanes: (i : [ℕ]) → i < 8
+        /// &#32;&#32;&#32;&#32;→ [slice_index] result i ≡ [cast_unsigned] [w16] ([signed] [w8] ([lane] [w8] v (8 + i)))</code></pre>
+        ///
+        /// [ℕ]: crate::specs::library#%E2%84%95 "the whole numbers from 0 on"
+        /// [slice_index]: crate::specs::library#slice_index "element i of a list of numbers; 0 past its end"
+        /// [cast_unsigned]: crate::specs::library#cast_unsigned "the signed number as one from 0 up to 2 ^ w, in two\'s complement"
+        /// [w16]: crate::specs::library#w16 "the widths of integers in bits"
+        /// [signed]: crate::specs::library#cast_signed "the number from 0 up to 2 ^ w read as signed, in two\'s complement"
+        /// [w8]: crate::specs::library#w8 "the widths of integers in bits"
+        /// [lane]: crate::specs::lanes::Lane#lane "lane i of the vector v"
+        #[inline(always)]
+        pub(super) fn high_i8x16(v: V128) -> u16x8 {
+            sign_copied(high_u8x16(v))
+        }
+
+        // Numbers of 8 bits, the sign copied to 16: their highest bit is flipped, and taken off again.
+        /// # Contract
+        ///
+        /// <span></span><pre><code>ensures lanes: (i x : [ℕ]) → i < 8 → [slice_index] bytes i ≡ x → x < 2 ^ 8
+        /// &#32;&#32;&#32;&#32;→ [slice_index] result i ≡ [cast_unsigned] [w16] ([signed] [w8] x)</code></pre>
+        ///
+        /// [ℕ]: crate::specs::library#%E2%84%95 "the whole numbers from 0 on"
+        /// [slice_index]: crate::specs::library#slice_index "element i of a list of numbers; 0 past its end"
+        /// [cast_unsigned]: crate::specs::library#cast_unsigned "the signed number as one from 0 up to 2 ^ w, in two\'s complement"
+        /// [w16]: crate::specs::library#w16 "the widths of integers in bits"
+        /// [signed]: crate::specs::library#cast_signed "the number from 0 up to 2 ^ w read as signed, in two\'s complement"
+        /// [w8]: crate::specs::library#w8 "the widths of integers in bits"
+        #[inline(always)]
+        fn sign_copied(bytes: u16x8) -> u16x8 {
+            let tops = u16x8::splat(0x80);
+            (bytes ^ tops) - tops
+        }
+
+        /// The lower 4 lanes of 16 bits.
+        ///
+        /// # Contract
+        ///
+        /// <span></span><pre><code>ensures lanes: (i : [ℕ]) → i < 4 → [slice_index] result i ≡ [lane] [w16] v i</code></pre>
+        ///
+        /// [ℕ]: crate::specs::library#%E2%84%95 "the whole numbers from 0 on"
+        /// [slice_index]: crate::specs::library#slice_index "element i of a list of numbers; 0 past its end"
+        /// [lane]: crate::specs::lanes::Lane#lane "lane i of the vector v"
+        /// [w16]: crate::specs::library#w16 "the widths of integers in bits"
+        #[inline(always)]
+        pub(super) fn low_u16x8(v: V128) -> u32x4 {
+            u16::lanes_of(v).extract::<0, 4>().cast::<u32>()
+        }
+
+        /// The upper 4 lanes of 16 bits.
+        ///
+        /// # Contract
+        ///
+        /// <span></span><pre><code>ensures lanes: (i : [ℕ]) → i < 4 → [slice_index] result i ≡ [lane] [w16] v (4 + i)</code></pre>
+        ///
+        /// [ℕ]: crate::specs::library#%E2%84%95 "the whole numbers from 0 on"
+        /// [slice_index]: crate::specs::library#slice_index "element i of a list of numbers; 0 past its end"
+        /// [lane]: crate::specs::lanes::Lane#lane "lane i of the vector v"
+        /// [w16]: crate::specs::library#w16 "the widths of integers in bits"
+        #[inline(always)]
+        pub(super) fn high_u16x8(v: V128) -> u32x4 {
+            u16::lanes_of(v).extract::<4, 4>().cast::<u32>()
+        }
+
+        /// The lower 4 lanes of 16 bits, the sign copied.
+        ///
+        /// # Contract
+        ///
+        /// <span></span><pre><code>ensures lanes: (i : [ℕ]) → i < 4
+        /// &#32;&#32;&#32;&#32;→ [slice_index] result i ≡ [cast_unsigned] [w32] ([signed] [w16] ([lane] [w16] v i))</code></pre>
+        ///
+        /// [ℕ]: crate::specs::library#%E2%84%95 "the whole numbers from 0 on"
+        /// [slice_index]: crate::specs::library#slice_index "element i of a list of numbers; 0 past its end"
+        /// [cast_unsigned]: crate::specs::library#cast_unsigned "the signed number as one from 0 up to 2 ^ w, in two\'s complement"
+        /// [w32]: crate::specs::library#w32 "the widths of integers in bits"
+        /// [signed]: crate::specs::library#cast_signed "the number from 0 up to 2 ^ w read as signed, in two\'s complement"
+        /// [w16]: crate::specs::library#w16 "the widths of integers in bits"
+        /// [lane]: crate::specs::lanes::Lane#lane "lane i of the vector v"
+        #[inline(always)]
+        pub(super) fn low_i16x8(v: V128) -> u32x4 {
+            let items = i16x8_of(v).extract::<0, 4>().cast::<i32>();
+            u32x4::from_le_bytes(items.to_le_bytes())
+        }
+
+        /// The upper 4 lanes of 16 bits, the sign copied.
+        ///
+        /// # Contract
+        ///
+        /// <span></span><pre><code>ensures lanes: (i : [ℕ]) → i < 4
+        /// &#32;&#32;&#32;&#32;→ [slice_index] result i ≡ [cast_unsigned] [w32] ([signed] [w16] ([lane] [w16] v (4 + i)))</code></pre>
+        ///
+        /// [ℕ]: crate::specs::library#%E2%84%95 "the whole numbers from 0 on"
+        /// [slice_index]: crate::specs::library#slice_index "element i of a list of numbers; 0 past its end"
+        /// [cast_unsigned]: crate::specs::library#cast_unsigned "the signed number as one from 0 up to 2 ^ w, in two\'s complement"
+        /// [w32]: crate::specs::library#w32 "the widths of integers in bits"
+        /// [signed]: crate::specs::library#cast_signed "the number from 0 up to 2 ^ w read as signed, in two\'s complement"
+        /// [w16]: crate::specs::library#w16 "the widths of integers in bits"
+        /// [lane]: crate::specs::lanes::Lane#lane "lane i of the vector v"
+        #[inline(always)]
+        pub(super) fn high_i16x8(v: V128) -> u32x4 {
+            let items = i16x8_of(v).extract::<4, 4>().cast::<i32>();
+            u32x4::from_le_bytes(items.to_le_bytes())
+        }
+
+        /// The lower 2 lanes of 32 bits.
+        ///
+        /// Zeros come between them: of a cast LLVM takes the lanes out of their word.
+        ///
+        /// # Contract
+        ///
+        /// <span></span><pre><code>ensures lanes: (i : [ℕ]) → i < 2 → [slice_index] result i ≡ [lane] [w32] v i</code></pre>
+        ///
+        /// [ℕ]: crate::specs::library#%E2%84%95 "the whole numbers from 0 on"
+        /// [slice_index]: crate::specs::library#slice_index "element i of a list of numbers; 0 past its end"
+        /// [lane]: crate::specs::lanes::Lane#lane "lane i of the vector v"
+        /// [w32]: crate::specs::library#w32 "the widths of integers in bits"
+        #[inline(always)]
+        pub(super) fn low_u32x4(v: V128) -> u64x2 {
+            let items = u32::lanes_of(v).shuffle(u32x4::splat(0), [0, 4, 1, 5]);
+            u64x2::from_le_bytes(items.to_le_bytes())
+        }
+
+        /// The upper 2 lanes of 32 bits.
+        ///
+        /// # Contract
+        ///
+        /// <span></span><pre><code>ensures lanes: (i : [ℕ]) → i < 2 → [slice_index] result i ≡ [lane] [w32] v (2 + i)</code></pre>
+        ///
+        /// [ℕ]: crate::specs::library#%E2%84%95 "the whole numbers from 0 on"
+        /// [slice_index]: crate::specs::library#slice_index "element i of a list of numbers; 0 past its end"
+        /// [lane]: crate::specs::lanes::Lane#lane "lane i of the vector v"
+        /// [w32]: crate::specs::library#w32 "the widths of integers in bits"
+        #[inline(always)]
+        pub(super) fn high_u32x4(v: V128) -> u64x2 {
+            let items = u32::lanes_of(v).shuffle(u32x4::splat(0), [2, 4, 3, 5]);
+            u64x2::from_le_bytes(items.to_le_bytes())
+        }
+
+        /// The lower 2 lanes of 32 bits, the sign copied.
+        ///
+        /// # Contract
+        ///
+        /// <span></span><pre><code>ensures lanes: (i : [ℕ]) → i < 2
+        /// &#32;&#32;&#32;&#32;→ [slice_index] result i ≡ [cast_unsigned] [w64] ([signed] [w32] ([lane] [w32] v i))</code></pre>
+        ///
+        /// [ℕ]: crate::specs::library#%E2%84%95 "the whole numbers from 0 on"
+        /// [slice_index]: crate::specs::library#slice_index "element i of a list of numbers; 0 past its end"
+        /// [cast_unsigned]: crate::specs::library#cast_unsigned "the signed number as one from 0 up to 2 ^ w, in two\'s complement"
+        /// [w64]: crate::specs::library#w64 "the widths of integers in bits"
+        /// [signed]: crate::specs::library#cast_signed "the number from 0 up to 2 ^ w read as signed, in two\'s complement"
+        /// [w32]: crate::specs::library#w32 "the widths of integers in bits"
+        /// [lane]: crate::specs::lanes::Lane#lane "lane i of the vector v"
+        #[inline(always)]
+        pub(super) fn low_i32x4(v: V128) -> u64x2 {
+            let items = i32x4_of(v).extract::<0, 2>().cast::<i64>();
+            u64x2::from_le_bytes(items.to_le_bytes())
+        }
+
+        /// The upper 2 lanes of 32 bits, the sign copied.
+        ///
+        /// # Contract
+        ///
+        /// <span></span><pre><code>ensures lanes: (i : [ℕ]) → i < 2
+        /// &#32;&#32;&#32;&#32;→ [slice_index] result i ≡ [cast_unsigned] [w64] ([signed] [w32] ([lane] [w32] v (2 + i)))</code></pre>
+        ///
+        /// [ℕ]: crate::specs::library#%E2%84%95 "the whole numbers from 0 on"
+        /// [slice_index]: crate::specs::library#slice_index "element i of a list of numbers; 0 past its end"
+        /// [cast_unsigned]: crate::specs::library#cast_unsigned "the signed number as one from 0 up to 2 ^ w, in two\'s complement"
+        /// [w64]: crate::specs::library#w64 "the widths of integers in bits"
+        /// [signed]: crate::specs::library#cast_signed "the number from 0 up to 2 ^ w read as signed, in two\'s complement"
+        /// [w32]: crate::specs::library#w32 "the widths of integers in bits"
+        /// [lane]: crate::specs::lanes::Lane#lane "lane i of the vector v"
+        #[inline(always)]
+        pub(super) fn high_i32x4(v: V128) -> u64x2 {
+            let items = i32x4_of(v).extract::<2, 2>().cast::<i64>();
+            u64x2::from_le_bytes(items.to_le_bytes())
+        }
+    }
+    mod narrow {
+        //! Lanes narrowed to half of their width.
+
+        use crate::proved::lanes::{I8x16, I16x8, I32x4, clamped_i8, clamped_i16};
+        use crate::proved::raw::V128;
+        use crate::proved::widening::widening::from_low_high;
+
+        /// The lanes of `low`, then those of `high`, read signed and clamped to the signed range of 8 bits.
+        ///
+        /// # Contract
+        ///
+        /// <span></span><pre><code>ensures: result ≡ [vector.narrow_s] [w16] [w8] low high</code></pre>
+        ///
+        /// [vector.narrow_s]: crate::specs::widening::WideningTable#narrow_s "the lanes of two vectors read signed, clamped to the signed range of half their width"
+        /// [w16]: crate::specs::library#w16 "the widths of integers in bits"
+        /// [w8]: crate::specs::library#w8 "the widths of integers in bits"
+        #[inline]
+        pub fn i8x16_narrow_i16x8_s(low: V128, high: V128) -> V128 {
+            from_low_high::<I16x8, I8x16, _>(low, high, |x| clamped_i8(x))
+        }
+
+        /// The lanes of `low`, then those of `high`, read signed and clamped to the unsigned range of 8
+        /// bits.
+        ///
+        /// # Contract
+        ///
+        /// <span></span><pre><code>ensures: result ≡ [vector.narrow_u] [w16] [w8] low high</code></pre>
+        ///
+        /// [vector.narrow_u]: crate::specs::widening::WideningTable#narrow_u "the lanes of two vectors read signed, clamped to the unsigned range of half their width"
+        /// [w16]: crate::specs::library#w16 "the widths of integers in bits"
+        /// [w8]: crate::specs::library#w8 "the widths of integers in bits"
+        #[inline]
+        pub fn i8x16_narrow_i16x8_u(low: V128, high: V128) -> V128 {
+            from_low_high::<I16x8, I8x16, _>(low, high, clamped_u8)
+        }
+
+        /// The lanes of `low`, then those of `high`, read signed and clamped to the signed range of 16
+        /// bits.
+        ///
+        /// # Contract
+        ///
+        /// <span></span><pre><code>ensures: result ≡ [vector.narrow_s] [w32] [w16] low high</code></pre>
+        ///
+        /// [vector.narrow_s]: crate::specs::widening::WideningTable#narrow_s "the lanes of two vectors read signed, clamped to the signed range of half their width"
+        /// [w32]: crate::specs::library#w32 "the widths of integers in bits"
+        /// [w16]: crate::specs::library#w16 "the widths of integers in bits"
+        #[inline]
+        pub fn i16x8_narrow_i32x4_s(low: V128, high: V128) -> V128 {
+            from_low_high::<I32x4, I16x8, _>(low, high, |x| clamped_i16(x))
+        }
+
+        /// The lanes of `low`, then those of `high`, read signed and clamped to the unsigned range of 16
+        /// bits.
+        ///
+        /// # Contract
+        ///
+        /// <span></span><pre><code>ensures: result ≡ [vector.narrow_u] [w32] [w16] low high</code></pre>
+        ///
+        /// [vector.narrow_u]: crate::specs::widening::WideningTable#narrow_u "the lanes of two vectors read signed, clamped to the unsigned range of half their width"
+        /// [w32]: crate::specs::library#w32 "the widths of integers in bits"
+        /// [w16]: crate::specs::library#w16 "the widths of integers in bits"
+        #[inline]
+        pub fn i16x8_narrow_i32x4_u(low: V128, high: V128) -> V128 {
+            from_low_high::<I32x4, I16x8, _>(low, high, clamped_u16)
+        }
+
+        // The item of a lane that holds the number, clamped to the unsigned range of 8 bits.
+        /// # Contract
+        ///
+        /// <span></span><pre><code>ensures: [cast_unsigned] [w8] result ≡ [clamp_unsigned] [w8] x</code></pre>
+        ///
+        /// [cast_unsigned]: crate::specs::library#cast_unsigned "the signed number as one from 0 up to 2 ^ w, in two\'s complement"
+        /// [w8]: crate::specs::library#w8 "the widths of integers in bits"
+        /// [clamp_unsigned]: crate::specs::library#clamp_unsigned "the number from 0 up to 2 ^ w that is nearest to z"
+        #[inline]
+        fn clamped_u8(x: i16) -> i8 {
+            (x.clamp(0, 255) as u8).cast_signed()
+        }
+
+        // The item of a lane that holds the number, clamped to the unsigned range of 16 bits.
+        /// # Contract
+        ///
+        /// <span></span><pre><code>ensures: [cast_unsigned] [w16] result ≡ [clamp_unsigned] [w16] x</code></pre>
+        ///
+        /// [cast_unsigned]: crate::specs::library#cast_unsigned "the signed number as one from 0 up to 2 ^ w, in two\'s complement"
+        /// [w16]: crate::specs::library#w16 "the widths of integers in bits"
+        /// [clamp_unsigned]: crate::specs::library#clamp_unsigned "the number from 0 up to 2 ^ w that is nearest to z"
+        #[inline]
+        fn clamped_u16(x: i32) -> i16 {
+            (x.clamp(0, 65535) as u16).cast_signed()
+        }
+    }
+    mod pairwise {
+        //! Sums of neighbouring lanes and of their products, of twice the lanes' width.
+
+        use super::even_odd::{
+            even_i8x16, even_i16x8, even_u8x16, even_u16x8, odd_i8x16, odd_i16x8, odd_u8x16,
+            odd_u16x8,
+        };
+        use super::vectors::{product_of_u16x8, product_of_u32x4, sums_of_u16x8, sums_of_u32x4};
+        use crate::proved::raw::V128;
+
+        /// The sums of neighbouring lanes, read signed.
+        ///
+        /// # Contract
+        ///
+        /// <span></span><pre><code>ensures: result ≡ [vector.extadd_pairwise_s] [w8] [w16] v</code></pre>
+        ///
+        /// [vector.extadd_pairwise_s]: crate::specs::widening::WideningTable#extadd_pairwise_s "the sums of each two adjacent lanes read signed, at twice their width"
+        /// [w8]: crate::specs::library#w8 "the widths of integers in bits"
+        /// [w16]: crate::specs::library#w16 "the widths of integers in bits"
+        #[inline]
+        pub fn i16x8_extadd_pairwise_i8x16_s(v: V128) -> V128 {
+            sums_of_u16x8(even_i8x16(v), odd_i8x16(v))
+        }
+
+        /// The sums of neighbouring lanes, read unsigned.
+        ///
+        /// # Contract
+        ///
+        /// <span></span><pre><code>ensures: result ≡ [vector.extadd_pairwise_u] [w8] [w16] v</code></pre>
+        ///
+        /// [vector.extadd_pairwise_u]: crate::specs::widening::WideningTable#extadd_pairwise_u "the sums of each two adjacent lanes read unsigned, at twice their width"
+        /// [w8]: crate::specs::library#w8 "the widths of integers in bits"
+        /// [w16]: crate::specs::library#w16 "the widths of integers in bits"
+        #[inline]
+        pub fn i16x8_extadd_pairwise_i8x16_u(v: V128) -> V128 {
+            sums_of_u16x8(even_u8x16(v), odd_u8x16(v))
+        }
+
+        /// The sums of neighbouring lanes, read signed.
+        ///
+        /// # Contract
+        ///
+        /// <span></span><pre><code>ensures: result ≡ [vector.extadd_pairwise_s] [w16] [w32] v</code></pre>
+        ///
+        /// [vector.extadd_pairwise_s]: crate::specs::widening::WideningTable#extadd_pairwise_s "the sums of each two adjacent lanes read signed, at twice their width"
+        /// [w16]: crate::specs::library#w16 "the widths of integers in bits"
+        /// [w32]: crate::specs::library#w32 "the widths of integers in bits"
+        #[inline]
+        pub fn i32x4_extadd_pairwise_i16x8_s(v: V128) -> V128 {
+            sums_of_u32x4(even_i16x8(v), odd_i16x8(v))
+        }
+
+        /// The sums of neighbouring lanes, read unsigned.
+        ///
+        /// # Contract
+        ///
+        /// <span></span><pre><code>ensures: result ≡ [vector.extadd_pairwise_u] [w16] [w32] v</code></pre>
+        ///
+        /// [vector.extadd_pairwise_u]: crate::specs::widening::WideningTable#extadd_pairwise_u "the sums of each two adjacent lanes read unsigned, at twice their width"
+        /// [w16]: crate::specs::library#w16 "the widths of integers in bits"
+        /// [w32]: crate::specs::library#w32 "the widths of integers in bits"
+        #[inline]
+        pub fn i32x4_extadd_pairwise_i16x8_u(v: V128) -> V128 {
+            sums_of_u32x4(even_u16x8(v), odd_u16x8(v))
+        }
+
+        /// The sums of the products of neighbouring lanes, read signed, modulo 2 to the power 32.
+        ///
+        /// # Contract
+        ///
+        /// <span></span><pre><code>ensures: result ≡ [vector.dot_s] [w16] [w32] lhs rhs</code></pre>
+        ///
+        /// [vector.dot_s]: crate::specs::widening::WideningTable#dot_s "modulo 2 ^ wide"
+        /// [w16]: crate::specs::library#w16 "the widths of integers in bits"
+        /// [w32]: crate::specs::library#w32 "the widths of integers in bits"
+        #[inline]
+        pub fn i32x4_dot_i16x8_s(lhs: V128, rhs: V128) -> V128 {
+            let evens = product_of_u32x4(even_i16x8(lhs), even_i16x8(rhs));
+            let odds = product_of_u32x4(odd_i16x8(lhs), odd_i16x8(rhs));
+            sums_of_u32x4(evens, odds)
+        }
+
+        /// The sums of the products of neighbouring lanes, both read signed, modulo 2 to the power 16.
+        ///
+        /// # Contract
+        ///
+        /// <span></span><pre><code>ensures: result ≡ [vector.relaxed_dot_s] lhs rhs</code></pre>
+        ///
+        /// [vector.relaxed_dot_s]: crate::specs::widening::WideningTable#relaxed_dot_s "both operands are read signed, and the sums are modulo 2 ^ 16"
+        #[inline]
+        pub fn i16x8_relaxed_dot_i8x16_i7x16_s(lhs: V128, rhs: V128) -> V128 {
+            let evens = product_of_u16x8(even_i8x16(lhs), even_i8x16(rhs));
+            let odds = product_of_u16x8(odd_i8x16(lhs), odd_i8x16(rhs));
+            sums_of_u16x8(evens, odds)
+        }
+    }
+    mod reductions {
+        //! Tests of lanes, on the two words of a vector.
+
+        use crate::proved::lanes::WordLane;
+        use crate::proved::raw::V128;
+
+        /// Whether no lane is 0.
+        ///
+        /// # Contract
+        ///
+        /// <span></span><pre><code>ensures: result ≡ [vector.all_true] [w8] v</code></pre>
+        ///
+        /// [vector.all_true]: crate::specs::widening::WideningTable#all_true "whether no lane is 0"
+        /// [w8]: crate::specs::library#w8 "the widths of integers in bits"
+        #[inline]
+        pub fn i8x16_all_true(v: V128) -> bool {
+            no_zero::<u8>(v)
+        }
+
+        /// Whether no lane is 0.
+        ///
+        /// # Contract
+        ///
+        /// <span></span><pre><code>ensures: result ≡ [vector.all_true] [w16] v</code></pre>
+        ///
+        /// [vector.all_true]: crate::specs::widening::WideningTable#all_true "whether no lane is 0"
+        /// [w16]: crate::specs::library#w16 "the widths of integers in bits"
+        #[inline]
+        pub fn i16x8_all_true(v: V128) -> bool {
+            no_zero::<u16>(v)
+        }
+
+        /// Whether no lane is 0.
+        ///
+        /// # Contract
+        ///
+        /// <span></span><pre><code>ensures: result ≡ [vector.all_true] [w32] v</code></pre>
+        ///
+        /// [vector.all_true]: crate::specs::widening::WideningTable#all_true "whether no lane is 0"
+        /// [w32]: crate::specs::library#w32 "the widths of integers in bits"
+        #[inline]
+        pub fn i32x4_all_true(v: V128) -> bool {
+            no_zero::<u32>(v)
+        }
+
+        /// Whether no lane is 0.
+        ///
+        /// # Contract
+        ///
+        /// <span></span><pre><code>ensures: result ≡ [vector.all_true] [w64] v</code></pre>
+        ///
+        /// [vector.all_true]: crate::specs::widening::WideningTable#all_true "whether no lane is 0"
+        /// [w64]: crate::specs::library#w64 "the widths of integers in bits"
+        #[inline]
+        pub fn i64x2_all_true(v: V128) -> bool {
+            no_zero::<u64>(v)
+        }
+
+        /// Whether some bit is 1.
+        ///
+        /// # Contract
+        ///
+        /// <span></span><pre><code>ensures: result ≡ [vector.any_true] v</code></pre>
+        ///
+        /// [vector.any_true]: crate::specs::widening::WideningTable#any_true "whether a bit is set"
+        #[inline]
+        pub fn v128_any_true(v: V128) -> bool {
+            v.as_u128() != 0
+        }
+
+        /// The highest bits of the lanes, that of lane i at bit i.
+        ///
+        /// # Contract
+        ///
+        /// <span></span><pre><code>ensures: result ≡ [vector.bitmask] [w8] v</code></pre>
+        ///
+        /// [vector.bitmask]: crate::specs::widening::WideningTable#bitmask "bit i is the highest bit of lane i"
+        /// [w8]: crate::specs::library#w8 "the widths of integers in bits"
+        #[inline]
+        pub fn i8x16_bitmask(v: V128) -> u32 {
+            let (low, high) = v.words();
+            tops_of_8(low) | (tops_of_8(high) << 8)
+        }
+
+        /// The highest bits of the lanes, that of lane i at bit i.
+        ///
+        /// # Contract
+        ///
+        /// <span></span><pre><code>ensures: result ≡ [vector.bitmask] [w16] v</code></pre>
+        ///
+        /// [vector.bitmask]: crate::specs::widening::WideningTable#bitmask "bit i is the highest bit of lane i"
+        /// [w16]: crate::specs::library#w16 "the widths of integers in bits"
+        #[inline]
+        pub fn i16x8_bitmask(v: V128) -> u32 {
+            let (low, high) = v.words();
+            // The product brings each bit to its place in the highest byte.
+            let both = ((low & u16::TOPS) >> 4) + (high & u16::TOPS);
+            (both.wrapping_mul(0x0000_2000_4000_8001) >> 56) as u32
+        }
+
+        /// The highest bits of the lanes, that of lane i at bit i.
+        ///
+        /// # Contract
+        ///
+        /// <span></span><pre><code>ensures: result ≡ [vector.bitmask] [w32] v</code></pre>
+        ///
+        /// [vector.bitmask]: crate::specs::widening::WideningTable#bitmask "bit i is the highest bit of lane i"
+        /// [w32]: crate::specs::library#w32 "the widths of integers in bits"
+        #[inline]
+        pub fn i32x4_bitmask(v: V128) -> u32 {
+            let (low, high) = v.words();
+            // Bits 0 and 2 have the lanes 0 and 2, bits 32 and 34 the lanes 1 and 3.
+            let both = ((low & u32::TOPS) >> 31) + ((high & u32::TOPS) >> 29);
+            ((both + (both >> 31)) & 0xf) as u32
+        }
+
+        /// The highest bits of the lanes, that of lane i at bit i.
+        ///
+        /// # Contract
+        ///
+        /// <span></span><pre><code>ensures: result ≡ [vector.bitmask] [w64] v</code></pre>
+        ///
+        /// [vector.bitmask]: crate::specs::widening::WideningTable#bitmask "bit i is the highest bit of lane i"
+        /// [w64]: crate::specs::library#w64 "the widths of integers in bits"
+        #[inline]
+        pub fn i64x2_bitmask(v: V128) -> u32 {
+            let (low, high) = v.words();
+            tops_of_64(low) | (tops_of_64(high) << 1)
+        }
+
+        /// # Contract
+        ///
+        /// <span></span><pre><code>ensures: result ≡ [vector.all_true] [T.width] v</code></pre>
+        ///
+        /// [vector.all_true]: crate::specs::widening::WideningTable#all_true "whether no lane is 0"
+        /// [T.width]: trait@WordLane#contract
+        #[inline(always)]
+        fn no_zero<T: WordLane>(v: V128) -> bool {
+            let (low, high) = v.words();
+            no_zero_in_word::<T>(low) & no_zero_in_word::<T>(high)
+        }
+
+        // The lowest lane that is 0 borrows, and gets a highest bit; what a borrow makes of the lanes above
+        // doesn't matter.
+        /// # Contract
+        ///
+        /// <span></span><pre><code>ensures: result
+        /// &#32;&#32;&#32;&#32;≡ [holds_below] ([lanes_in_word] [T.width])
+        /// &#32;&#32;&#32;&#32;(λ i. [not] ([nat_eq] ([field] ([bits] [T.width] \* i) ([bits] [T.width]) word) 0))</code></pre>
+        ///
+        /// [holds_below]: crate::specs::widening::Widening#holds_below "whether the test holds of each number below n"
+        /// [lanes_in_word]: crate::specs::lanes::Words#lanes_in_word "how many lanes of a width a word has"
+        /// [T.width]: trait@WordLane#contract
+        /// [not]: crate::specs::library#not "the other Boolean"
+        /// [nat_eq]: crate::specs::library#nat_eq "whether two numbers are equal, as a Boolean"
+        /// [field]: crate::specs::lanes::Words#field "the number in the bits of v from start to start + width - 1"
+        /// [bits]: crate::specs::library#bits "the number of bits of a width"
+        #[inline(always)]
+        fn no_zero_in_word<T: WordLane>(word: u64) -> bool {
+            word.wrapping_sub(T::ONES) & !word & T::TOPS == 0
+        }
+
+        // The highest bits of the lanes of 8 bits of a word: the product brings each of them to its place
+        // in the highest byte.
+        /// # Contract
+        ///
+        /// <span></span><pre><code>ensures: result ≡ [first_bits] 8 (λ i. [nat_le] (2 ^ 7) ([field] (8 \* i) 8 word))</code></pre>
+        ///
+        /// [first_bits]: crate::specs::widening::Widening#first_bits "the number whose bit i, of the lowest n, is 1 where the test holds of i, and whose others are 0"
+        /// [nat_le]: crate::specs::library#nat_le "whether m is at most n, as a Boolean"
+        /// [field]: crate::specs::lanes::Words#field "the number in the bits of v from start to start + width - 1"
+        #[inline(always)]
+        fn tops_of_8(word: u64) -> u32 {
+            ((word & u8::TOPS).wrapping_mul(0x0002_0408_1020_4081) >> 56) as u32
+        }
+
+        /// # Contract
+        ///
+        /// <span></span><pre><code>ensures: result ≡ [first_bits] 1 (λ i. [nat_le] (2 ^ 63) ([field] (64 \* i) 64 word))</code></pre>
+        ///
+        /// [first_bits]: crate::specs::widening::Widening#first_bits "the number whose bit i, of the lowest n, is 1 where the test holds of i, and whose others are 0"
+        /// [nat_le]: crate::specs::library#nat_le "whether m is at most n, as a Boolean"
+        /// [field]: crate::specs::lanes::Words#field "the number in the bits of v from start to start + width - 1"
+        #[inline(always)]
+        fn tops_of_64(word: u64) -> u32 {
+            (word >> 63) as u32
+        }
+    }
+    mod relaxed {
+        //! The relaxed instructions. Where the standard leaves a choice, each gives what another
+        //! instruction gives.
+
+        use super::pairwise::{i16x8_relaxed_dot_i8x16_i7x16_s, i32x4_extadd_pairwise_i16x8_s};
+        use super::vectors::sums_of_u32x4;
+        use crate::proved::lanes::SimdLane;
+        use crate::proved::lanewise::simd::{i8x16_swizzle, i16x8_q15mulr_sat_s, v128_bitselect};
+        use crate::proved::raw::V128;
+
+        /// As `i8x16_swizzle`: 0 where the index is above 15.
+        ///
+        /// # Contract
+        ///
+        /// <span></span><pre><code>ensures: result ≡ [vector.relaxed_swizzle] a s</code></pre>
+        ///
+        /// [vector.relaxed_swizzle]: crate::specs::widening::WideningTable#relaxed_swizzle "the lanes of the first vector at the indices in the second, 0 for an index above 15"
+        #[inline]
+        pub fn i8x16_relaxed_swizzle(a: V128, s: V128) -> V128 {
+            i8x16_swizzle(a, s)
+        }
+
+        /// As `v128_bitselect`: the bits of `a` where `c` has ones, those of `b` where it has zeros.
+        ///
+        /// # Contract
+        ///
+        /// <span></span><pre><code>ensures: result ≡ [vector.relaxed_laneselect] a b c</code></pre>
+        ///
+        /// [vector.relaxed_laneselect]: crate::specs::widening::WideningTable#relaxed_laneselect "each bit of the first vector where the mask has a one, else of the second"
+        #[inline]
+        pub fn i8x16_relaxed_laneselect(a: V128, b: V128, c: V128) -> V128 {
+            v128_bitselect(a, b, c)
+        }
+
+        /// As `v128_bitselect`: the bits of `a` where `c` has ones, those of `b` where it has zeros.
+        ///
+        /// # Contract
+        ///
+        /// <span></span><pre><code>ensures: result ≡ [vector.relaxed_laneselect] a b c</code></pre>
+        ///
+        /// [vector.relaxed_laneselect]: crate::specs::widening::WideningTable#relaxed_laneselect "each bit of the first vector where the mask has a one, else of the second"
+        #[inline]
+        pub fn i16x8_relaxed_laneselect(a: V128, b: V128, c: V128) -> V128 {
+            v128_bitselect(a, b, c)
+        }
+
+        /// As `v128_bitselect`: the bits of `a` where `c` has ones, those of `b` where it has zeros.
+        ///
+        /// # Contract
+        ///
+        /// <span></span><pre><code>ensures: result ≡ [vector.relaxed_laneselect] a b c</code></pre>
+        ///
+        /// [vector.relaxed_laneselect]: crate::specs::widening::WideningTable#relaxed_laneselect "each bit of the first vector where the mask has a one, else of the second"
+        #[inline]
+        pub fn i32x4_relaxed_laneselect(a: V128, b: V128, c: V128) -> V128 {
+            v128_bitselect(a, b, c)
+        }
+
+        /// As `v128_bitselect`: the bits of `a` where `c` has ones, those of `b` where it has zeros.
+        ///
+        /// # Contract
+        ///
+        /// <span></span><pre><code>ensures: result ≡ [vector.relaxed_laneselect] a b c</code></pre>
+        ///
+        /// [vector.relaxed_laneselect]: crate::specs::widening::WideningTable#relaxed_laneselect "each bit of the first vector where the mask has a one, else of the second"
+        #[inline]
+        pub fn i64x2_relaxed_laneselect(a: V128, b: V128, c: V128) -> V128 {
+            v128_bitselect(a, b, c)
+        }
+
+        /// As `i16x8_q15mulr_sat_s`: the one product that doesn't fit is clamped.
+        ///
+        /// # Contract
+        ///
+        /// <span></span><pre><code>ensures: result ≡ [vector.relaxed_q15mulr_s] a b</code></pre>
+        ///
+        /// [vector.relaxed_q15mulr_s]: crate::specs::widening::WideningTable#relaxed_q15mulr_s "the rounded products of q15 numbers, clamped to the signed range"
+        #[inline]
+        pub fn i16x8_relaxed_q15mulr_s(a: V128, b: V128) -> V128 {
+            i16x8_q15mulr_sat_s(a, b)
+        }
+
+        /// The sums of neighbouring lanes of `i16x8_relaxed_dot_i8x16_i7x16_s`, read signed, and of `c`,
+        /// modulo 2 to the power 32.
+        ///
+        /// # Contract
+        ///
+        /// <span></span><pre><code>ensures: result ≡ [vector.relaxed_dot_add_s] lhs rhs c</code></pre>
+        ///
+        /// [vector.relaxed_dot_add_s]: crate::specs::widening::WideningTable#relaxed_dot_add_s "the sums of each two adjacent lanes of relaxed_dot_s, at twice their width, and of the lanes of a third vector"
+        #[inline]
+        pub fn i32x4_relaxed_dot_i8x16_i7x16_add_s(lhs: V128, rhs: V128, c: V128) -> V128 {
+            let dot = i16x8_relaxed_dot_i8x16_i7x16_s(lhs, rhs);
+            let pairs = i32x4_extadd_pairwise_i16x8_s(dot);
+            sums_of_u32x4(u32::lanes_of(pairs), u32::lanes_of(c))
+        }
+    }
+    mod shift {
+        //! Shifts of lanes, by an amount modulo their width.
+        //!
+        //! The two words of the vector are shifted together, and the bits are masked that would leave their
+        //! lane; with the sign it is done lane by lane, or for lanes of 8 bits by a shift without sign of
+        //! lanes moved by half of their range.
+
+        use super::shift_masks::NarrowLane;
+        use crate::proved::lanes::{
+            I16x8, I32x4, I64x2, SimdLane, bytes_of, from_bytes, from_u64x2, on_vectors, u64x2_of,
+        };
+        use crate::proved::raw::V128;
+        use crate::rattle::simd::prelude::*;
+
+        /// The lanes shifted to the left, the bits above each lane dropped. `amount` is taken modulo 8.
+        ///
+        /// # Contract
+        ///
+        /// <span></span><pre><code>ensures: result ≡ [vector.shl] [w8] v amount</code></pre>
+        ///
+        /// [vector.shl]: crate::specs::widening::WideningTable#shl "each lane shifted to the left by the amount modulo the width"
+        /// [w8]: crate::specs::library#w8 "the widths of integers in bits"
+        #[inline]
+        pub fn i8x16_shl(v: V128, amount: u32) -> V128 {
+            shifted_left::<u8>(v, amount)
+        }
+
+        /// The lanes shifted to the right, the sign copied. `amount` is taken modulo 8.
+        ///
+        /// # Contract
+        ///
+        /// <span></span><pre><code>ensures: result ≡ [vector.shr_s] [w8] v amount</code></pre>
+        ///
+        /// [vector.shr_s]: crate::specs::widening::WideningTable#shr_s "each lane shifted to the right by the amount modulo the width, with its sign from above"
+        /// [w8]: crate::specs::library#w8 "the widths of integers in bits"
+        #[inline]
+        pub fn i8x16_shr_s(v: V128, amount: u32) -> V128 {
+            // What the lanes were moved by is a multiple of what they are divided by.
+            let biased = u8::vector_of(u8::biased(u8::lanes_of(v)));
+            let shifted = i8x16_shr_u(biased, amount);
+            from_bytes(difference_of_u8x16(
+                bytes_of(shifted),
+                bytes_of(half_shifted(u64::from(amount % 8))),
+            ))
+        }
+
+        /// The lanes shifted to the right, with zeros. `amount` is taken modulo 8.
+        ///
+        /// # Contract
+        ///
+        /// <span></span><pre><code>ensures: result ≡ [vector.shr_u] [w8] v amount</code></pre>
+        ///
+        /// [vector.shr_u]: crate::specs::widening::WideningTable#shr_u "each lane shifted to the right by the amount modulo the width, with zeros from above"
+        /// [w8]: crate::specs::library#w8 "the widths of integers in bits"
+        #[inline]
+        pub fn i8x16_shr_u(v: V128, amount: u32) -> V128 {
+            shifted_right::<u8>(v, amount)
+        }
+
+        /// The lanes shifted to the left, the bits above each lane dropped. `amount` is taken modulo 16.
+        ///
+        /// # Contract
+        ///
+        /// <span></span><pre><code>ensures: result ≡ [vector.shl] [w16] v amount</code></pre>
+        ///
+        /// [vector.shl]: crate::specs::widening::WideningTable#shl "each lane shifted to the left by the amount modulo the width"
+        /// [w16]: crate::specs::library#w16 "the widths of integers in bits"
+        #[inline]
+        pub fn i16x8_shl(v: V128, amount: u32) -> V128 {
+            shifted_left::<u16>(v, amount)
+        }
+
+        /// The lanes shifted to the right, the sign copied. `amount` is taken modulo 16.
+        ///
+        /// # Contract
+        ///
+        /// <span></span><pre><code>ensures: result ≡ [vector.shr_s] [w16] v amount</code></pre>
+        ///
+        /// [vector.shr_s]: crate::specs::widening::WideningTable#shr_s "each lane shifted to the right by the amount modulo the width, with its sign from above"
+        /// [w16]: crate::specs::library#w16 "the widths of integers in bits"
+        #[inline]
+        pub fn i16x8_shr_s(v: V128, amount: u32) -> V128 {
+            on_vectors::unary::<I16x8, _>(v, |x| x.wrapping_shr(amount))
+        }
+
+        /// The lanes shifted to the right, with zeros. `amount` is taken modulo 16.
+        ///
+        /// # Contract
+        ///
+        /// <span></span><pre><code>ensures: result ≡ [vector.shr_u] [w16] v amount</code></pre>
+        ///
+        /// [vector.shr_u]: crate::specs::widening::WideningTable#shr_u "each lane shifted to the right by the amount modulo the width, with zeros from above"
+        /// [w16]: crate::specs::library#w16 "the widths of integers in bits"
+        #[inline]
+        pub fn i16x8_shr_u(v: V128, amount: u32) -> V128 {
+            shifted_right::<u16>(v, amount)
+        }
+
+        /// The lanes shifted to the left, the bits above each lane dropped. `amount` is taken modulo 32.
+        ///
+        /// # Contract
+        ///
+        /// <span></span><pre><code>ensures: result ≡ [vector.shl] [w32] v amount</code></pre>
+        ///
+        /// [vector.shl]: crate::specs::widening::WideningTable#shl "each lane shifted to the left by the amount modulo the width"
+        /// [w32]: crate::specs::library#w32 "the widths of integers in bits"
+        #[inline]
+        pub fn i32x4_shl(v: V128, amount: u32) -> V128 {
+            shifted_left::<u32>(v, amount)
+        }
+
+        /// The lanes shifted to the right, the sign copied. `amount` is taken modulo 32.
+        ///
+        /// # Contract
+        ///
+        /// <span></span><pre><code>ensures: result ≡ [vector.shr_s] [w32] v amount</code></pre>
+        ///
+        /// [vector.shr_s]: crate::specs::widening::WideningTable#shr_s "each lane shifted to the right by the amount modulo the width, with its sign from above"
+        /// [w32]: crate::specs::library#w32 "the widths of integers in bits"
+        #[inline]
+        pub fn i32x4_shr_s(v: V128, amount: u32) -> V128 {
+            on_vectors::unary::<I32x4, _>(v, |x| x.wrapping_shr(amount))
+        }
+
+        /// The lanes shifted to the right, with zeros. `amount` is taken modulo 32.
+        ///
+        /// # Contract
+        ///
+        /// <span></span><pre><code>ensures: result ≡ [vector.shr_u] [w32] v amount</code></pre>
+        ///
+        /// [vector.shr_u]: crate::specs::widening::WideningTable#shr_u "each lane shifted to the right by the amount modulo the width, with zeros from above"
+        /// [w32]: crate::specs::library#w32 "the widths of integers in bits"
+        #[inline]
+        pub fn i32x4_shr_u(v: V128, amount: u32) -> V128 {
+            shifted_right::<u32>(v, amount)
+        }
+
+        /// The lanes shifted to the left, the bits above each lane dropped. `amount` is taken modulo 64.
+        ///
+        /// # Contract
+        ///
+        /// <span></span><pre><code>ensures: result ≡ [vector.shl] [w64] v amount</code></pre>
+        ///
+        /// [vector.shl]: crate::specs::widening::WideningTable#shl "each lane shifted to the left by the amount modulo the width"
+        /// [w64]: crate::specs::library#w64 "the widths of integers in bits"
+        #[inline]
+        pub fn i64x2_shl(v: V128, amount: u32) -> V128 {
+            from_u64x2(u64x2_of(v) << u64x2::splat(u64::from(amount % 64)))
+        }
+
+        /// The lanes shifted to the right, the sign copied. `amount` is taken modulo 64.
+        ///
+        /// # Contract
+        ///
+        /// <span></span><pre><code>ensures: result ≡ [vector.shr_s] [w64] v amount</code></pre>
+        ///
+        /// [vector.shr_s]: crate::specs::widening::WideningTable#shr_s "each lane shifted to the right by the amount modulo the width, with its sign from above"
+        /// [w64]: crate::specs::library#w64 "the widths of integers in bits"
+        #[inline]
+        pub fn i64x2_shr_s(v: V128, amount: u32) -> V128 {
+            on_vectors::unary::<I64x2, _>(v, |x| x.wrapping_shr(amount))
+        }
+
+        /// The lanes shifted to the right, with zeros. `amount` is taken modulo 64.
+        ///
+        /// # Contract
+        ///
+        /// <span></span><pre><code>ensures: result ≡ [vector.shr_u] [w64] v amount</code></pre>
+        ///
+        /// [vector.shr_u]: crate::specs::widening::WideningTable#shr_u "each lane shifted to the right by the amount modulo the width, with zeros from above"
+        /// [w64]: crate::specs::library#w64 "the widths of integers in bits"
+        #[inline]
+        pub fn i64x2_shr_u(v: V128, amount: u32) -> V128 {
+            from_u64x2(u64x2_of(v) >> u64x2::splat(u64::from(amount % 64)))
+        }
+
+        /// # Contract
+        ///
+        /// <span></span><pre><code>ensures: result ≡ [vector.shl] T.width v amount</code></pre>
+        ///
+        /// [vector.shl]: crate::specs::widening::WideningTable#shl "each lane shifted to the left by the amount modulo the width"
+        #[inline(always)]
+        fn shifted_left<T: NarrowLane>(v: V128, amount: u32) -> V128 {
+            let amount = u64::from(amount % T::BITS);
+            let kept = T::shift_masks(amount);
+            from_u64x2((u64x2_of(v) & kept) << u64x2::splat(amount))
+        }
+
+        /// # Contract
+        ///
+        /// <span></span><pre><code>ensures: result ≡ [vector.shr_u] T.width v amount</code></pre>
+        ///
+        /// [vector.shr_u]: crate::specs::widening::WideningTable#shr_u "each lane shifted to the right by the amount modulo the width, with zeros from above"
+        #[inline(always)]
+        fn shifted_right<T: NarrowLane>(v: V128, amount: u32) -> V128 {
+            let amount = u64::from(amount % T::BITS);
+            let kept = T::shift_masks(amount);
+            from_u64x2((u64x2_of(v) >> u64x2::splat(amount)) & kept)
+        }
+
+        /// The differences of lanes of 8 bits, modulo 2 to the power 8.
+        ///
+        /// # Contract
+        ///
+        /// <span></span><pre><code>ensures lanes: (i : [ℕ]) → i < 16
+        /// &#32;&#32;&#32;&#32;→ [slice_index] result i ≡ ([slice_index] a i + (2 ^ 8 - [slice_index] b i)) % 2 ^ 8</code></pre>
+        ///
+        /// [ℕ]: crate::specs::library#%E2%84%95 "the whole numbers from 0 on"
+        /// [slice_index]: crate::specs::library#slice_index "element i of a list of numbers; 0 past its end"
+        #[inline(always)]
+        fn difference_of_u8x16(a: u8x16, b: u8x16) -> u8x16 {
+            a - b
+        }
+
+        /// Half of the range of 8 bits in each lane, shifted to the right.
+        ///
+        /// # Contract
+        ///
+        /// <span></span><pre><code>requires amount: amount < 8
+        /// ensures lanes: (i : [ℕ]) → i < 16 → [lane] [w8] result i ≡ 2 ^ (7 - amount)</code></pre>
+        ///
+        /// [ℕ]: crate::specs::library#%E2%84%95 "the whole numbers from 0 on"
+        /// [lane]: crate::specs::lanes::Lane#lane "lane i of the vector v"
+        /// [w8]: crate::specs::library#w8 "the widths of integers in bits"
+        #[inline(always)]
+        fn half_shifted(amount: u64) -> V128 {
+            V128::from(HALVES_OF_8[amount as usize])
+        }
+
+        const HALVES_OF_8: [u128; 8] = [
+            0x8080_8080_8080_8080_8080_8080_8080_8080,
+            0x4040_4040_4040_4040_4040_4040_4040_4040,
+            0x2020_2020_2020_2020_2020_2020_2020_2020,
+            0x1010_1010_1010_1010_1010_1010_1010_1010,
+            0x0808_0808_0808_0808_0808_0808_0808_0808,
+            0x0404_0404_0404_0404_0404_0404_0404_0404,
+            0x0202_0202_0202_0202_0202_0202_0202_0202,
+            0x0101_0101_0101_0101_0101_0101_0101_0101,
+        ];
+    }
+    mod shift_masks {
+        //! The low bits of each lane of the two words of a vector, from tables: a shift of the highest bits
+        //! would be made in a general register, and go from there to a vector register.
+
+        use crate::proved::lanes::{WordLane, u64x2_of};
+        use crate::proved::raw::V128;
+        use crate::rattle::simd::prelude::*;
+
+        /// A lane of which a word has more than one, so that a shifted word needs a mask.
+        pub(super) trait NarrowLane: WordLane {
+            /// The low bits of each lane of two words, all but its highest ones, of which there are
+            /// `dropped`.
+            ///
+            /// # Contract
+            ///
+            /// <span></span><pre><code>requires dropped: dropped < [bits] Self.width
+            /// ensures masks: result
+            /// &#32;&#32;&#32;&#32;≡ [replicate] 2 ([in_each_lane] Self.width (2 ^ ([bits] Self.width - dropped) - 1))</code></pre>
+            ///
+            /// [bits]: crate::specs::library#bits "the number of bits of a width"
+            /// [replicate]: crate::specs::library#replicate "the list of n times x"
+            /// [in_each_lane]: crate::specs::lanes::Words#in_each_lane "the word with n in each lane of one width"
+            fn shift_masks(dropped: u64) -> u64x2;
+        }
+
+        impl NarrowLane for u8 {
+            #[inline(always)]
+            fn shift_masks(dropped: u64) -> u64x2 {
+                u64x2_of(V128::from(LOW_BITS_OF_8[dropped as usize]))
+            }
+        }
+
+        impl NarrowLane for u16 {
+            #[inline(always)]
+            fn shift_masks(dropped: u64) -> u64x2 {
+                u64x2_of(V128::from(LOW_BITS_OF_16[dropped as usize]))
+            }
+        }
+
+        impl NarrowLane for u32 {
+            #[inline(always)]
+            fn shift_masks(dropped: u64) -> u64x2 {
+                u64x2_of(V128::from(LOW_BITS_OF_32[dropped as usize]))
+            }
+        }
+
+        const LOW_BITS_OF_8: [u128; 8] = [
+            0xffff_ffff_ffff_ffff_ffff_ffff_ffff_ffff,
+            0x7f7f_7f7f_7f7f_7f7f_7f7f_7f7f_7f7f_7f7f,
+            0x3f3f_3f3f_3f3f_3f3f_3f3f_3f3f_3f3f_3f3f,
+            0x1f1f_1f1f_1f1f_1f1f_1f1f_1f1f_1f1f_1f1f,
+            0x0f0f_0f0f_0f0f_0f0f_0f0f_0f0f_0f0f_0f0f,
+            0x0707_0707_0707_0707_0707_0707_0707_0707,
+            0x0303_0303_0303_0303_0303_0303_0303_0303,
+            0x0101_0101_0101_0101_0101_0101_0101_0101,
+        ];
+
+        const LOW_BITS_OF_16: [u128; 16] = [
+            0xffff_ffff_ffff_ffff_ffff_ffff_ffff_ffff,
+            0x7fff_7fff_7fff_7fff_7fff_7fff_7fff_7fff,
+            0x3fff_3fff_3fff_3fff_3fff_3fff_3fff_3fff,
+            0x1fff_1fff_1fff_1fff_1fff_1fff_1fff_1fff,
+            0x0fff_0fff_0fff_0fff_0fff_0fff_0fff_0fff,
+            0x07ff_07ff_07ff_07ff_07ff_07ff_07ff_07ff,
+            0x03ff_03ff_03ff_03ff_03ff_03ff_03ff_03ff,
+            0x01ff_01ff_01ff_01ff_01ff_01ff_01ff_01ff,
+            0x00ff_00ff_00ff_00ff_00ff_00ff_00ff_00ff,
+            0x007f_007f_007f_007f_007f_007f_007f_007f,
+            0x003f_003f_003f_003f_003f_003f_003f_003f,
+            0x001f_001f_001f_001f_001f_001f_001f_001f,
+            0x000f_000f_000f_000f_000f_000f_000f_000f,
+            0x0007_0007_0007_0007_0007_0007_0007_0007,
+            0x0003_0003_0003_0003_0003_0003_0003_0003,
+            0x0001_0001_0001_0001_0001_0001_0001_0001,
+        ];
+
+        const LOW_BITS_OF_32: [u128; 32] = [
+            0xffff_ffff_ffff_ffff_ffff_ffff_ffff_ffff,
+            0x7fff_ffff_7fff_ffff_7fff_ffff_7fff_ffff,
+            0x3fff_ffff_3fff_ffff_3fff_ffff_3fff_ffff,
+            0x1fff_ffff_1fff_ffff_1fff_ffff_1fff_ffff,
+            0x0fff_ffff_0fff_ffff_0fff_ffff_0fff_ffff,
+            0x07ff_ffff_07ff_ffff_07ff_ffff_07ff_ffff,
+            0x03ff_ffff_03ff_ffff_03ff_ffff_03ff_ffff,
+            0x01ff_ffff_01ff_ffff_01ff_ffff_01ff_ffff,
+            0x00ff_ffff_00ff_ffff_00ff_ffff_00ff_ffff,
+            0x007f_ffff_007f_ffff_007f_ffff_007f_ffff,
+            0x003f_ffff_003f_ffff_003f_ffff_003f_ffff,
+            0x001f_ffff_001f_ffff_001f_ffff_001f_ffff,
+            0x000f_ffff_000f_ffff_000f_ffff_000f_ffff,
+            0x0007_ffff_0007_ffff_0007_ffff_0007_ffff,
+            0x0003_ffff_0003_ffff_0003_ffff_0003_ffff,
+            0x0001_ffff_0001_ffff_0001_ffff_0001_ffff,
+            0x0000_ffff_0000_ffff_0000_ffff_0000_ffff,
+            0x0000_7fff_0000_7fff_0000_7fff_0000_7fff,
+            0x0000_3fff_0000_3fff_0000_3fff_0000_3fff,
+            0x0000_1fff_0000_1fff_0000_1fff_0000_1fff,
+            0x0000_0fff_0000_0fff_0000_0fff_0000_0fff,
+            0x0000_07ff_0000_07ff_0000_07ff_0000_07ff,
+            0x0000_03ff_0000_03ff_0000_03ff_0000_03ff,
+            0x0000_01ff_0000_01ff_0000_01ff_0000_01ff,
+            0x0000_00ff_0000_00ff_0000_00ff_0000_00ff,
+            0x0000_007f_0000_007f_0000_007f_0000_007f,
+            0x0000_003f_0000_003f_0000_003f_0000_003f,
+            0x0000_001f_0000_001f_0000_001f_0000_001f,
+            0x0000_000f_0000_000f_0000_000f_0000_000f,
+            0x0000_0007_0000_0007_0000_0007_0000_0007,
+            0x0000_0003_0000_0003_0000_0003_0000_0003,
+            0x0000_0001_0000_0001_0000_0001_0000_0001,
+        ];
+    }
+    mod vectors {
+        //! The lanes of a vector read signed, as a vector of `core::simd`; sums and products of the lanes of
+        //! such vectors.
+
+        use crate::proved::lanes::{SimdLane, bytes_of};
+        use crate::proved::raw::V128;
+        use crate::rattle::simd::prelude::*;
+
+        /// The lanes of 16 bits, read signed.
+        ///
+        /// # Contract
+        ///
+        /// <span></span><pre><code>ensures lanes: (i : [ℕ]) → i < 8 → [slice_index_or] result i ([pos] 0) ≡ [signed] [w16] ([lane] [w16] v i)</code></pre>
+        ///
+        /// [ℕ]: crate::specs::library#%E2%84%95 "the whole numbers from 0 on"
+        /// [slice_index_or]: crate::specs::library#slice_index_or "element i of a list; x past its end"
+        /// [pos]: crate::specs::library#pos "the number n, as one with a sign"
+        /// [signed]: crate::specs::library#cast_signed "the number from 0 up to 2 ^ w read as signed, in two\'s complement"
+        /// [w16]: crate::specs::library#w16 "the widths of integers in bits"
+        /// [lane]: crate::specs::lanes::Lane#lane "lane i of the vector v"
+        #[inline(always)]
+        pub(super) fn i16x8_of(v: V128) -> i16x8 {
+            i16x8::from_le_bytes(bytes_of(v))
+        }
+
+        /// The lanes of 32 bits, read signed.
+        ///
+        /// # Contract
+        ///
+        /// <span></span><pre><code>ensures lanes: (i : [ℕ]) → i < 4 → [slice_index_or] result i ([pos] 0) ≡ [signed] [w32] ([lane] [w32] v i)</code></pre>
+        ///
+        /// [ℕ]: crate::specs::library#%E2%84%95 "the whole numbers from 0 on"
+        /// [slice_index_or]: crate::specs::library#slice_index_or "element i of a list; x past its end"
+        /// [pos]: crate::specs::library#pos "the number n, as one with a sign"
+        /// [signed]: crate::specs::library#cast_signed "the number from 0 up to 2 ^ w read as signed, in two\'s complement"
+        /// [w32]: crate::specs::library#w32 "the widths of integers in bits"
+        /// [lane]: crate::specs::lanes::Lane#lane "lane i of the vector v"
+        #[inline(always)]
+        pub(super) fn i32x4_of(v: V128) -> i32x4 {
+            i32x4::from_le_bytes(bytes_of(v))
+        }
+
+        /// The vector of the sums of lanes of 16 bits, modulo 2 to the power 16.
+        ///
+        /// # Contract
+        ///
+        /// <span></span><pre><code>ensures lanes: (i : [ℕ]) → i < 8
+        /// &#32;&#32;&#32;&#32;→ [lane] [w16] result i ≡ ([slice_index] a i + [slice_index] b i) % 2 ^ 16
+        /// ensures in_range: result < 2 ^ 128</code></pre>
+        ///
+        /// [ℕ]: crate::specs::library#%E2%84%95 "the whole numbers from 0 on"
+        /// [lane]: crate::specs::lanes::Lane#lane "lane i of the vector v"
+        /// [w16]: crate::specs::library#w16 "the widths of integers in bits"
+        /// [slice_index]: crate::specs::library#slice_index "element i of a list of numbers; 0 past its end"
+        #[inline(always)]
+        pub(super) fn sums_of_u16x8(a: u16x8, b: u16x8) -> V128 {
+            u16::vector_of(a + b)
+        }
+
+        /// The vector of the sums of lanes of 32 bits, modulo 2 to the power 32.
+        ///
+        /// # Contract
+        ///
+        /// <span></span><pre><code>ensures lanes: (i : [ℕ]) → i < 4
+        /// &#32;&#32;&#32;&#32;→ [lane] [w32] result i ≡ ([slice_index] a i + [slice_index] b i) % 2 ^ 32
+        /// ensures in_range: result < 2 ^ 128</code></pre>
+        ///
+        /// [ℕ]: crate::specs::library#%E2%84%95 "the whole numbers from 0 on"
+        /// [lane]: crate::specs::lanes::Lane#lane "lane i of the vector v"
+        /// [w32]: crate::specs::library#w32 "the widths of integers in bits"
+        /// [slice_index]: crate::specs::library#slice_index "element i of a list of numbers; 0 past its end"
+        #[inline(always)]
+        pub(super) fn sums_of_u32x4(a: u32x4, b: u32x4) -> V128 {
+            u32::vector_of(a + b)
+        }
+
+        /// The products of lanes of 16 bits, modulo 2 to the power 16.
+        ///
+        /// # Contract
+        ///
+        /// <span></span><pre><code>ensures lanes: (i : [ℕ]) → i < 8
+        /// &#32;&#32;&#32;&#32;→ [slice_index] result i ≡ [slice_index] a i \* [slice_index] b i % 2 ^ 16</code></pre>
+        ///
+        /// [ℕ]: crate::specs::library#%E2%84%95 "the whole numbers from 0 on"
+        /// [slice_index]: crate::specs::library#slice_index "element i of a list of numbers; 0 past its end"
+        #[inline(always)]
+        pub(super) fn product_of_u16x8(a: u16x8, b: u16x8) -> u16x8 {
+            a * b
+        }
+
+        /// The products of lanes of 32 bits, modulo 2 to the power 32.
+        ///
+        /// # Contract
+        ///
+        /// <span></span><pre><code>ensures lanes: (i : [ℕ]) → i < 4
+        /// &#32;&#32;&#32;&#32;→ [slice_index] result i ≡ [slice_index] a i \* [slice_index] b i % 2 ^ 32</code></pre>
+        ///
+        /// [ℕ]: crate::specs::library#%E2%84%95 "the whole numbers from 0 on"
+        /// [slice_index]: crate::specs::library#slice_index "element i of a list of numbers; 0 past its end"
+        #[inline(always)]
+        pub(super) fn product_of_u32x4(a: u32x4, b: u32x4) -> u32x4 {
+            a * b
+        }
+
+        /// The products of lanes of 64 bits, modulo 2 to the power 64.
+        ///
+        /// # Contract
+        ///
+        /// <span></span><pre><code>ensures lanes: (i : [ℕ]) → i < 2
+        /// &#32;&#32;&#32;&#32;→ [slice_index] result i ≡ [slice_index] a i \* [slice_index] b i % 2 ^ 64</code></pre>
+        ///
+        /// [ℕ]: crate::specs::library#%E2%84%95 "the whole numbers from 0 on"
+        /// [slice_index]: crate::specs::library#slice_index "element i of a list of numbers; 0 past its end"
+        #[inline(always)]
+        pub(super) fn product_of_u64x2(a: u64x2, b: u64x2) -> u64x2 {
+            a * b
+        }
+    }
+
+    pub use extend::{
+        i16x8_extend_high_i8x16_s, i16x8_extend_high_i8x16_u, i16x8_extend_low_i8x16_s,
+        i16x8_extend_low_i8x16_u, i32x4_extend_high_i16x8_s, i32x4_extend_high_i16x8_u,
+        i32x4_extend_low_i16x8_s, i32x4_extend_low_i16x8_u, i64x2_extend_high_i32x4_s,
+        i64x2_extend_high_i32x4_u, i64x2_extend_low_i32x4_s, i64x2_extend_low_i32x4_u,
+        v128_low32_zero, v128_low64_zero, v128_widen8x8_s, v128_widen8x8_u, v128_widen16x4_s,
+        v128_widen16x4_u, v128_widen32x2_s, v128_widen32x2_u,
+    };
+    pub use extmul::{
+        i16x8_extmul_high_i8x16_s, i16x8_extmul_high_i8x16_u, i16x8_extmul_low_i8x16_s,
+        i16x8_extmul_low_i8x16_u, i32x4_extmul_high_i16x8_s, i32x4_extmul_high_i16x8_u,
+        i32x4_extmul_low_i16x8_s, i32x4_extmul_low_i16x8_u, i64x2_extmul_high_i32x4_s,
+        i64x2_extmul_high_i32x4_u, i64x2_extmul_low_i32x4_s, i64x2_extmul_low_i32x4_u,
+    };
+    pub use narrow::{
+        i8x16_narrow_i16x8_s, i8x16_narrow_i16x8_u, i16x8_narrow_i32x4_s, i16x8_narrow_i32x4_u,
+    };
+    pub use pairwise::{
+        i16x8_extadd_pairwise_i8x16_s, i16x8_extadd_pairwise_i8x16_u,
+        i16x8_relaxed_dot_i8x16_i7x16_s, i32x4_dot_i16x8_s, i32x4_extadd_pairwise_i16x8_s,
+        i32x4_extadd_pairwise_i16x8_u,
+    };
+    pub use reductions::{
+        i8x16_all_true, i8x16_bitmask, i16x8_all_true, i16x8_bitmask, i32x4_all_true,
+        i32x4_bitmask, i64x2_all_true, i64x2_bitmask, v128_any_true,
+    };
+    pub use relaxed::{
+        i8x16_relaxed_laneselect, i8x16_relaxed_swizzle, i16x8_relaxed_laneselect,
+        i16x8_relaxed_q15mulr_s, i32x4_relaxed_dot_i8x16_i7x16_add_s, i32x4_relaxed_laneselect,
+        i64x2_relaxed_laneselect,
+    };
+    pub use shift::{
+        i8x16_shl, i8x16_shr_s, i8x16_shr_u, i16x8_shl, i16x8_shr_s, i16x8_shr_u, i32x4_shl,
+        i32x4_shr_s, i32x4_shr_u, i64x2_shl, i64x2_shr_s, i64x2_shr_u,
+    };
+}
+mod widening {
+    //! Whole vectors whose lanes are made of wider ones: the vector of whatever row the closure
+    //! computes.
+
+    use crate::proved::lanes::{FromWide, Lanes};
+    use crate::proved::raw::V128;
+
+    /// Applies `f` to the lanes of `low`, then to those of `high`.
+    ///
+    /// # Contract
+    ///
+    /// <span></span><pre><code>requires callable: [F.IsAlwaysCallable] f
+    /// ensures lanes: (row : [W.Item] → [ℕ])
+    /// &#32;&#32;&#32;&#32;→ ((x : [W.Item]) (z : [L.Item]) → [W.Item].Fits x → [L.Item].Fits z → [F.post] f x z
+    /// &#32;&#32;&#32;&#32;→ [L.Item].image z ≡ row x)
+    /// &#32;&#32;&#32;&#32;→ result ≡ [made.from_low_high] [W.Item].width [L.Item].width [W.Item].read row low high</code></pre>
+    ///
+    /// [F.IsAlwaysCallable]: crate::specs::library#IsAlwaysCallable "the closure may be called on all arguments"
+    /// [W.Item]: trait@Lanes#contract
+    /// [ℕ]: crate::specs::library#%E2%84%95 "the whole numbers from 0 on"
+    /// [L.Item]: trait@FromWide#contract
+    /// [F.post]: crate::specs::library#post "the closure, called on x, may return y"
+    /// [made.from_low_high]: crate::specs::widening::Widening#from_low_high "the rows of the wide lanes of \`low\`, then those of \`high\`"
+    #[inline(always)]
+    pub(crate) fn from_low_high<W: Lanes, L: FromWide<W>, F: Fn(W::Item) -> L::Item>(
+        low: V128,
+        high: V128,
+        f: F,
+    ) -> V128 {
+        L::from_low_high(W::from_v128(low), W::from_v128(high), f).into_v128()
+    }
+}
