@@ -200,24 +200,7 @@ impl Simd<u8, 16> {
     /// The lanes at the indices, 0 where an index is past the end.
     #[inline(always)]
     pub fn swizzle_dyn_within<const K: usize>(self, indices: Self) -> Self {
-        #[cfg(all(target_arch = "x86_64", target_feature = "ssse3"))]
-        {
-            use core::arch::x86_64::*;
-            // The processor's instruction reads four bits of an index whose highest bit is 0. An index of 16 to 127 doesn't occur with K = 16,
-            // by the contracts of the callers: there it is below 16, or 128 and more.
-            let words = |v: Simd<u8, 16>| {
-                let n = u128::from_le_bytes(v.0);
-                _mm_set_epi64x((n >> 64) as i64, n as i64)
-            };
-            let picked = _mm_shuffle_epi8(words(self), words(indices));
-            let low = _mm_cvtsi128_si64(picked) as u64;
-            let high = _mm_cvtsi128_si64(_mm_unpackhi_epi64(picked, picked)) as u64;
-            Simd((u128::from(low) | (u128::from(high) << 64)).to_le_bytes())
-        }
-        #[cfg(not(all(target_arch = "x86_64", target_feature = "ssse3")))]
-        {
-            indices.each(|i| if i < 16 { self.0[usize::from(i)] } else { 0 })
-        }
+        indices.each(|i| if i < 16 { self.0[usize::from(i)] } else { 0 })
     }
 
     /// The bytes of bytes.
