@@ -217,8 +217,8 @@ impl<'r> Pool<'r> {
         Some(self.held(index)?.elements)
     }
 
-    /// The bytes of all memories and the elements of all tables of the tenants, including those that
-    /// they dropped.
+    /// The bytes of all memories and the elements of all tables of the tenants, including those
+    /// that they dropped.
     ///
     /// The cost is constant, as that of `held_bytes`.
     ///
