@@ -178,6 +178,9 @@ enum {
     WASMI_HEADER_LINE = 24, /* nothing was run */
     WASMI_TEXT_CUT = 25,    /* the lines were run; their text has 2^64 - 1 bytes or more */
     WASMI_NO_ANSWER = 26,   /* of wasmi_machine_new_with_answers: a byte is no number of an answer */
+    WASMI_NO_POOL = 27,     /* of the calls on a pool: the handle has none */
+    WASMI_HAS_POOL = 28,    /* the handle has one */
+    WASMI_NO_TENANT = 29,   /* no tenant of the pool has the index: nothing was run */
     WASMI_MEMORY_OUT_OF_MEMORY = 32,
     WASMI_MEMORY_GROWTH = 33,        /* beyond the type, or denied, as beyond the caps */
     WASMI_MEMORY_ACCESS = 34,        /* of wasmi_machine_read and wasmi_machine_write */
@@ -265,6 +268,55 @@ wasmi_totals wasmi_machine_totals(wasmi_machine *machine);
    2^64 - 1 bytes or more (number: 2^64 - 1). */
 wasmi_reply wasmi_machine_run_lines(wasmi_machine *machine, const uint8_t *lines, size_t lines_len, uint8_t *text,
                                     size_t text_len);
+
+/* A pool: machines, its tenants, under one cap of bytes and one of elements that they share. A tenant goes by its
+   index, which counts from 0; none is ever removed, and what a tenant drops counts until the pool ends. The caller owes
+   a handle of a pool what it owes one of a machine.
+
+   What is promised, by proof:
+   - A call on a tenant is a run of that call on its machine alone, under a limiter which permits a growth exactly if
+     all tenants together stay within the cap. No other tenant's machine changes, nor what it has.
+   - After each call all tenants together are within the caps, and these are the caps that the pool was made with.
+   - A tenant that is never denied gets what it gets in a pool of its own with the same caps, whatever other tenants do.
+   - A handle may go to another thread. */
+
+/* A handle: zeros, or what wasmi_pool_new has made of it. */
+typedef struct { uint8_t *at; bool is_made; } wasmi_pool;
+
+/* Makes a pool without tenants: at most so many bytes in all memories, and so many elements in all tables. DONE;
+   HAS_POOL if the handle has one; then NO_ROOM if the system refuses memory. After a refusal the handle is unchanged. */
+uint8_t wasmi_pool_new(wasmi_pool *pool, uint64_t bytes, uint64_t elements);
+
+/* Ends the pool and its tenants' machines, if there is one, and gives all memory back, which is tested and not proved.
+   The handle may be used for a new one. */
+void wasmi_pool_drop(wasmi_pool *pool);
+
+/* Adds a tenant, a machine with nothing on it -> number: its index; NO_POOL, NO_ROOM. Of limits, bytes, elements and
+   is_unlimited aren't read: the caps are the pool's. */
+wasmi_reply wasmi_pool_add(wasmi_pool *pool, const wasmi_limits *limits);
+
+/* Replies to a call on the machine of a tenant. Before all else: NO_POOL, NO_CALL, NO_TENANT, then NO_ROOM if memory
+   for the reply is refused. Fuel that isn't a call's is taken by WASMI_CALL_GET_FUEL and WASMI_CALL_SET_FUEL. */
+wasmi_reply wasmi_pool_call(wasmi_pool *pool, size_t tenant, const wasmi_call *call);
+
+/* As wasmi_machine_read on a tenant's machine; before all else: NO_POOL, NO_TENANT. */
+wasmi_reply wasmi_pool_read(wasmi_pool *pool, size_t tenant, size_t memory, size_t offset, uint8_t *bytes, size_t len);
+
+/* As wasmi_machine_write on a tenant's machine; before all else: NO_POOL, NO_ROOM, NO_TENANT, then NO_ROOM if memory for
+   the reply is refused. */
+wasmi_reply wasmi_pool_write(wasmi_pool *pool, size_t tenant, size_t memory, size_t offset, const uint8_t *bytes,
+                             size_t len);
+
+/* As wasmi_machine_run_lines on a tenant's machine; before all else NO_POOL, and before the run NO_TENANT, then NO_ROOM
+   if memory for the replies is refused. An `as` line is a bad line. */
+wasmi_reply wasmi_pool_run_lines(wasmi_pool *pool, size_t tenant, const uint8_t *lines, size_t lines_len, uint8_t *text,
+                                 size_t text_len);
+
+/* What a tenant has, dropped memories and tables at their last size; NO_POOL, NO_TENANT, after which both are 0. */
+wasmi_totals wasmi_pool_tenant_totals(wasmi_pool *pool, size_t tenant);
+
+/* What all tenants have together; NO_POOL. */
+wasmi_totals wasmi_pool_totals(wasmi_pool *pool);
 
 #ifdef __cplusplus
 }

@@ -4,13 +4,14 @@ import re
 CRATE_TYPES = {
     "bool": "bool", "i32": "int32_t", "i64": "int64_t", "u8": "uint8_t", "u16": "uint16_t", "u32": "uint32_t", "u64": "uint64_t", "usize": "size_t",
     "RawVal": "wasmi_words", "InstructionResult": "wasmi_result",
-    "Handle": "wasmi_machine", "Limits": "wasmi_limits", "CallStruct": "wasmi_call", "ReplyStruct": "wasmi_reply", "Totals": "wasmi_totals",
+    "Handle": "wasmi_machine", "PoolHandle": "wasmi_pool", "Limits": "wasmi_limits", "CallStruct": "wasmi_call", "ReplyStruct": "wasmi_reply", "Totals": "wasmi_totals",
     "MemoryNumbers": "wasmi_memory", "TableNumbers": "wasmi_table", "MeterNumbers": "wasmi_meter", "QuotaNumbers": "wasmi_quota",
     "HostAnswers": "wasmi_answers", "Question": "wasmi_question", "Range": "wasmi_range",
 }
 # Parameters and fields that C calls by another name: (name in the crate, type in C without const) -> name in C.
 OTHER_NAMES = {
     ("handle", "wasmi_machine *"): "machine",
+    ("handle", "wasmi_pool *"): "pool",
     ("region", "uint32_t *"): "elements",
     ("source_region", "uint32_t *"): "source_elements",
     ("ty", "uint8_t"): "type",
@@ -114,7 +115,7 @@ def differing_structs(header, source):
     and wasmi_words is in another crate."""
     names = {theirs: ours for ours, theirs in CRATE_TYPES.items()}
     for name, fields in structs(header).items():
-        if name in ("wasmi_machine", "wasmi_words"):
+        if name in ("wasmi_machine", "wasmi_pool", "wasmi_words"):
             continue
         body = re.search(rf"#\[repr\(C\)\][^{{}}]*?pub struct {names.get(name)} \{{(.*?)^\}}", source, re.S | re.M)
         wanted = fields_in_c(body[1]) if body else ["none"]

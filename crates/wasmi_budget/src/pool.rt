@@ -143,6 +143,16 @@ impl<'r> Pool<'r> {
         Some(self.held(index)?.elements)
     }
 
+    /// The bytes of all memories and the elements of all tables of the tenants, including those
+    /// that they dropped.
+    ///
+    /// The cost is constant, as that of `held_bytes`.
+    pub fn held_by_all(&self) -> Amounts
+        ensures { result ≡ amounts_of (total_of self.now.machines) }
+    {
+        self.held_by_all
+    }
+
     /// What a tenant's machine has.
     fn held(&self, index: usize) -> Option<Amounts>
         ensures { result

@@ -1,5 +1,6 @@
 mod BulkLemmas
 mod ByArgumentsLemmas
+mod HeldBoxLemmas
 mod HostLemmas
 mod InstructionLemmas
 mod LanesLemmas
@@ -8,8 +9,10 @@ mod MachineCapsLemmas
 mod MachineLinesLemmas
 mod MachineRunsLemmas
 mod MeterLemmas
+mod PoolBoxLemmas
 mod QuotaNumbersLemmas
 mod ScriptLemmas
 mod SegmentLemmas
 mod SettlementLemmas
 mod SharedQuotaLemmas
+mod TenantLemmas

@@ -63,6 +63,18 @@ text_cut_status = 25
 abbrev pub no_answer_status : ℕ
 no_answer_status = 26
 
+-- the status if a handle has no pool
+abbrev pub no_pool_status : ℕ
+no_pool_status = 27
+
+-- the status if a handle has a pool already
+abbrev pub has_pool_status : ℕ
+has_pool_status = 28
+
+-- the status if no tenant of a pool has an index
+abbrev pub no_tenant_status : ℕ
+no_tenant_status = 29
+
 -- the status if a memory grows beyond its type, or a growth is denied
 abbrev pub memory_growth_status : ℕ
 memory_growth_status = 33

@@ -4,11 +4,13 @@
 #![tactic(auto)]
 
 pub mod fuel;
+pub mod held_box;
 pub mod host;
 pub mod instruction;
 pub mod laws;
 pub mod machine;
 pub mod memory;
+pub mod pool;
 pub mod quota;
 pub mod range;
 pub mod refusal;

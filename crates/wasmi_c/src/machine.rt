@@ -3,7 +3,6 @@
 //!
 //! What the calls take and give stands in `include/wasmi_machine.h`.
 
-mod box_fields;
 mod by_arguments;
 pub mod call_struct;
 mod calls;
@@ -16,6 +15,6 @@ pub mod laws;
 pub mod limited_machine;
 mod limiter_answers;
 pub mod limits;
-mod lines;
+pub(crate) mod lines;
 pub mod machine_box;
 pub mod reply_struct;

@@ -34,6 +34,12 @@ pub const HEADER_LINE: u8 = 24;
 pub const TEXT_CUT: u8 = 25;
 /// A number stands for no answer of a limiter.
 pub const NO_ANSWER: u8 = 26;
+/// The handle has no pool.
+pub const NO_POOL: u8 = 27;
+/// The handle has a pool already.
+pub const HAS_POOL: u8 = 28;
+/// No tenant of the pool has the index.
+pub const NO_TENANT: u8 = 29;
 /// The system refused memory. No memory on a region takes any.
 pub const MEMORY_OUT_OF_MEMORY: u8 = 32;
 /// A growth above the maximum or what addresses reach, or one that the limiter says no to.

@@ -8,6 +8,7 @@ mod instructions;
 mod loads;
 mod machine;
 mod memory;
+mod pool;
 mod scalar;
 mod script;
 mod stores;

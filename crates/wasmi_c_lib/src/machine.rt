@@ -69,7 +69,7 @@ pub extern "C" fn wasmi_machine_read(
     ensures step { ActsOnHeld {R = ReplyStruct × List ℕ} (only no_machine_status, bytes.old)
         handle.old.machine.held (result, bytes.new) handle.new.machine.held
         (λ machine machine'. (machine' ≡ machine)
-        × ReadsOut memory offset machine bytes.old result bytes.new) }
+        × ReadsOut memory offset machine.state bytes.old result bytes.new) }
     ensures caps { StaysWithinCaps handle.old.machine.held handle.new.machine.held }
 {
     handle.read(memory, offset, bytes)

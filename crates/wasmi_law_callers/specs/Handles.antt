@@ -1,7 +1,8 @@
--- Calls by a handle, as one run.
-use Rattle.std.specs.Prelude.{◌≡◌, ◌∷◌, [], Option, Some}
+-- Calls by a handle of a machine, as one run, and by one of a pool.
+use Rattle.std.specs.Prelude.{◌≡◌, ◌∷◌, [], ℕ, Option, Some, slice_get}
 use Rattle.wasmi_core.specs.declared.calls.Call.{Call}
 use Rattle.wasmi_core.specs.declared.calls.Reply.{Reply}
+use Rattle.wasmi_budget.specs.Pool.{PoolValue}
 use Rattle.wasmi_c.specs.Machine.Caps.{MachineValue}
 use Rattle.wasmi_c.specs.Machine.Lines.{MachineRuns}
 use Rattle.wasmi_c.specs.Machine.Replies.{reply_struct}
@@ -13,3 +14,8 @@ abbrev pub RunsBoth
 RunsBoth call call' machine replies held' = (reply : Reply) × (reply' : Reply) × (machine' : MachineValue)
     × MachineRuns (call ∷ call' ∷ []) machine (reply ∷ reply' ∷ []) machine'
     × (replies ≡ (reply_struct reply, reply_struct reply')) × (held' ≡ Some machine')
+
+-- a handle holds a pool in which the machine of an index is the same
+abbrev pub KeepsTenant : ℕ → PoolValue → Option PoolValue → Type 0
+KeepsTenant index pool held' = (pool' : PoolValue) × (held' ≡ Some pool')
+    × (slice_get pool'.machines index ≡ slice_get pool.machines index)

@@ -364,6 +364,22 @@ mod pool {
             Some(self.held(index)?.elements)
         }
 
+        /// The bytes of all memories and the elements of all tables of the tenants, including those
+        /// that they dropped.
+        ///
+        /// The cost is constant, as that of `held_bytes`.
+        ///
+        /// # Contract
+        ///
+        /// <span></span><pre><code>ensures: result ≡ [amounts_of] ([total_of] self.now.machines)</code></pre>
+        ///
+        /// [amounts_of]: crate::specs::meter::Amounts#amounts_of "the amounts by kind"
+        /// [total_of]: crate::specs::budget::Pool#total_of "what these machines have of a kind"
+        #[inline]
+        pub fn held_by_all(&self) -> Amounts {
+            self.held_by_all
+        }
+
         /// What a tenant's machine has.
         ///
         /// # Contract

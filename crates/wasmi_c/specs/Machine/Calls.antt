@@ -10,7 +10,7 @@ use Rattle.wasmi_meter.specs.declared.any_limiter.AnyLimiter.{AnyLimiter}
 use Rattle.wasmi_meter.specs.declared.error.MemoryError.TheVariants.{OutOfBoundsAccess}
 use Rattle.wasmi_meter.specs.declared.fuel.FuelError.TheVariants.{FuelMeteringDisabled, OutOfFuel}
 use Rattle.wasmi_meter.specs.declared.limiter.Kind.TheVariants.{Bytes, Elements}
-use Rattle.wasmi_core.specs.State.{live_at}
+use Rattle.wasmi_core.specs.State.{State, live_at}
 use Rattle.wasmi_core.specs.Totals.{total}
 use Rattle.wasmi_core.specs.Steps.{RepliesWith}
 use Rattle.wasmi_core.specs.World.{World, world}
@@ -46,17 +46,16 @@ RepliesToStruct numbers machine reply machine' = MatchOption (call_of numbers)
     ((reply ≡ only no_call_status) × (machine' ≡ machine))
     (λ call. RepliesInStruct call machine reply machine')
 
--- the machine of a handle has become another; where there is none, the status says so, and there is none afterwards
-abbrev pub ActsOnHeld : {R : Type 0} → R → Option MachineValue → R → Option MachineValue
-    → (MachineValue → MachineValue → Type 0) → Type 0
+-- what a handle holds has become another; where it holds nothing, the status says so, and it holds nothing afterwards
+abbrev pub ActsOnHeld : {R V : Type 0} → R → Option V → R → Option V → (V → V → Type 0) → Type 0
 ActsOnHeld refusal None result held' Acts = (result ≡ refusal) × (held' ≡ None)
-ActsOnHeld refusal (Some machine) result held' Acts =
-    (machine' : MachineValue) × Acts machine machine' × (held' ≡ Some machine')
+ActsOnHeld {V = V} refusal (Some value) result held' Acts =
+    (value' : V) × Acts value value' × (held' ≡ Some value')
 
 -- the bytes of a memory from an offset on are copied to the caller's; where there is no such memory, or they end past
 -- it, the caller's stay
-abbrev pub ReadsOut : ℕ → ℕ → MachineValue → List ℕ → ReplyStruct → List ℕ → Type 0
-ReadsOut memory offset machine old reply new = MatchOption (live_at machine.state.memories memory)
+abbrev pub ReadsOut : ℕ → ℕ → State → List ℕ → ReplyStruct → List ℕ → Type 0
+ReadsOut memory offset machine old reply new = MatchOption (live_at machine.memories memory)
     ((reply ≡ only no_such_status) × (new ≡ old))
     (λ found. MatchOption (at found.bytes offset (length old))
     ((reply ≡ memory_refusal OutOfBoundsAccess) × (new ≡ old))

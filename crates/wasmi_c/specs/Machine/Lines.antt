@@ -37,14 +37,18 @@ MachineRuns calls machine replies machine' =
 abbrev pub no_header : Header
 no_header = record { meter = None; limiter = None; region = None }
 
--- a script without header lines is run on a machine, and bytes are filled with the text of the replies
-pub record RunsScript (script : Script) (machine : MachineValue) (old : List ℕ) (reply : ReplyStruct)
-    (new : List ℕ)
-    (machine' : MachineValue) : Type 0 where
+-- the calls of a script without header lines are run, and bytes are filled with the text of the replies
+pub record RunsScriptBy (Runs : List Call → List Reply → Type 0) (script : Script) (old : List ℕ) (reply : ReplyStruct)
+    (new : List ℕ) : Type 0 where
   pub headless : script.header ≡ no_header
   pub replies : List Reply
-  pub run : MachineRuns (calls_of script) machine replies machine'
+  pub run : Runs (calls_of script) replies
   pub text : WritesOut (replies_text (calls_of script) replies) old reply new
+
+-- a script without header lines is run on a machine
+abbrev pub RunsScript : Script → MachineValue → List ℕ → ReplyStruct → List ℕ → MachineValue → Type 0
+RunsScript script machine old reply new machine' =
+    RunsScriptBy (λ calls replies. MachineRuns calls machine replies machine') script old reply new
 
 -- Lines that aren't run have a first bad line, or are a script with header lines, or memory is refused for their calls
 -- or replies.

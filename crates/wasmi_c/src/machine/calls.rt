@@ -104,7 +104,7 @@ impl Handle {
         ensures step { ActsOnHeld {R = ReplyStruct × List ℕ} (only no_machine_status, bytes.old)
             self.old.machine.held (result, bytes.new) self.new.machine.held
             (λ machine machine'. (machine' ≡ machine)
-            × ReadsOut memory offset machine bytes.old result bytes.new) }
+            × ReadsOut memory offset machine.state bytes.old result bytes.new) }
         ensures caps { StaysWithinCaps self.old.machine.held self.new.machine.held }
     {
         on_machine!(self, ReplyStruct::only(NO_MACHINE), machine => {

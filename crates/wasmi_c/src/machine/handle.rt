@@ -1,6 +1,7 @@
 //! What C holds: a machine with its limiter, or none.
 ghost use Rattle.std.specs.Prelude.{◌≡◌, Some, None, is_some, MatchOption};
 
+use crate::held_box::HeldBox;
 use crate::machine::limited_machine::LimitedMachine;
 use crate::machine::machine_box::MachineBox;
 use std::alloc::Global;
@@ -22,7 +23,7 @@ impl Handle {
         ensures { result.machine.held ≡ None }
     {
         Handle {
-            machine: MachineBox::empty(alloc),
+            machine: MachineBox::from_held(HeldBox::empty(alloc)),
             is_made: false,
         }
     }
@@ -31,7 +32,7 @@ impl Handle {
         ensures { result.machine.held ≡ Some machine.entry.value }
     {
         Handle {
-            machine: MachineBox::from_box(machine),
+            machine: MachineBox::from_held(HeldBox::from_box(machine)),
             is_made: true,
         }
     }
@@ -52,9 +53,9 @@ impl Handle {
     {
         let Handle { machine, is_made } = mem::replace(self, Handle::empty(alloc));
         if is_made {
-            Some(machine.into_box())
+            Some(machine.into_held().into_box())
         } else {
-            machine.end();
+            machine.into_held().end();
             None
         }
     }
@@ -71,7 +72,7 @@ impl Handle {
             machine,
             is_made: _,
         } = mem::replace(self, Handle::from_box(machine));
-        machine.end();
+        machine.into_held().end();
     }
 }
 

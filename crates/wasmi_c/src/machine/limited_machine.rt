@@ -4,6 +4,7 @@ ghost use Rattle.wasmi_meter.specs.AnyLimiter.{caps_of};
 ghost use Rattle.wasmi_core.specs.MemoryEffects.{load_reply};
 ghost use Rattle.wasmi_core.specs.State.{live_at};
 ghost use Rattle.wasmi_core.specs.declared.calls.Call.TheVariants.{Binary, NewSegment, Store, Write};
+ghost use Rattle.wasmi_c.specs.Machine.Calls.{ReadsOut};
 
 use crate::machine::call_struct::CallStruct;
 use crate::machine::laws;
@@ -37,7 +38,7 @@ impl Model for LimitedMachine {
 }
 
 impl LimitedMachine {
-    ghost use Rattle.wasmi_c.specs.Machine.Calls.{MachineReplies, ReadsOut, RepliesInStruct, RepliesToCopy, RepliesToSegment, RepliesToStruct, PaysFuel, totals_of};
+    ghost use Rattle.wasmi_c.specs.Machine.Calls.{MachineReplies, RepliesInStruct, RepliesToCopy, RepliesToSegment, RepliesToStruct, PaysFuel, totals_of};
     ghost use Rattle.wasmi_c.specs.Machine.Caps.{IsCapped};
     ghost use Rattle.wasmi_c.specs.Machine.NewMachines.{IsNewMachine, IsNewWithAnswers};
     ghost use Rattle.wasmi_c.specs.Machine.Replies.{reply_struct};
@@ -172,15 +173,9 @@ impl LimitedMachine {
 
     /// Copies the bytes of a memory from an offset on to the caller's.
     pub fn read(&self, memory: usize, offset: usize, bytes: &mut [u8]) -> ReplyStruct
-        ensures { ReadsOut memory offset self.now bytes.old result bytes.new }
+        ensures { ReadsOut memory offset self.now.state bytes.old result bytes.new }
     {
-        let Some(memory) = self.machine.memory(memory) else {
-            return ReplyStruct::only(NO_SUCH);
-        };
-        match memory.read(offset, bytes) {
-            Ok(()) => ReplyStruct::only(DONE),
-            Err(error) => ReplyStruct::from_memory_error(error),
-        }
+        read_out(&self.machine, memory, offset, bytes)
     }
 
     /// Writes a copy of the caller's bytes over those of a memory from an offset on.
@@ -263,4 +258,22 @@ fn references(alloc: Global, items: &[u32]) -> Result<Vec<RawRef>, AllocError>
         copy.push_reserved(RawRef::from(*item));
     }
     Ok(copy)
+}
+
+/// Copies the bytes of a memory from an offset on to the caller's.
+pub(crate) fn read_out(
+    machine: &Machine,
+    memory: usize,
+    offset: usize,
+    bytes: &mut [u8],
+) -> ReplyStruct
+    ensures { ReadsOut memory offset machine.now bytes.old result bytes.new }
+{
+    let Some(memory) = machine.memory(memory) else {
+        return ReplyStruct::only(NO_SUCH);
+    };
+    match memory.read(offset, bytes) {
+        Ok(()) => ReplyStruct::only(DONE),
+        Err(error) => ReplyStruct::from_memory_error(error),
+    }
 }

@@ -56,14 +56,14 @@ impl LimitedMachine {
 }
 
 /// Whether there is no header line.
-fn is_empty(header: &Header) -> bool
+pub(crate) fn is_empty(header: &Header) -> bool
     ensures { IsTrue result ↔ (header.now ≡ no_header) }
 {
     header.meter.is_none() && header.limiter.is_none() && header.region.is_none()
 }
 
 /// Writes the replies to calls to the front of the bytes, as much of their text as fits.
-fn write_out(calls: &[Call], replies: &[Reply], bytes: &mut [u8]) -> ReplyStruct
+pub(crate) fn write_out(calls: &[Call], replies: &[Reply], bytes: &mut [u8]) -> ReplyStruct
     ensures text { WritesOut (replies_text calls.now replies.now) bytes.old result bytes.new }
 {
     let length = write_lines(bytes, calls, replies);

@@ -1,18 +1,15 @@
-//! A machine on the heap, or none.
-ghost use Rattle.std.specs.Prelude.{◌≡◌, Option, Some, None, IsSome};
-ghost use Rattle.wasmi_c.specs.Machine.MachineBox.{box_or_none_owns, held_coded};
+//! A machine on the heap, or none, as C holds it.
+ghost use Rattle.std.specs.Prelude.{◌≡◌, Option, IsSome};
+ghost use Rattle.wasmi_c.specs.HeldBox.{box_or_none_owns, global_token};
 ghost use Rattle.wasmi_c.specs.Machine.Caps.{MachineValue};
+ghost use Rattle.wasmi_c.specs.Machine.MachineBox.{held_coded, machine_row};
 
-use crate::machine::box_fields::BoxFields;
+use crate::held_box::HeldBox;
 use crate::machine::limited_machine::LimitedMachine;
 use std::alloc::Global;
 use std::marker::Model;
-use std::ptr;
 
-/// A machine on the heap, or none: then the pointer leads nowhere, whatever it is.
-///
-/// It isn't `Drop`, so that no machine is lost: [`MachineBox::end`] and [`MachineBox::into_box`]
-/// take it.
+/// A [`HeldBox`] of a machine: a type that C sees has no parameters.
 #[repr(C)]
 pub struct MachineBox {
     at: *mut u8,
@@ -22,7 +19,7 @@ pub struct MachineBox {
 }
 
 impl Model for MachineBox {
-    ghost also_owns = { λ s. box_or_none_owns s.alloc s.at s.held };
+    ghost also_owns = { λ s. box_or_none_owns (global_token s.alloc) machine_row s.at s.held };
 }
 
 // A proof in `proofs/machine/machine_box/MachineBox/TheSendSync` shows it.
@@ -30,59 +27,29 @@ unsafe impl Send for MachineBox {}
 
 impl MachineBox {
     ghost use Rattle.std.specs.Borrow.{sem};
+    ghost use Rattle.std.specs.Prelude.{Some};
     ghost use Rattle.wasmi_c.specs.Machine.Lending.{LendsMachine};
 
-    /// No machine. It takes no memory.
-    pub fn empty(alloc: Global) -> MachineBox
-        ensures { result.held ≡ None }
+    /// The machine or none, as C has it.
+    pub fn from_held(held: HeldBox<LimitedMachine, Global>) -> MachineBox
+        ensures { result.held ≡ held.entry.held }
     {
+        let HeldBox { at, alloc } = held;
         MachineBox {
-            at: ptr::null_mut(),
+            at: at as *mut u8,
             alloc,
         }
     }
 
-    fn from_fields(fields: BoxFields<LimitedMachine, Global>) -> MachineBox
-        ensures { result.held ≡ Some fields.entry.value }
-    {
-        let BoxFields { ptr, alloc } = fields;
-        MachineBox {
-            at: ptr as *mut u8,
-            alloc,
-        }
-    }
-
-    fn into_fields(self) -> BoxFields<LimitedMachine, Global>
-        requires there { IsSome self.held }
-        ensures value { Some result.value ≡ self.held }
+    /// The machine or none, as Rattle has it.
+    pub fn into_held(self) -> HeldBox<LimitedMachine, Global>
+        ensures { result.held ≡ self.held }
     {
         let MachineBox { at, alloc } = self;
-        BoxFields {
-            ptr: at as *mut LimitedMachine,
+        HeldBox {
+            at: at as *mut LimitedMachine,
             alloc,
         }
-    }
-
-    /// The box of a machine.
-    pub fn from_box(machine: Box<LimitedMachine>) -> MachineBox
-        ensures { result.held ≡ Some machine.entry.value }
-    {
-        MachineBox::from_fields(BoxFields::from_box(machine))
-    }
-
-    /// Ends a box with no machine.
-    pub fn end(self)
-        requires empty { self.held ≡ None }
-    {
-        let MachineBox { at: _, alloc: _ } = self;
-    }
-
-    /// The machine.
-    pub fn into_box(self) -> Box<LimitedMachine>
-        requires there { IsSome self.held }
-        ensures value { Some result.value ≡ self.held }
-    {
-        self.into_fields().into_box()
     }
 
     /// The machine, in its place.

@@ -1,6 +1,5 @@
--- `of_fields` moves two fields, and what they own goes with them.
+-- `from_held` moves two fields, and what they own goes with them.
 use mathlib.Core.Path.{refl, sym, subst}
-use Rattle.std.specs.Prelude.{Some}
 use mathlib.Core.List.{List, [], ◌∷◌, ◌++◌}
 use seplogic.Ra.Ura.{Ura}
 use mir.Val.{Val}
@@ -18,19 +17,27 @@ use types.Part.{whole, sub, agg}
 use types.Run.{stop, fld, no_more, and_then, of_opd, returns, enter}
 use types.ByLocal.{alloc_all, pass_all, free_all, look_at, get, get_in, sets}
 use denote.Exit.{no}
-use denote.Signature.{type_at}
+use denote.Signature.{plain, type_at}
+use denote.Signature as signature
 use denote.Steps.{nothing}
 use denote.Triple.Spec.{triple_of}
 use denote.Triple.Table.{entered}
 use denote.Triple.Walked.{says, Stays, stay_dropped, walk_of, ends_at, walk_Meets}
 use Rattle.std.proofs.alloc.Calls.{Goes-blank}
-use Rattle.std_alloc.proofs.BoxSteps.Form.{D, B, word, box_typed}
-use Rattle.std_alloc.proofs.BoxSteps.Steps.{box_out, box_in}
-use Rattle.wasmi_c.proofs.MachineBoxLemmas.{E, FromFields as From}
-use Rattle.wasmi_c.specs.contracts.machine.machine_box.MachineBox.from_fields as F
-use Rattle.wasmi_c.specs.contracts.machine.machine_box.MachineBox.from_fields.Key.{name as #self}
-use Rattle.wasmi_c.proofs.machine.machine_box.MachineBox.from_fields.Statement as stated
-use Rattle.wasmi_c.proofs.machine.machine_box.MachineBox.from_fields.Code as code
+use Rattle.std_heap.specs.contracts.Global as Heap
+use Rattle.std_heap.specs.contracts.GlobalAllocator.TheImpl.{ghosts}
+use Rattle.wasmi_c.specs.Pool.PoolBox.{pool_row}
+use Rattle.wasmi_c.specs.HeldBox.{box_or_none_owns, global_token}
+use Rattle.wasmi_c.proofs.HeldBoxLemmas.{pair, pair_typed, paired, ptr_typed}
+use Rattle.wasmi_c.proofs.PoolBoxLemmas.{E}
+use Rattle.wasmi_c.specs.contracts.held_box.HeldBox as held_box
+use Rattle.wasmi_c.specs.contracts.pool.pool_box.PoolBox.from_held as F
+use Rattle.wasmi_c.specs.contracts.pool.pool_box.PoolBox.from_held.Key.{name as #self}
+use Rattle.wasmi_c.proofs.pool.pool_box.PoolBox.from_held.Statement as stated
+use Rattle.wasmi_c.proofs.pool.pool_box.PoolBox.from_held.Code as code
+
+abbrev From : signature.Slot 0
+From = plain (λ _. held_box.the_row pool_row Heap.the_row ghosts)
 
 abbrev stayed : Stays (F.ended).signature.params (F.ended).kept
 stayed = (stay_dropped From no, tt)
@@ -44,29 +51,30 @@ module _ {M : Type 1} {𝓤 : Ura M} (𝓛 : Logic 𝓤) (at_mem : Memory → SP
       (WpFn 𝓤 H 𝓣.C 𝓣.Λ code.function (z.0.4.0 ++ []) ((walk_of 𝓛 F.ended stayed (F.clauses 𝓛 at_mem run)).post z))
   walk z =
       let Post = (walk_of 𝓛 F.ended stayed (F.clauses 𝓛 at_mem run)).post z in
-      let v : D E = record { ptr = z.0.3.0.ptr; alloc = z.0.3.0.alloc; value = z.0.3.0.value } in
+      let s = z.0.3.0 in
+      let From = held_box.the_row pool_row Heap.the_row ghosts in
       let To = type_at (F.signature).result tt in
-      let made : To.Denot = record { at = v.ptr; alloc = v.alloc; held = Some v.value } in
-      qed 𝓛 ((‵ ftrue ⊛ ‵ (fsep ((B E).own_val v z.0.4.0) ftrue)) ∷ raw (emp 𝓤) ∷ []) ∵ split ! $ drop ! $ fsplit ! $
-      box_out E ! v z.0.4.0
-      (λ b o hv e ws fa. box_in E ! v b o v.value e refl $ use1 𝓛 (‵ (To.own_val made (word E hv b o ∷ [])))
-      (id⊢ 𝓤 _) $ move ! (1 ∷ 2 ∷ []) $ drop ! $ drop ! $
-      let w = word E hv b o in
+      let made : To.Denot = record { at = s.at; alloc = s.alloc; held = s.held } in
+      qed 𝓛 ((‵ ftrue ⊛ ‵ (fsep (From.own_val s z.0.4.0) ftrue)) ∷ raw (emp 𝓤) ∷ []) ∵ split ! $ drop ! $ fsplit ! $
+      paired E ! s.at s.alloc (box_or_none_owns (global_token s.alloc) pool_row s.at s.held) z.0.4.0
+      (λ hv ws fa. use1 𝓛 (‵ (To.own_val made (pair s.at hv ∷ []))) (id⊢ 𝓤 _) $
+      move ! (1 ∷ 2 ∷ []) $ drop ! $ drop ! $
+      let w = pair s.at hv in
       let Γ : List (Item 𝓤) = ‵ (To.own_val made (w ∷ [])) ∷ [] in
       by ! (subst (λ (us : List Val). ent 𝓤 (types.Kit.⋆ 𝓛 Γ) (WpFn 𝓤 H 𝓣.C 𝓣.Λ code.function (us ++ []) Post)) (sym ws)
       (qed 𝓛 Γ ∵ enter ! 𝓣.C 𝓣.Λ code.function (w ∷ []) _ $ alloc_all !
-      (λ ls. pass_all ! refl (box_typed E hv b o fa, tt) $
-      sets ! (of_opd ! (get_in ! (fld ! refl (stop !)) (sub ! 0 refl (whole !)))) refl (tt, tt) $ sets !
+      (λ ls. pass_all ! refl (pair_typed E s.at hv fa, tt) $
+      sets ! (of_opd ! (get_in ! (fld ! refl (stop !)) (sub ! 0 refl (whole !)))) refl (ptr_typed s.at) $ sets !
       (of_opd ! (get_in ! (fld ! refl (stop !)) (sub ! 1 refl (whole !)))) refl fa $
-      sets ! (of_opd ! (get ! refl)) refl (tt, tt) $
+      sets ! (of_opd ! (get ! refl)) refl (ptr_typed s.at) $
       sets ! (agg ! (and_then ! (get ! refl) (and_then ! (get ! refl) (no_more !)))) refl
-      (box_typed E hv b o fa) $ returns ! (look_at ! 0 refl) $ free_all ! refl $
+      (pair_typed E s.at hv fa) $ returns ! (look_at ! 0 refl) $ free_all ! refl $
       suffices ! _ (ends_at 𝓛 F.ended stayed (F.clauses 𝓛 at_mem run) z w made (tt, tt) (tt, tt)) $ says ! refl $
       nothing ! $ nothing ! $ fjoin ! $ join ! $ nothing ! $ join ! $ done !))))
 
-pub from_fields_spec : {M : Type 1} → stated.statement M
+pub from_held_spec : {M : Type 1} → stated.statement M
 unfolding tables_of
-from_fields_spec 𝓤 𝓛 𝓜 𝓡 wired =
+from_held_spec 𝓤 𝓛 𝓜 𝓡 wired =
     let 𝓣 : Tables 𝓤 𝓛.H = tables_of 𝓤 𝓛.H 𝓜 (tables 𝓤 𝓛.H 𝓜 𝓡 𝓡.env) in
     entered 𝓤 𝓛.H (triple_of 𝓛 F.signature (F.spec 𝓛 𝓜.mem 𝓡.returns)) 𝓣.C 𝓣.Λ #self code.function
     (code.unfolded 𝓤 𝓛.H 𝓜 𝓡 wired)

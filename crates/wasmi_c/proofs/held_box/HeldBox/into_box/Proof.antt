@@ -1,5 +1,6 @@
 -- `into_box` hands what the parts own to `from_raw`.
-use mathlib.Core.Path.{◌≡◌, refl, sym, subst, ap}
+use mathlib.Core.Path.{◌≡◌, ◌∙◌, refl, sym, subst, ap}
+use Rattle.std.specs.Prelude.{Option, Some, IsSome}
 use mathlib.Core.List.{List, [], ◌∷◌, ◌++◌}
 use lib.Dec.{T}
 use seplogic.Ra.Ura.{Ura}
@@ -31,18 +32,19 @@ use denote.Triple.Spec.{triple_of}
 use denote.Triple.Statement.{Triple, Contract}
 use denote.Triple.Table.{entered}
 use denote.Triple.Walked.{says, Stays, stay_dropped, walk_of, ends_at, walk_Meets}
+use Rattle.wasmi_c.proofs.HeldBoxLemmas.{found}
 use Rattle.std.proofs.alloc.Calls.{token, Goes-blank}
 use Rattle.std_alloc.specs.Box.Ownership.{box_owns}
 use Rattle.std_alloc.proofs.BoxSteps.Form.{Bx, D, R, P, B, args, box_ty, word, box_typed}
 use Rattle.std_alloc.proofs.BoxSteps.Steps.{box_out, box_in}
-use Rattle.wasmi_c.specs.contracts.machine.box_fields.BoxFields as fields
+use Rattle.wasmi_c.specs.contracts.held_box.HeldBox as held_box
 use Rattle.std_alloc.specs.contracts.boxed.Box.from_raw as Fr
 use Rattle.std_alloc.proofs.boxed.Box.from_raw.Symbol as raw_sym
 use Rattle.std_alloc.proofs.boxed.Box.from_raw.Met as raw_met
-use Rattle.wasmi_c.specs.contracts.machine.box_fields.BoxFields.into_box as F
-use Rattle.wasmi_c.specs.contracts.machine.box_fields.BoxFields.into_box.Key.{name as #self}
-use Rattle.wasmi_c.proofs.machine.box_fields.BoxFields.into_box.Statement as stated
-use Rattle.wasmi_c.proofs.machine.box_fields.BoxFields.into_box.Code as code
+use Rattle.wasmi_c.specs.contracts.held_box.HeldBox.into_box as F
+use Rattle.wasmi_c.specs.contracts.held_box.HeldBox.into_box.Key.{name as #self}
+use Rattle.wasmi_c.proofs.held_box.HeldBox.into_box.Statement as stated
+use Rattle.wasmi_c.proofs.held_box.HeldBox.into_box.Code as code
 
 abbrev rest : Body
 rest = seq (assign (place 0 []) (rv_opd (copy (place 4 [])))) return
@@ -55,7 +57,7 @@ module _ (E : Bx) where
   ended = F.ended E.row E.al.row E.al.g E.al.d E.al.drops
 
   abbrev From : RattleType
-  From = fields.the_row (R E) (P E) E.al.g
+  From = held_box.the_row (R E) (P E) E.al.g
 
   abbrev stayed : Stays ended.signature.params ended.kept
   stayed = (stay_dropped (plain (λ _. From)) no, tt)
@@ -75,27 +77,30 @@ module _ (E : Bx) where
         → ent 𝓤 ((walk_of 𝓛 ended stayed held).pre z)
         (WpFn 𝓤 H 𝓣.C 𝓣.Λ fn' (z.0.4.0 ++ []) ((walk_of 𝓛 ended stayed held).post z))
     walk kn z =
-        let κs = z.0.0 in let qs = z.0.1 in let a = z.0.3.0.alloc in let x = z.0.3.0.value in let Post =
+        let κs = z.0.0 in let qs = z.0.1 in let s = z.0.3.0 in let a = s.alloc in let Post =
         (walk_of 𝓛 ended stayed held).post z in
-        let v : D E = record { ptr = z.0.3.0.ptr; alloc = a; value = x } in
         let ts : Item 𝓤 = ‵ (flft κs.0 qs.0) ⊛ ‵ (flft κs.1.0 qs.1.0) ⊛ ‵ ftrue in
         let in_x : Item 𝓤 = raw (fact 𝓤 (κs.0 ⊑ E.row.lives)) in let in_a : Item 𝓤 =
         raw (fact 𝓤 (κs.1.0 ⊑ E.al.row.lives)) in
-        qed 𝓛 ((ts ⊛ ‵ (fsep ((B E).own_val v z.0.4.0) ftrue)) ∷ (in_x ⊛ in_a ⊛ ‵ ftrue) ∷ []) ∵ split ! $ move !
-        (1 ∷ []) $ fsplit ! $
+        qed 𝓛 ((ts ⊛ ‵ (fsep (From.own_val s z.0.4.0) ftrue)) ∷ (in_x ⊛ in_a ⊛ raw (fact 𝓤 (IsSome s.held))) ∷ []) ∵
+        move ! (1 ∷ []) $ split3 ! $ move ! (2 ∷ []) $ heard ! (IsSome s.held) (λ there.
+        let value = found s.held there in let x = value.0 in
+        let v : D E = record { ptr = s.at; alloc = a; value = x } in
+        move ! (2 ∷ []) $ split ! $ move ! (1 ∷ []) $ fsplit ! $ rewrite ! 0
+        (λ (held : Option E.row.Denot). ‵ (From.own_val (record { at = s.at; alloc = a; held = held }) z.0.4.0))
+        value.1 refl $
         box_out E ! v z.0.4.0 (λ b o hv e ws fa. fjoin ! $
         let w = word E hv b o in
         let y : Shuts.Ghost = ((κs, qs, tt, (a, (block_ptr b o, tt)), (hv ∷ [], (vptr b o ∷ [], tt))), x) in
         let Γ : List (Item 𝓤) =
         ‵ (box_owns (token E.al a) (R E) (block_ptr b o) x) ∷ ‵ ((P E).own_val a (hv ∷ [])) ∷ ‵ ftrue ∷ ts ∷
-        (in_x ⊛ in_a ⊛ ‵ ftrue) ∷ [] in
+        in_x ∷ in_a ∷ [] in
         by ! (subst (λ (us : List Val). ent 𝓤 (types.Kit.⋆ 𝓛 Γ) (WpFn 𝓤 H 𝓣.C 𝓣.Λ fn' (us ++ []) Post)) (sym ws)
         (qed 𝓛 Γ ∵ enter ! 𝓣.C 𝓣.Λ fn' (w ∷ []) _ $ alloc_all ! (λ ls. pass_all ! refl (box_typed E hv b o fa, tt) $
         sets ! (of_opd ! (get_in ! (fld ! refl (stop !)) (sub ! 0 refl (whole !)))) refl (tt, tt) $ sets !
         (of_opd ! (get_in ! (fld ! refl (stop !)) (sub ! 1 refl (whole !)))) refl fa $
         first ! $ blocks ! $ sets ! (of_opd ! (get ! refl)) refl fa $
-        move ! (4 ∷ []) $ split3 ! $ move ! (2 ∷ []) $ drop ! $ move ! (1 ∷ 2 ∷ []) $ join ! $ move !
-        (1 ∷ 0 ∷ []) $ join ! $
+        move ! (5 ∷ 0 ∷ []) $ join ! $ move ! (4 ∷ 0 ∷ []) $ join ! $
         -- [what it requires; the handle; true; the tokens]
         move ! (2 ∷ []) $ feq_i ! (List Val) (vptr b o ∷ []) (vptr b o ∷ []) refl $ fjoin ! $ move !
         (2 ∷ 0 ∷ []) $ fjoin ! $ move ! (2 ∷ 0 ∷ []) $ join ! $ join ! $ use1 𝓛 (raw (Shuts.pre y)) (id⊢ 𝓤 _) $
@@ -115,8 +120,9 @@ module _ (E : Bx) where
         subst (λ (s : Val). T (has_ty (box_ty E) s) × WT s) (sym (ap only wu)) (box_typed E hw b' o' fw) in
         lands_last ! refl typed $ exec ! 𝓣.C 𝓣.Λ (env fn'.locals ls) rest (at_ret (env fn'.locals ls) Post) $
         sets ! (of_opd ! (get ! refl)) refl typed $ returns ! (look_at ! 0 refl) $ free_all ! refl $
-        suffices ! _ (ends_at 𝓛 ended stayed held z u r ((tt, (tt, tt)), tt) (tt, tt)) $ says ! same $
-        nothing ! $ nothing ! $ fjoin ! $ join ! $ move ! (1 ∷ 0 ∷ []) $ join ! $ done !)))))))))
+        suffices ! _ (ends_at 𝓛 ended stayed held z u r ((tt, (tt, tt)), tt) (tt, tt)) $ says !
+        (ap (λ (y : E.row.Denot). Some y) same ∙ sym value.1) $
+        nothing ! $ nothing ! $ fjoin ! $ join ! $ move ! (1 ∷ 0 ∷ []) $ join ! $ done !))))))))))
 
 pub into_box_spec : {M : Type 1} → stated.statement M
 unfolding tables_of

@@ -1,5 +1,6 @@
 -- `of` takes the box apart, and the parts own what it owned.
 use mathlib.Core.Path.{◌≡◌, refl, sym, subst, ap, ◌∙◌}
+use Rattle.std.specs.Prelude.{Some}
 use mathlib.Core.List.{List, [], ◌∷◌, ◌++◌}
 use seplogic.Ra.Ura.{Ura}
 use mir.Syntax.{Fn, Args, Dict, a_type, dcons, dnil}
@@ -37,14 +38,14 @@ use Rattle.std.proofs.alloc.Calls.{token, handle_tells, Goes-blank}
 use Rattle.std_alloc.specs.Box.Ownership.{box_owns}
 use Rattle.std_alloc.proofs.BoxSteps.Form.{Bx, D, τ, R, P, B, word, box_typed}
 use Rattle.std_alloc.proofs.BoxSteps.Steps.{box_out, box_in}
-use Rattle.wasmi_c.specs.contracts.machine.box_fields.BoxFields as fields
+use Rattle.wasmi_c.specs.contracts.held_box.HeldBox as held_box
 use Rattle.std_alloc.specs.contracts.boxed.Box.into_raw_with_allocator as Ra
 use Rattle.std_alloc.proofs.boxed.Box.into_raw_with_allocator.Symbol as raw_sym
 use Rattle.std_alloc.proofs.boxed.Box.into_raw_with_allocator.Met as raw_met
-use Rattle.wasmi_c.specs.contracts.machine.box_fields.BoxFields.from_box as F
-use Rattle.wasmi_c.specs.contracts.machine.box_fields.BoxFields.from_box.Key.{name as #self}
-use Rattle.wasmi_c.proofs.machine.box_fields.BoxFields.from_box.Statement as stated
-use Rattle.wasmi_c.proofs.machine.box_fields.BoxFields.from_box.Code as code
+use Rattle.wasmi_c.specs.contracts.held_box.HeldBox.from_box as F
+use Rattle.wasmi_c.specs.contracts.held_box.HeldBox.from_box.Key.{name as #self}
+use Rattle.wasmi_c.proofs.held_box.HeldBox.from_box.Statement as stated
+use Rattle.wasmi_c.proofs.held_box.HeldBox.from_box.Code as code
 
 module _ (E : Bx) (dx : Dict) where
   abbrev args : Args
@@ -60,7 +61,7 @@ module _ (E : Bx) (dx : Dict) where
   stayed = (stay_dropped (plain (λ _. B E)) no, tt)
 
   abbrev To : RattleType
-  To = fields.the_row (R E) (P E) E.al.g
+  To = held_box.the_row (R E) (P E) E.al.g
 
   module _ {M : Type 1} {𝓤 : Ura M} (𝓛 : Logic 𝓤) (at_mem : Memory → SProp 𝓤) (run : Routine → Fun 𝓤)
       (𝓣 : Tables 𝓤 𝓛.H) where
@@ -106,7 +107,7 @@ module _ (E : Bx) (dx : Dict) where
         (λ (s : E.al.row.Denot). ‵ (E.al.row.own_val s vss.1.0)) ea refl $ handle_tells E.al ! a vss.1.0
         (λ hw eh fw.
         let d : D E = record { ptr = block_ptr b' o'; alloc = a; value = v.value } in
-        let made : To.Denot = record { ptr = block_ptr b' o'; alloc = a; value = v.value } in
+        let made : To.Denot = record { at = block_ptr b' o'; alloc = a; held = Some v.value } in
         lands_as ! (ap only
         (eu ∙ (λ j. vstruct (of_list ((ep ∙ ap (λ (p : Ptr). ptr_val p ∷ []) e') j ++ (eh j ++ []))) ∷ []))) refl
         (box_typed E hw b' o' fw) $

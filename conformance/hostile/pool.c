@@ -1,0 +1,238 @@
+/* Runs random scripts of tenants twice: whole by wasmi_script_run, and in parts on a pool that lives from part to part,
+   by wasmi_pool_run_lines and by single calls; both have to print the same. A part for a tenant that there isn't, one on
+   a handle without a pool, and one with a request for memory refused have to leave the pool as it was, or as their
+   script says. Each array ends where a page begins which can't be touched, and a block that is left after a pool has
+   ended is a difference. usage: pool SCRIPTS [SEED]. The last line is `N scripts, M differ`; the exit status is 0 if M
+   is 0. Link it with --wrap for malloc, realloc and free. */
+#define _DEFAULT_SOURCE
+#include "argument.h"
+#include "blocks.h"
+#include "scripts.h"
+#include "wasmi_machine.h"
+
+enum { MOST_TENANTS = 4, TURNS = 16, MOST_LINES = 6, WRITTEN = 8 };
+
+static char script[TEXT], printed[TEXT], whole[TEXT], dots[TEXT];
+static wasmi_pool pool, none;
+static size_t tenants, printed_len;
+
+static void prints(const char *text) {
+    printed_len += (size_t)sprintf(printed + printed_len, "%s\n", text);
+}
+
+/* What a script prints for a call that has no value. */
+static void prints_status(uint8_t status) {
+    switch (status) {
+        case WASMI_DONE: prints("done"); break;
+        case WASMI_NO_SUCH: prints("no such"); break;
+        case WASMI_MEMORY_ACCESS: prints("error out of bounds memory access"); break;
+        case WASMI_METERING_DISABLED: prints("error fuel metering is disabled"); break;
+        default: differs("a status that no such call has", printed);
+    }
+}
+
+static int same_totals(wasmi_totals a, wasmi_totals b) {
+    return a.status == b.status && memcmp(&a.bytes, &b.bytes, sizeof a.bytes) == 0
+           && memcmp(&a.elements, &b.elements, sizeof a.elements) == 0;
+}
+
+/* Lines on a tenant, in a text of dots, which is left as it was where they are refused. */
+static wasmi_reply run(wasmi_pool *on, size_t tenant, const char *part, size_t len, char *text) {
+    uint8_t *copy = at_edge(1, dots, TEXT);
+    wasmi_reply reply = wasmi_pool_run_lines(on, tenant, at_edge(0, part, len), len, copy, TEXT);
+    memcpy(text, copy, TEXT);
+    if (reply.status != WASMI_DONE && memcmp(text, dots, TEXT) != 0) {
+        differs("a refused part wrote", part);
+    }
+    return reply;
+}
+
+/* No part is run on a tenant that there isn't, nor without a pool. */
+static void refused_parts(const char *part, size_t len) {
+    static char text[TEXT];
+    wasmi_totals before = wasmi_pool_totals(&pool);
+    size_t index = tenants + (size_t)below(3);
+    if (run(&pool, index, part, len, text).status != WASMI_NO_TENANT
+        || wasmi_pool_tenant_totals(&pool, index).status != WASMI_NO_TENANT
+        || run(&none, 0, part, len, text).status != WASMI_NO_POOL || none.is_made) {
+        differs("no such tenant, or no pool", part);
+    }
+    if (!same_totals(before, wasmi_pool_totals(&pool))) {
+        differs("a refused part changed the pool", part);
+    }
+}
+
+/* Lines for a tenant, which are refused where one is bad, and where the first request for memory is refused. */
+static char *lines_of(char *at, size_t tenant) {
+    static char text[TEXT];
+    char *from = at;
+    for (uint64_t i = below(MOST_LINES); i > 0; i--) {
+        at = line(at, FORMS[below(sizeof FORMS / sizeof *FORMS)]);
+    }
+    size_t len = (size_t)(at - from), needed = 0;
+    if (wasmi_script_run((uint8_t *)from, len, (uint8_t *)whole, TEXT, &needed) != 0) {
+        if (run(&pool, tenant, from, len, text).status != WASMI_BAD_LINE) {
+            *at = 0;
+            differs("bad lines are run", from);
+        }
+        return from;
+    }
+    refused_parts(from, len);
+    wasmi_totals before = wasmi_pool_totals(&pool);
+    requests = 0, refused = 1;
+    wasmi_reply reply = run(&pool, tenant, from, len, text);
+    int was_refused = requests >= refused;
+    refused = 0;
+    if (was_refused && (reply.status != WASMI_NO_ROOM || !same_totals(before, wasmi_pool_totals(&pool)))) {
+        differs("a part without memory was run", from);
+    }
+    if (was_refused) {
+        reply = run(&pool, tenant, from, len, text);
+    }
+    if (reply.status != WASMI_DONE) {
+        *at = 0;
+        differs("good lines are refused", from);
+        return from;
+    }
+    memcpy(printed + printed_len, text, (size_t)reply.number);
+    printed_len += (size_t)reply.number;
+    return at;
+}
+
+/* A write by its own call, and what a read finds after it. */
+static char *written(char *at, size_t tenant) {
+    uint8_t bytes[WRITTEN], found[WRITTEN];
+    size_t len = (size_t)below(WRITTEN), memory = (size_t)below(3), offset = (size_t)number();
+    at += sprintf(at, "write %zu %zu", memory, offset);
+    for (size_t i = 0; i < len; i++) {
+        bytes[i] = (uint8_t)below(256);
+        at += sprintf(at, " %u", bytes[i]);
+    }
+    wasmi_reply reply = wasmi_pool_write(&pool, tenant, memory, offset, at_edge(0, bytes, len), len);
+    prints_status(reply.status);
+    memset(found, '.', sizeof found);
+    wasmi_reply same = wasmi_pool_read(&pool, tenant, memory, offset, found, len);
+    if (same.status != reply.status || memcmp(found, reply.status == WASMI_DONE ? (char *)bytes : dots, len) != 0) {
+        differs("a read finds another thing than was written", script);
+    }
+    return at + sprintf(at, "\n");
+}
+
+/* A call by its struct. */
+static char *called(char *at, size_t tenant) {
+    wasmi_call call;
+    memset(&call, 0, sizeof call);
+    switch (below(4)) {
+        case 0:
+            call.kind = WASMI_CALL_SET_FUEL, call.count = number();
+            at += sprintf(at, "fuel %" PRIu64 "\n", call.count);
+            break;
+        case 1:
+            call.kind = WASMI_CALL_DROP_MEMORY, call.index = (size_t)below(40);
+            at += sprintf(at, "drop memory %zu\n", call.index);
+            break;
+        case 2:
+            call.kind = WASMI_CALL_SET_REGISTER, call.dst = (uint8_t)below(20), call.value.lo = number();
+            at += sprintf(at, "set %u %" PRIu64 " 0\n", call.dst, call.value.lo);
+            break;
+        default:
+            call.kind = (uint16_t)(29 + below(1000));
+            if (wasmi_pool_call(&pool, tenant, at_edge(0, &call, sizeof call)).status != WASMI_NO_CALL) {
+                differs("a kind that there isn't", script);
+            }
+            return at;
+    }
+    prints_status(wasmi_pool_call(&pool, tenant, at_edge(0, &call, sizeof call)).status);
+    if (wasmi_pool_call(&pool, tenants, at_edge(0, &call, sizeof call)).status != WASMI_NO_TENANT) {
+        differs("a call on a tenant that there isn't", script);
+    }
+    return at;
+}
+
+/* A pool with random caps and tenants, and the header lines of the same. */
+static char *begin(void) {
+    wasmi_limits limits;
+    memset(&limits, 0, sizeof limits);
+    uint64_t bytes = below(20) * PAGE + below(4), elements = below(40);
+    limits.bytes_copied_per_fuel = (uint32_t)(below(6) ? 64 : below(3));
+    limits.is_metered = (uint8_t)below(2);
+    char *at = script + sprintf(script, "meter off\n");
+    if (limits.is_metered) {
+        at = script + sprintf(script, "meter on %" PRIu32 "\n", limits.bytes_copied_per_fuel);
+    }
+    tenants = 1 + (size_t)below(MOST_TENANTS);
+    at += sprintf(at, "tenants %zu %" PRIu64 " %" PRIu64 "\n", tenants, bytes, elements);
+    requests = 0, refused = 1;
+    if (wasmi_pool_new(&pool, bytes, elements) != WASMI_NO_ROOM || pool.is_made) {
+        differs("new without memory", script);
+    }
+    refused = 0;
+    if (wasmi_pool_new(&pool, bytes, elements) != WASMI_DONE || wasmi_pool_new(&pool, 0, 0) != WASMI_HAS_POOL
+        || wasmi_pool_add(&none, &limits).status != WASMI_NO_POOL) {
+        differs("new", script);
+    }
+    requests = 0, refused = 1;
+    if (wasmi_pool_add(&pool, &limits).status != WASMI_NO_ROOM
+        || wasmi_pool_tenant_totals(&pool, 0).status != WASMI_NO_TENANT) {
+        differs("a tenant without memory", script);
+    }
+    refused = 0;
+    for (size_t i = 0; i < tenants; i++) {
+        wasmi_reply reply = wasmi_pool_add(&pool, &limits);
+        if (reply.status != WASMI_DONE || reply.number != i) {
+            differs("no tenant was added", script);
+        }
+    }
+    return at;
+}
+
+/* What each tenant has, as a script prints it, and that all have together. */
+static void totals(void) {
+    uint64_t bytes = 0, elements = 0;
+    for (size_t i = 0; i < tenants; i++) {
+        wasmi_totals held = wasmi_pool_tenant_totals(&pool, i);
+        printed_len += (size_t)sprintf(printed + printed_len, "held %zu %" PRIu64 " %" PRIu64 "\n", i, held.bytes.lo,
+                                       held.elements.lo);
+        bytes += held.bytes.lo, elements += held.elements.lo;
+    }
+    wasmi_totals all = wasmi_pool_totals(&pool);
+    if (all.status != WASMI_DONE || all.bytes.lo != bytes || all.elements.lo != elements || all.bytes.hi != 0
+        || all.elements.hi != 0 || wasmi_pool_totals(&none).status != WASMI_NO_POOL) {
+        differs("the totals of all tenants", script);
+    }
+}
+
+static void one_script(uint64_t seed) {
+    size_t needed = 0;
+    state = seed, printed_len = 0;
+    char *at = begin();
+    for (uint64_t i = below(TURNS); i > 0; i--) {
+        size_t tenant = (size_t)below(tenants);
+        at += sprintf(at, "as %zu\n", tenant);
+        uint64_t form = below(8);
+        at = form < 4 ? lines_of(at, tenant) : form < 6 ? written(at, tenant) : called(at, tenant);
+    }
+    totals();
+    wasmi_pool_drop(&pool);
+    wasmi_pool_drop(&none);
+    uint8_t ended = wasmi_script_run((uint8_t *)script, (size_t)(at - script), (uint8_t *)whole, TEXT, &needed);
+    if (ended != 0 || needed != printed_len || memcmp(whole, printed, printed_len) != 0) {
+        *at = 0;
+        differs("a whole script", script);
+    }
+    if (blocks != 0) {
+        differs("memory wasn't given back", script);
+        blocks = 0;
+    }
+}
+
+int main(int count, char **arguments) {
+    long scripts = (long)argument(count, arguments, 1, 2000);
+    uint64_t seed = argument(count, arguments, 2, 1);
+    memset(dots, '.', sizeof dots);
+    for (long i = 0; i < scripts; i++) {
+        one_script(seed + (uint64_t)i * 1000003);
+    }
+    printf("%ld scripts, %ld differ\n", scripts, differing);
+    return differing != 0;
+}

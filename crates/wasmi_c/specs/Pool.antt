@@ -1,0 +1,3 @@
+-- A pool behind a handle.
+pub mod Calls
+pub mod PoolBox

@@ -1,0 +1,50 @@
+//! A pool on the heap, or none, as C holds it.
+ghost use Rattle.std.specs.Prelude.{◌≡◌, Option};
+ghost use Rattle.wasmi_budget.specs.Pool.{PoolValue};
+ghost use Rattle.wasmi_c.specs.HeldBox.{box_or_none_owns, global_token};
+ghost use Rattle.wasmi_c.specs.Pool.PoolBox.{held_coded, pool_row};
+
+use crate::held_box::HeldBox;
+use crate::pool::tenant_pool::TenantPool;
+use std::alloc::Global;
+use std::marker::Model;
+
+/// A [`HeldBox`] of a pool: a type that C sees has no parameters.
+#[repr(C)]
+pub struct PoolBox {
+    at: *mut u8,
+    alloc: Global,
+    /// The pool, if there is one.
+    pub ghost held: { Option PoolValue } by { held_coded },
+}
+
+impl Model for PoolBox {
+    ghost also_owns = { λ s. box_or_none_owns (global_token s.alloc) pool_row s.at s.held };
+}
+
+// A proof in `proofs/pool/pool_box/PoolBox/TheSendSync` shows it.
+unsafe impl Send for PoolBox {}
+
+impl PoolBox {
+    /// The pool or none, as C has it.
+    pub fn from_held(held: HeldBox<TenantPool, Global>) -> PoolBox
+        ensures { result.held ≡ held.held }
+    {
+        let HeldBox { at, alloc } = held;
+        PoolBox {
+            at: at as *mut u8,
+            alloc,
+        }
+    }
+
+    /// The pool or none, as Rattle has it.
+    pub fn into_held(self) -> HeldBox<TenantPool, Global>
+        ensures { result.held ≡ self.held }
+    {
+        let PoolBox { at, alloc } = self;
+        HeldBox {
+            at: at as *mut TenantPool,
+            alloc,
+        }
+    }
+}

@@ -1,0 +1,195 @@
+//! A pool whose tenants are called by numbers and by lines.
+ghost use Rattle.std.specs.Prelude.{◌≡◌, ℕ, IfErr, IfOk, List};
+ghost use Rattle.wasmi_core.specs.declared.calls.Call.TheVariants.{Write};
+
+use crate::machine::call_struct::CallStruct;
+use crate::machine::limited_machine::read_out;
+use crate::machine::limits::{Limits, Totals};
+use crate::machine::lines::{is_empty, write_out};
+use crate::machine::reply_struct::ReplyStruct;
+use crate::status::{BAD_LINE, DONE, HEADER_LINE, NO_CALL, NO_ROOM, NO_TENANT};
+use std::alloc::Global;
+use std::marker::Model;
+use std::slice;
+use wasmi_budget::{Pool, PoolError};
+use wasmi_core::{Call, Machine, Reply};
+use wasmi_grammar::{ParseError, Script, parse};
+
+/// A pool whose tenants are called by numbers and by lines.
+#[derive(Drop)]
+pub struct TenantPool {
+    pool: Pool<'static>,
+}
+
+impl Model for TenantPool {
+    ghost use Rattle.wasmi_budget.specs.Pool.{PoolValue};
+
+    ghost Value = { PoolValue };
+
+    ghost view = { λ held. held.pool };
+}
+
+impl TenantPool {
+    ghost use Rattle.wasmi_budget.specs.Pool.{IsWithinCaps, RunsTenant};
+    ghost use Rattle.wasmi_grammar.specs.Lines.{WritesScript};
+    ghost use Rattle.wasmi_c.specs.Pool.Calls.{AddsNewTenant, RefusesTenant, RunsTenantLines, TenantReadsOut, TenantReplies, TenantRepliesToCopy, TenantRepliesToStruct, new_pool, pool_totals, tenant_totals};
+
+    /// A pool with these caps and no tenant. It takes no memory.
+    pub fn new(alloc: Global, bytes: u64, elements: u64) -> TenantPool
+        ensures { result ≡ new_pool bytes elements }
+    {
+        TenantPool {
+            pool: Pool::new(alloc, bytes, elements),
+        }
+    }
+
+    /// Does nothing: its contract says that the pool is within its caps.
+    pub fn show_within(&self)
+        ensures { IsWithinCaps self.now }
+    {
+        let _ = self.pool.len();
+    }
+
+    /// Adds a machine with nothing on it, whose meter is that of the limits. Their caps aren't
+    /// read.
+    pub fn add(&mut self, alloc: Global, limits: &Limits) -> ReplyStruct
+        ensures step { AddsNewTenant limits.now result self.old self.new }
+        ensures caps { self.new.caps ≡ self.old.caps }
+    {
+        match self.pool.add(Machine::new(alloc, limits.fuel())) {
+            Ok(index) => ReplyStruct::with_number(DONE, index as u64),
+            Err(_) => ReplyStruct::only(NO_ROOM),
+        }
+    }
+
+    /// Replies to the call that numbers stand for, if there is one, on the machine of a tenant.
+    pub fn reply_to_struct(&mut self, tenant: usize, numbers: &CallStruct) -> ReplyStruct
+        ensures step { TenantRepliesToStruct tenant numbers.now result self.old self.new }
+        ensures caps { self.new.caps ≡ self.old.caps }
+    {
+        match &numbers.call() {
+            Some(call) => self.reply(tenant, call),
+            None => ReplyStruct::only(NO_CALL),
+        }
+    }
+
+    /// Replies to one call on the machine of a tenant.
+    fn reply(&mut self, tenant: usize, call: &Call) -> ReplyStruct
+        ensures step { TenantReplies tenant call.now result self.old self.new }
+        ensures caps { self.new.caps ≡ self.old.caps }
+    {
+        let replies = match self.run(tenant, slice::from_ref(call)) {
+            Ok(replies) => replies,
+            Err(refusal) => return refusal,
+        };
+        ReplyStruct::from_reply(&replies[0])
+    }
+
+    /// Runs calls on the machine of a tenant, or says why not; then the pool is the same.
+    fn run(&mut self, tenant: usize, calls: &[Call]) -> Result<Vec<Reply>, ReplyStruct>
+        ensures ran { IfOk result
+            (λ replies. RunsTenant self.old tenant calls.now replies.items self.new) }
+        ensures refused { IfErr result
+            (λ reply. RefusesTenant tenant self.old reply × (self.new ≡ self.old)) }
+        ensures caps { self.new.caps ≡ self.old.caps }
+    {
+        match self.pool.run(tenant, calls) {
+            Ok(replies) => Ok(replies),
+            Err(PoolError::NoTenant) => Err(ReplyStruct::only(NO_TENANT)),
+            Err(PoolError::OutOfMemory) => Err(ReplyStruct::only(NO_ROOM)),
+        }
+    }
+
+    /// Copies the bytes of a memory of a tenant from an offset on to the caller's.
+    pub fn read(&self, tenant: usize, memory: usize, offset: usize, bytes: &mut [u8]) -> ReplyStruct
+        ensures { TenantReadsOut tenant memory offset bytes.old result bytes.new self.now self.now }
+    {
+        let Some(machine) = self.pool.machine(tenant) else {
+            return ReplyStruct::only(NO_TENANT);
+        };
+        read_out(machine, memory, offset, bytes)
+    }
+
+    /// Writes a copy of the caller's bytes over those of a memory of a tenant from an offset on.
+    pub fn write(
+        &mut self,
+        alloc: Global,
+        tenant: usize,
+        memory: usize,
+        offset: usize,
+        bytes: &[u8],
+    ) -> ReplyStruct
+        ensures step { TenantRepliesToCopy tenant (Write memory offset) bytes.now result self.old
+            self.new }
+        ensures caps { self.new.caps ≡ self.old.caps }
+    {
+        let Ok(bytes) = Vec::from_slice(alloc, bytes) else {
+            return ReplyStruct::only(NO_ROOM);
+        };
+        let call = Call::Write {
+            memory,
+            offset,
+            bytes,
+        };
+        self.reply(tenant, &call)
+    }
+
+    /// Runs lines of calls on the machine of a tenant, and writes their replies to the front of a
+    /// text.
+    pub fn run_lines(
+        &mut self,
+        alloc: Global,
+        tenant: usize,
+        lines: &[u8],
+        text: &mut [u8],
+    ) -> ReplyStruct
+        ensures step { RunsTenantLines tenant lines.now text.old result text.new self.old self.new }
+        ensures caps { self.new.caps ≡ self.old.caps }
+    {
+        match parse(alloc, lines) {
+            Ok(script) => self.run_script(tenant, &script, text),
+            Err(ParseError::BadCommand { line }) => ReplyStruct::with_number(BAD_LINE, line as u64),
+            Err(ParseError::OutOfMemory) => ReplyStruct::only(NO_ROOM),
+        }
+    }
+
+    /// Runs a script without header lines on the machine of a tenant, whatever lines write it.
+    fn run_script(&mut self, tenant: usize, script: &Script, text: &mut [u8]) -> ReplyStruct
+        ensures step { (lines : List ℕ) → WritesScript lines script.now
+            → RunsTenantLines tenant lines text.old result text.new self.old self.new }
+        ensures caps { self.new.caps ≡ self.old.caps }
+    {
+        if !is_empty(&script.header) {
+            return ReplyStruct::only(HEADER_LINE);
+        }
+        let calls = script.parts.calls();
+        let replies = match self.run(tenant, calls) {
+            Ok(replies) => replies,
+            Err(refusal) => return refusal,
+        };
+        write_out(calls, &replies, text)
+    }
+
+    /// What a tenant's machine has.
+    pub fn tenant_totals(&self, tenant: usize) -> Totals
+        ensures { result ≡ tenant_totals tenant self.now }
+    {
+        match (
+            self.pool.held_bytes(tenant),
+            self.pool.held_elements(tenant),
+        ) {
+            (Some(bytes), Some(elements)) => {
+                Totals::from_amounts(DONE, u128::from(bytes), u128::from(elements))
+            }
+            _ => Totals::from_amounts(NO_TENANT, 0, 0),
+        }
+    }
+
+    /// What all tenants' machines have.
+    pub fn totals(&self) -> Totals
+        ensures { result ≡ pool_totals self.now }
+    {
+        let held = self.pool.held_by_all();
+        Totals::from_amounts(DONE, u128::from(held.bytes), u128::from(held.elements))
+    }
+}
