@@ -74,6 +74,7 @@ pub fn pages(ty: MemoryType, size: usize) -> u64 {
 /// ensures made: [MakesMemory] ([optional_rules] [L.rules]) ([Lent] region.old) ty
 /// &#32;&#32;&#32;&#32;([lent_limiter] limiter.old) ([made_in] ty region.new result) ([lent_limiter] limiter.new)
 /// ensures sized: [IfOk] result (λ size. [IsSized] ty size × (size ≤ [length] region.new))
+/// ensures rest: [IfOk] result (λ size. [drop] size region.new ≡ [drop] size region.old)
 /// ensures refused: [OnErr] result (region.new ≡ region.old)
 /// ensures len: [length] region.new ≡ [length] region.old</code></pre>
 ///
@@ -87,6 +88,7 @@ pub fn pages(ty: MemoryType, size: usize) -> u64 {
 /// [IfOk]: crate::specs::library#IfOk "P of the value, if r is a value"
 /// [IsSized]: crate::specs::store::Memory#IsSized "so many bytes are whole pages, as many as the type allows"
 /// [length]: crate::specs::library#length "the number of elements of a list"
+/// [drop]: crate::specs::library#drop "all but the first n elements"
 /// [OnErr]: crate::specs::library#OnErr "P, if r is an error"
 /// [`MinimumSizeOverflow`]: crate::proved::meter::MemoryError::MinimumSizeOverflow
 /// [`ResourceLimiterDeniedAllocation`]: crate::proved::meter::MemoryError::ResourceLimiterDeniedAllocation
@@ -129,7 +131,9 @@ pub fn make<L: ResourceLimiter>(
 /// ensures sized: [IsSized] ty size.new
 /// ensures within: size.new ≤ [length] region.new
 /// ensures len: [length] region.new ≡ [length] region.old
-/// ensures refused: [OnErr] result ((region.new ≡ region.old) × (size.new ≡ size.old))</code></pre>
+/// ensures rest: [drop] size.new region.new ≡ [drop] size.new region.old
+/// ensures refused: [OnErr] result (region.new ≡ region.old)
+/// ensures size: [OnErr] result (size.new ≡ size.old)</code></pre>
 ///
 /// [IsSized]: crate::specs::store::Memory#IsSized "so many bytes are whole pages, as many as the type allows"
 /// [length]: crate::specs::library#length "the number of elements of a list"
@@ -141,6 +145,7 @@ pub fn make<L: ResourceLimiter>(
 /// [memory_in]: crate::specs::region::Memory#memory_in "the memory of a type that has so many bytes at the front of a region, and the rest of it as room"
 /// [Some]: crate::specs::library#Some "the value x, of an \`Option\`"
 /// [lent_limiter]: crate::specs::meter::LimiterRef#lent_limiter "the present value of the limiter that is lent, or none"
+/// [drop]: crate::specs::library#drop "all but the first n elements"
 /// [OnErr]: crate::specs::library#OnErr "P, if r is an error"
 #[inline]
 pub fn grow<L: ResourceLimiter>(
