@@ -8,8 +8,9 @@ mod MachineCapsLemmas
 mod MachineLinesLemmas
 mod MachineRunsLemmas
 mod MeterLemmas
+pub mod PlacementLemmas
 mod QuotaNumbersLemmas
 mod ScriptLemmas
 mod SegmentLemmas
 mod SettlementLemmas
-mod SharedQuotaLemmas
+pub mod SharedQuotaLemmas
