@@ -32,8 +32,7 @@ MODULES = {
 SHAPES = {"UNARY": ("SCALAR_UNARIES",), "BINARY": ("SCALAR_BINARIES",), "LOAD": ("LOADS", "VECTOR_LOADS"), "STORE": ("STORES",)}
 # The words of clauses that the functions of the library don't have, and where they stand.
 OWN = {
-    "Leaves": "Rattle.wasmi_c.specs.Instruction.Calls", "or_trap": "Rattle.wasmi_c.specs.Instruction.Calls",
-    "memory_after": "Rattle.wasmi_c.specs.Instruction.Accesses", "as_raw": "Rattle.wasmi_ops.specs.RawResults",
+    "Gives": "Rattle.wasmi_c.specs.Instruction.Calls", "StoresBytes": "Rattle.wasmi_c.specs.Instruction.Accesses", "as_raw": "Rattle.wasmi_ops.specs.RawResults",
     "raw_of_vector": "Rattle.wasmi_raw.specs.RawVal",
 }
 
@@ -85,14 +84,14 @@ class Exported:
         elif trapping[1] == "()":
             bytes_written = re.fullmatch(r"IsStore (memory\.old \(ptr \+ offset\)) (.*) memory\.new result", clause)
             self.given, self.body = "u8", f"status_of({call})"
-            self.clauses = [f"Leaves (memory_after {bytes_written[1]} {bytes_written[2]})", "memory.old memory.new result"]
+            self.clauses = [f"StoresBytes {bytes_written[1]} {bytes_written[2]} memory.new result"]
         else:
             value = re.fullmatch(r"result ≡ (.*)", clause)[1]
             is_vector = trapping[1] == "V128"
             self.parameters = self.parameters + [("value", "&mut RawVal" if is_vector else f"&mut {trapping[1]}")]
             self.given, self.body = "u8", f"leave_vector({call}, value)" if is_vector else f"leave_item({call}, value)"
             value = f"as_raw raw_of_vector ({value})" if is_vector else value
-            self.clauses = [f"Leaves (or_trap ({value}))", "value.old value.new result"]
+            self.clauses = [f"Gives ({value})", "value.old value.new result"]
 
     def signature(self):
         given = f" -> {self.given}" if self.given else ""
@@ -109,8 +108,7 @@ class Exported:
         return "\n".join(WRAP.wrapped(line, WIDTH)) + "\n"
 
     def source(self):
-        traps = "///\n/// Returns 0, or the number of the trap; then nothing is written.\n" if self.given == "u8" else ""
-        return f"\n{self.text}{traps}#[unsafe(no_mangle)]\n{self.signature()}{self.clause()}{{\n    {self.body}\n}}\n"
+        return f"\n{self.text}#[unsafe(no_mangle)]\n{self.signature()}{self.clause()}{{\n    {self.body}\n}}\n"
 
     def prototype(self):
         made = []
@@ -142,7 +140,7 @@ def source(key):
     uses += "use wasmi_raw::RawVal;\n" if any("RawVal" in kind for it in made for _, kind in it.parameters) else ""
     uses = "".join(sorted([*uses.splitlines(True), f"use {crate}::{module};\n"]))
     clauses = " ".join(" ".join(it.clauses) for it in made)
-    return f"//! {text}. `tools/header` writes this file.\n{imports(files, clauses)}\n{uses}" + "".join(it.source() for it in made)
+    return f"//! {text}. `tools/header` writes this file.\n//!\n//! A status is 0, or the number of the trap; then nothing is written.\n{imports(files, clauses)}\n{uses}" + "".join(it.source() for it in made)
 
 
 def prototypes():

@@ -131,14 +131,15 @@ kept_by_store s (limiter.Quota quota) index a stored full s' stores rest kept = 
 }
 kept_by_store s (limiter.Answers list) index a stored full s' stores rest kept = tt
 
--- numbers of the kind of loads, with the number of a load of an item, stand for that load
-pub load_is : (numbers : CallStruct) (op : LoadOp) → kind_of numbers.kind ≡ Some (Memory kinds.Load)
-    → item_load_numbered numbers.op ≡ Some op
-    → call_of numbers ≡ Some (Load op numbers.index numbers.ptr numbers.offset)
+-- whatever load of an item was found by the number of such numbers, they stand for it
+pub loads_are : (numbers : CallStruct) (found : Option LoadOp) → kind_of numbers.kind ≡ Some (Memory kinds.Load)
+    → found ≡ item_load_numbered numbers.op
+    → IfSome found (λ op. call_of numbers ≡ Some (Load op numbers.index numbers.ptr numbers.offset))
 unfolding call_of
-load_is numbers op kind_is op_is =
+loads_are numbers None kind_is is = tt
+loads_are numbers (Some op) kind_is is =
     ap (option_and_then (λ kind. call_as kind numbers)) kind_is
-    ∙ ap (option_map (load_as numbers)) (found (load_numbered numbers.op) op op_is)
+    ∙ ap (option_map (load_as numbers)) (found (load_numbered numbers.op) op (sym is))
   where
     found : (load : Option loads.Load) (op : LoadOp) → option_and_then item_load_in load ≡ Some op
         → load ≡ Some (item.Scalar op)
@@ -146,21 +147,16 @@ load_is numbers op kind_is op_is =
     found (Some (item.Vector other)) op is = absurd cc
     found (Some (item.Scalar other)) op is = ap (λ o. Some (item.Scalar o)) (same_Some other op is)
 
--- whatever load of an item was found by the number of such numbers, they stand for it
-pub loads_are : (numbers : CallStruct) (found : Option LoadOp) → kind_of numbers.kind ≡ Some (Memory kinds.Load)
-    → found ≡ item_load_numbered numbers.op
-    → IfSome found (λ op. call_of numbers ≡ Some (Load op numbers.index numbers.ptr numbers.offset))
-loads_are numbers None kind_is is = tt
-loads_are numbers (Some op) kind_is is = load_is numbers op kind_is (sym is)
-
--- numbers of the kind of stores, with the number of a store of an item, stand for that store
-pub store_is : (numbers : CallStruct) (op : StoreOp) → kind_of numbers.kind ≡ Some (Memory kinds.Store)
-    → item_store_numbered numbers.op ≡ Some op
-    → call_of numbers ≡ Some (Store op numbers.index numbers.ptr numbers.offset numbers.value)
+-- whatever store of an item was found by the number of such numbers, they stand for it
+pub stores_are : (numbers : CallStruct) (found : Option StoreOp)
+    → kind_of numbers.kind ≡ Some (Memory kinds.Store) → found ≡ item_store_numbered numbers.op
+    → IfSome found (λ op. call_of numbers
+    ≡ Some (Store op numbers.index numbers.ptr numbers.offset numbers.value))
 unfolding call_of
-store_is numbers op kind_is op_is =
+stores_are numbers None kind_is is = tt
+stores_are numbers (Some op) kind_is is =
     ap (option_and_then (λ kind. call_as kind numbers)) kind_is
-    ∙ ap (option_map (store_as numbers)) (found (store_numbered numbers.op) op op_is)
+    ∙ ap (option_map (store_as numbers)) (found (store_numbered numbers.op) op (sym is))
   where
     found : (store : Option stores.Store) (op : StoreOp) → option_and_then item_store_in store ≡ Some op
         → store ≡ Some (stored.Scalar op)
@@ -168,22 +164,15 @@ store_is numbers op kind_is op_is =
     found (Some stored.V128Store) op is = absurd cc
     found (Some (stored.Scalar other)) op is = ap (λ o. Some (stored.Scalar o)) (same_Some other op is)
 
--- whatever store of an item was found by the number of such numbers, they stand for it
-pub stores_are : (numbers : CallStruct) (found : Option StoreOp)
-    → kind_of numbers.kind ≡ Some (Memory kinds.Store) → found ≡ item_store_numbered numbers.op
-    → IfSome found (λ op. call_of numbers
-    ≡ Some (Store op numbers.index numbers.ptr numbers.offset numbers.value))
-stores_are numbers None kind_is is = tt
-stores_are numbers (Some op) kind_is is = store_is numbers op kind_is (sym is)
-
--- numbers of the kind of two registers, with the number of an instruction of two vectors, stand for that instruction
-pub binary_is : (numbers : CallStruct) (op : BinaryOp) → kind_of numbers.kind ≡ Some (Register registers.Binary)
-    → vector_binary_numbered numbers.op ≡ Some op
-    → call_of numbers ≡ Some (Binary op numbers.dst numbers.a numbers.b)
+-- whatever instruction of two vectors was found by the number of such numbers, they stand for it
+pub binaries_are : (numbers : CallStruct) (found : Option BinaryOp)
+    → kind_of numbers.kind ≡ Some (Register registers.Binary) → found ≡ vector_binary_numbered numbers.op
+    → IfSome found (λ op. call_of numbers ≡ Some (Binary op numbers.dst numbers.a numbers.b))
 unfolding call_of
-binary_is numbers op kind_is op_is =
+binaries_are numbers None kind_is is = tt
+binaries_are numbers (Some op) kind_is is =
     ap (option_and_then (λ kind. call_as kind numbers)) kind_is
-    ∙ ap (option_and_then (binary_as numbers)) (found (binary_numbered numbers.op) op op_is)
+    ∙ ap (option_and_then (binary_as numbers)) (found (binary_numbered numbers.op) op (sym is))
   where
     found : (binary : Option binaries.Binary) (op : BinaryOp) → option_and_then vector_binary_in binary ≡ Some op
         → binary ≡ Some (two.Vector op)
@@ -191,13 +180,6 @@ binary_is numbers op kind_is op_is =
     found (Some (two.Scalar other)) op is = absurd cc
     found (Some (two.Shift other)) op is = absurd cc
     found (Some (two.Vector other)) op is = ap (λ o. Some (two.Vector o)) (same_Some other op is)
-
--- whatever instruction of two vectors was found by the number of such numbers, they stand for it
-pub binaries_are : (numbers : CallStruct) (found : Option BinaryOp)
-    → kind_of numbers.kind ≡ Some (Register registers.Binary) → found ≡ vector_binary_numbered numbers.op
-    → IfSome found (λ op. call_of numbers ≡ Some (Binary op numbers.dst numbers.a numbers.b))
-binaries_are numbers None kind_is is = tt
-binaries_are numbers (Some op) kind_is is = binary_is numbers op kind_is (sym is)
 
 -- a load of an item that numbers stand for leaves the struct of its reply, and the machine stays
 pub struct_loaded : (numbers : CallStruct) (op : LoadOp) (machine : MachineValue) (reply : ReplyStruct)

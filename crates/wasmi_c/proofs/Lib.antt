@@ -9,10 +9,11 @@ mod MachineCapsLemmas
 mod MachineLinesLemmas
 mod MachineRunsLemmas
 mod MeterLemmas
+pub mod PlacementLemmas
 mod PoolBoxLemmas
 mod QuotaNumbersLemmas
 mod ScriptLemmas
 mod SegmentLemmas
 mod SettlementLemmas
-mod SharedQuotaLemmas
+pub mod SharedQuotaLemmas
 mod TenantLemmas

@@ -1,5 +1,5 @@
 -- A quota holds what its machine has, whatever is called.
-use Rattle.std.proofs.Common.{◌≡◌, Option, Some, None, Ok, Err, List, Result, IfOk, OnErr, [], ◌∷◌, refl, sym, subst, ap, arith}
+use Rattle.std.proofs.Common.{◌≡◌, Some, Ok, Err, List, Result, IfOk, OnErr, [], ◌∷◌, refl, sym, subst, ap, arith}
 use Rattle.std.proofs.lemmas.Option.{same_Some}
 use Rattle.std.specs.Global.{Global}
 use Rattle.std.specs.Prelude.{Vec}

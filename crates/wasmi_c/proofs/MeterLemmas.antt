@@ -52,3 +52,16 @@ keeps h m' charge after = record {
   others = refl;
   off = λ is_off. (let none : m'.left ≡ None = rw (after, is_off) refl in ap (with_left h) none);
 }
+
+-- what numbers keep of a meter of which a growth takes its charge
+pub kept_growth : {V E S : Type 0} (rules : Rules S) (g : Growth V E) (x x' : V) (h h' : MeterNumbers) (m' : Meter)
+    (l l' : S) (result : Result ℕ E) → h' ≡ with_left h m'.left
+    → (charge : ℕ) × Grows rules g (metered_value x (Some (meter_of h)) l) result charge (metered_value x' (Some m') l')
+    → ((charge : ℕ)
+    × Grows rules g (metered_value x (Some (meter_of h)) l) result charge (metered_value x' (Some (meter_of h')) l'))
+    × KeepsMeter h h'
+kept_growth rules g x x' h h' m' l l' result left grows =
+    let charged = meter_charged rules g x x' (meter_of h) m' l l' result grows.0 grows.1 in (
+      (grows.0, rw (left, kept h m' grows.0 charged) grows.1),
+      rw left (keeps h m' grows.0 charged),
+    )

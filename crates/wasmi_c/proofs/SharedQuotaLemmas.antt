@@ -32,11 +32,12 @@ use Rattle.wasmi_store.specs.TableType.{TableTypeValue}
 use Rattle.wasmi_region.specs.Memory as memory
 use Rattle.wasmi_region.specs.Memory.{memory_in}
 use Rattle.wasmi_region.specs.Table as table
-use Rattle.wasmi_region.specs.Table.{table_in, creation_in, region_growth}
+use Rattle.wasmi_region.specs.Table.{MakesTableIn, table_in, creation_in, region_growth}
 use Rattle.wasmi_c.specs.Numbers.{KeepsQuota, limiter_of, quota_of}
 use Rattle.wasmi_c.specs.Host.{memory_growth}
-use Rattle.wasmi_c.specs.MemoryCalls.{LeavesAs, memory_status_of}
-use Rattle.wasmi_c.specs.TableCalls.{LeavesTableAs, MakesTableAs, table_status_of}
+use Rattle.wasmi_c.specs.MemoryCalls.{of_memory}
+use Rattle.wasmi_c.specs.Placement.{LeavesAs, MakesAs, status_of}
+use Rattle.wasmi_c.specs.TableCalls.{of_table}
 use Rattle.wasmi_c.specs.SharedQuota.{UnderQuota, HoldsSums, MakesMemoryUnder, GrowsMemoryUnder, MakesTableUnder, GrowsTableUnder, CallsUnder, OneQuotaHoldsAll, sizes_made}
 use Rattle.wasmi_c.specs.Numbers.{Placed}
 use Rattle.wasmi_c.specs.Status.{invalid_state_status, memory_status, table_status}
@@ -51,7 +52,7 @@ other Bytes = Elements
 other Elements = Bytes
 
 -- from one quota to another, so much more of a kind is held and the same of the other, and the caps are kept
-record Counts (kind : Kind) (size size' : ℕ) (quota quota' : Quota) : Type 0 where
+pub record Counts (kind : Kind) (size size' : ℕ) (quota quota' : Quota) : Type 0 where
   pub held : amount_held (holdings quota') kind + size ≡ amount_held (holdings quota) kind + size'
   pub others : amount_held (holdings quota') (other kind) ≡ amount_held (holdings quota) (other kind)
   pub within : IsWithinCaps quota → IsWithinCaps quota'
@@ -90,19 +91,19 @@ denied_same q (Ok false) h h' denial reserves = reserves
 denied_same q (Err error) h h' denial reserves = reserves
 
 -- nothing happened
-nothing_counts : (kind : Kind) (size : ℕ) (quota quota' : Quota) → quota' ≡ quota
+pub nothing_counts : (kind : Kind) (size : ℕ) (quota quota' : Quota) → quota' ≡ quota
     → Counts kind size size quota quota'
 nothing_counts kind size quota quota' same = rw same (record { held = refl; others = refl; within = λ caps. caps })
 
 -- an attempt's notices are of the kind that is asked for
-abbrev TellsOfKind : {V E : Type 0} → Request V E → Type 0
+abbrev pub TellsOfKind : {V E : Type 0} → Request V E → Type 0
 TellsOfKind {E = E} e = (cause : E) → kind_of (e.notice cause) ≡ e.question.kind
 
 module _ {V E : Type 0} (e : Request V E) where
-  abbrev kind : Kind
+  abbrev pub kind : Kind
   kind = e.question.kind
 
-  abbrev asked_for : ℕ
+  abbrev pub asked_for : ℕ
   asked_for = e.question.desired - e.question.current
 
   -- by how much an attempt adds to what is held
@@ -168,7 +169,7 @@ module _ {T E : Type 0} (e : Request (Unit {0}) E) (made : T) (size : Result T E
   size_made (Failed cause notice_answer) = sym (empty _)
 
   -- a creation counts as the size of what it answers
-  creation_counts : TellsOfKind e → (quota quota' : Quota) (result : Result T E)
+  pub creation_counts : TellsOfKind e → (quota quota' : Quota) (result : Result T E)
       → Makes (optional_rules quota_rules) e made (Some quota) result (Some quota')
       → Counts (kind e) 0 (size result) quota quota'
   creation_counts tells quota quota' result (outcome, attempt, answered) =
@@ -176,7 +177,7 @@ module _ {T E : Type 0} (e : Request (Unit {0}) E) (made : T) (size : Result T E
       subst (λ n. Counts (kind e) 0 n quota quota') (size_made outcome ∙ ap size (sym answered)) counts
 
 -- the size of what has grown is that of the value and what was asked for, and notices are of the kind that is asked for
-record IsCounted {V E : Type 0} (g : Growth V E) (size : V → ℕ) (x : V) : Type 0 where
+pub record IsCounted {V E : Type 0} (g : Growth V E) (size : V → ℕ) (x : V) : Type 0 where
   pub full : size g.request.grown ≡ size x + asked_for g.request
   pub tells : TellsOfKind g.request
 
@@ -189,7 +190,7 @@ module _ {V E : Type 0} (g : Growth V E) (size : V → ℕ) (x : V) (counted : I
   size_grown (Failed cause notice_answer) = omega arith
 
   -- a growth counts as the difference of the sizes, however it ends
-  growth_counts : (m m' : Option Meter) (quota quota' : Quota) (x' : V) (result : Result ℕ E) (charge : ℕ)
+  pub growth_counts : (m m' : Option Meter) (quota quota' : Quota) (x' : V) (result : Result ℕ E) (charge : ℕ)
       → Grows (optional_rules quota_rules) g (metered_value x m (Some quota)) result charge
       (metered_value x' m' (Some quota'))
       → Counts (kind g.request) (size x) (size x') quota quota'
@@ -218,11 +219,11 @@ sum_push : (sizes : List ℕ) (size : ℕ) → sum (sizes ++ size ∷ []) ≡ su
 sum_push sizes size = sum_by_push (λ x. x) sizes size
 
 -- the length of n items is the difference of n and 0
-length_made : (n y : ℕ) → length (replicate n y) ≡ n - 0
+pub length_made : (n y : ℕ) → length (replicate n y) ≡ n - 0
 length_made n y = omega (arith, length-replicate {A = ℕ} n y)
 
 -- the length after n more items is the length before, and the difference of the two
-length_grown : (xs : List ℕ) (n y : ℕ) → length (xs ++ replicate n y) ≡ length xs + (length xs + n - length xs)
+pub length_grown : (xs : List ℕ) (n y : ℕ) → length (xs ++ replicate n y) ≡ length xs + (length xs + n - length xs)
 length_grown xs n y = omega (arith, length-append xs (replicate n y), length-replicate {A = ℕ} n y)
 
 -- no error of a memory has the status of a call that is done
@@ -263,7 +264,7 @@ elements_made (Err error) = 0
 
 -- a creation of a memory adds the bytes that were made to the sum
 memory_summed : (ty : MemoryTypeValue) (p p' : Placed MemoryNumbers) (result : Result ℕ MemoryError) (status : ℕ)
-    (sizes : List ℕ) → status ≡ memory_status_of result → LeavesAs ty p result p'
+    (sizes : List ℕ) → status ≡ status_of of_memory result → LeavesAs of_memory ty p result p'
     → sum (sizes_made sizes status p'.numbers.size) ≡ sum sizes + bytes_made (memory.made_in ty p'.region result)
 memory_summed ty p p' (Ok size) status sizes is left =
     let sized : p'.numbers.size ≡ size = ap (λ (h : MemoryNumbers). h.size) left.0 in
@@ -273,7 +274,7 @@ memory_summed ty p p' (Err e) status sizes is left = rw (is, refused_status e) (
 
 -- and one of a table
 table_summed : (ty : TableTypeValue) (p p' : Placed TableNumbers) (result : Result ℕ TableError) (status : ℕ)
-    (sizes : List ℕ) → status ≡ table_status_of result → LeavesTableAs ty p result p'
+    (sizes : List ℕ) → status ≡ status_of of_table result → LeavesAs of_table ty p result p'
     → sum (sizes_made sizes status p'.numbers.size) ≡ sum sizes + elements_made (table.made_in ty p'.region result)
 table_summed ty p p' (Ok size) status sizes is left =
     let sized : p'.numbers.size ≡ size = ap (λ (h : TableNumbers). h.size) left.0 in
@@ -352,7 +353,9 @@ module _ (u u' : UnderQuota) (holds : HoldsSums u) (keeps : KeepsQuota u.quota u
       by_type : (type : Option TableTypeValue)
           → MatchOption type
           ((c.status ≡ invalid_state_status) × (c.after ≡ c.before) × (limiter_of u'.quota ≡ limiter_of u.quota))
-          (λ ty. MakesTableAs c.reference ty c.before (limiter_of u.quota) c.status c.after (limiter_of u'.quota))
+          (λ ty. MakesAs of_table
+          (λ made. MakesTableIn (optional_rules quota_rules) ty (length c.before.region) c.reference (limiter_of u.quota)
+          made (limiter_of u'.quota)) ty c.before c.status c.after)
           → HoldsSums u'
       by_type None refused =
           let sums : sum u'.elements + 0 ≡ sum u.elements + 0 = rw (c.elements, refused.0) refl in
@@ -374,8 +377,8 @@ module _ (u u' : UnderQuota) (holds : HoldsSums u) (keeps : KeepsQuota u.quota u
       elim c.grows [
         | inl refused ↦
             let limiter : limiter_of u'.quota ≡ limiter_of u.quota =
-            sym c.left ∙ ap (λ s. s.limiter) refused.same ∙ c.asked in
-            let size : c.after.numbers.size ≡ c.before.numbers.size = ap (λ s. s.numbers.size) refused.same in
+            sym c.left ∙ ap (λ s. s.limiter) refused.2 ∙ c.asked in
+            let size : c.after.numbers.size ≡ c.before.numbers.size = ap (λ s. s.numbers.size) refused.2 in
             by_bytes c.before.numbers.size c.after.numbers.size
             (rw size (nothing_counts Bytes c.before.numbers.size q q' (same_quota limiter))) set c.elements
         | inr grown ↦
@@ -400,8 +403,8 @@ module _ (u u' : UnderQuota) (holds : HoldsSums u) (keeps : KeepsQuota u.quota u
       elim c.grows [
         | inl refused ↦
             let limiter : limiter_of u'.quota ≡ limiter_of u.quota =
-            sym c.left ∙ ap (λ s. s.limiter) refused.same ∙ c.asked in
-            let size : c.after.numbers.size ≡ c.before.numbers.size = ap (λ s. s.numbers.size) refused.same in
+            sym c.left ∙ ap (λ s. s.limiter) refused.2 ∙ c.asked in
+            let size : c.after.numbers.size ≡ c.before.numbers.size = ap (λ s. s.numbers.size) refused.2 in
             by_elements c.before.numbers.size c.after.numbers.size
             (rw size (nothing_counts Elements c.before.numbers.size q q' (same_quota limiter))) set c.bytes
         | inr grown ↦

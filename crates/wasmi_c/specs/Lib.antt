@@ -1,5 +1,4 @@
 -- What the calls for C take and give.
-pub mod BulkCalls
 pub mod FuelCalls
 pub mod HeldBox
 pub mod Host
@@ -7,6 +6,7 @@ pub mod Instruction
 pub mod Machine
 pub mod MemoryCalls
 pub mod Numbers
+pub mod Placement
 pub mod Pool
 pub mod Script
 pub mod Settlements

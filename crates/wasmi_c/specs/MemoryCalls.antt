@@ -1,27 +1,24 @@
 -- What the calls on a memory do to what lies with C.
-use Rattle.std.specs.Prelude.{◌≡◌, ◌+◌, ◌/◌, true, false, ◌<◌, ◌⊎◌, ℕ, List, take, drop, length, MatchBool, Option, Some, None, Result, Ok, Err}
+use Rattle.std.specs.Prelude.{◌≡◌, ◌+◌, ◌/◌, ◌⊎◌, ℕ, List, take, drop, length, Option, Some, None}
 use Rattle.wasmi_types.specs.Access.{at, overwrite}
 use Rattle.wasmi_meter.specs.declared.error.MemoryError.{MemoryError}
 use Rattle.wasmi_meter.specs.declared.error.MemoryError.TheVariants as error
 use Rattle.wasmi_meter.specs.declared.quota.Quota.{Quota}
-use Rattle.wasmi_meter.specs.Limiter.{optional_rules, Rules}
+use Rattle.wasmi_meter.specs.Limiter.{optional_rules}
 use Rattle.wasmi_meter.specs.Quota.{quota_rules}
 use Rattle.wasmi_store.specs.Buffer.{Lent}
-use Rattle.wasmi_store.specs.Growth.{metered_value}
-use Rattle.wasmi_store.specs.Memory.{MemoryValue, MakesMemory, GrowsMemory, growth_of, pages_of}
+use Rattle.wasmi_store.specs.Bulk.{copied, BulkWrites}
+use Rattle.wasmi_store.specs.Growth.{Growth, metered}
+use Rattle.wasmi_store.specs.Memory.{MemoryValue, MakesMemory, growth_of, pages_of}
 use Rattle.wasmi_store.specs.MemoryType.{MemoryTypeValue, IsValid, named_type, page_bytes, in_bounds}
 use Rattle.wasmi_region.specs.Memory.{memory_in, made_in}
-use Rattle.wasmi_c.specs.Host.{fresh, host_rules, is_about, plain_question, memory_growth}
-use Rattle.wasmi_c.specs.Numbers.{settings_of, IsState, meter_of, KeepsMeter, Embedded, Placed}
-use Rattle.wasmi_c.specs.Status.{done_status, memory_growth_status, memory_access_status, invalid_state_status, asks_status, other_size_status, memory_status}
-use Rattle.wasmi_c.specs.declared.host.HostAnswers.{HostAnswers}
+use Rattle.wasmi_c.specs.Host.{memory_growth}
+use Rattle.wasmi_c.specs.Numbers.{settings_of, IsState, MeteredRegion, Placed}
+use Rattle.wasmi_c.specs.Placement.{Placement, AsksAs, IsNone, ByType, MakesAs, WritesAs}
+use Rattle.wasmi_c.specs.Status.{done_status, memory_growth_status, memory_access_status, invalid_state_status, memory_status}
 use Rattle.wasmi_c.specs.declared.host.Question.{Question}
 use Rattle.wasmi_c.specs.declared.memory.numbers.MemoryNumbers.{MemoryNumbers}
-
--- the status of a result
-abbrev pub memory_status_of : {T : Type 0} → Result T MemoryError → ℕ
-memory_status_of (Ok _) = done_status
-memory_status_of (Err e) = memory_status e
+use Rattle.wasmi_c.specs.declared.range.Range.{Range}
 
 -- the fuel that is needed, after an error; else the number stays
 abbrev pub memory_fuel_needed : MemoryError → ℕ → ℕ
@@ -35,10 +32,17 @@ memory_fuel_needed error.ResourceLimiterDeniedAllocation before = before
 memory_fuel_needed error.MinimumSizeOverflow before = before
 memory_fuel_needed error.MaximumSizeOverflow before = before
 
--- the number after a growth: the old size in pages, or the fuel that is needed; else it stays
-abbrev pub number_of : Result ℕ MemoryError → ℕ → ℕ
-number_of (Ok n) before = n
-number_of (Err e) before = memory_fuel_needed e before
+-- a memory's numbers stand for a memory
+abbrev pub of_memory : Placement MemoryNumbers MemoryTypeValue MemoryValue MemoryError
+of_memory = record {
+  IsAt = IsState;
+  value = memory_in;
+  made = made_in;
+  size = λ h. h.size;
+  resized = λ h size. record h { size = size };
+  status = memory_status;
+  fuel_needed = memory_fuel_needed;
+}
 
 -- numbers have no valid type
 abbrev pub IsNoType : MemoryNumbers → Type 0
@@ -46,89 +50,29 @@ IsNoType h = (ty : MemoryTypeValue) → named_type (settings_of h) ≡ Some ty �
 
 -- numbers stand for no memory on a region
 abbrev pub IsNoState : MemoryNumbers → List ℕ → Type 0
-IsNoState h region = (ty : MemoryTypeValue) → IsState h region ty → ⊥
+IsNoState h region = IsNone of_memory h region
 
--- a memory grows by so many pages, as a memory of the library on the region does, with its charge; its numbers stay
--- except for the size, and stand for the memory again; the meter's numbers stay except for what is left
-pub record GrowsAs {S : Type 0} (rules : Rules S) (ty : MemoryTypeValue) (pages : ℕ) (s : Embedded MemoryNumbers S)
-    (status : ℕ) (s' : Embedded MemoryNumbers S) : Type 0 where
-  pub result : Result ℕ MemoryError
-  pub grows : GrowsMemory (optional_rules rules) pages
-      (metered_value (memory_in ty s.region s.numbers.size) (Some (meter_of s.meter)) s.limiter) result
-      (metered_value (memory_in ty s'.region s'.numbers.size) (Some (meter_of s'.meter)) s'.limiter)
-  pub state : IsState s'.numbers s'.region ty
-  pub numbers : s'.numbers ≡ record s.numbers { size = s'.numbers.size }
-  pub meter : KeepsMeter s.meter s'.meter
-  pub status_is : status ≡ memory_status_of result
-  pub number_is : s'.number ≡ number_of result s.number
+-- a growth by so many pages
+abbrev pub by_pages : ℕ → List ℕ → MemoryValue → Growth MemoryValue MemoryError
+by_pages pages region x = memory_growth x pages
 
--- numbers that stand for no memory: nothing is written
-pub record IsRefused {S : Type 0} (s : Embedded MemoryNumbers S) (status : ℕ) (s' : Embedded MemoryNumbers S) : Type 0
-  where
-    pub none : IsNoState s.numbers s.region
-    pub status_is : status ≡ invalid_state_status
-    pub same : s' ≡ s
-
--- a growth by a call
-abbrev pub GrowsEmbedded : {S : Type 0} → Rules S → ℕ → Embedded MemoryNumbers S → ℕ → Embedded MemoryNumbers S → Type 0
-GrowsEmbedded rules pages s status s' =
-    IsRefused s status s'
-    ⊎ ((ty : MemoryTypeValue) × IsState s.numbers s.region ty × GrowsAs rules ty pages s status s')
-
--- a growth by the host's answers, where they are to what it asks; else nothing is written
-abbrev pub SettlesAs : MemoryTypeValue → ℕ → HostAnswers → Embedded MemoryNumbers HostAnswers → ℕ
-    → Embedded MemoryNumbers HostAnswers → Type 0
-SettlesAs ty pages answers s status s' =
-    MatchBool (is_about answers (memory_growth (memory_in ty s.region s.numbers.size) pages))
-    (GrowsAs host_rules ty pages (record s { limiter = Some (fresh answers) }) status s')
-    ((status ≡ other_size_status) × (s' ≡ s))
-
--- a growth by the host's answers by a call; where the numbers stand for no memory, nothing is written
-abbrev pub SettlesEmbedded : ℕ → HostAnswers → Embedded MemoryNumbers HostAnswers → ℕ
-    → Embedded MemoryNumbers HostAnswers
-    → Type 0
-SettlesEmbedded pages answers s status s' =
-    IsRefused s status s'
-    ⊎ ((ty : MemoryTypeValue) × IsState s.numbers s.region ty × SettlesAs ty pages answers s status s')
-
--- what a growth of a memory asks: nothing where it is by 0 and where the type refuses it, and then the question stays
-abbrev pub AsksAs : MemoryValue → ℕ → ℕ → Question → Question → Type 0
-AsksAs x pages status q q' =
-    ((pages ≡ 0) × (status ≡ done_status) × (q' ≡ q))
-    ⊎ ((0 < pages) × (in_bounds x.ty (pages_of x + pages) ≡ false) × (status ≡ memory_growth_status) × (q' ≡ q))
-    ⊎ ((0 < pages) × (in_bounds x.ty (pages_of x + pages) ≡ true) × (status ≡ asks_status)
-    × (q' ≡ plain_question (growth_of x pages).question))
-
--- what a growth asks, by a call; where the numbers stand for no memory, it asks nothing
+-- what a growth asks, by a call
 abbrev pub AsksEmbedded : MemoryNumbers → List ℕ → ℕ → ℕ → Question → Question → Type 0
-AsksEmbedded h region pages status q q' =
-    (IsNoState h region × (status ≡ invalid_state_status) × (q' ≡ q))
-    ⊎ ((ty : MemoryTypeValue) × IsState h region ty × AsksAs (memory_in ty region h.size) pages status q q')
-
--- what a creation leaves: numbers that stand for the new memory, or all as it was
-abbrev pub LeavesAs : MemoryTypeValue → Placed MemoryNumbers → Result ℕ MemoryError → Placed MemoryNumbers → Type 0
-LeavesAs ty p (Ok size) p' = (p'.numbers ≡ record p.numbers { size = size }) × IsState p'.numbers p'.region ty
-LeavesAs ty p (Err e) p' = p' ≡ p
-
--- a memory is made at the front of a region, as a memory of the library is
-pub record MakesAs (ty : MemoryTypeValue) (p : Placed MemoryNumbers) (l : Option Quota) (status : ℕ)
-    (p' : Placed MemoryNumbers) (l' : Option Quota) : Type 0 where
-  pub result : Result ℕ MemoryError
-  pub makes : MakesMemory (optional_rules quota_rules) (Lent p.region) ty l (made_in ty p'.region result) l'
-  pub status_is : status ≡ memory_status_of result
-  pub left : LeavesAs ty p result p'
+AsksEmbedded h region pages status q q' = ByType of_memory h region status (q' ≡ q) (λ ty.
+    let x = memory_in ty region h.size in
+    AsksAs pages (in_bounds ty (pages_of x + pages)) memory_growth_status (growth_of x pages).question status q q')
 
 -- a memory is made by a call, or the numbers have no type, and then nothing is written
 abbrev pub MakesEmbedded : Placed MemoryNumbers → Option Quota → ℕ → Placed MemoryNumbers → Option Quota → Type 0
-MakesEmbedded p l status p' l' =
-    (IsNoType p.numbers × (status ≡ invalid_state_status) × (p' ≡ p) × (l' ≡ l))
-    ⊎ ((ty : MemoryTypeValue) × (named_type (settings_of p.numbers) ≡ Some ty) × MakesAs ty p l status p' l')
+MakesEmbedded a l status a' l' =
+    (IsNoType a.numbers × (status ≡ invalid_state_status) × (a' ≡ a) × (l' ≡ l))
+    ⊎ ((ty : MemoryTypeValue) × (named_type (settings_of a.numbers) ≡ Some ty)
+    × MakesAs of_memory (λ made. MakesMemory (optional_rules quota_rules) (Lent a.region) ty l made l') ty a status a')
 
 -- the size of a memory in pages, by a call
 abbrev pub CountsEmbedded : MemoryNumbers → List ℕ → ℕ → ℕ → ℕ → Type 0
-CountsEmbedded h region number status number' =
-    (IsNoState h region × (status ≡ invalid_state_status) × (number' ≡ number))
-    ⊎ ((ty : MemoryTypeValue) × IsState h region ty × (status ≡ done_status) × (number' ≡ h.size / page_bytes ty.page))
+CountsEmbedded h region number status number' = ByType of_memory h region status (number' ≡ number) (λ ty.
+    (status ≡ done_status) × (number' ≡ h.size / page_bytes ty.page))
 
 -- bytes of a memory from an offset on are copied out where they end within it, and nothing is copied else
 abbrev pub ReadsAs : List ℕ → ℕ → List ℕ → ℕ → List ℕ → Type 0
@@ -136,24 +80,42 @@ ReadsAs bytes offset old status new =
     ((at bytes offset (length old) ≡ Some new) × (status ≡ done_status))
     ⊎ ((at bytes offset (length old) ≡ None) × (status ≡ memory_access_status) × (new ≡ old))
 
--- bytes of a memory are read by a call; where the numbers stand for no memory, none are
+-- bytes of a memory are read by a call
 abbrev pub ReadsEmbedded : Placed MemoryNumbers → ℕ → List ℕ → ℕ → List ℕ → Type 0
-ReadsEmbedded p offset old status new =
-    (IsNoState p.numbers p.region × (status ≡ invalid_state_status) × (new ≡ old))
-    ⊎ ((ty : MemoryTypeValue) × IsState p.numbers p.region ty
-    × ReadsAs (take p.numbers.size p.region) offset old status new)
+ReadsEmbedded a offset old status new = ByType of_memory a.numbers a.region status (new ≡ old) (λ ty.
+    ReadsAs (take a.numbers.size a.region) offset old status new)
 
 -- bytes are written over those of a memory from an offset on where they end within it, and nothing is written else; the
 -- rest of the region stays
-abbrev pub WritesAs : ℕ → List ℕ → ℕ → List ℕ → ℕ → List ℕ → Type 0
-WritesAs size region offset source status region' =
+abbrev pub OverwritesAs : ℕ → List ℕ → ℕ → List ℕ → ℕ → List ℕ → Type 0
+OverwritesAs size region offset source status region' =
     ((overwrite (take size region) offset source ≡ Some (take size region'))
     × (drop size region' ≡ drop size region) × (status ≡ done_status))
     ⊎ ((overwrite (take size region) offset source ≡ None) × (status ≡ memory_access_status) × (region' ≡ region))
 
--- bytes of a memory are written by a call; where the numbers stand for no memory, none are
+-- bytes of a memory are written by a call
 abbrev pub WritesEmbedded : Placed MemoryNumbers → ℕ → List ℕ → ℕ → List ℕ → Type 0
-WritesEmbedded p offset source status region' =
-    (IsNoState p.numbers p.region × (status ≡ invalid_state_status) × (region' ≡ p.region))
-    ⊎ ((ty : MemoryTypeValue) × IsState p.numbers p.region ty
-    × WritesAs p.numbers.size p.region offset source status region')
+WritesEmbedded a offset source status region' =
+    ByType of_memory a.numbers a.region status (region' ≡ a.region) (λ ty.
+    OverwritesAs a.numbers.size a.region offset source status region')
+
+-- bytes of a memory are written over, as of a memory of the library
+abbrev pub WritesBytesAs : (List ℕ → Option (List ℕ)) → ℕ → ℕ → MeteredRegion → ℕ → MeteredRegion → Type 0
+WritesBytesAs written count = WritesAs of_memory (λ bytes m result bytes' m'.
+    BulkWrites (written bytes) count (metered bytes (Some m)) result (metered bytes' (Some m')))
+
+-- bytes of a memory are written over by a call
+abbrev pub WritesBytesEmbedded : (List ℕ → Option (List ℕ)) → ℕ → MemoryNumbers → MeteredRegion → ℕ → MeteredRegion
+    → Type 0
+WritesBytesEmbedded written count h s status s' =
+    ByType of_memory h s.region status (s' ≡ s) (λ ty. WritesBytesAs written count h.size s status s')
+
+-- a copy from another memory by a call: where either numbers stand for no memory, nothing is written
+abbrev pub CopiesBytesEmbedded : Placed MemoryNumbers → Range → MemoryNumbers → MeteredRegion → ℕ → MeteredRegion
+    → Type 0
+CopiesBytesEmbedded source range h s status s' =
+    ((IsNoState h s.region ⊎ IsNoState source.numbers source.region) × (status ≡ invalid_state_status) × (s' ≡ s))
+    ⊎ ((ty source_ty : MemoryTypeValue) × IsState h s.region ty × IsState source.numbers source.region source_ty
+    × WritesBytesAs
+    (λ bytes. copied bytes range.to (take source.numbers.size source.region) range.from range.count)
+    range.count h.size s status s')

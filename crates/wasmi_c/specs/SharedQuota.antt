@@ -2,10 +2,11 @@
 use Rattle.std.specs.Prelude.{◌≡◌, ◌⊎◌, ℕ, List, [], ◌∷◌, ◌++◌, All, sum, slice_get, slice_set, nat_eq, if◌then◌else◌, Some}
 use Rattle.wasmi_meter.specs.Quota.{IsWithinCaps, quota_rules}
 use Rattle.wasmi_meter.specs.declared.quota.Quota.{Quota}
-use Rattle.wasmi_c.specs.MemoryCalls.{GrowsEmbedded, MakesEmbedded}
+use Rattle.wasmi_c.specs.MemoryCalls.{MakesEmbedded, by_pages, of_memory}
 use Rattle.wasmi_c.specs.Numbers.{Embedded, KeepsQuota, Placed, limiter_of, quota_of}
+use Rattle.wasmi_c.specs.Placement.{GrowsBy}
 use Rattle.wasmi_c.specs.Status.{done_status}
-use Rattle.wasmi_c.specs.TableCalls.{GrowsTableEmbedded, MakesTableEmbedded}
+use Rattle.wasmi_c.specs.TableCalls.{MakesTableEmbedded, by_elements, of_table}
 use Rattle.wasmi_c.specs.declared.memory.numbers.MemoryNumbers.{MemoryNumbers}
 use Rattle.wasmi_c.specs.declared.quota.QuotaNumbers.{QuotaNumbers}
 use Rattle.wasmi_c.specs.declared.table.numbers.TableNumbers.{TableNumbers}
@@ -43,7 +44,7 @@ pub record GrowsMemoryUnder (u u' : UnderQuota) : Type 0 where
   pub before : Embedded MemoryNumbers Quota
   pub status : ℕ
   pub after : Embedded MemoryNumbers Quota
-  pub grows : GrowsEmbedded quota_rules pages before status after
+  pub grows : GrowsBy of_memory quota_rules (by_pages pages) before status after
   pub asked : before.limiter ≡ limiter_of u.quota
   pub left : after.limiter ≡ limiter_of u'.quota
   pub there : slice_get u.bytes index ≡ Some before.numbers.size
@@ -68,7 +69,7 @@ pub record GrowsTableUnder (u u' : UnderQuota) : Type 0 where
   pub before : Embedded TableNumbers Quota
   pub status : ℕ
   pub after : Embedded TableNumbers Quota
-  pub grows : GrowsTableEmbedded quota_rules delta reference before status after
+  pub grows : GrowsBy of_table quota_rules (by_elements delta reference) before status after
   pub asked : before.limiter ≡ limiter_of u.quota
   pub left : after.limiter ≡ limiter_of u'.quota
   pub there : slice_get u.elements index ≡ Some before.numbers.size

@@ -11,8 +11,7 @@ use wasmi_c::instruction::result::InstructionResult;
 use wasmi_c::instruction::{binary, lanes, load, store, ternary, unary};
 use wasmi_raw::RawVal;
 
-/// Gives the result of the instruction of one operand that has the number. Returns 0, or 255 if
-/// there is none; then nothing is written.
+/// Gives the result of an instruction of one operand: `unary::unary_by_number`.
 #[unsafe(no_mangle)]
 pub extern "C" fn wasmi_unary(number: u16, a: RawVal, value: &mut RawVal) -> u8
     ensures { Leaves (unary_result number a) value.old value.new result }
@@ -20,8 +19,7 @@ pub extern "C" fn wasmi_unary(number: u16, a: RawVal, value: &mut RawVal) -> u8
     unary::unary_by_number(number, a, value)
 }
 
-/// As `wasmi_unary` on each element of an array. Returns 254 if the arrays differ in length, which
-/// is tested last; then nothing is written.
+/// As `wasmi_unary` on each element of an array: `unary::unary_each`.
 #[unsafe(no_mangle)]
 pub extern "C" fn wasmi_unary_each(number: u16, a: &[RawVal], values: &mut [RawVal]) -> u8
     ensures { Leaves (unary_results number a.now (length values.old)) values.old values.new result }
@@ -29,8 +27,7 @@ pub extern "C" fn wasmi_unary_each(number: u16, a: &[RawVal], values: &mut [RawV
     unary::unary_each(number, a, values)
 }
 
-/// Gives the result of the instruction of two operands that has the number. Returns 0; 255 if there
-/// is none; or the number of its trap. After any status except 0 nothing is written.
+/// Gives the result of an instruction of two operands: `binary::binary_by_number`.
 #[unsafe(no_mangle)]
 pub extern "C" fn wasmi_binary(number: u16, a: RawVal, b: RawVal, value: &mut RawVal) -> u8
     ensures { Leaves (binary_result number a b) value.old value.new result }
@@ -38,9 +35,7 @@ pub extern "C" fn wasmi_binary(number: u16, a: RawVal, b: RawVal, value: &mut Ra
     binary::binary_by_number(number, a, b, value)
 }
 
-/// As `wasmi_binary` on each two elements of two arrays; each result has its own trap. Returns 0;
-/// 255 if no instruction has the number; or 254 if the arrays differ in length. After 254 and 255
-/// nothing is written.
+/// As `wasmi_binary` on each two elements of two arrays: `binary::binary_each`.
 #[unsafe(no_mangle)]
 pub extern "C" fn wasmi_binary_each(
     number: u16,
@@ -54,8 +49,7 @@ pub extern "C" fn wasmi_binary_each(
     binary::binary_each(number, a, b, results)
 }
 
-/// Gives the result of the instruction of three vectors that has the number. Returns 0, or 255 if
-/// there is none; then nothing is written.
+/// Gives the result of an instruction of three vectors: `ternary::ternary_by_number`.
 #[unsafe(no_mangle)]
 pub extern "C" fn wasmi_ternary(
     number: u16,
@@ -69,8 +63,7 @@ pub extern "C" fn wasmi_ternary(
     ternary::ternary_by_number(number, a, b, c, value)
 }
 
-/// As `wasmi_ternary` on each three elements of three arrays. Returns 254 if the arrays differ in
-/// length, which is tested last; then nothing is written.
+/// As `wasmi_ternary` on each three elements of three arrays: `ternary::ternary_each`.
 #[unsafe(no_mangle)]
 pub extern "C" fn wasmi_ternary_each(
     number: u16,
@@ -85,8 +78,7 @@ pub extern "C" fn wasmi_ternary_each(
     ternary::ternary_each(number, a, b, c, values)
 }
 
-/// Loads a value from `ptr + offset`, by the load that has the number. Returns 0; 255 if there is
-/// none; or the number of the trap past the end. After any status except 0 nothing is written.
+/// Loads a value from `ptr + offset`: `load::load_by_number`.
 #[unsafe(no_mangle)]
 pub extern "C" fn wasmi_load(
     number: u16,
@@ -100,9 +92,7 @@ pub extern "C" fn wasmi_load(
     load::load_by_number(number, memory, ptr, offset, value)
 }
 
-/// As `wasmi_load` from each pointer of an array, plus the offset; each result has its own trap.
-/// Returns 0; 255 if no load has the number; or 254 if the arrays differ in length. After 254 and
-/// 255 nothing is written.
+/// As `wasmi_load` from each pointer of an array, plus the offset: `load::load_each`.
 #[unsafe(no_mangle)]
 pub extern "C" fn wasmi_load_each(
     number: u16,
@@ -117,8 +107,7 @@ pub extern "C" fn wasmi_load_each(
     load::load_each(number, memory, ptrs, offset, results)
 }
 
-/// Stores a value at `ptr + offset`, by the store that has the number. Returns 0; 255 if there is
-/// none; or the number of the trap past the end. After any status except 0 nothing is written.
+/// Stores a value at `ptr + offset`: `store::store_by_number`.
 #[unsafe(no_mangle)]
 pub extern "C" fn wasmi_store(
     number: u16,
@@ -133,8 +122,7 @@ pub extern "C" fn wasmi_store(
     store::store_by_number(number, memory, ptr, offset, value)
 }
 
-/// Extracts a lane of a vector. Returns 0; 255 if no extraction has the number; or 253 if no lane
-/// has the index. After 253 and 255 nothing is written.
+/// Extracts a lane of a vector: `lanes::extract_by_number`.
 #[unsafe(no_mangle)]
 pub extern "C" fn wasmi_extract_lane(number: u16, lane: u8, a: RawVal, value: &mut RawVal) -> u8
     ensures { Leaves (extract_result number lane a) value.old value.new result }
@@ -142,8 +130,7 @@ pub extern "C" fn wasmi_extract_lane(number: u16, lane: u8, a: RawVal, value: &m
     lanes::extract_by_number(number, lane, a, value)
 }
 
-/// As `wasmi_extract_lane` on each vector of an array. Returns 254 if the arrays differ in length,
-/// which is tested last; then nothing is written.
+/// As `wasmi_extract_lane` on each vector of an array: `lanes::extract_each`.
 #[unsafe(no_mangle)]
 pub extern "C" fn wasmi_extract_lane_each(
     number: u16,
@@ -157,8 +144,7 @@ pub extern "C" fn wasmi_extract_lane_each(
     lanes::extract_each(number, lane, a, values)
 }
 
-/// Replaces a lane of a vector by an item. Returns 0; 255 if no replacement has the number; or 253
-/// if no lane has the index. After 253 and 255 nothing is written.
+/// Replaces a lane of a vector by an item: `lanes::replace_by_number`.
 #[unsafe(no_mangle)]
 pub extern "C" fn wasmi_replace_lane(
     number: u16,
@@ -172,8 +158,7 @@ pub extern "C" fn wasmi_replace_lane(
     lanes::replace_by_number(number, lane, a, item, value)
 }
 
-/// As `wasmi_replace_lane` on each two elements of two arrays. Returns 254 if the arrays differ in
-/// length, which is tested last; then nothing is written.
+/// As `wasmi_replace_lane` on each two elements of two arrays: `lanes::replace_each`.
 #[unsafe(no_mangle)]
 pub extern "C" fn wasmi_replace_lane_each(
     number: u16,
@@ -188,9 +173,7 @@ pub extern "C" fn wasmi_replace_lane_each(
     lanes::replace_each(number, lane, a, items, values)
 }
 
-/// Loads a lane of a vector from `ptr + offset`. Returns 0; 255 if no load of a lane has the
-/// number; 253 if no lane has the index; or the number of the trap past the end. After any status
-/// except 0 nothing is written.
+/// Loads a lane of a vector from `ptr + offset`: `lanes::load_lane`.
 #[unsafe(no_mangle)]
 pub extern "C" fn wasmi_load_lane(
     number: u16,
@@ -207,9 +190,7 @@ pub extern "C" fn wasmi_load_lane(
     lanes::load_lane(number, lane, memory, ptr, offset, a, value)
 }
 
-/// Stores a lane of a vector at `ptr + offset`. Returns 0; 255 if no store of a lane has the
-/// number; 253 if no lane has the index; or the number of the trap past the end. After any status
-/// except 0 nothing is written.
+/// Stores a lane of a vector at `ptr + offset`: `lanes::store_lane`.
 #[unsafe(no_mangle)]
 pub extern "C" fn wasmi_store_lane(
     number: u16,

@@ -1,138 +1,111 @@
 //! The loads by name. `tools/header` writes this file.
+//!
+//! A status is 0, or the number of the trap; then nothing is written.
 ghost use Rattle.std.specs.Int.{w8, w16, w32, cast_signed};
 ghost use Rattle.std.specs.Prelude.{◌+◌, pos};
 ghost use Rattle.wasmi_access.specs.LoadStore.{loaded};
-ghost use Rattle.wasmi_c.specs.Instruction.Calls.{Leaves, or_trap};
+ghost use Rattle.wasmi_c.specs.Instruction.Calls.{Gives};
 
 use wasmi_access::wasm;
 use wasmi_c::instruction::result::leave_item;
 
 /// `i32.load8_s`: 8 bits, read signed.
-///
-/// Returns 0, or the number of the trap; then nothing is written.
 #[unsafe(no_mangle)]
 pub extern "C" fn wasm_i32_load8_s(memory: &[u8], ptr: u64, offset: u64, value: &mut i32) -> u8
-    ensures { Leaves
-        (or_trap (loaded 1 (cast_signed w8) memory.now (ptr + offset))) value.old value.new result }
+    ensures { Gives
+        (loaded 1 (cast_signed w8) memory.now (ptr + offset)) value.old value.new result }
 {
     leave_item(wasm::i32_load8_s(memory, ptr, offset), value)
 }
 
 /// `i32.load8_u`: 8 bits, read unsigned.
-///
-/// Returns 0, or the number of the trap; then nothing is written.
 #[unsafe(no_mangle)]
 pub extern "C" fn wasm_i32_load8_u(memory: &[u8], ptr: u64, offset: u64, value: &mut i32) -> u8
-    ensures { Leaves (or_trap (loaded 1 pos memory.now (ptr + offset))) value.old value.new result }
+    ensures { Gives (loaded 1 pos memory.now (ptr + offset)) value.old value.new result }
 {
     leave_item(wasm::i32_load8_u(memory, ptr, offset), value)
 }
 
 /// `i32.load16_s`: 16 bits, read signed.
-///
-/// Returns 0, or the number of the trap; then nothing is written.
 #[unsafe(no_mangle)]
 pub extern "C" fn wasm_i32_load16_s(memory: &[u8], ptr: u64, offset: u64, value: &mut i32) -> u8
-    ensures { Leaves
-        (or_trap (loaded 2 (cast_signed w16) memory.now (ptr + offset))) value.old value.new
-        result }
+    ensures { Gives
+        (loaded 2 (cast_signed w16) memory.now (ptr + offset)) value.old value.new result }
 {
     leave_item(wasm::i32_load16_s(memory, ptr, offset), value)
 }
 
 /// `i32.load16_u`: 16 bits, read unsigned.
-///
-/// Returns 0, or the number of the trap; then nothing is written.
 #[unsafe(no_mangle)]
 pub extern "C" fn wasm_i32_load16_u(memory: &[u8], ptr: u64, offset: u64, value: &mut i32) -> u8
-    ensures { Leaves (or_trap (loaded 2 pos memory.now (ptr + offset))) value.old value.new result }
+    ensures { Gives (loaded 2 pos memory.now (ptr + offset)) value.old value.new result }
 {
     leave_item(wasm::i32_load16_u(memory, ptr, offset), value)
 }
 
 /// `i64.load8_s`: 8 bits, read signed.
-///
-/// Returns 0, or the number of the trap; then nothing is written.
 #[unsafe(no_mangle)]
 pub extern "C" fn wasm_i64_load8_s(memory: &[u8], ptr: u64, offset: u64, value: &mut i64) -> u8
-    ensures { Leaves
-        (or_trap (loaded 1 (cast_signed w8) memory.now (ptr + offset))) value.old value.new result }
+    ensures { Gives
+        (loaded 1 (cast_signed w8) memory.now (ptr + offset)) value.old value.new result }
 {
     leave_item(wasm::i64_load8_s(memory, ptr, offset), value)
 }
 
 /// `i64.load8_u`: 8 bits, read unsigned.
-///
-/// Returns 0, or the number of the trap; then nothing is written.
 #[unsafe(no_mangle)]
 pub extern "C" fn wasm_i64_load8_u(memory: &[u8], ptr: u64, offset: u64, value: &mut i64) -> u8
-    ensures { Leaves (or_trap (loaded 1 pos memory.now (ptr + offset))) value.old value.new result }
+    ensures { Gives (loaded 1 pos memory.now (ptr + offset)) value.old value.new result }
 {
     leave_item(wasm::i64_load8_u(memory, ptr, offset), value)
 }
 
 /// `i64.load16_s`: 16 bits, read signed.
-///
-/// Returns 0, or the number of the trap; then nothing is written.
 #[unsafe(no_mangle)]
 pub extern "C" fn wasm_i64_load16_s(memory: &[u8], ptr: u64, offset: u64, value: &mut i64) -> u8
-    ensures { Leaves
-        (or_trap (loaded 2 (cast_signed w16) memory.now (ptr + offset))) value.old value.new
-        result }
+    ensures { Gives
+        (loaded 2 (cast_signed w16) memory.now (ptr + offset)) value.old value.new result }
 {
     leave_item(wasm::i64_load16_s(memory, ptr, offset), value)
 }
 
 /// `i64.load16_u`: 16 bits, read unsigned.
-///
-/// Returns 0, or the number of the trap; then nothing is written.
 #[unsafe(no_mangle)]
 pub extern "C" fn wasm_i64_load16_u(memory: &[u8], ptr: u64, offset: u64, value: &mut i64) -> u8
-    ensures { Leaves (or_trap (loaded 2 pos memory.now (ptr + offset))) value.old value.new result }
+    ensures { Gives (loaded 2 pos memory.now (ptr + offset)) value.old value.new result }
 {
     leave_item(wasm::i64_load16_u(memory, ptr, offset), value)
 }
 
 /// `i64.load32_s`: 32 bits, read signed.
-///
-/// Returns 0, or the number of the trap; then nothing is written.
 #[unsafe(no_mangle)]
 pub extern "C" fn wasm_i64_load32_s(memory: &[u8], ptr: u64, offset: u64, value: &mut i64) -> u8
-    ensures { Leaves
-        (or_trap (loaded 4 (cast_signed w32) memory.now (ptr + offset))) value.old value.new
-        result }
+    ensures { Gives
+        (loaded 4 (cast_signed w32) memory.now (ptr + offset)) value.old value.new result }
 {
     leave_item(wasm::i64_load32_s(memory, ptr, offset), value)
 }
 
 /// `i64.load32_u`: 32 bits, read unsigned.
-///
-/// Returns 0, or the number of the trap; then nothing is written.
 #[unsafe(no_mangle)]
 pub extern "C" fn wasm_i64_load32_u(memory: &[u8], ptr: u64, offset: u64, value: &mut i64) -> u8
-    ensures { Leaves (or_trap (loaded 4 pos memory.now (ptr + offset))) value.old value.new result }
+    ensures { Gives (loaded 4 pos memory.now (ptr + offset)) value.old value.new result }
 {
     leave_item(wasm::i64_load32_u(memory, ptr, offset), value)
 }
 
 /// `i32.load`: 32 bits, read unsigned.
-///
-/// Returns 0, or the number of the trap; then nothing is written.
 #[unsafe(no_mangle)]
 pub extern "C" fn wasm_load_u32(memory: &[u8], ptr: u64, offset: u64, value: &mut u32) -> u8
-    ensures { Leaves
-        (or_trap (loaded 4 (λ n. n) memory.now (ptr + offset))) value.old value.new result }
+    ensures { Gives (loaded 4 (λ n. n) memory.now (ptr + offset)) value.old value.new result }
 {
     leave_item(wasm::load_u32(memory, ptr, offset), value)
 }
 
 /// `i64.load`: 64 bits, read unsigned.
-///
-/// Returns 0, or the number of the trap; then nothing is written.
 #[unsafe(no_mangle)]
 pub extern "C" fn wasm_load_u64(memory: &[u8], ptr: u64, offset: u64, value: &mut u64) -> u8
-    ensures { Leaves
-        (or_trap (loaded 8 (λ n. n) memory.now (ptr + offset))) value.old value.new result }
+    ensures { Gives (loaded 8 (λ n. n) memory.now (ptr + offset)) value.old value.new result }
 {
     leave_item(wasm::load_u64(memory, ptr, offset), value)
 }

@@ -2,8 +2,7 @@
 ghost use Rattle.std.specs.Prelude.{◌≡◌, ℕ, List, None, Some};
 ghost use Rattle.wasmi_core.specs.declared.calls.Call.TheVariants.{GetFuel, GrowMemory, Write};
 ghost use Rattle.wasmi_c.specs.Machine.ByArguments.{RepliesInStatus, RepliesInWord, item_load, item_store, vector_binary};
-ghost use Rattle.wasmi_c.specs.Machine.Calls.{ActsOnHeld, ReadsOut, RepliesToCopy, RepliesToSegment, RepliesToStruct, PaysFuel, no_totals, totals_of};
-ghost use Rattle.wasmi_c.specs.Machine.Caps.{StaysWithinCaps};
+ghost use Rattle.wasmi_c.specs.Machine.Calls.{OnHeld, ReadsOut, RepliesToCopy, RepliesToSegment, RepliesToStruct, PaysFuel, no_totals, totals_of};
 ghost use Rattle.wasmi_c.specs.Machine.Lines.{RunsLines};
 ghost use Rattle.wasmi_c.specs.Machine.NewMachines.{IsNewMachine, MakesMachine, MakesWithAnswers};
 ghost use Rattle.wasmi_c.specs.Machine.Replies.{only};
@@ -50,10 +49,8 @@ pub extern "C" fn wasmi_machine_drop(alloc: Global, handle: &mut Handle)
 /// Replies to a call: `Handle::call`.
 #[unsafe(no_mangle)]
 pub extern "C" fn wasmi_machine_call(handle: &mut Handle, call: &CallStruct) -> ReplyStruct
-    ensures step { ActsOnHeld (only no_machine_status) handle.old.machine.held
-        result handle.new.machine.held
-        (λ machine machine'. RepliesToStruct call.now machine result machine') }
-    ensures caps { StaysWithinCaps handle.old.machine.held handle.new.machine.held }
+    ensures { OnHeld (RepliesToStruct call.now) (only no_machine_status)
+        handle.old.machine.held result handle.new.machine.held }
 {
     handle.call(call)
 }
@@ -66,11 +63,11 @@ pub extern "C" fn wasmi_machine_read(
     offset: usize,
     bytes: &mut [u8],
 ) -> ReplyStruct
-    ensures step { ActsOnHeld {R = ReplyStruct × List ℕ} (only no_machine_status, bytes.old)
-        handle.old.machine.held (result, bytes.new) handle.new.machine.held
-        (λ machine machine'. (machine' ≡ machine)
-        × ReadsOut memory offset machine.state bytes.old result bytes.new) }
-    ensures caps { StaysWithinCaps handle.old.machine.held handle.new.machine.held }
+    ensures { OnHeld {R = ReplyStruct × List ℕ}
+        (λ machine left machine'. (machine' ≡ machine)
+        × ReadsOut memory offset machine.state bytes.old left.0 left.1)
+        (only no_machine_status, bytes.old)
+        handle.old.machine.held (result, bytes.new) handle.new.machine.held }
 {
     handle.read(memory, offset, bytes)
 }
@@ -84,11 +81,8 @@ pub extern "C" fn wasmi_machine_write(
     offset: usize,
     bytes: &[u8],
 ) -> ReplyStruct
-    ensures step { ActsOnHeld (only no_machine_status) handle.old.machine.held
-        result handle.new.machine.held
-        (λ machine machine'. RepliesToCopy
-        (Write memory offset) bytes.now machine result machine') }
-    ensures caps { StaysWithinCaps handle.old.machine.held handle.new.machine.held }
+    ensures { OnHeld (RepliesToCopy (Write memory offset) bytes.now) (only no_machine_status)
+        handle.old.machine.held result handle.new.machine.held }
 {
     handle.write(alloc, memory, offset, bytes)
 }
@@ -101,10 +95,8 @@ pub extern "C" fn wasmi_machine_new_segment(
     ty: u8,
     items: &[u32],
 ) -> ReplyStruct
-    ensures step { ActsOnHeld (only no_machine_status) handle.old.machine.held
-        result handle.new.machine.held
-        (λ machine machine'. RepliesToSegment ty items.now machine result machine') }
-    ensures caps { StaysWithinCaps handle.old.machine.held handle.new.machine.held }
+    ensures { OnHeld (RepliesToSegment ty items.now) (only no_machine_status)
+        handle.old.machine.held result handle.new.machine.held }
 {
     handle.new_segment(alloc, ty, items)
 }
@@ -112,9 +104,9 @@ pub extern "C" fn wasmi_machine_new_segment(
 /// Gives how many bytes and elements the machine has: `Handle::totals`.
 #[unsafe(no_mangle)]
 pub extern "C" fn wasmi_machine_totals(handle: &mut Handle) -> Totals
-    ensures step { ActsOnHeld no_totals handle.old.machine.held result handle.new.machine.held
-        (λ machine machine'. (machine' ≡ machine) × (result ≡ totals_of machine)) }
-    ensures caps { StaysWithinCaps handle.old.machine.held handle.new.machine.held }
+    ensures { OnHeld
+        (λ machine totals machine'. (machine' ≡ machine) × (totals ≡ totals_of machine))
+        no_totals handle.old.machine.held result handle.new.machine.held }
 {
     handle.totals()
 }
@@ -122,10 +114,8 @@ pub extern "C" fn wasmi_machine_totals(handle: &mut Handle) -> Totals
 /// Takes fuel that isn't a call's: `Handle::consume_fuel`.
 #[unsafe(no_mangle)]
 pub extern "C" fn wasmi_machine_consume_fuel(handle: &mut Handle, amount: u64) -> ReplyStruct
-    ensures step { ActsOnHeld (only no_machine_status) handle.old.machine.held
-        result handle.new.machine.held
-        (λ machine machine'. PaysFuel amount machine result machine') }
-    ensures caps { StaysWithinCaps handle.old.machine.held handle.new.machine.held }
+    ensures { OnHeld (PaysFuel amount) (only no_machine_status)
+        handle.old.machine.held result handle.new.machine.held }
 {
     handle.consume_fuel(amount)
 }
@@ -140,11 +130,9 @@ pub extern "C" fn wasmi_machine_load(
     offset: u64,
     value: &mut u64,
 ) -> u8
-    ensures step { ActsOnHeld {R = ℕ × ℕ} (no_machine_status, value.old) handle.old.machine.held
-        (result, value.new) handle.new.machine.held
-        (λ machine machine'. RepliesInWord (item_load op memory ptr offset) value.old machine
-        (result, value.new) machine') }
-    ensures caps { StaysWithinCaps handle.old.machine.held handle.new.machine.held }
+    ensures { OnHeld (RepliesInWord (item_load op memory ptr offset) value.old)
+        (no_machine_status, value.old)
+        handle.old.machine.held (result, value.new) handle.new.machine.held }
 {
     handle.load(op, memory, ptr, offset, value)
 }
@@ -159,12 +147,8 @@ pub extern "C" fn wasmi_machine_store(
     offset: u64,
     value: u64,
 ) -> u8
-    ensures step { ActsOnHeld no_machine_status handle.old.machine.held result
-        handle.new.machine.held
-        (λ machine machine'. RepliesInStatus
-        (item_store op memory ptr offset value) machine result
-        machine') }
-    ensures caps { StaysWithinCaps handle.old.machine.held handle.new.machine.held }
+    ensures { OnHeld (RepliesInStatus (item_store op memory ptr offset value)) no_machine_status
+        handle.old.machine.held result handle.new.machine.held }
 {
     handle.store(op, memory, ptr, offset, value)
 }
@@ -172,11 +156,8 @@ pub extern "C" fn wasmi_machine_store(
 /// Executes an instruction on two vectors: `Handle::binary`.
 #[unsafe(no_mangle)]
 pub extern "C" fn wasmi_machine_binary(handle: &mut Handle, op: u16, dst: u8, a: u8, b: u8) -> u8
-    ensures step { ActsOnHeld no_machine_status handle.old.machine.held result
-        handle.new.machine.held
-        (λ machine machine'. RepliesInStatus
-        (vector_binary op dst a b) machine result machine') }
-    ensures caps { StaysWithinCaps handle.old.machine.held handle.new.machine.held }
+    ensures { OnHeld (RepliesInStatus (vector_binary op dst a b)) no_machine_status
+        handle.old.machine.held result handle.new.machine.held }
 {
     handle.binary(op, dst, a, b)
 }
@@ -189,11 +170,9 @@ pub extern "C" fn wasmi_machine_grow(
     pages: u64,
     number: &mut u64,
 ) -> u8
-    ensures step { ActsOnHeld {R = ℕ × ℕ} (no_machine_status, number.old) handle.old.machine.held
-        (result, number.new) handle.new.machine.held
-        (λ machine machine'. RepliesInWord (Some (GrowMemory memory pages)) number.old machine
-        (result, number.new) machine') }
-    ensures caps { StaysWithinCaps handle.old.machine.held handle.new.machine.held }
+    ensures { OnHeld (RepliesInWord (Some (GrowMemory memory pages)) number.old)
+        (no_machine_status, number.old)
+        handle.old.machine.held (result, number.new) handle.new.machine.held }
 {
     handle.grow(memory, pages, number)
 }
@@ -201,11 +180,8 @@ pub extern "C" fn wasmi_machine_grow(
 /// Gives the fuel that is left: `Handle::fuel_left`.
 #[unsafe(no_mangle)]
 pub extern "C" fn wasmi_machine_fuel_left(handle: &mut Handle, left: &mut u64) -> u8
-    ensures step { ActsOnHeld {R = ℕ × ℕ} (no_machine_status, left.old) handle.old.machine.held
-        (result, left.new) handle.new.machine.held
-        (λ machine machine'. RepliesInWord (Some GetFuel) left.old machine
-        (result, left.new) machine') }
-    ensures caps { StaysWithinCaps handle.old.machine.held handle.new.machine.held }
+    ensures { OnHeld (RepliesInWord (Some GetFuel) left.old) (no_machine_status, left.old)
+        handle.old.machine.held (result, left.new) handle.new.machine.held }
 {
     handle.fuel_left(left)
 }
@@ -218,10 +194,10 @@ pub extern "C" fn wasmi_machine_run_lines(
     lines: &[u8],
     text: &mut [u8],
 ) -> ReplyStruct
-    ensures step { ActsOnHeld {R = ReplyStruct × List ℕ} (only no_machine_status, text.old)
-        handle.old.machine.held (result, text.new) handle.new.machine.held
-        (λ machine machine'. RunsLines lines.now machine text.old result text.new machine') }
-    ensures caps { StaysWithinCaps handle.old.machine.held handle.new.machine.held }
+    ensures { OnHeld {R = ReplyStruct × List ℕ}
+        (λ machine left machine'. RunsLines lines.now machine text.old left.0 left.1 machine')
+        (only no_machine_status, text.old)
+        handle.old.machine.held (result, text.new) handle.new.machine.held }
 {
     handle.run_lines(alloc, lines, text)
 }

@@ -1,11 +1,11 @@
 //! Memories in regions of the caller's.
 ghost use Rattle.std.specs.Prelude.{◌≡◌, ◌+◌, ◌/◌, false, Some};
-ghost use Rattle.wasmi_c.specs.MemoryCalls.{IsNoType, MakesEmbedded, IsNoState, GrowsEmbedded, AsksEmbedded, SettlesEmbedded, CountsEmbedded, ReadsEmbedded, WritesEmbedded};
+ghost use Rattle.wasmi_c.specs.MemoryCalls.{AsksEmbedded, CopiesBytesEmbedded, CountsEmbedded, IsNoState, IsNoType, MakesEmbedded, ReadsEmbedded, WritesBytesEmbedded, WritesEmbedded, by_pages, of_memory};
+ghost use Rattle.wasmi_c.specs.Placement.{GrowsBy, SettlesBy};
 ghost use Rattle.wasmi_c.specs.Numbers.{limiter_of, KeepsQuota, embedded, IsState};
 ghost use Rattle.wasmi_meter.specs.Quota.{quota_rules};
 ghost use Rattle.wasmi_store.specs.MemoryType.{MemoryTypeValue, in_bounds, page_bytes};
 ghost use Rattle.wasmi_store.specs.Bulk.{filled, copied};
-ghost use Rattle.wasmi_c.specs.BulkCalls.{WritesBytesEmbedded, CopiesBytesEmbedded};
 
 use wasmi_c::memory::{bulk, bytes, creation, growth};
 use wasmi_c::{HostAnswers, MemoryNumbers, MeterNumbers, Question, QuotaNumbers, Range};
@@ -36,7 +36,7 @@ pub extern "C" fn wasmi_memory_grow(
     quota: &mut QuotaNumbers,
     number: &mut u64,
 ) -> u8
-    ensures grown { GrowsEmbedded quota_rules pages
+    ensures grown { GrowsBy of_memory quota_rules (by_pages pages)
         (embedded memory.old region.old meter.old (limiter_of quota.old) number.old) result
         (embedded memory.new region.new meter.new (limiter_of quota.new) number.new) }
     ensures quota { KeepsQuota quota.old quota.new }
@@ -71,7 +71,7 @@ pub extern "C" fn wasmi_memory_settle(
     answers: &mut HostAnswers,
     number: &mut u64,
 ) -> u8
-    ensures { SettlesEmbedded pages answers.old
+    ensures { SettlesBy of_memory (by_pages pages) answers.old
         (embedded memory.old region.old meter.old (Some answers.old) number.old) result
         (embedded memory.new region.new meter.new (Some answers.new) number.new) }
 {

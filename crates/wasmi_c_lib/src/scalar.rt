@@ -1,7 +1,9 @@
 //! The scalar instructions by name. `tools/header` writes this file.
+//!
+//! A status is 0, or the number of the trap; then nothing is written.
 ghost use Rattle.std.specs.Int.{w8, w16, w32, w64, cast_unsigned, int_wrap};
 ghost use Rattle.std.specs.Prelude.{◌≡◌, ◌*◌, ◌*ℤ◌};
-ghost use Rattle.wasmi_c.specs.Instruction.Calls.{Leaves, or_trap};
+ghost use Rattle.wasmi_c.specs.Instruction.Calls.{Gives};
 ghost use Rattle.wasmi_scalar.specs.Numerics.{iadd, isub, imul, idiv_s, idiv_u, irem_s, irem_u, iand, ior, ixor, ishl, ishr_s, ishr_u, irotl, irotr, iclz, ictz, ipopcnt, ieqz, ieq, ine, ilt_s, ilt_u, igt_s, igt_u, ile_s, ile_u, ige_s, ige_u};
 ghost use Rattle.wasmi_scalar.specs.Wide.{unsigned_of, signed_of, add128, sub128};
 
@@ -227,11 +229,9 @@ pub extern "C" fn wasm_i32_rotr(lhs: i32, rhs: i32) -> i32
 /// The quotient towards zero.
 ///
 /// `IntegerDivisionByZero` for a divisor of 0, then `IntegerOverflow` for the least number by -1.
-///
-/// Returns 0, or the number of the trap; then nothing is written.
 #[unsafe(no_mangle)]
 pub extern "C" fn wasm_i32_div_s(lhs: i32, rhs: i32, value: &mut i32) -> u8
-    ensures { Leaves (or_trap (idiv_s w32 lhs rhs)) value.old value.new result }
+    ensures { Gives (idiv_s w32 lhs rhs) value.old value.new result }
 {
     leave_item(wasm::i32_div_s(lhs, rhs), value)
 }
@@ -239,11 +239,9 @@ pub extern "C" fn wasm_i32_div_s(lhs: i32, rhs: i32, value: &mut i32) -> u8
 /// The quotient.
 ///
 /// `IntegerDivisionByZero` for a divisor of 0.
-///
-/// Returns 0, or the number of the trap; then nothing is written.
 #[unsafe(no_mangle)]
 pub extern "C" fn wasm_i32_div_u(lhs: u32, rhs: u32, value: &mut u32) -> u8
-    ensures { Leaves (or_trap (idiv_u lhs rhs)) value.old value.new result }
+    ensures { Gives (idiv_u lhs rhs) value.old value.new result }
 {
     leave_item(wasm::i32_div_u(lhs, rhs), value)
 }
@@ -251,11 +249,9 @@ pub extern "C" fn wasm_i32_div_u(lhs: u32, rhs: u32, value: &mut u32) -> u8
 /// The remainder, with the sign of `lhs`; 0 for the least number by -1.
 ///
 /// `IntegerDivisionByZero` for a divisor of 0.
-///
-/// Returns 0, or the number of the trap; then nothing is written.
 #[unsafe(no_mangle)]
 pub extern "C" fn wasm_i32_rem_s(lhs: i32, rhs: i32, value: &mut i32) -> u8
-    ensures { Leaves (or_trap (irem_s lhs rhs)) value.old value.new result }
+    ensures { Gives (irem_s lhs rhs) value.old value.new result }
 {
     leave_item(wasm::i32_rem_s(lhs, rhs), value)
 }
@@ -263,11 +259,9 @@ pub extern "C" fn wasm_i32_rem_s(lhs: i32, rhs: i32, value: &mut i32) -> u8
 /// The remainder.
 ///
 /// `IntegerDivisionByZero` for a divisor of 0.
-///
-/// Returns 0, or the number of the trap; then nothing is written.
 #[unsafe(no_mangle)]
 pub extern "C" fn wasm_i32_rem_u(lhs: u32, rhs: u32, value: &mut u32) -> u8
-    ensures { Leaves (or_trap (irem_u lhs rhs)) value.old value.new result }
+    ensures { Gives (irem_u lhs rhs) value.old value.new result }
 {
     leave_item(wasm::i32_rem_u(lhs, rhs), value)
 }
@@ -443,11 +437,9 @@ pub extern "C" fn wasm_i64_rotr(lhs: i64, rhs: i64) -> i64
 /// The quotient towards zero.
 ///
 /// `IntegerDivisionByZero` for a divisor of 0, then `IntegerOverflow` for the least number by -1.
-///
-/// Returns 0, or the number of the trap; then nothing is written.
 #[unsafe(no_mangle)]
 pub extern "C" fn wasm_i64_div_s(lhs: i64, rhs: i64, value: &mut i64) -> u8
-    ensures { Leaves (or_trap (idiv_s w64 lhs rhs)) value.old value.new result }
+    ensures { Gives (idiv_s w64 lhs rhs) value.old value.new result }
 {
     leave_item(wasm::i64_div_s(lhs, rhs), value)
 }
@@ -455,11 +447,9 @@ pub extern "C" fn wasm_i64_div_s(lhs: i64, rhs: i64, value: &mut i64) -> u8
 /// The quotient.
 ///
 /// `IntegerDivisionByZero` for a divisor of 0.
-///
-/// Returns 0, or the number of the trap; then nothing is written.
 #[unsafe(no_mangle)]
 pub extern "C" fn wasm_i64_div_u(lhs: u64, rhs: u64, value: &mut u64) -> u8
-    ensures { Leaves (or_trap (idiv_u lhs rhs)) value.old value.new result }
+    ensures { Gives (idiv_u lhs rhs) value.old value.new result }
 {
     leave_item(wasm::i64_div_u(lhs, rhs), value)
 }
@@ -467,11 +457,9 @@ pub extern "C" fn wasm_i64_div_u(lhs: u64, rhs: u64, value: &mut u64) -> u8
 /// The remainder, with the sign of `lhs`; 0 for the least number by -1.
 ///
 /// `IntegerDivisionByZero` for a divisor of 0.
-///
-/// Returns 0, or the number of the trap; then nothing is written.
 #[unsafe(no_mangle)]
 pub extern "C" fn wasm_i64_rem_s(lhs: i64, rhs: i64, value: &mut i64) -> u8
-    ensures { Leaves (or_trap (irem_s lhs rhs)) value.old value.new result }
+    ensures { Gives (irem_s lhs rhs) value.old value.new result }
 {
     leave_item(wasm::i64_rem_s(lhs, rhs), value)
 }
@@ -479,11 +467,9 @@ pub extern "C" fn wasm_i64_rem_s(lhs: i64, rhs: i64, value: &mut i64) -> u8
 /// The remainder.
 ///
 /// `IntegerDivisionByZero` for a divisor of 0.
-///
-/// Returns 0, or the number of the trap; then nothing is written.
 #[unsafe(no_mangle)]
 pub extern "C" fn wasm_i64_rem_u(lhs: u64, rhs: u64, value: &mut u64) -> u8
-    ensures { Leaves (or_trap (irem_u lhs rhs)) value.old value.new result }
+    ensures { Gives (irem_u lhs rhs) value.old value.new result }
 {
     leave_item(wasm::i64_rem_u(lhs, rhs), value)
 }

@@ -4,9 +4,7 @@ ghost use Rattle.wasmi_c.specs.Script.{AnswersScript};
 use std::alloc::Global;
 use wasmi_c::script;
 
-/// Runs a script, and writes what it prints to the front of `text`. `needed` is set to the length
-/// of that, in bytes. The status is that of the program, or 5 if `text` is shorter than what is
-/// printed: then nothing is written to it.
+/// Runs a script, and writes what it prints to the front of `text`: `script::run`.
 #[unsafe(no_mangle)]
 pub extern "C" fn wasmi_script_run(
     alloc: Global,

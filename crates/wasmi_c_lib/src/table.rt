@@ -1,7 +1,8 @@
 //! Tables in regions of the caller's.
 ghost use Rattle.std.specs.Prelude.{◌≡◌, None, ◌+◌, false, Some};
 ghost use Rattle.wasmi_c.specs.Numbers.{limiter_of, table_type_of, KeepsQuota, embedded, IsTable};
-ghost use Rattle.wasmi_c.specs.TableCalls.{MakesTableEmbedded, IsNoTable, GrowsTableEmbedded, AsksTableEmbedded, SettlesTableEmbedded, CountsElements, GetsElement, SetsElement, WritesTableEmbedded, CopiesEmbedded};
+ghost use Rattle.wasmi_c.specs.TableCalls.{AsksTableEmbedded, CopiesEmbedded, CountsElements, GetsElement, IsNoTable, MakesTableEmbedded, SetsElement, WritesTableEmbedded, by_elements, of_table};
+ghost use Rattle.wasmi_c.specs.Placement.{GrowsBy, SettlesBy};
 ghost use Rattle.wasmi_meter.specs.Quota.{quota_rules};
 ghost use Rattle.wasmi_store.specs.TableType.{TableTypeValue, is_indexable};
 ghost use Rattle.wasmi_store.specs.Table.{raw_filling_of, copy_of, initialization_of};
@@ -38,7 +39,7 @@ pub extern "C" fn wasmi_table_grow(
     quota: &mut QuotaNumbers,
     number: &mut u64,
 ) -> u8
-    ensures grown { GrowsTableEmbedded quota_rules delta reference
+    ensures grown { GrowsBy of_table quota_rules (by_elements delta reference)
         (embedded table.old region.old meter.old (limiter_of quota.old) number.old) result
         (embedded table.new region.new meter.new (limiter_of quota.new) number.new) }
     ensures quota { KeepsQuota quota.old quota.new }
@@ -73,7 +74,7 @@ pub extern "C" fn wasmi_table_settle(
     answers: &mut HostAnswers,
     number: &mut u64,
 ) -> u8
-    ensures { SettlesTableEmbedded delta reference answers.old
+    ensures { SettlesBy of_table (by_elements delta reference) answers.old
         (embedded table.old region.old meter.old (Some answers.old) number.old) result
         (embedded table.new region.new meter.new (Some answers.new) number.new) }
 {

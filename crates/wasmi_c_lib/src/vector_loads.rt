@@ -1,7 +1,9 @@
 //! The loads of vectors by name. `tools/header` writes this file.
+//!
+//! A status is 0, or the number of the trap; then nothing is written.
 ghost use Rattle.std.specs.Prelude.{◌+◌};
 ghost use Rattle.wasmi_access.specs.LoadStore.{loaded};
-ghost use Rattle.wasmi_c.specs.Instruction.Calls.{Leaves, or_trap};
+ghost use Rattle.wasmi_c.specs.Instruction.Calls.{Gives};
 ghost use Rattle.wasmi_lanes.specs.Vector.{splat_of};
 ghost use Rattle.wasmi_ops.specs.RawResults.{as_raw};
 ghost use Rattle.wasmi_raw.specs.RawVal.{raw_of_vector};
@@ -13,20 +15,16 @@ use wasmi_raw::RawVal;
 use wasmi_vector_access::simd;
 
 /// `v128.load`: 128 bits.
-///
-/// Returns 0, or the number of the trap; then nothing is written.
 #[unsafe(no_mangle)]
 pub extern "C" fn wasm_v128_load(memory: &[u8], ptr: u64, offset: u64, value: &mut RawVal) -> u8
-    ensures { Leaves
-        (or_trap (as_raw raw_of_vector (loaded 16 (λ n. n) memory.now (ptr + offset)))) value.old
-        value.new result }
+    ensures { Gives
+        (as_raw raw_of_vector (loaded 16 (λ n. n) memory.now (ptr + offset))) value.old value.new
+        result }
 {
     leave_vector(simd::v128_load(memory, ptr, offset), value)
 }
 
 /// `v128.load8x8_s`: 8 lanes of 8 bits, read signed and extended to 16.
-///
-/// Returns 0, or the number of the trap; then nothing is written.
 #[unsafe(no_mangle)]
 pub extern "C" fn wasm_v128_load8x8_s(
     memory: &[u8],
@@ -34,16 +32,14 @@ pub extern "C" fn wasm_v128_load8x8_s(
     offset: u64,
     value: &mut RawVal,
 ) -> u8
-    ensures { Leaves
-        (or_trap (as_raw raw_of_vector
-        (loaded 8 (vector.widen_s w8 w16) memory.now (ptr + offset)))) value.old value.new result }
+    ensures { Gives
+        (as_raw raw_of_vector (loaded 8 (vector.widen_s w8 w16) memory.now (ptr + offset)))
+        value.old value.new result }
 {
     leave_vector(simd::v128_load8x8_s(memory, ptr, offset), value)
 }
 
 /// `v128.load8x8_u`: 8 lanes of 8 bits, read unsigned and extended to 16.
-///
-/// Returns 0, or the number of the trap; then nothing is written.
 #[unsafe(no_mangle)]
 pub extern "C" fn wasm_v128_load8x8_u(
     memory: &[u8],
@@ -51,16 +47,14 @@ pub extern "C" fn wasm_v128_load8x8_u(
     offset: u64,
     value: &mut RawVal,
 ) -> u8
-    ensures { Leaves
-        (or_trap (as_raw raw_of_vector
-        (loaded 8 (vector.widen_u w8 w16) memory.now (ptr + offset)))) value.old value.new result }
+    ensures { Gives
+        (as_raw raw_of_vector (loaded 8 (vector.widen_u w8 w16) memory.now (ptr + offset)))
+        value.old value.new result }
 {
     leave_vector(simd::v128_load8x8_u(memory, ptr, offset), value)
 }
 
 /// `v128.load16x4_s`: 4 lanes of 16 bits, read signed and extended to 32.
-///
-/// Returns 0, or the number of the trap; then nothing is written.
 #[unsafe(no_mangle)]
 pub extern "C" fn wasm_v128_load16x4_s(
     memory: &[u8],
@@ -68,16 +62,14 @@ pub extern "C" fn wasm_v128_load16x4_s(
     offset: u64,
     value: &mut RawVal,
 ) -> u8
-    ensures { Leaves
-        (or_trap (as_raw raw_of_vector
-        (loaded 8 (vector.widen_s w16 w32) memory.now (ptr + offset)))) value.old value.new result }
+    ensures { Gives
+        (as_raw raw_of_vector (loaded 8 (vector.widen_s w16 w32) memory.now (ptr + offset)))
+        value.old value.new result }
 {
     leave_vector(simd::v128_load16x4_s(memory, ptr, offset), value)
 }
 
 /// `v128.load16x4_u`: 4 lanes of 16 bits, read unsigned and extended to 32.
-///
-/// Returns 0, or the number of the trap; then nothing is written.
 #[unsafe(no_mangle)]
 pub extern "C" fn wasm_v128_load16x4_u(
     memory: &[u8],
@@ -85,16 +77,14 @@ pub extern "C" fn wasm_v128_load16x4_u(
     offset: u64,
     value: &mut RawVal,
 ) -> u8
-    ensures { Leaves
-        (or_trap (as_raw raw_of_vector
-        (loaded 8 (vector.widen_u w16 w32) memory.now (ptr + offset)))) value.old value.new result }
+    ensures { Gives
+        (as_raw raw_of_vector (loaded 8 (vector.widen_u w16 w32) memory.now (ptr + offset)))
+        value.old value.new result }
 {
     leave_vector(simd::v128_load16x4_u(memory, ptr, offset), value)
 }
 
 /// `v128.load32x2_s`: 2 lanes of 32 bits, read signed and extended to 64.
-///
-/// Returns 0, or the number of the trap; then nothing is written.
 #[unsafe(no_mangle)]
 pub extern "C" fn wasm_v128_load32x2_s(
     memory: &[u8],
@@ -102,16 +92,14 @@ pub extern "C" fn wasm_v128_load32x2_s(
     offset: u64,
     value: &mut RawVal,
 ) -> u8
-    ensures { Leaves
-        (or_trap (as_raw raw_of_vector
-        (loaded 8 (vector.widen_s w32 w64) memory.now (ptr + offset)))) value.old value.new result }
+    ensures { Gives
+        (as_raw raw_of_vector (loaded 8 (vector.widen_s w32 w64) memory.now (ptr + offset)))
+        value.old value.new result }
 {
     leave_vector(simd::v128_load32x2_s(memory, ptr, offset), value)
 }
 
 /// `v128.load32x2_u`: 2 lanes of 32 bits, read unsigned and extended to 64.
-///
-/// Returns 0, or the number of the trap; then nothing is written.
 #[unsafe(no_mangle)]
 pub extern "C" fn wasm_v128_load32x2_u(
     memory: &[u8],
@@ -119,16 +107,14 @@ pub extern "C" fn wasm_v128_load32x2_u(
     offset: u64,
     value: &mut RawVal,
 ) -> u8
-    ensures { Leaves
-        (or_trap (as_raw raw_of_vector
-        (loaded 8 (vector.widen_u w32 w64) memory.now (ptr + offset)))) value.old value.new result }
+    ensures { Gives
+        (as_raw raw_of_vector (loaded 8 (vector.widen_u w32 w64) memory.now (ptr + offset)))
+        value.old value.new result }
 {
     leave_vector(simd::v128_load32x2_u(memory, ptr, offset), value)
 }
 
 /// `v128.load8_splat`: 8 bits, in each lane.
-///
-/// Returns 0, or the number of the trap; then nothing is written.
 #[unsafe(no_mangle)]
 pub extern "C" fn wasm_v128_load8_splat(
     memory: &[u8],
@@ -136,16 +122,14 @@ pub extern "C" fn wasm_v128_load8_splat(
     offset: u64,
     value: &mut RawVal,
 ) -> u8
-    ensures { Leaves
-        (or_trap (as_raw raw_of_vector (loaded 1 (splat_of w8) memory.now (ptr + offset))))
-        value.old value.new result }
+    ensures { Gives
+        (as_raw raw_of_vector (loaded 1 (splat_of w8) memory.now (ptr + offset))) value.old
+        value.new result }
 {
     leave_vector(simd::v128_load8_splat(memory, ptr, offset), value)
 }
 
 /// `v128.load16_splat`: 16 bits, in each lane.
-///
-/// Returns 0, or the number of the trap; then nothing is written.
 #[unsafe(no_mangle)]
 pub extern "C" fn wasm_v128_load16_splat(
     memory: &[u8],
@@ -153,16 +137,14 @@ pub extern "C" fn wasm_v128_load16_splat(
     offset: u64,
     value: &mut RawVal,
 ) -> u8
-    ensures { Leaves
-        (or_trap (as_raw raw_of_vector (loaded 2 (splat_of w16) memory.now (ptr + offset))))
-        value.old value.new result }
+    ensures { Gives
+        (as_raw raw_of_vector (loaded 2 (splat_of w16) memory.now (ptr + offset))) value.old
+        value.new result }
 {
     leave_vector(simd::v128_load16_splat(memory, ptr, offset), value)
 }
 
 /// `v128.load32_splat`: 32 bits, in each lane.
-///
-/// Returns 0, or the number of the trap; then nothing is written.
 #[unsafe(no_mangle)]
 pub extern "C" fn wasm_v128_load32_splat(
     memory: &[u8],
@@ -170,16 +152,14 @@ pub extern "C" fn wasm_v128_load32_splat(
     offset: u64,
     value: &mut RawVal,
 ) -> u8
-    ensures { Leaves
-        (or_trap (as_raw raw_of_vector (loaded 4 (splat_of w32) memory.now (ptr + offset))))
-        value.old value.new result }
+    ensures { Gives
+        (as_raw raw_of_vector (loaded 4 (splat_of w32) memory.now (ptr + offset))) value.old
+        value.new result }
 {
     leave_vector(simd::v128_load32_splat(memory, ptr, offset), value)
 }
 
 /// `v128.load64_splat`: 64 bits, in each lane.
-///
-/// Returns 0, or the number of the trap; then nothing is written.
 #[unsafe(no_mangle)]
 pub extern "C" fn wasm_v128_load64_splat(
     memory: &[u8],
@@ -187,16 +167,14 @@ pub extern "C" fn wasm_v128_load64_splat(
     offset: u64,
     value: &mut RawVal,
 ) -> u8
-    ensures { Leaves
-        (or_trap (as_raw raw_of_vector (loaded 8 (splat_of w64) memory.now (ptr + offset))))
-        value.old value.new result }
+    ensures { Gives
+        (as_raw raw_of_vector (loaded 8 (splat_of w64) memory.now (ptr + offset))) value.old
+        value.new result }
 {
     leave_vector(simd::v128_load64_splat(memory, ptr, offset), value)
 }
 
 /// `v128.load32_zero`: 32 bits in lane 0, and 0 in the others.
-///
-/// Returns 0, or the number of the trap; then nothing is written.
 #[unsafe(no_mangle)]
 pub extern "C" fn wasm_v128_load32_zero(
     memory: &[u8],
@@ -204,16 +182,14 @@ pub extern "C" fn wasm_v128_load32_zero(
     offset: u64,
     value: &mut RawVal,
 ) -> u8
-    ensures { Leaves
-        (or_trap (as_raw raw_of_vector (loaded 4 (vector.low_zero w32) memory.now (ptr + offset))))
-        value.old value.new result }
+    ensures { Gives
+        (as_raw raw_of_vector (loaded 4 (vector.low_zero w32) memory.now (ptr + offset))) value.old
+        value.new result }
 {
     leave_vector(simd::v128_load32_zero(memory, ptr, offset), value)
 }
 
 /// `v128.load64_zero`: 64 bits in lane 0, and 0 in the others.
-///
-/// Returns 0, or the number of the trap; then nothing is written.
 #[unsafe(no_mangle)]
 pub extern "C" fn wasm_v128_load64_zero(
     memory: &[u8],
@@ -221,9 +197,9 @@ pub extern "C" fn wasm_v128_load64_zero(
     offset: u64,
     value: &mut RawVal,
 ) -> u8
-    ensures { Leaves
-        (or_trap (as_raw raw_of_vector (loaded 8 (vector.low_zero w64) memory.now (ptr + offset))))
-        value.old value.new result }
+    ensures { Gives
+        (as_raw raw_of_vector (loaded 8 (vector.low_zero w64) memory.now (ptr + offset))) value.old
+        value.new result }
 {
     leave_vector(simd::v128_load64_zero(memory, ptr, offset), value)
 }

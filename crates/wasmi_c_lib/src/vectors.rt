@@ -2,7 +2,7 @@
 ghost use Rattle.std.specs.Prelude.{◌+◌};
 ghost use Rattle.wasmi_types.specs.Bytes.{le_bytes};
 ghost use Rattle.wasmi_raw.specs.RawVal.{vector_in};
-ghost use Rattle.wasmi_c.specs.Instruction.Accesses.{memory_after};
+ghost use Rattle.wasmi_c.specs.Instruction.Accesses.{StoresBytes};
 ghost use Rattle.wasmi_c.specs.Instruction.Calls.{Leaves};
 ghost use Rattle.wasmi_c.specs.Instruction.Shuffle.{shuffle_result};
 
@@ -29,8 +29,7 @@ pub extern "C" fn wasm_i8x16_shuffle(
 /// written.
 #[unsafe(no_mangle)]
 pub extern "C" fn wasm_v128_store(memory: &mut [u8], ptr: u64, offset: u64, value: RawVal) -> u8
-    ensures { Leaves (memory_after memory.old (ptr + offset) (le_bytes 16 (vector_in value)))
-        memory.old memory.new result }
+    ensures { StoresBytes memory.old (ptr + offset) (le_bytes 16 (vector_in value)) memory.new result }
 {
     status_of(simd::v128_store(memory, ptr, offset, value.into()))
 }

@@ -7,12 +7,11 @@ ghost use Rattle.wasmi_region.specs.Memory as memories;
 ghost use Rattle.wasmi_region.specs.Memory.{memory_in};
 ghost use Rattle.wasmi_region.specs.Table as tables;
 ghost use Rattle.wasmi_region.specs.Table.{table_in, creation_in, growth_in, MakesTableIn};
-ghost use Rattle.wasmi_c.specs.Numbers.{IsState};
 ghost use Rattle.wasmi_c.specs.Settlements.{Limited, Allows, limiter_after};
-ghost use Rattle.wasmi_c.specs.MemoryCalls.{GrowsAs};
-ghost use Rattle.wasmi_c.specs.Numbers.{embedded};
-ghost use Rattle.wasmi_c.specs.TableCalls.{GrowsTableAs};
-ghost use Rattle.wasmi_c.specs.Numbers.{IsTable};
+ghost use Rattle.wasmi_c.specs.MemoryCalls.{by_pages, of_memory};
+ghost use Rattle.wasmi_c.specs.Numbers.{IsState, IsTable, embedded};
+ghost use Rattle.wasmi_c.specs.Placement.{GrowsAs};
+ghost use Rattle.wasmi_c.specs.TableCalls.{by_elements, of_table};
 
 use wasmi_c::laws::{settlements_are_creations, settlements_are_growths};
 use wasmi_c::memory::{creation as memory_creation, growth as memory_growth};
@@ -34,7 +33,7 @@ pub fn grow_as_answered<L: ResourceLimiter>(
     requires state { IsState memory.old region.old ty }
     ensures grown { (l : Limited (Option L)) → Allows (optional_rules L.rules)
         (growth_of (memory_in ty region.old memory.old.size) pages) answers.new l
-        → GrowsAs L.rules ty pages
+        → GrowsAs of_memory L.rules (by_pages pages) ty
         (embedded memory.old region.old meter.old l.before number.old) result
         (embedded memory.new region.new meter.new (limiter_after answers.new l) number.new) }
 {
@@ -59,7 +58,7 @@ pub fn grow_table_as_answered<L: ResourceLimiter>(
     ensures grown { (l : Limited (Option L)) → Allows (optional_rules L.rules)
         (growth_in (length region.old) (table_in ty region.old table.old.size) delta reference)
         answers.new l
-        → GrowsTableAs L.rules (record { ty = ty; delta = delta; reference = reference })
+        → GrowsAs of_table L.rules (by_elements delta reference) ty
         (embedded table.old region.old meter.old l.before number.old) result
         (embedded table.new region.new meter.new (limiter_after answers.new l) number.new) }
 {

@@ -1,6 +1,6 @@
 -- Tables whose elements are the first of a region.
 use Rattle.std.proofs.Common.{rules, Option, ◌≡◌, ℕ, ◌+◌, ◌-◌, ◌≤◌, ◌<◌, List, ◌++◌, true, false, Ok, Err, length, take, drop, replicate, refl, sym, ap, ◌∙◌, arith}
-use Rattle.std.proofs.lemmas.List.{take_at, drop_at, length-append, length-replicate, length-take-le}
+use Rattle.std.proofs.lemmas.List.{take_at, length-append, length-replicate, length-take-le}
 use Rattle.wasmi_typed.specs.declared.typed_ref.TypedRawRef.{TypedRawRef}
 use Rattle.wasmi_meter.specs.Attempt.{Request}
 use Rattle.wasmi_meter.specs.Limiter.{Question, Answer, Rules}
@@ -176,7 +176,3 @@ module _ {S : Type 0} (t : RegionGrowth S) where
           ap (λ (l : List ℕ). table_of t.ty l)
           (ap (take desired) split ∙ take_at front (drop desired t.region) desired long
           ∙ ap (λ (k : ℕ). take t.size t.region ++ replicate k t.reference) added)
-
-      -- and what lies past it is the same
-      pub kept_past : drop desired region' ≡ drop desired t.region
-      kept_past = ap (drop desired) split ∙ drop_at front (drop desired t.region) desired long

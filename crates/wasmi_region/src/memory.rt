@@ -53,6 +53,7 @@ pub fn make<L: ResourceLimiter>(
     ensures made { MakesMemory (optional_rules L.rules) (Lent region.old) ty
         (lent_limiter limiter.old) (made_in ty region.new result) (lent_limiter limiter.new) }
     ensures sized { IfOk result (λ size. IsSized ty size × (size ≤ length region.new)) }
+    ensures rest { IfOk result (λ size. drop size region.new ≡ drop size region.old) }
     ensures refused { OnErr result (region.new ≡ region.old) }
     ensures len { length region.new ≡ length region.old }
 {
@@ -89,7 +90,9 @@ pub fn grow<L: ResourceLimiter>(
     ensures sized { IsSized ty size.new }
     ensures within { size.new ≤ length region.new }
     ensures len { length region.new ≡ length region.old }
-    ensures refused { OnErr result ((region.new ≡ region.old) × (size.new ≡ size.old)) }
+    ensures rest { drop size.new region.new ≡ drop size.new region.old }
+    ensures refused { OnErr result (region.new ≡ region.old) }
+    ensures size { OnErr result (size.new ≡ size.old) }
 {
     let old_size = *size;
     let old_pages = ty.pages_in(old_size);

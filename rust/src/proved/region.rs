@@ -123,6 +123,7 @@ pub mod memory {
     /// ensures made: [MakesMemory] ([optional_rules] [L.rules]) ([Lent] region.old) ty
     /// &#32;&#32;&#32;&#32;([lent_limiter] limiter.old) ([made_in] ty region.new result) ([lent_limiter] limiter.new)
     /// ensures sized: [IfOk] result (λ size. [IsSized] ty size × (size ≤ [length] region.new))
+    /// ensures rest: [IfOk] result (λ size. [drop] size region.new ≡ [drop] size region.old)
     /// ensures refused: [OnErr] result (region.new ≡ region.old)
     /// ensures len: [length] region.new ≡ [length] region.old</code></pre>
     ///
@@ -136,6 +137,7 @@ pub mod memory {
     /// [IfOk]: crate::specs::library#IfOk "P of the value, if r is a value"
     /// [IsSized]: crate::specs::store::Memory#IsSized "so many bytes are whole pages, as many as the type allows"
     /// [length]: crate::specs::library#length "the number of elements of a list"
+    /// [drop]: crate::specs::library#drop "all but the first n elements"
     /// [OnErr]: crate::specs::library#OnErr "P, if r is an error"
     /// [`MinimumSizeOverflow`]: crate::proved::meter::MemoryError::MinimumSizeOverflow
     /// [`ResourceLimiterDeniedAllocation`]: crate::proved::meter::MemoryError::ResourceLimiterDeniedAllocation
@@ -178,7 +180,9 @@ pub mod memory {
     /// ensures sized: [IsSized] ty size.new
     /// ensures within: size.new ≤ [length] region.new
     /// ensures len: [length] region.new ≡ [length] region.old
-    /// ensures refused: [OnErr] result ((region.new ≡ region.old) × (size.new ≡ size.old))</code></pre>
+    /// ensures rest: [drop] size.new region.new ≡ [drop] size.new region.old
+    /// ensures refused: [OnErr] result (region.new ≡ region.old)
+    /// ensures size: [OnErr] result (size.new ≡ size.old)</code></pre>
     ///
     /// [IsSized]: crate::specs::store::Memory#IsSized "so many bytes are whole pages, as many as the type allows"
     /// [length]: crate::specs::library#length "the number of elements of a list"
@@ -190,6 +194,7 @@ pub mod memory {
     /// [memory_in]: crate::specs::region::Memory#memory_in "the memory of a type that has so many bytes at the front of a region, and the rest of it as room"
     /// [Some]: crate::specs::library#Some "the value x, of an \`Option\`"
     /// [lent_limiter]: crate::specs::meter::LimiterRef#lent_limiter "the present value of the limiter that is lent, or none"
+    /// [drop]: crate::specs::library#drop "all but the first n elements"
     /// [OnErr]: crate::specs::library#OnErr "P, if r is an error"
     #[inline]
     pub fn grow<L: ResourceLimiter>(

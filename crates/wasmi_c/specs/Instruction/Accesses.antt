@@ -11,7 +11,7 @@ use Rattle.wasmi_access.specs.LoadStore.{accessed}
 use Rattle.wasmi_ops.specs.RawResults.{as_raw}
 use Rattle.wasmi_ops.specs.ScalarAccessOps.{loaded_raw, stored_bytes}
 use Rattle.wasmi_ops.specs.VectorAccessOps.{loaded_vector}
-use Rattle.wasmi_c.specs.Instruction.Calls.{◌>>=◌, each_of, known, or_trap}
+use Rattle.wasmi_c.specs.Instruction.Calls.{◌>>=◌, Leaves, each_of, known, or_trap}
 use Rattle.wasmi_c.specs.Instruction.Results.{result_of}
 use Rattle.wasmi_c.specs.declared.instruction.refusal.Refusal.{Refusal}
 use Rattle.wasmi_c.specs.declared.instruction.refusal.Refusal.TheVariants.{Trap}
@@ -43,6 +43,10 @@ store_numbered number = slice_get STORE_INSTRUCTIONS number
 -- a memory after bytes are written at an address, or the trap where it ends before them
 abbrev pub memory_after : List ℕ → ℕ → List ℕ → Result (List ℕ) Refusal
 memory_after memory a bytes = ok_or (accessed a (overwrite memory a bytes)) (Trap MemoryOutOfBounds)
+
+-- a call leaves a memory with bytes written at an address and the status 0, or as it was and the number of the trap
+abbrev pub StoresBytes : List ℕ → ℕ → List ℕ → List ℕ → ℕ → Type 0
+StoresBytes memory a bytes memory' status = Leaves (memory_after memory a bytes) memory memory' status
 
 -- what a load gives by its number
 abbrev pub load_result : ℕ → List ℕ → ℕ → Result RawVal Refusal

@@ -40,6 +40,10 @@ abbrev pub or_trap : {V : Type 0} → Result V TrapCode → Result V Refusal
 or_trap (Ok value) = Ok value
 or_trap (Err trap) = Err (Trap trap)
 
+-- a call leaves the value that an instruction gives and the status 0, or what was there and the number of the trap
+abbrev pub Gives : {V : Type 0} → Result V TrapCode → V → V → ℕ → Type 0
+Gives given old new status = Leaves (or_trap given) old new status
+
 -- what a function gives of each element of an array, if as many values are to be written
 unfoldable pub each_of : {A B : Type 0} → (A → B) → List A → ℕ → Result (List B) Refusal
 each_of f a count = if count == length a then Ok (map f a) else Err LengthsDiffer

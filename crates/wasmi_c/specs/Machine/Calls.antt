@@ -18,7 +18,7 @@ use Rattle.wasmi_core.specs.declared.calls.Call.{Call}
 use Rattle.wasmi_core.specs.declared.calls.Call.TheVariants.{NewSegment}
 use Rattle.wasmi_core.specs.declared.calls.Reply.{Reply}
 use Rattle.wasmi_c.specs.Machine.CallStructs.{call_of}
-use Rattle.wasmi_c.specs.Machine.Caps.{MachineValue}
+use Rattle.wasmi_c.specs.Machine.Caps.{MachineValue, StaysWithinCaps}
 use Rattle.wasmi_c.specs.Machine.Replies.{only, with_number, memory_refusal, fuel_refusal, reply_struct}
 use Rattle.wasmi_c.specs.Status.{done_status, no_call_status, no_machine_status, no_room_status, no_such_status}
 use Rattle.wasmi_c.specs.Types.{reference_type_of}
@@ -51,6 +51,12 @@ abbrev pub ActsOnHeld : {R V : Type 0} → R → Option V → R → Option V →
 ActsOnHeld refusal None result held' Acts = (result ≡ refusal) × (held' ≡ None)
 ActsOnHeld {V = V} refusal (Some value) result held' Acts =
     (value' : V) × Acts value value' × (held' ≡ Some value')
+
+-- the machine of a handle, if it has one, acts and gives a result, else that is the refusal; it stays within its caps
+pub record OnHeld {R : Type 0} (Acts : MachineValue → R → MachineValue → Type 0) (refusal : R)
+    (held : Option MachineValue) (result : R) (held' : Option MachineValue) : Type 0 where
+  pub step : ActsOnHeld refusal held result held' (λ machine machine'. Acts machine result machine')
+  pub caps : StaysWithinCaps held held'
 
 -- the bytes of a memory from an offset on are copied to the caller's; where there is no such memory, or they end past
 -- it, the caller's stay

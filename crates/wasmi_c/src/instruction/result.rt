@@ -4,7 +4,7 @@ ghost use Rattle.wasmi_types.specs.Trap.{code_number};
 ghost use Rattle.wasmi_raw.specs.RawVal.{raw_of_vector};
 ghost use Rattle.wasmi_ops.specs.RawResults.{as_raw};
 ghost use Rattle.wasmi_c.specs.Status.{done_status};
-ghost use Rattle.wasmi_c.specs.Instruction.Calls.{Leaves, or_trap};
+ghost use Rattle.wasmi_c.specs.Instruction.Calls.{Gives};
 ghost use Rattle.wasmi_c.specs.Instruction.Results.{result_of};
 
 use crate::status::DONE;
@@ -39,7 +39,7 @@ pub fn result_of(given: Result<RawVal, TrapCode>) -> InstructionResult
 
 /// Writes the value that an instruction gives, or nothing if it traps, and returns the status.
 pub fn leave(given: Result<RawVal, TrapCode>, value: &mut RawVal) -> u8
-    ensures { Leaves (or_trap given) value.old value.new result }
+    ensures { Gives given value.old value.new result }
 {
     match given {
         Ok(new) => {
@@ -55,7 +55,7 @@ pub fn leave(given: Result<RawVal, TrapCode>, value: &mut RawVal) -> u8
 /// Writes the item that an instruction gives, or nothing if it traps, and returns the status.
 #[inline(always)]
 pub fn leave_item<T: Copy>(given: Result<T, TrapCode>, value: &mut T) -> u8
-    ensures { Leaves (or_trap given) value.old value.new result }
+    ensures { Gives given value.old value.new result }
 {
     match given {
         Ok(new) => {
@@ -69,7 +69,7 @@ pub fn leave_item<T: Copy>(given: Result<T, TrapCode>, value: &mut T) -> u8
 /// Writes the vector that an instruction gives, or nothing if it traps, and returns the status.
 #[inline(always)]
 pub fn leave_vector(given: Result<V128, TrapCode>, value: &mut RawVal) -> u8
-    ensures { Leaves (or_trap (as_raw raw_of_vector given)) value.old value.new result }
+    ensures { Gives (as_raw raw_of_vector given) value.old value.new result }
 {
     match given {
         Ok(new) => leave(Ok(new.into()), value),

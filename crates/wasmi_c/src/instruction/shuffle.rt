@@ -13,7 +13,11 @@ use wasmi_raw::RawVal;
 pub fn lanes_of(indices: [u8; 16]) -> Option<[ImmLaneIdx32; 16]>
     ensures { result ≡ lanes_of indices }
 {
-    indices.try_map(|index| ImmLaneIdx32::try_from(index)).ok()
+    let mut lanes = [ImmLaneIdx32::try_from(0).ok()?; 16];
+    for i in 0..16 {
+        lanes[i] = ImmLaneIdx32::try_from(indices[i]).ok()?;
+    }
+    Some(lanes)
 }
 
 /// Writes the bytes of two vectors that have these indices: those of `a` are 0 to 15, those of `b`

@@ -2,8 +2,7 @@
 ghost use Rattle.std.specs.Prelude.{◌≡◌, ℕ, List, None, Some};
 ghost use Rattle.wasmi_core.specs.declared.calls.Call.TheVariants.{GetFuel, GrowMemory, Write};
 ghost use Rattle.wasmi_c.specs.Machine.ByArguments.{RepliesInStatus, RepliesInWord, item_load, item_store, vector_binary};
-ghost use Rattle.wasmi_c.specs.Machine.Calls.{ActsOnHeld, ReadsOut, RepliesToCopy, RepliesToSegment, RepliesToStruct, PaysFuel, no_totals, totals_of};
-ghost use Rattle.wasmi_c.specs.Machine.Caps.{StaysWithinCaps};
+ghost use Rattle.wasmi_c.specs.Machine.Calls.{OnHeld, ReadsOut, RepliesToCopy, RepliesToSegment, RepliesToStruct, PaysFuel, no_totals, totals_of};
 ghost use Rattle.wasmi_c.specs.Machine.Lines.{RunsLines};
 ghost use Rattle.wasmi_c.specs.Machine.NewMachines.{IsNewMachine, MakesMachine, MakesWithAnswers};
 ghost use Rattle.wasmi_c.specs.Machine.Replies.{only};
@@ -88,10 +87,8 @@ impl Handle {
     /// the numbers stand for no call, it is `NO_CALL`, and nothing has changed.
     #[inline(always)]
     pub fn call(&mut self, call: &CallStruct) -> ReplyStruct
-        ensures step { ActsOnHeld (only no_machine_status) self.old.machine.held
-            result self.new.machine.held
-            (λ machine machine'. RepliesToStruct call.now machine result machine') }
-        ensures caps { StaysWithinCaps self.old.machine.held self.new.machine.held }
+        ensures { OnHeld (RepliesToStruct call.now) (only no_machine_status)
+            self.old.machine.held result self.new.machine.held }
     {
         on_machine!(self, ReplyStruct::only(NO_MACHINE), machine => machine.reply_to_struct(call))
     }
@@ -101,11 +98,11 @@ impl Handle {
     /// there is no such memory, then that of `MemoryError::OutOfBoundsAccess` where they end past
     /// it; then the caller's bytes stay.
     pub fn read(&mut self, memory: usize, offset: usize, bytes: &mut [u8]) -> ReplyStruct
-        ensures step { ActsOnHeld {R = ReplyStruct × List ℕ} (only no_machine_status, bytes.old)
-            self.old.machine.held (result, bytes.new) self.new.machine.held
-            (λ machine machine'. (machine' ≡ machine)
-            × ReadsOut memory offset machine.state bytes.old result bytes.new) }
-        ensures caps { StaysWithinCaps self.old.machine.held self.new.machine.held }
+        ensures { OnHeld {R = ReplyStruct × List ℕ}
+            (λ machine left machine'. (machine' ≡ machine)
+            × ReadsOut memory offset machine.state bytes.old left.0 left.1)
+            (only no_machine_status, bytes.old)
+            self.old.machine.held (result, bytes.new) self.new.machine.held }
     {
         on_machine!(self, ReplyStruct::only(NO_MACHINE), machine => {
             machine.read(memory, offset, bytes)
@@ -122,11 +119,8 @@ impl Handle {
         offset: usize,
         bytes: &[u8],
     ) -> ReplyStruct
-        ensures step { ActsOnHeld (only no_machine_status) self.old.machine.held
-            result self.new.machine.held
-            (λ machine machine'. RepliesToCopy
-            (Write memory offset) bytes.now machine result machine') }
-        ensures caps { StaysWithinCaps self.old.machine.held self.new.machine.held }
+        ensures { OnHeld (RepliesToCopy (Write memory offset) bytes.now) (only no_machine_status)
+            self.old.machine.held result self.new.machine.held }
     {
         on_machine!(self, ReplyStruct::only(NO_MACHINE), machine => {
             machine.write(alloc, memory, offset, bytes)
@@ -138,10 +132,8 @@ impl Handle {
     /// `NO_ROOM` if memory for a copy of the references is refused, then as `Call::NewSegment`
     /// says.
     pub fn new_segment(&mut self, alloc: Global, ty: u8, items: &[u32]) -> ReplyStruct
-        ensures step { ActsOnHeld (only no_machine_status) self.old.machine.held
-            result self.new.machine.held
-            (λ machine machine'. RepliesToSegment ty items.now machine result machine') }
-        ensures caps { StaysWithinCaps self.old.machine.held self.new.machine.held }
+        ensures { OnHeld (RepliesToSegment ty items.now) (only no_machine_status)
+            self.old.machine.held result self.new.machine.held }
     {
         on_machine!(self, ReplyStruct::only(NO_MACHINE), machine => {
             machine.new_segment(alloc, ty, items)
@@ -152,9 +144,9 @@ impl Handle {
     /// memories and tables that were ever made. Where the handle has no machine the status is
     /// `NO_MACHINE`, and the totals are 0.
     pub fn totals(&mut self) -> Totals
-        ensures step { ActsOnHeld no_totals self.old.machine.held result self.new.machine.held
-            (λ machine machine'. (machine' ≡ machine) × (result ≡ totals_of machine)) }
-        ensures caps { StaysWithinCaps self.old.machine.held self.new.machine.held }
+        ensures { OnHeld
+            (λ machine totals machine'. (machine' ≡ machine) × (totals ≡ totals_of machine))
+            no_totals self.old.machine.held result self.new.machine.held }
     {
         on_machine!(self, Totals::from_amounts(NO_MACHINE, 0, 0), machine => machine.totals())
     }
@@ -164,10 +156,8 @@ impl Handle {
     /// `FUEL_METERING_DISABLED` where the meter is off, then `OUT_OF_FUEL` with the amount where
     /// less is left; then nothing is taken.
     pub fn consume_fuel(&mut self, amount: u64) -> ReplyStruct
-        ensures step { ActsOnHeld (only no_machine_status) self.old.machine.held
-            result self.new.machine.held
-            (λ machine machine'. PaysFuel amount machine result machine') }
-        ensures caps { StaysWithinCaps self.old.machine.held self.new.machine.held }
+        ensures { OnHeld (PaysFuel amount) (only no_machine_status)
+            self.old.machine.held result self.new.machine.held }
     {
         on_machine!(self, ReplyStruct::only(NO_MACHINE), machine => machine.consume_fuel(amount))
     }
@@ -177,12 +167,9 @@ impl Handle {
     /// load of an item has the number, then as `Call::Load` says. After any status but `DONE` the
     /// value stays.
     pub fn load(&mut self, op: u16, memory: usize, ptr: u64, offset: u64, value: &mut u64) -> u8
-        ensures step { ActsOnHeld {R = ℕ × ℕ} (no_machine_status, value.old) self.old.machine.held
-            (result, value.new) self.new.machine.held
-            (λ machine machine'. RepliesInWord
-            (item_load op memory ptr offset) value.old machine
-            (result, value.new) machine') }
-        ensures caps { StaysWithinCaps self.old.machine.held self.new.machine.held }
+        ensures { OnHeld (RepliesInWord (item_load op memory ptr offset) value.old)
+            (no_machine_status, value.old)
+            self.old.machine.held (result, value.new) self.new.machine.held }
     {
         on_machine!(self, NO_MACHINE, machine => machine.load(op, memory, ptr, offset, value))
     }
@@ -191,12 +178,8 @@ impl Handle {
     /// is `NO_MACHINE` if the handle has no machine, then `NO_CALL` if no store of an item has the
     /// number, then as `Call::Store` says.
     pub fn store(&mut self, op: u16, memory: usize, ptr: u64, offset: u64, value: u64) -> u8
-        ensures step { ActsOnHeld no_machine_status self.old.machine.held result
-            self.new.machine.held
-            (λ machine machine'. RepliesInStatus
-            (item_store op memory ptr offset value) machine result
-            machine') }
-        ensures caps { StaysWithinCaps self.old.machine.held self.new.machine.held }
+        ensures { OnHeld (RepliesInStatus (item_store op memory ptr offset value)) no_machine_status
+            self.old.machine.held result self.new.machine.held }
     {
         on_machine!(self, NO_MACHINE, machine => machine.store(op, memory, ptr, offset, value))
     }
@@ -205,11 +188,8 @@ impl Handle {
     /// The status is `NO_MACHINE` if the handle has no machine, then `NO_CALL` if no instruction on
     /// two vectors has the number, then as `Call::Binary` says.
     pub fn binary(&mut self, op: u16, dst: u8, a: u8, b: u8) -> u8
-        ensures step { ActsOnHeld no_machine_status self.old.machine.held result
-            self.new.machine.held
-            (λ machine machine'. RepliesInStatus
-            (vector_binary op dst a b) machine result machine') }
-        ensures caps { StaysWithinCaps self.old.machine.held self.new.machine.held }
+        ensures { OnHeld (RepliesInStatus (vector_binary op dst a b)) no_machine_status
+            self.old.machine.held result self.new.machine.held }
     {
         on_machine!(self, NO_MACHINE, machine => machine.binary(op, dst, a, b))
     }
@@ -218,11 +198,9 @@ impl Handle {
     /// that is needed if less is left. The status is `NO_MACHINE` if the handle has no machine,
     /// then as `Call::GrowMemory` says. After other refusals the number stays.
     pub fn grow(&mut self, memory: usize, pages: u64, number: &mut u64) -> u8
-        ensures step { ActsOnHeld {R = ℕ × ℕ} (no_machine_status, number.old) self.old.machine.held
-            (result, number.new) self.new.machine.held
-            (λ machine machine'. RepliesInWord (Some (GrowMemory memory pages)) number.old machine
-            (result, number.new) machine') }
-        ensures caps { StaysWithinCaps self.old.machine.held self.new.machine.held }
+        ensures { OnHeld (RepliesInWord (Some (GrowMemory memory pages)) number.old)
+            (no_machine_status, number.old)
+            self.old.machine.held (result, number.new) self.new.machine.held }
     {
         on_machine!(self, NO_MACHINE, machine => machine.grow(memory, pages, number))
     }
@@ -230,11 +208,8 @@ impl Handle {
     /// Sets `left` to the fuel that is left. The status is `NO_MACHINE` if the handle has no
     /// machine, then as `Call::GetFuel` says. After any status but `DONE` the number stays.
     pub fn fuel_left(&mut self, left: &mut u64) -> u8
-        ensures step { ActsOnHeld {R = ℕ × ℕ} (no_machine_status, left.old) self.old.machine.held
-            (result, left.new) self.new.machine.held
-            (λ machine machine'. RepliesInWord (Some GetFuel) left.old machine
-            (result, left.new) machine') }
-        ensures caps { StaysWithinCaps self.old.machine.held self.new.machine.held }
+        ensures { OnHeld (RepliesInWord (Some GetFuel) left.old) (no_machine_status, left.old)
+            self.old.machine.held (result, left.new) self.new.machine.held }
     {
         on_machine!(self, NO_MACHINE, machine => machine.fuel_left(left))
     }
@@ -251,10 +226,10 @@ impl Handle {
     /// Then the lines are run. Their text takes no memory. The status is `TEXT_CUT` if it has 2^64
     /// - 1 bytes or more, and this is the number then.
     pub fn run_lines(&mut self, alloc: Global, lines: &[u8], text: &mut [u8]) -> ReplyStruct
-        ensures step { ActsOnHeld {R = ReplyStruct × List ℕ} (only no_machine_status, text.old)
-            self.old.machine.held (result, text.new) self.new.machine.held
-            (λ machine machine'. RunsLines lines.now machine text.old result text.new machine') }
-        ensures caps { StaysWithinCaps self.old.machine.held self.new.machine.held }
+        ensures { OnHeld {R = ReplyStruct × List ℕ}
+            (λ machine left machine'. RunsLines lines.now machine text.old left.0 left.1 machine')
+            (only no_machine_status, text.old)
+            self.old.machine.held (result, text.new) self.new.machine.held }
     {
         on_machine!(self, ReplyStruct::only(NO_MACHINE), machine => {
             machine.run_lines(alloc, lines, text)

@@ -1,8 +1,8 @@
 //! A range of a memory is written over.
 ghost use Rattle.std.specs.Prelude.{◌≡◌};
 ghost use Rattle.wasmi_store.specs.Bulk.{copied, filled};
-ghost use Rattle.wasmi_c.specs.BulkCalls.{memory_written_number, CopiesBytesEmbedded, WritesBytesEmbedded};
-ghost use Rattle.wasmi_c.specs.MemoryCalls.{memory_status_of};
+ghost use Rattle.wasmi_c.specs.MemoryCalls.{CopiesBytesEmbedded, WritesBytesEmbedded, of_memory};
+ghost use Rattle.wasmi_c.specs.Placement.{status_of, written_number};
 
 use crate::fuel::MeterNumbers;
 use crate::memory::numbers::MemoryNumbers;
@@ -14,8 +14,8 @@ use wasmi_region::memory as region_memory;
 
 /// Leaves the fuel that is needed where a write is refused for it, and returns the write's status.
 fn leave_write(written: Result<(), MemoryError>, number: &mut u64) -> u8
-    ensures status { result ≡ memory_status_of written }
-    ensures number { number.new ≡ memory_written_number written number.old }
+    ensures status { result ≡ status_of of_memory written }
+    ensures number { number.new ≡ written_number of_memory written number.old }
 {
     match written {
         Ok(()) => DONE,

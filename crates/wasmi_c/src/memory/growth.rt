@@ -4,7 +4,8 @@ ghost use Rattle.wasmi_meter.specs.Quota.{quota_rules};
 ghost use Rattle.wasmi_store.specs.MemoryType.{MemoryTypeValue, in_bounds, page_bytes};
 ghost use Rattle.wasmi_region.specs.Memory.{memory_in};
 ghost use Rattle.wasmi_c.specs.Host.{is_about, memory_growth};
-ghost use Rattle.wasmi_c.specs.MemoryCalls.{memory_status_of, number_of, IsNoState, GrowsAs, GrowsEmbedded, SettlesEmbedded, AsksEmbedded};
+ghost use Rattle.wasmi_c.specs.MemoryCalls.{AsksEmbedded, IsNoState, by_pages, of_memory};
+ghost use Rattle.wasmi_c.specs.Placement.{GrowsAs, GrowsBy, SettlesBy, grown_number, status_of};
 ghost use Rattle.wasmi_c.specs.Numbers.{embedded, limiter_of, IsState, KeepsQuota};
 
 use crate::fuel::MeterNumbers;
@@ -19,8 +20,8 @@ use wasmi_store::MemoryType;
 
 /// Leaves the number of a growth, and returns its status.
 fn leave_growth(outcome: Result<u64, MemoryError>, number: &mut u64) -> u8
-    ensures status { result ≡ memory_status_of outcome }
-    ensures number { number.new ≡ number_of outcome number.old }
+    ensures status { result ≡ status_of of_memory outcome }
+    ensures number { number.new ≡ grown_number of_memory outcome number.old }
 {
     match outcome {
         Ok(pages) => {
@@ -42,7 +43,7 @@ pub fn grow_under<L: ResourceLimiter>(
     number: &mut u64,
 ) -> u8
     requires state { IsState memory.old region.old ty }
-    ensures grown { GrowsAs L.rules ty pages
+    ensures grown { GrowsAs of_memory L.rules (by_pages pages) ty
         (embedded memory.old region.old meter.old (Some limiter.old) number.old) result
         (embedded memory.new region.new meter.new (Some limiter.new) number.new) }
 {
@@ -68,7 +69,7 @@ pub fn grow(
     quota: &mut QuotaNumbers,
     number: &mut u64,
 ) -> u8
-    ensures grown { GrowsEmbedded quota_rules pages
+    ensures grown { GrowsBy of_memory quota_rules (by_pages pages)
         (embedded memory.old region.old meter.old (limiter_of quota.old) number.old) result
         (embedded memory.new region.new meter.new (limiter_of quota.new) number.new) }
     ensures quota { KeepsQuota quota.old quota.new }
@@ -112,7 +113,7 @@ pub fn settle(
     answers: &mut HostAnswers,
     number: &mut u64,
 ) -> u8
-    ensures { SettlesEmbedded pages answers.old
+    ensures { SettlesBy of_memory (by_pages pages) answers.old
         (embedded memory.old region.old meter.old (Some answers.old) number.old) result
         (embedded memory.new region.new meter.new (Some answers.new) number.new) }
 {

@@ -4,8 +4,9 @@ ghost use Rattle.wasmi_meter.specs.Quota.{quota_rules};
 ghost use Rattle.wasmi_store.specs.TableType.{TableTypeValue, is_indexable};
 ghost use Rattle.wasmi_region.specs.Table.{table_in, region_growth};
 ghost use Rattle.wasmi_c.specs.Host.{is_about};
+ghost use Rattle.wasmi_c.specs.Placement.{GrowsAs, GrowsBy, SettlesBy, grown_number, status_of};
 ghost use Rattle.wasmi_c.specs.Numbers.{embedded, limiter_of, IsTable, KeepsQuota};
-ghost use Rattle.wasmi_c.specs.TableCalls.{table_status_of, grown_number, IsNoTable, GrowsTableAs, GrowsTableEmbedded, SettlesTableEmbedded, AsksTableEmbedded};
+ghost use Rattle.wasmi_c.specs.TableCalls.{AsksTableEmbedded, IsNoTable, by_elements, of_table};
 
 use crate::fuel::MeterNumbers;
 use crate::host::{HostAnswers, Question};
@@ -19,8 +20,8 @@ use wasmi_store::TableType;
 
 /// Leaves the number of a growth, and returns its status.
 fn leave_growth(outcome: Result<u64, TableError>, number: &mut u64) -> u8
-    ensures status { result ≡ table_status_of outcome }
-    ensures number { number.new ≡ grown_number outcome number.old }
+    ensures status { result ≡ status_of of_table outcome }
+    ensures number { number.new ≡ grown_number of_table outcome number.old }
 {
     match outcome {
         Ok(old_size) => {
@@ -43,8 +44,7 @@ pub fn grow_under<L: ResourceLimiter>(
     number: &mut u64,
 ) -> u8
     requires state { IsTable table.old region.old ty }
-    ensures grown { GrowsTableAs L.rules
-        (record { ty = ty; delta = delta; reference = reference })
+    ensures grown { GrowsAs of_table L.rules (by_elements delta reference) ty
         (embedded table.old region.old meter.old (Some limiter.old) number.old) result
         (embedded table.new region.new meter.new (Some limiter.new) number.new) }
 {
@@ -73,7 +73,7 @@ pub fn grow(
     quota: &mut QuotaNumbers,
     number: &mut u64,
 ) -> u8
-    ensures grown { GrowsTableEmbedded quota_rules delta reference
+    ensures grown { GrowsBy of_table quota_rules (by_elements delta reference)
         (embedded table.old region.old meter.old (limiter_of quota.old) number.old) result
         (embedded table.new region.new meter.new (limiter_of quota.new) number.new) }
     ensures quota { KeepsQuota quota.old quota.new }
@@ -118,7 +118,7 @@ pub fn settle(
     answers: &mut HostAnswers,
     number: &mut u64,
 ) -> u8
-    ensures { SettlesTableEmbedded delta reference answers.old
+    ensures { SettlesBy of_table (by_elements delta reference) answers.old
         (embedded table.old region.old meter.old (Some answers.old) number.old) result
         (embedded table.new region.new meter.new (Some answers.new) number.new) }
 {

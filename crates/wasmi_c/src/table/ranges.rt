@@ -2,7 +2,8 @@
 ghost use Rattle.std.specs.Prelude.{◌≡◌};
 ghost use Rattle.wasmi_region.specs.Table.{table_in, items_of};
 ghost use Rattle.wasmi_store.specs.Table.{raw_filling_of, copy_of, initialization_of};
-ghost use Rattle.wasmi_c.specs.TableCalls.{table_status_of, written_number, CopiesEmbedded, WritesTableEmbedded};
+ghost use Rattle.wasmi_c.specs.TableCalls.{CopiesEmbedded, WritesTableEmbedded, of_table};
+ghost use Rattle.wasmi_c.specs.Placement.{status_of, written_number};
 
 use crate::fuel::MeterNumbers;
 use crate::range::Range;
@@ -14,8 +15,8 @@ use wasmi_region::table as region_table;
 
 /// Leaves the fuel that is needed where a write is refused for it, and returns the write's status.
 fn leave_write(written: Result<(), TableError>, number: &mut u64) -> u8
-    ensures status { result ≡ table_status_of written }
-    ensures number { number.new ≡ written_number written number.old }
+    ensures status { result ≡ status_of of_table written }
+    ensures number { number.new ≡ written_number of_table written number.old }
 {
     match written {
         Ok(()) => DONE,

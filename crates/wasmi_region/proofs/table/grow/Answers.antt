@@ -1,25 +1,28 @@
-use Rattle.std.proofs.Common.{sym}
+use Rattle.std.proofs.Common.{Option, sym}
 use Rattle.std.proofs.lemmas.Result.{err_from_is_err_and}
 use Rattle.wasmi_meter.specs.Limiter.{optional_rules}
 use Rattle.wasmi_meter.specs.LimiterRef.{lent_limiter}
 use Rattle.wasmi_store.proofs.GrowthLemmas.{grows_denied}
 use Rattle.wasmi_region.proofs.TableLemmas as table
+use Rattle.wasmi_region.proofs.table.grow.Given as given
 use Rattle.wasmi_region.proofs.table.grow.Goals as goal
+use Rattle.wasmi_region.proofs.table.grow.Goals.{Else-delta-eq0}
+
+-- the growth by 1 or more, with what it begins with
+abbrev begun : (g : given.Over) → goal.Else-delta-eq0 g → table.RegionGrowth (Option g.row.L.Denot)
+begun g c =
+    table.growth_at (optional_rules g.L.ResourceLimiter.rules) c.args.ty c.args.region.now c.args.size.now
+    c.requires.within c.args.fuel.now (lent_limiter c.args.limiter.now) c.args.delta c.args.reference
+    c.if-delta-eq0.false
 
 pub returns-in_default-clause-grown : goal.returns-in_default-clause-grown
 returns-in_default-clause-grown g c =
-    let t =
-    table.growth_at (optional_rules g.L.ResourceLimiter.rules) c.args.ty c.args.region.now c.args.size.now
-    c.requires.within c.args.fuel.now (lent_limiter c.args.limiter.now) c.args.delta c.args.reference
-    c.if-delta-eq0.false in
+    let t = begun g (goal.at.returns-in_default-clause-grown g c).Else-delta-eq0 in
     table.grows_unasked t c.in_default.ensures
 
 pub returns-in_err-permission-clause-grown : goal.returns-in_err-permission-clause-grown
 returns-in_err-permission-clause-grown g c =
-    let t =
-    table.growth_at (optional_rules g.L.ResourceLimiter.rules) c.args.ty c.args.region.now c.args.size.now
-    c.requires.within c.args.fuel.now (lent_limiter c.args.limiter.now) c.args.delta c.args.reference
-    c.if-delta-eq0.false in
+    let t = begun g (goal.at.returns-in_err-permission-clause-grown g c).Else-delta-eq0 in
     let p = err_from_is_err_and c.from_residual.result c.from_residual.ensures.1 in
     rw (p.1, p.2) (
     grows_denied (table.attempt t) _ (table.asked_in t c.in-Some.ensures c.maximum_size.ensures)
@@ -28,20 +31,14 @@ returns-in_err-permission-clause-grown g c =
 
 pub returns-then-not-allows_size-clause-grown : goal.returns-then-not-allows_size-clause-grown
 returns-then-not-allows_size-clause-grown g c =
-    let t =
-    table.growth_at (optional_rules g.L.ResourceLimiter.rules) c.args.ty c.args.region.now c.args.size.now
-    c.requires.within c.args.fuel.now (lent_limiter c.args.limiter.now) c.args.delta c.args.reference
-    c.if-delta-eq0.false in
+    let t = begun g (goal.at.returns-then-not-allows_size-clause-grown g c).Else-delta-eq0 in
     let is = table.permits t c.in-Some.ensures c.maximum_size.ensures c.in_ok-permission.ensures
     c.table_growing-answer.ensures.asked in
     table.grows_above t is (sym c.if-not-allows_size.ensures) _ _ c.tell.ensures.told
 
 pub returns-in-Err-clause-grown : goal.returns-in-Err-clause-grown
 returns-in-Err-clause-grown g c =
-    let t =
-    table.growth_at (optional_rules g.L.ResourceLimiter.rules) c.args.ty c.args.region.now c.args.size.now
-    c.requires.within c.args.fuel.now (lent_limiter c.args.limiter.now) c.args.delta c.args.reference
-    c.if-delta-eq0.false in
+    let t = begun g (goal.at.returns-in-Err-clause-grown g c).Else-delta-eq0 in
     let is = table.permits t c.in-Some.ensures c.maximum_size.ensures c.in_ok-permission.ensures
     c.table_growing-answer.ensures.asked in
     table.grows_unpaid t is (sym c.if-not-allows_size.ensures) c.charge.new.fuel _ c.in-Err.ensures _ _
@@ -49,10 +46,7 @@ returns-in-Err-clause-grown g c =
 
 pub returns-then-region-desired-clause-grown : goal.returns-then-region-desired-clause-grown
 returns-then-region-desired-clause-grown g c =
-    let t =
-    table.growth_at (optional_rules g.L.ResourceLimiter.rules) c.args.ty c.args.region.now c.args.size.now
-    c.requires.within c.args.fuel.now (lent_limiter c.args.limiter.now) c.args.delta c.args.reference
-    c.if-delta-eq0.false in
+    let t = begun g (goal.at.returns-then-region-desired-clause-grown g c).Else-delta-eq0 in
     let is = table.permits t c.in-Some.ensures c.maximum_size.ensures c.in_ok-permission.ensures
     c.table_growing-answer.ensures.asked in
     table.grows_short t is (sym c.if-not-allows_size.ensures) c.charge.new.fuel c.in_default-charge.ensures
@@ -61,19 +55,8 @@ returns-then-region-desired-clause-grown g c =
 
 pub returns-clause-grown : goal.returns-clause-grown
 returns-clause-grown g c =
-    let t =
-    table.growth_at (optional_rules g.L.ResourceLimiter.rules) c.args.ty c.args.region.now c.args.size.now
-    c.requires.within c.args.fuel.now (lent_limiter c.args.limiter.now) c.args.delta c.args.reference
-    c.if-delta-eq0.false in
+    let t = begun g (goal.at.returns-clause-grown g c).Else-delta-eq0 in
     let is = table.permits t c.in-Some.ensures c.maximum_size.ensures c.in_ok-permission.ensures
     c.table_growing-answer.ensures.asked in
     table.grows_met t is (sym c.if-not-allows_size.ensures) c.charge.new.fuel c.in_default-charge.ensures _
     (table.grown t _ c.in-Some.ensures.1 _ c.fill_range.ensures.filled)
-
-pub returns-clause-rest : goal.returns-clause-rest
-returns-clause-rest g c =
-    let t =
-    table.growth_at (optional_rules g.L.ResourceLimiter.rules) c.args.ty c.args.region.now c.args.size.now
-    c.requires.within c.args.fuel.now (lent_limiter c.args.limiter.now) c.args.delta c.args.reference
-    c.if-delta-eq0.false in
-    table.kept_past t _ c.in-Some.ensures.1 _ c.fill_range.ensures.filled

@@ -1,21 +1,13 @@
 use Rattle.std.proofs.Common.{inr}
-use Rattle.wasmi_c.proofs.BulkLemmas.{bulk_charged}
-use Rattle.wasmi_c.proofs.MeterLemmas.{kept, keeps}
+use Rattle.wasmi_c.proofs.BulkLemmas.{written_with}
 use Rattle.wasmi_c.proofs.memory.bulk.fill.Goals as goal
 
 pub returns : goal.returns
 returns c =
-    let written = rw c.fuel-fuel.ensures at c.fill-written.ensures.written in
-    let charged = bulk_charged _ _ _ _ _ _ _ written in
     inr (
       c.in-Some._ty,
       c.in-Some.ensures,
-      record {
-        result = c.fill-written.result;
-        writes = rw (c.store_left.ensures, kept c.args.meter.now c.fill-written.new.fuel charged.0 charged.1) written;
-        rest = c.fill-written.ensures.rest;
-        kept = rw c.store_left.ensures (keeps c.args.meter.now c.fill-written.new.fuel charged.0 charged.1);
-        status_is = c.leave_write.ensures.status;
-        number_is = c.leave_write.ensures.number;
-      },
+      written_with _ _ _ _ _ _ _ _ c.store_left.ensures
+          (rw c.fuel-fuel.ensures at c.fill-written.ensures.written) c.fill-written.ensures.rest
+          (c.leave_write.ensures.status, c.leave_write.ensures.number),
     )

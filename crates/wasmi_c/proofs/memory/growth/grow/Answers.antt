@@ -1,20 +1,12 @@
 use Rattle.std.proofs.Common.{inr}
-use Rattle.wasmi_c.proofs.QuotaNumbersLemmas.{growth_as_quota}
+use Rattle.wasmi_c.specs.MemoryCalls.{by_pages, of_memory}
+use Rattle.wasmi_c.proofs.PlacementLemmas.{by_quota}
 use Rattle.wasmi_c.proofs.memory.growth.grow.Goals as goal
 
 pub returns-clause-grown : goal.returns-clause-grown
 returns-clause-grown c =
-    let growth = c.grow_under.ensures.grown in
     inr (
       c.in-Some.ty,
       c.in-Some.ensures,
-      record {
-        result = growth.result;
-        grows = (growth.grows.0, growth_as_quota _ _ _ _ _ _ _ growth.result growth.grows.0 growth.grows.1);
-        state = growth.state;
-        numbers = growth.numbers;
-        meter = growth.meter;
-        status_is = growth.status_is;
-        number_is = growth.number_is;
-      },
+      by_quota of_memory (by_pages c.args.pages) c.in-Some.ty _ _ c.grow_under.ensures.grown,
     )

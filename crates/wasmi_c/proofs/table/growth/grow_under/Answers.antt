@@ -2,34 +2,33 @@ use Rattle.std.proofs.Common.{refl, rules}
 use Rattle.wasmi_meter.specs.Limiter.{optional_rules}
 use Rattle.wasmi_meter.specs.LimiterRef.{lent_limiter}
 use Rattle.wasmi_store.proofs.GrowthLemmas.{of_loan}
-use Rattle.wasmi_c.specs.TableCalls.{GrowsTableAs}
-use Rattle.wasmi_c.specs.Numbers.{embedded, meter_of}
-use Rattle.wasmi_c.proofs.MeterLemmas.{meter_charged, kept, keeps}
+use Rattle.wasmi_c.specs.TableCalls.{by_elements, of_table}
+use Rattle.wasmi_c.specs.Numbers.{embedded}
+use Rattle.wasmi_c.specs.Placement.{GrowsAs}
+use Rattle.wasmi_c.proofs.MeterLemmas.{kept_growth}
 use Rattle.wasmi_c.proofs.table.growth.grow_under.Goals as goal
 
 pub returns : goal.returns
 returns g c =
     let new = c.grow-grown.new in
-    let grown = rw c.fuel-fuel.ensures at c.grow-grown.ensures.grown in
-    let charged = meter_charged (optional_rules g.L.ResourceLimiter.rules) _ _ _ (meter_of c.args.meter.now)
-    _ _ _ _ grown.0 grown.1 in
+    let kept = kept_growth (optional_rules g.L.ResourceLimiter.rules) _ _ _ c.args.meter.now _ _ _ _ _
+    c.store_left.ensures (rw c.fuel-fuel.ensures at c.grow-grown.ensures.grown) in
     record {
-      grown = of_loan (λ l l'. GrowsTableAs g.L.ResourceLimiter.rules
-          (record { ty = c.args.ty; delta = c.args.delta; reference = c.args.reference })
+      grown = of_loan (λ l l'. GrowsAs of_table g.L.ResourceLimiter.rules (by_elements c.args.delta c.args.reference) c.args.ty
           (embedded c.args.table.now c.args.region.now c.args.meter.now l c.args.number.now) c.leave_growth.result
           (embedded (record c.args.table.now { size = new.size }) new.region c.store_left.new.self l'
           c.leave_growth.new.number))
           (lent_limiter c.from-lent.result) (lent_limiter new.limiter) _ _ (search rules) (search rules)
           (record {
             result = c.grow-grown.result;
-            grows = (grown.0, rw (c.store_left.ensures, kept c.args.meter.now _ grown.0 charged) grown.1);
+            grows = kept.0;
             state = record {
               type = c.requires.state.type;
               sized = c.grow-grown.ensures.sized;
               within = c.grow-grown.ensures.within;
             };
             numbers = refl;
-            meter = rw c.store_left.ensures (keeps c.args.meter.now _ grown.0 charged);
+            meter = kept.1;
             rest = c.grow-grown.ensures.rest;
             refused = c.grow-grown.ensures.refused;
             status_is = c.leave_growth.ensures.status;

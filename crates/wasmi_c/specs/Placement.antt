@@ -1,0 +1,114 @@
+-- What the calls on a memory or a table do to what lies with C, whichever of the two it is.
+use Rattle.std.specs.Prelude.{◌≡◌, ◌<◌, ◌⊎◌, ℕ, Bool, true, false, List, take, MatchBool, OnErr, Some, Result, Ok, Err}
+use Rattle.wasmi_meter.specs.Limiter as limiter
+use Rattle.wasmi_meter.specs.Limiter.{optional_rules, Rules}
+use Rattle.wasmi_meter.specs.Meter.{Meter}
+use Rattle.wasmi_store.specs.Growth.{Growth, Grows, metered_value}
+use Rattle.wasmi_c.specs.Host.{fresh, host_rules, is_about, plain_question}
+use Rattle.wasmi_c.specs.Numbers.{meter_of, KeepsMeter, Embedded, MeteredRegion, Placed, SameRest}
+use Rattle.wasmi_c.specs.Status.{done_status, invalid_state_status, asks_status, other_size_status}
+use Rattle.wasmi_c.specs.declared.host.HostAnswers.{HostAnswers}
+use Rattle.wasmi_c.specs.declared.host.Question.{Question}
+
+-- how numbers stand for a value of a type at the front of a region, and what C reads of its errors
+pub record Placement (H T V E : Type 0) : Type 1 where
+  pub IsAt : H → List ℕ → T → Type 0
+  -- the value of a type that has so many bytes or elements at the front of a region
+  pub value : T → List ℕ → ℕ → V
+  -- what a creation makes in a region, by the size that it returns
+  pub made : T → List ℕ → Result ℕ E → Result V E
+  pub size : H → ℕ
+  pub resized : H → ℕ → H
+  pub status : E → ℕ
+  -- the fuel that is needed, after an error; else the number stays
+  pub fuel_needed : E → ℕ → ℕ
+
+-- what a growth by an amount asks: nothing where it is by 0, or where the type doesn't allow it, which has a status
+abbrev pub AsksAs : ℕ → Bool → ℕ → limiter.Question → ℕ → Question → Question → Type 0
+AsksAs amount allowed refusal asked status q q' =
+    ((amount ≡ 0) × (status ≡ done_status) × (q' ≡ q))
+    ⊎ ((0 < amount) × (allowed ≡ false) × (status ≡ refusal) × (q' ≡ q))
+    ⊎ ((0 < amount) × (allowed ≡ true) × (status ≡ asks_status) × (q' ≡ plain_question asked))
+
+module _ {H T V E : Type 0} (p : Placement H T V E) where
+  -- numbers stand for nothing on a region
+  abbrev pub IsNone : H → List ℕ → Type 0
+  IsNone h region = (ty : T) → p.IsAt h region ty → ⊥
+
+  -- a call acts by the type of the numbers; where they stand for nothing, the status says so, and all is the same
+  abbrev pub ByType : H → List ℕ → ℕ → Type 0 → (T → Type 0) → Type 0
+  ByType h region status Same Acts =
+      (IsNone h region × (status ≡ invalid_state_status) × Same) ⊎ ((ty : T) × p.IsAt h region ty × Acts ty)
+
+  -- the status of a result
+  abbrev pub status_of : {R : Type 0} → Result R E → ℕ
+  status_of (Ok _) = done_status
+  status_of (Err e) = p.status e
+
+  -- the number after a growth: the old size, or the fuel that is needed; else it stays
+  abbrev pub grown_number : Result ℕ E → ℕ → ℕ
+  grown_number (Ok n) before = n
+  grown_number (Err e) before = p.fuel_needed e before
+
+  -- the number after a write: the fuel that is needed; else it stays
+  abbrev pub written_number : Result (Unit {0}) E → ℕ → ℕ
+  written_number (Ok _) before = before
+  written_number (Err e) before = p.fuel_needed e before
+
+  -- a value grows as one of the library on the region does, with its charge; its numbers stay except for the size, and
+  -- stand for the value again; the meter's numbers stay except for what is left; the region past the value stays, or
+  -- all of it after an error
+  pub record GrowsAs {S : Type 0} (rules : Rules S) (growth : List ℕ → V → Growth V E) (ty : T) (s : Embedded H S)
+      (status : ℕ) (s' : Embedded H S) : Type 0
+    where
+      pub result : Result ℕ E
+      pub grows : (charge : ℕ)
+          × Grows (optional_rules rules) (growth s.region (p.value ty s.region (p.size s.numbers)))
+          (metered_value (p.value ty s.region (p.size s.numbers)) (Some (meter_of s.meter)) s.limiter) result charge
+          (metered_value (p.value ty s'.region (p.size s'.numbers)) (Some (meter_of s'.meter)) s'.limiter)
+      pub state : p.IsAt s'.numbers s'.region ty
+      pub numbers : s'.numbers ≡ p.resized s.numbers (p.size s'.numbers)
+      pub meter : KeepsMeter s.meter s'.meter
+      pub rest : SameRest (p.size s'.numbers) s.region s'.region
+      pub refused : OnErr result (s'.region ≡ s.region)
+      pub status_is : status ≡ status_of result
+      pub number_is : s'.number ≡ grown_number result s.number
+
+  -- a growth by a call
+  abbrev pub GrowsBy : {S : Type 0} → Rules S → (List ℕ → V → Growth V E) → Embedded H S → ℕ → Embedded H S → Type 0
+  GrowsBy rules growth s status s' =
+      ByType s.numbers s.region status (s' ≡ s) (λ ty. GrowsAs rules growth ty s status s')
+
+  -- a growth by the host's answers by a call, where they are to what it asks; else nothing is written
+  abbrev pub SettlesBy : (List ℕ → V → Growth V E) → HostAnswers → Embedded H HostAnswers → ℕ
+      → Embedded H HostAnswers → Type 0
+  SettlesBy growth answers s status s' = ByType s.numbers s.region status (s' ≡ s) (λ ty.
+      MatchBool (is_about answers (growth s.region (p.value ty s.region (p.size s.numbers))))
+      (GrowsAs host_rules growth ty (record s { limiter = Some (fresh answers) }) status s')
+      ((status ≡ other_size_status) × (s' ≡ s)))
+
+  -- what a creation leaves: numbers that stand for the new value, and the region past it; or all as it was
+  abbrev pub LeavesAs : T → Placed H → Result ℕ E → Placed H → Type 0
+  LeavesAs ty a (Ok size) a' =
+      (a'.numbers ≡ p.resized a.numbers size) × p.IsAt a'.numbers a'.region ty × SameRest size a.region a'.region
+  LeavesAs ty a (Err e) a' = a' ≡ a
+
+  -- a value of a type is made at the front of a region, as one of the library is
+  pub record MakesAs (Makes : Result V E → Type 0) (ty : T) (a : Placed H) (status : ℕ) (a' : Placed H) : Type 0
+    where
+      pub result : Result ℕ E
+      pub makes : Makes (p.made ty a'.region result)
+      pub status_is : status ≡ status_of result
+      pub left : LeavesAs ty a result a'
+
+  -- a part of a value is written over, as of one of the library; the rest of the region stays, and the meter's numbers
+  -- except for what is left
+  pub record WritesAs (Writes : List ℕ → Meter → Result (Unit {0}) E → List ℕ → Meter → Type 0) (size : ℕ)
+      (s : MeteredRegion) (status : ℕ) (s' : MeteredRegion) : Type 0
+    where
+      pub result : Result (Unit {0}) E
+      pub writes : Writes (take size s.region) (meter_of s.meter) result (take size s'.region) (meter_of s'.meter)
+      pub rest : SameRest size s.region s'.region
+      pub kept : KeepsMeter s.meter s'.meter
+      pub status_is : status ≡ status_of result
+      pub number_is : s'.number ≡ written_number result s.number
