@@ -8,7 +8,7 @@ use Rattle.wasmi_core.specs.MemoryEffects.{CreatesLent}
 use Rattle.wasmi_core.specs.RegisterEffects.{StoresVectorAt, SetsAt}
 use Rattle.wasmi_core.specs.State.{MemoryPart, State, memory_part, with_globals, with_registers, with_segments}
 use Rattle.wasmi_core.specs.Steps.{BytesRead, BytesStored, BytesWritten, Change, Changed, Effect, ElementSet, FuelSet, GlobalMade, GlobalSet, ItemsDropped, LentMemoryMade, MemoryDropped, MemoryGrown, MemoryMade, RangeWritten, RegisterSet, SegmentMade, Step, TableDropped, TableGrown, TableMade, HasChange, HasEffect, Told, effect_of}
-use Rattle.wasmi_core.specs.TableEffects.{Metered, WritesRangeAt, write_of}
+use Rattle.wasmi_core.specs.TableEffects.{MeteredTables, WritesRangeAt, write_of}
 use Rattle.wasmi_core.specs.Totals.{byte_count}
 use Rattle.wasmi_core.specs.ValueEffects.{CreatesGlobal, CreatesSegment}
 use Rattle.wasmi_core.specs.World.{Turn, World}
@@ -278,12 +278,12 @@ lent_made rules ty part l reply part' l' creates =
     l' h.0)
 
 -- a range of a table that is written over
-range_parts : (k : ℕ) (write : Option (TableValue → TableWrite)) (s : Metered) (reply : Reply) (charge : ℕ)
-    (s' : Metered) → WritesRangeAt k write s reply charge s'
+range_parts : (k : ℕ) (write : Option (TableValue → TableWrite)) (s : MeteredTables) (reply : Reply) (charge : ℕ)
+    (s' : MeteredTables) → WritesRangeAt k write s reply charge s'
     → EachAfter (λ j. May (Some (TableAt k)) None (TableAt j)) s.value s'.value
 range_parts k write s reply charge s' writes =
     on_live write _ _ writes
-    (λ missing. unchanged _ s.value s'.value (ap (λ (t : Metered). t.value) missing.2))
+    (λ missing. unchanged _ s.value s'.value (ap (λ (t : MeteredTables). t.value) missing.2))
     (λ w found h. slot_acted _ k (reply_of (λ _. replied.Done) replied.Table) (WritesTableCharging w) s s' reply charge
     (λ x x' result acts. same_table None k x x' (range_type w (with_value s x) result charge (with_value s' x') acts))
     h)

@@ -7,7 +7,7 @@ use Rattle.wasmi_operands.specs.Acceptance.{Accepts}
 use Rattle.wasmi_operands.specs.LaneNames.{WritesLanes}
 use Rattle.wasmi_operands.specs.Decimal.{WritesNumber}
 use Rattle.wasmi_operands.specs.LineWords.{LineWords, WritesEach}
-use Rattle.wasmi_operands.proofs.WordsLemmas.{each_meaning, not_each}
+use Rattle.wasmi_operands.proofs.WordsLemmas.{each_said, not_each}
 use Rattle.wasmi_grammar.proofs.command.vector.lanes_of.Goals as goal
 
 -- no lanes are written
@@ -40,7 +40,7 @@ returns c =
     let same = c.in-Some.ensures.cases.same in
     let taken : IfOk result (WritesEach (WritesNumber 5) words) =
     IfOk-weaker _ _ _
-    (λ lanes all. each_meaning (WritesNumber 5) _
+    (λ lanes all. each_said (WritesNumber 5) _
     (λ word number says. let is : WritesNumber 5 word.now number = search rules in is) words lanes all.whole)
     c.try_map.ensures.ok in
     let refused : IfErr result (λ error. (error ≡ BadCommand) × WriteNoLanes words) =
