@@ -53,8 +53,8 @@ pub use crate::proved::lanes::{
 };
 pub use crate::proved::machine::{ByteList, Call, Machine, Reply, run, run_lending, run_reserving};
 pub use crate::proved::meter::{
-    Amounts, Holdings, Kind, Lender, LimiterByKind, LimiterRef, NoLimits, Quota, Reserving,
-    ResourceLimiter, ResourceLimiterRef, ValueSize, growth,
+    Amounts, CappedLimiter, Holdings, Kind, Lender, LimiterByKind, LimiterRef, NoLimits, Quota,
+    Reserving, ResourceLimiter, ResourceLimiterRef, ValueSize, growth,
 };
 pub use crate::proved::raw::{Number, ReadAs, ReadBack, WriteAs};
 pub use crate::proved::store::{

@@ -28,11 +28,18 @@ fn fuel(amount: u64) -> Fuel {
 fn copied(bytes: &[u8], dst: usize, source: &[u8], src: usize, len: usize) -> Option<Vec<u8>> {
     let part = source.get(src..src.checked_add(len)?)?;
     let mut bytes = bytes.to_vec();
-    bytes.get_mut(dst..dst.checked_add(len)?)?.copy_from_slice(part);
+    bytes
+        .get_mut(dst..dst.checked_add(len)?)?
+        .copy_from_slice(part);
     Some(bytes)
 }
 
-fn compare(memory: &Memory, result: Result<(), MemoryError>, old: &[u8], expected: Option<Vec<u8>>) {
+fn compare(
+    memory: &Memory,
+    result: Result<(), MemoryError>,
+    old: &[u8],
+    expected: Option<Vec<u8>>,
+) {
     match expected {
         Some(bytes) => {
             assert!(result.is_ok());
@@ -48,7 +55,9 @@ fn compare(memory: &Memory, result: Result<(), MemoryError>, old: &[u8], expecte
 #[test]
 fn every_small_range_is_a_slices() {
     let (old, other) = (counted(6), [101, 102, 103, 104]);
-    let places = || (0..8).flat_map(|dst| (0..8).flat_map(move |src| (0..8).map(move |len| (dst, src, len))));
+    let places = || {
+        (0..8).flat_map(|dst| (0..8).flat_map(move |src| (0..8).map(move |len| (dst, src, len))))
+    };
     for (dst, src, len) in places() {
         let (to, from, many) = (dst as u64, src as u64, len as u64);
 
@@ -66,14 +75,27 @@ fn every_small_range_is_a_slices() {
 
         let mut memory = memory_of(&old);
         let result = memory.fill(to, 77, many, None);
-        compare(&memory, result, &old, copied(&old, dst, &vec![77; len], 0, len));
+        compare(
+            &memory,
+            result,
+            &old,
+            copied(&old, dst, &vec![77; len], 0, len),
+        );
     }
 }
 
 #[test]
 fn great_ranges_that_overlap() {
     let old = counted(20_000);
-    for (dst, src) in [(0, 1), (1, 0), (0, 5_000), (5_000, 0), (0, 9_000), (9_000, 0), (100, 4_196)] {
+    for (dst, src) in [
+        (0, 1),
+        (1, 0),
+        (0, 5_000),
+        (5_000, 0),
+        (0, 9_000),
+        (9_000, 0),
+        (100, 4_196),
+    ] {
         for len in [4_095, 4_096, 4_097, 8_192, 8_193, 11_000] {
             let mut memory = memory_of(&old);
             let result = memory.copy_within(dst as u64, src as u64, len as u64, None);
@@ -117,7 +139,10 @@ fn bounds_come_before_fuel_and_fuel_before_the_bytes() {
         Memory::copy(&mut memory, 0, &other, 1, 640, Some(&mut meter)),
         memory.init(&old, 0, 1, 640, Some(&mut meter)),
     ] {
-        assert!(matches!(result, Err(MemoryError::OutOfFuel { required_fuel: 10 })));
+        assert!(matches!(
+            result,
+            Err(MemoryError::OutOfFuel { required_fuel: 10 })
+        ));
     }
     for result in [
         memory.fill(361, 1, 640, Some(&mut meter)),
@@ -129,5 +154,8 @@ fn bounds_come_before_fuel_and_fuel_before_the_bytes() {
     }
     assert_eq!((memory.data(), meter.get_fuel().ok()), (&old[..], Some(9)));
     assert!(memory.fill(0, 1, 639, Some(&mut meter)).is_ok());
-    assert_eq!((memory.data()[638..640].to_vec(), meter.get_fuel().ok()), (vec![1, old[639]], Some(0)));
+    assert_eq!(
+        (memory.data()[638..640].to_vec(), meter.get_fuel().ok()),
+        (vec![1, old[639]], Some(0))
+    );
 }

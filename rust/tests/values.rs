@@ -6,8 +6,8 @@ use std::num::{
 };
 use wasmi_core_proved::machine::{ReadAs, ReadBack, WriteAs};
 use wasmi_core_proved::{
-    F32, F64, Global, GlobalError, GlobalType, IndexType, Mutability, RawRef,
-    RawVal, RefType, ShiftAmount, Typed, TypedRawRef, TypedRawVal, V128, ValType, hint,
+    F32, F64, Global, GlobalError, GlobalType, IndexType, Mutability, RawRef, RawVal, RefType,
+    ShiftAmount, Typed, TypedRawRef, TypedRawVal, V128, ValType, hint,
 };
 
 /// Each value type, whether it is a number type, and its reference type.

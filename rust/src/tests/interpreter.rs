@@ -247,7 +247,7 @@ fn a_growth_under_a_quota() {
         {
             assert_eq!(machine.register(local as u8), Some(*value), "a local");
         }
-        }
+    }
 }
 
 /// What `GROWTH` returns for a memory of one page on a meter with so much fuel, unless it is out of
@@ -295,7 +295,7 @@ fn a_growth_on_a_meter() {
         ends(&GROWTH, &mut machine, &mut NoLimits, expected);
         assert_eq!(machine.fuel().get_fuel(), Ok(row.left), "the fuel");
         assert_eq!(memory_size(&machine), Some(row.pages), "the size");
-        }
+    }
 }
 
 /// One instruction takes its fuel before it does anything, and only where it is one. There is no
@@ -321,7 +321,7 @@ fn fuel_is_taken_for_an_instruction() {
         assert_eq!(machine.fuel().get_fuel(), Ok(left), "the fuel");
         let number = if executed == 0 { 0 } else { 7u64 };
         assert_eq!(machine.register(0), Some(RawVal::from(number)), "the local");
-        }
+    }
 }
 
 #[test]
@@ -358,7 +358,7 @@ fn programs_that_end_otherwise() {
             executed,
         };
         ends(&[instruction], &mut machine, &mut NoLimits, expected);
-        }
+    }
 }
 
 #[test]
