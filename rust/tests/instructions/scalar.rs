@@ -1,8 +1,6 @@
 //! Scalar instructions, on numbers at the bounds of their types too, and loads and stores of numbers, up to the last byte
 //! and past it.
-mod accesses;
-
-use accesses::{SEVENS, answers, check_loads, check_stores};
+use crate::{SEVENS, answers, check_loads, check_stores};
 use wasmi_core_proved::TrapCode;
 use wasmi_core_proved::wasm::*;
 

@@ -1,8 +1,5 @@
 //! The vector instructions that widen, narrow, shift or test lanes, the relaxed ones, and the loads and stores of vectors.
-#![cfg(feature = "simd")]
-mod accesses;
-
-use accesses::{REFUSED, SEVENS, answers, check_loads, check_stores};
+use crate::{REFUSED, SEVENS, answers, check_loads, check_stores};
 use wasmi_core_proved::simd::*;
 use wasmi_core_proved::{TrapCode, V128};
 
