@@ -1,8 +1,6 @@
 //! Random scripts: each line is run when it is written, so that the next ones fit what is there, mostly.
 mod memories;
 mod profiles;
-mod spoiled;
-mod tables;
 mod vectors;
 
 use crate::machine::Machine;

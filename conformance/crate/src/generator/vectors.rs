@@ -1,7 +1,7 @@
 //! Lines on registers, vector instructions and globals.
 use super::Generator;
+use crate::calls;
 use crate::machine::LiveMemory;
-use crate::names;
 
 /// How many lanes there are for an instruction on one lane, by its name.
 fn lanes_of(name: &str) -> u64 {
@@ -21,7 +21,7 @@ impl Generator {
         if self.random.chance(45) {
             self.set_register();
         }
-        let all = names::vector_instructions();
+        let all = calls::vector_instructions();
         let (d, a, b, c) = (self.register(), self.register(), self.register(), self.register());
         let LiveMemory { index: memory, len, .. } = self.memory();
         let (ptr, offset) = self.address(len);
