@@ -124,13 +124,33 @@ extern crate std;
 #[path = "proved/docs.rs"]
 mod docs;
 
-mod convert;
-mod debug;
 mod float;
 mod func_type;
 mod lane_index;
 #[cfg(doc)]
-pub mod laws;
+pub mod laws {
+    //! What holds of all values, memories, runs and scripts, beyond what the contract of one function says.
+    //!
+    //! Each function here does nothing and isn't there for a caller: its contract states a law, which is proved of the Rattle
+    //! source. They are pages of this reference alone.
+
+    pub use crate::proved::accesses::laws as accesses;
+    pub use crate::proved::budget::laws as pool;
+    #[cfg(feature = "std")]
+    pub use crate::proved::grammar::laws as grammar;
+    pub use crate::proved::lanes::laws as lanes;
+    pub use crate::proved::laws::*;
+    pub use crate::proved::machine::laws as machine;
+    pub use crate::proved::raw::laws as raw;
+    #[cfg(feature = "std")]
+    pub use crate::proved::script::laws as script;
+    pub use crate::proved::store::laws as store;
+    pub use crate::proved::widening::laws as widening;
+
+    // The traits of lanes and bytes that laws name.
+    pub use crate::proved::accesses::access::LittleEndianConvert;
+    pub use crate::proved::lanes::Lanes;
+}
 mod limiter;
 pub mod machine;
 mod memory;
@@ -141,8 +161,6 @@ mod memory;
 )]
 mod proved;
 pub mod rattle;
-mod raw;
-mod shift_amount;
 #[cfg(feature = "simd")]
 pub mod simd;
 #[cfg(doc)]
@@ -152,6 +170,7 @@ mod table;
 #[cfg(all(test, feature = "std", feature = "simd", feature = "memory64"))]
 mod tests;
 mod trap;
+mod values;
 pub mod wasm;
 
 pub use crate::proved::meter::{
@@ -170,7 +189,6 @@ pub use crate::proved::{grammar, script};
 pub use func_type::{FuncType, FuncTypeError};
 pub use limiter::{ResourceLimiter, ResourceLimiterRef};
 pub use memory::Memory;
-pub use raw::{ReadAs, WriteAs};
-pub use shift_amount::IntoShiftAmount;
 pub use table::{ElementSegment, Table};
 pub use trap::{HostError, Trap};
+pub use values::{IntoShiftAmount, ReadAs, WriteAs};
