@@ -206,12 +206,12 @@ static wasmi_memory any_memory(size_t length) {
     wasmi_memory m;
     memset(&m, 0, sizeof m);
     m.page_size_log2 = below(8) == 0 ? (uint8_t)any() : below(3) == 0 ? 16 : 0;
-    m.minimum = below(2) ? below(4) : number();
+    m.minimum = below(2) ? below(4) : any_number();
     m.has_maximum = flag();
-    m.maximum = below(2) ? m.minimum + below(SMALL) : number();
+    m.maximum = below(2) ? m.minimum + below(SMALL) : any_number();
     m.is_64 = flag();
     size_t page = m.page_size_log2 == 16 ? PAGE : 1;
-    m.size = below(4) ? below(length / page + 1) * page : (size_t)number();
+    m.size = below(4) ? below(length / page + 1) * page : (size_t)any_number();
     return m;
 }
 
@@ -226,14 +226,14 @@ static void begin(state *s, state *model) {
             s->region[i][k] = (uint8_t)any();
         s->memory[i] = any_memory(length);
     }
-    const wasmi_meter meter = {number(), below(2) ? 64 : (uint32_t)number(), 7, 2, flag()};
-    const wasmi_quota quota = {number(), number(), below(2) ? 0 : number(), number(), number(), (uint8_t)below(4), flag()};
-    const wasmi_answers answers = {(size_t)number(), flag(), flag(), flag(), flag(), (size_t)number()};
+    const wasmi_meter meter = {any_number(), below(2) ? 64 : (uint32_t)any_number(), 7, 2, flag()};
+    const wasmi_quota quota = {any_number(), any_number(), below(2) ? 0 : any_number(), any_number(), any_number(), (uint8_t)below(4), flag()};
+    const wasmi_answers answers = {(size_t)any_number(), flag(), flag(), flag(), flag(), (size_t)any_number()};
     memset(&s->question, 0, sizeof s->question);
     s->meter = meter;
     s->quota = quota;
     s->answers = answers;
-    s->number = number();
+    s->number = any_number();
     *model = *s;
     for (int i = 0; i < MEMORIES; i++) {
         model->region[i] = s->length[i] > 0 ? model_end[i] - s->length[i] : NULL;
@@ -270,7 +270,7 @@ static size_t some_page(const wasmi_memory *m) {
 static uint64_t some_pages(const state *s, int i) {
     size_t page = some_page(&s->memory[i]);
     size_t left = s->memory[i].size <= s->length[i] ? (s->length[i] - s->memory[i].size) / page : 0;
-    return below(3) ? below(left / 2 + 3) : number();
+    return below(3) ? below(left / 2 + 3) : any_number();
 }
 
 /* How many bytes are read or written. */
@@ -282,7 +282,7 @@ static size_t some_length(void) {
 /* Where they begin: mostly where they fit. */
 static size_t some_offset(const wasmi_memory *m, size_t length) {
     size_t size = m->size % (MOST + 1);
-    return below(4) ? below((size > length ? size - length : size) + 2) : (size_t)number();
+    return below(4) ? below((size > length ? size - length : size) + 2) : (size_t)any_number();
 }
 
 /* Bytes that are read or written, with those of the model. */
@@ -301,8 +301,8 @@ static bool access_agrees(state *s, state *model, int i, bool is_write) {
 /* A range that mostly lies within two memories, or within a memory and so many bytes. */
 static wasmi_range some_range(const state *s, int i, size_t source) {
     size_t size = s->memory[i].size % (MOST + 1), least = size < source ? size : source;
-    uint64_t count = below(8) ? below(below(8) ? least % SMALL + 2 : least + 2) : number();
-    wasmi_range range = {number(), number(), count};
+    uint64_t count = below(8) ? below(below(8) ? least % SMALL + 2 : least + 2) : any_number();
+    wasmi_range range = {any_number(), any_number(), count};
     if (below(8))
         range.to = below((size > count ? size - count : size) + 2);
     if (below(8))
@@ -341,7 +341,7 @@ static bool write_agrees(state *s, state *model, int i) {
 /* A call that reads a number alone. */
 static bool number_agrees(state *s, state *model, int i) {
     const wasmi_memory *m = &s->memory[i];
-    uint64_t found = 7, amount = number();
+    uint64_t found = 7, amount = any_number();
     switch (below(4)) {
     case 0: {
         bool is = is_state(m, s->length[i]);
@@ -376,20 +376,20 @@ static bool call_agrees(state *s, state *model) {
         return wasmi_memory_question(m, s->region[i], s->length[i], pages, &s->question) ==
                question_by_model(model, i, pages);
     case 5:
-        s->answers.current = model->answers.current = below(8) ? m->size : (size_t)number();
-        s->answers.desired = model->answers.desired = below(8) ? m->size + pages * some_page(m) : (size_t)number();
+        s->answers.current = model->answers.current = below(8) ? m->size : (size_t)any_number();
+        s->answers.desired = model->answers.desired = below(8) ? m->size + pages * some_page(m) : (size_t)any_number();
         s->answers.answer = model->answers.answer = flag();
         s->answers.notice_answer = model->answers.notice_answer = flag();
         return wasmi_memory_settle(m, s->region[i], s->length[i], pages, &s->meter, &s->answers, &s->number) ==
                grow_by_model(model, i, pages, true);
     case 6: return access_agrees(s, model, i, below(2) != 0);
     case 7: {
-        uint64_t amount = number();
+        uint64_t amount = any_number();
         return wasmi_fuel_consume(&s->meter, amount, &s->number) == consume_by_model(model, amount);
     }
     case 8: return write_agrees(s, model, i);
     case 9: {
-        uint64_t amount = number();
+        uint64_t amount = any_number();
         return wasmi_fuel_consume_copy(&s->meter, amount, &s->number) ==
                consume_by_model(model, price_of(&model->meter, amount));
     }
@@ -407,7 +407,7 @@ int main(int count, char **words) {
     bytes_end = fenced(LONG);
     for (uint64_t n = 0; n < sequences; n++) {
         state s, model;
-        seed = (first + n) * 0x9e3779b97f4a7c15u | 1;
+        random_state = (first + n) * 1000003;
         begin(&s, &model);
         for (uint64_t k = below(24); k > 0; k--, calls++)
             if (!call_agrees(&s, &model) || !same(&s, &model)) {

@@ -104,10 +104,9 @@ fn number(name: &str, word: &str) -> u64 {
 /// It tries COUNT scripts of the profile, or of each, and MUTANTS mutants of each. A script on which the status or what is printed
 /// differs is shortened and written to FOLDER, at most 20 of them. The last line counts; the exit status is 1 if one differs, and
 /// 2 if nothing is compared.
-pub fn run(library: Library) -> ! {
-    let words: Vec<String> = std::env::args().skip(1).collect();
-    let [profile, seed, count, mutants, folder] = &words[..] else {
-        stop("usage: compare PROFILE|all SEED COUNT MUTANTS FOLDER");
+pub fn run(library: Library, words: &[String]) -> ! {
+    let [profile, seed, count, mutants, folder] = words else {
+        stop("usage: compare [--replay] PROFILE|all SEED COUNT MUTANTS FOLDER");
     };
     let (seed, count, mutants) = (number("SEED", seed), number("COUNT", count), number("MUTANTS", mutants));
     if profile != "all" && !PROFILES.contains(&profile.as_str()) {
