@@ -133,4 +133,45 @@ static inline bool same_quota(const wasmi_quota *a, const wasmi_quota *b) {
            a->held_elements == b->held_elements && a->last == b->last && a->last_kind == b->last_kind && a->is_on == b->is_on;
 }
 
+static inline wasmi_meter any_meter(uint32_t often) {
+    return (wasmi_meter){any_number(), below(2) ? often : (uint32_t)any_number(), 7, 2, flag()};
+}
+
+static inline wasmi_quota any_quota(void) {
+    uint64_t bytes = below(2) ? 0 : any_number(), elements = below(2) ? 0 : any_number();
+    return (wasmi_quota){any_number(), any_number(), bytes, elements, any_number(), (uint8_t)below(4), flag()};
+}
+
+static inline wasmi_answers any_answers(void) {
+    return (wasmi_answers){(size_t)any_number(), flag(), flag(), flag(), flag(), (size_t)any_number()};
+}
+
+static inline bool same_answers(const wasmi_answers *a, const wasmi_answers *b) {
+    return a->current == b->current && a->answer == b->answer && a->notice_answer == b->notice_answer &&
+           a->asked == b->asked && a->told == b->told && a->desired == b->desired;
+}
+
+static inline bool same_question(const wasmi_question *a, const wasmi_question *b) {
+    return a->current == b->current && a->desired == b->desired && a->maximum == b->maximum &&
+           a->has_maximum == b->has_maximum;
+}
+
+/* Tries so many sequences of random calls, as the arguments say: each begins anew, and ends with the first call that
+   differs. */
+static inline int try_sequences(int count, char **words, void (*begin)(void), bool (*agrees)(void)) {
+    uint64_t sequences = argument(count, words, 1, 20000), first = argument(count, words, 2, 1), calls = 0, differ = 0;
+    for (uint64_t n = 0; n < sequences; n++) {
+        random_state = (first + n) * 1000003;
+        begin();
+        for (uint64_t k = below(24); k > 0; k--, calls++)
+            if (!agrees()) {
+                printf("seed %" PRIu64 ": a call differs, with %" PRIu64 " before its end\n", first + n, k);
+                differ++;
+                break;
+            }
+    }
+    printf("%" PRIu64 " sequences, %" PRIu64 " calls, %" PRIu64 " differ\n", sequences, calls, differ);
+    return differ != 0;
+}
+
 #endif

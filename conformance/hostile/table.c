@@ -24,13 +24,10 @@ static void begin(state *s, state *model) {
         t->type = below(8) ? (uint8_t)(5 + below(4) / 3) : (uint8_t)any();
         t->size = below(6) ? below(length + 1) : (size_t)any_number();
     }
-    const wasmi_meter meter = {any_number(), below(2) ? 1 : (uint32_t)any_number(), 7, 2, flag()};
-    const wasmi_quota quota = {any_number(), any_number(), any_number(), below(2) ? 0 : any_number(), any_number(), (uint8_t)below(4), flag()};
-    const wasmi_answers answers = {(size_t)any_number(), flag(), flag(), flag(), flag(), (size_t)any_number()};
+    s->meter = any_meter(1);
+    s->quota = any_quota();
+    s->answers = any_answers();
     memset(&s->question, 0, sizeof s->question);
-    s->meter = meter;
-    s->quota = quota;
-    s->answers = answers;
     s->number = any_number();
     *model = *s;
     for (int i = 0; i < TABLES; i++) {
@@ -51,12 +48,7 @@ static bool same(const state *a, const state *b) {
             (a->length[i] > 0 && memcmp(a->region[i], b->region[i], a->length[i] * sizeof *a->region[i])))
             return false;
     return a->meter.left == b->meter.left && a->meter.is_on == b->meter.is_on && same_quota(&a->quota, &b->quota) &&
-           a->answers.current == b->answers.current && a->answers.answer == b->answers.answer &&
-           a->answers.notice_answer == b->answers.notice_answer && a->answers.asked == b->answers.asked &&
-           a->answers.told == b->answers.told && a->answers.desired == b->answers.desired &&
-           a->question.current == b->question.current &&
-           a->question.desired == b->question.desired && a->question.maximum == b->question.maximum &&
-           a->question.has_maximum == b->question.has_maximum && a->number == b->number;
+           same_answers(&a->answers, &b->answers) && same_question(&a->question, &b->question) && a->number == b->number;
 }
 
 /* An index or a count that is often within a table. */
@@ -139,25 +131,21 @@ static bool call_agrees(state *s, state *model) {
     }
 }
 
+static state own, by_model;
+
+static void begin_both(void) {
+    begin(&own, &by_model);
+}
+
+static bool next_agrees(void) {
+    return call_agrees(&own, &by_model) && same(&own, &by_model);
+}
+
 int main(int count, char **words) {
-    uint64_t sequences = argument(count, words, 1, 20000), calls = 0, differ = 0;
-    uint64_t first = argument(count, words, 2, 1);
     for (int i = 0; i < TABLES; i++) {
         end[i] = (uint32_t *)(void *)fenced(MOST * sizeof(uint32_t));
         model_end[i] = (uint32_t *)(void *)fenced(MOST * sizeof(uint32_t));
     }
     items_end = (uint32_t *)(void *)fenced(MOST * sizeof(uint32_t));
-    for (uint64_t n = 0; n < sequences; n++) {
-        state s, model;
-        random_state = (first + n) * 1000003;
-        begin(&s, &model);
-        for (uint64_t k = below(24); k > 0; k--, calls++)
-            if (!call_agrees(&s, &model) || !same(&s, &model)) {
-                printf("seed %" PRIu64 ": a call differs, with %" PRIu64 " before its end\n", first + n, k);
-                differ++;
-                break;
-            }
-    }
-    printf("%" PRIu64 " sequences, %" PRIu64 " calls, %" PRIu64 " differ\n", sequences, calls, differ);
-    return differ != 0;
+    return try_sequences(count, words, begin_both, next_agrees);
 }
