@@ -39,7 +39,7 @@ EDITS = [
     # `impl Trait` as upstream's.
     ("meter/fuel.rs", "<C: FnOnce(&FuelCostsProvider) -> u64>", "", 2),
     ("meter/fuel.rs", "        f: C,", "        f: impl FnOnce(&FuelCostsProvider) -> u64,", 2),
-    # Printed by values.rs, with upstream's names of fields.
+    # Printed by debug.rs, with upstream's names of fields.
     ("raw/raw.rs", "#[derive(Clone, Copy, Debug, Default, PartialEq, Eq, PartialOrd, Ord)]\npub struct RawVal",
      "#[derive(Clone, Copy, Default, PartialEq, Eq, PartialOrd, Ord)]\npub struct RawVal", 1),
     ("raw/vector.rs", "#[derive(Clone, Copy, Debug, PartialEq, Eq)]\npub struct V128", "#[derive(Clone, Copy, PartialEq, Eq)]\npub struct V128", 1),
