@@ -5,14 +5,9 @@ import re
 import sys
 import textwrap
 
-import instructions
-from importlib.machinery import SourceFileLoader
-from importlib.util import module_from_spec, spec_from_loader
+from numbering import names_of
 
 TOP = pathlib.Path(__file__).resolve().parent.parent
-LOADER = SourceFileLoader("wrap", str(TOP / "tools" / "wrap"))
-WRAP = module_from_spec(spec_from_loader("wrap", LOADER))
-LOADER.exec_module(WRAP)
 CRATES = TOP / "crates"
 SOURCES = CRATES / "wasmi_c_lib" / "src"
 HEADER = TOP / "include" / "wasmi_instructions.h"
@@ -102,10 +97,8 @@ class Exported:
         return f'pub extern "C" fn {self.name}(\n' + "".join(f"    {it},\n" for it in pairs) + f"){given}\n"
 
     def clause(self):
-        line = f"    ensures {{ {' '.join(self.clauses)} }}"
-        if len(line) <= WIDTH:
-            return line + "\n"
-        return "\n".join(WRAP.wrapped(line, WIDTH)) + "\n"
+        line = f"    ensures {{ {' '.join(self.clauses)}\N{NO-BREAK SPACE}}}"
+        return textwrap.fill(line, WIDTH, subsequent_indent=" " * 8, break_on_hyphens=False).replace("\N{NO-BREAK SPACE}", " ") + "\n"
 
     def source(self):
         return f"\n{self.text}#[unsafe(no_mangle)]\n{self.signature()}{self.clause()}{{\n    {self.body}\n}}\n"
@@ -124,11 +117,11 @@ class Exported:
 def exported(key):
     """The functions of a module, in the order of its lists."""
     _, lists, files, _, module = MODULES[key]
-    found, names = functions(files), instructions.lists_of_names()
-    missing = [name for it in lists for name in names[it] if name not in found]
+    found = functions(files)
+    missing = [name for it in lists for name in names_of(it) if name not in found]
     if missing:
         sys.exit(f"crates/{files} has no function {missing[0]} that tools/by_name.py reads")
-    return [Exported(name, found[name], module) for it in lists for name in names[it]]
+    return [Exported(name, found[name], module) for it in lists for name in names_of(it)]
 
 
 def source(key):
@@ -152,9 +145,8 @@ def prototypes():
             lines += [line + "\n" for line in broken(it.prototype())]
         lines.append("\n")
     lines.append("/* These functions, by the shape in which wasmi_core.h has the numbers of their instructions. */\n")
-    names = instructions.lists_of_names()
     for shape, lists in SHAPES.items():
-        words = [f"X({name})" for it in lists for name in names[it]]
+        words = [f"X({name})" for it in lists for name in names_of(it)]
         lines.append(f"#define WASM_{shape}_FUNCTIONS(X) \\\n" + " \\\n".join(textwrap.wrap(" ".join(words), 114, initial_indent="    ", subsequent_indent="    ")) + "\n")
     return "".join(lines)
 
