@@ -35,7 +35,7 @@ EDITS = [
     # `impl Trait` as upstream's.
     ("meter", "<C: FnOnce(&FuelCostsProvider) -> u64>", "", 2),
     ("meter", "f: C,", "f: impl FnOnce(&FuelCostsProvider) -> u64,", 2),
-    # Printed by debug.rs, with upstream's names of fields.
+    # Printed by code of this crate, with upstream's names of fields.
     ("raw", "#[derive(Clone, Copy, Debug, Default, PartialEq, Eq, PartialOrd, Ord)]\npub struct RawVal",
      "#[derive(Clone, Copy, Default, PartialEq, Eq, PartialOrd, Ord)]\npub struct RawVal", 1),
     ("raw", "#[derive(Clone, Copy, Debug, PartialEq, Eq)]\npub struct V128", "#[derive(Clone, Copy, PartialEq, Eq)]\npub struct V128", 1),
