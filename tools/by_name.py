@@ -27,8 +27,8 @@ MODULES = {
 SHAPES = {"UNARY": ("SCALAR_UNARIES",), "BINARY": ("SCALAR_BINARIES",), "LOAD": ("LOADS", "VECTOR_LOADS"), "STORE": ("STORES",)}
 # The words of clauses that the functions of the library don't have, and where they stand.
 OWN = {
-    "Gives": "Rattle.wasmi_c.specs.Instruction.Calls", "StoresBytes": "Rattle.wasmi_c.specs.Instruction.Accesses", "as_raw": "Rattle.wasmi_ops.specs.RawResults",
-    "raw_of_vector": "Rattle.wasmi_raw.specs.RawVal",
+    "Gives": "Rattle.wasmi_c.specs.Instruction.Calls", "StoresBytes": "Rattle.wasmi_c.specs.Instruction.Accesses",
+    "as_raw": "Rattle.wasmi_ops.specs.RawResults", "raw_of_vector": "Rattle.wasmi_raw.specs.RawVal",
 }
 
 
@@ -133,7 +133,8 @@ def source(key):
     uses += "use wasmi_raw::RawVal;\n" if any("RawVal" in kind for it in made for _, kind in it.parameters) else ""
     uses = "".join(sorted([*uses.splitlines(True), f"use {crate}::{module};\n"]))
     clauses = " ".join(" ".join(it.clauses) for it in made)
-    return f"//! {text}. `tools/header` writes this file.\n//!\n//! A status is 0, or the number of the trap; then nothing is written.\n{imports(files, clauses)}\n{uses}" + "".join(it.source() for it in made)
+    head = f"//! {text}. `tools/header` writes this file.\n//!\n//! A status is 0, or the number of the trap; then nothing is written.\n"
+    return f"{head}{imports(files, clauses)}\n{uses}" + "".join(it.source() for it in made)
 
 
 def prototypes():
@@ -146,8 +147,9 @@ def prototypes():
         lines.append("\n")
     lines.append("/* These functions, by the shape in which wasmi_core.h has the numbers of their instructions. */\n")
     for shape, lists in SHAPES.items():
-        words = [f"X({name})" for it in lists for name in names_of(it)]
-        lines.append(f"#define WASM_{shape}_FUNCTIONS(X) \\\n" + " \\\n".join(textwrap.wrap(" ".join(words), 114, initial_indent="    ", subsequent_indent="    ")) + "\n")
+        words = " ".join(f"X({name})" for it in lists for name in names_of(it))
+        rows = textwrap.wrap(words, 114, initial_indent="    ", subsequent_indent="    ")
+        lines.append(f"#define WASM_{shape}_FUNCTIONS(X) \\\n" + " \\\n".join(rows) + "\n")
     return "".join(lines)
 
 

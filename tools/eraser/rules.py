@@ -24,10 +24,11 @@ A form that no rule knows ends the program. tools/eraser/edits.py lists what is 
 import re
 
 from .source import MARK, Source, Unknown, body, closing
-from .tables import *
+from .tables import (ATTRIBUTES, ATTRIBUTES_OF_TESTS, DERIVES, INLINED_ALWAYS, MACROS, MACROS_OF_TESTS, OF_TESTS, OF_TRAITS, REQUIRES, STD_KEPT,
+                     UNTESTED, module_of_instruction)
 
 ATTRIBUTES_OF_ITEM = r"(?P<attributes>(?:^ *#\[[^\]]*\]\n)*)"
-FN = re.compile(ATTRIBUTES_OF_ITEM + r"^(?P<indent> *)(?P<before>(?:pub(?:\(\w+\))? )?(?:const )?)fn (?P<name>\w+)", re.M)
+FN = re.compile(ATTRIBUTES_OF_ITEM + r"^(?P<indent> *)(?P<before>(?:pub(?:\(\w+\))? )?(?:const )?)fn (?P<name>\$?\w+)", re.M)
 ITEM = re.compile(
     ATTRIBUTES_OF_ITEM + r"^(?P<indent> *)(?P<head>(?:pub(?:\(\w+\))? )?(?P<kind>impl|trait|struct|enum)\b(?:[^;{\[]|\[[^\]]*\])*)\{", re.M)
 # What no rule has left: words of Rattle, `Drop` as a bound, a crate, a sign of antt.
@@ -39,7 +40,7 @@ TIDY = re.compile(r"(?:ghost )?(.*?)\{(.*)\}[;,]?\Z", re.S)
 # The one drop that is left out: it takes the fields apart and drops one, as Rust's own drop does.
 TAKES_APART = re.compile(r"(?:#\[inline\]\s*)?fn drop\(self\)\s*\{\s*let \w+ \{\s*(\w+),(?:\s*\w+: _,?)*\s*\} = self;\s*drop\(\1\);\s*\}")
 RUNTIME = r"rt: (?:[^,;(){}]|\([^()]*\))*|rt"
-ALLOCATORS = r"alloc: \w+|alloc|self\.alloc|machine\.store\.alloc|self\.items\.allocator\(\)|rt\.alloc\(\)"
+ALLOCATORS = r"alloc: (?:Global|Allocator)\b|alloc|self\.alloc|machine\.store\.alloc|self\.items\.allocator\(\)|rt\.alloc\(\)"
 # The shim's traits and types, and what a text has that needs them.
 NEEDED = {"ArrayExt": r"\.try_map_all\(", "SliceExt": r"\.try_to_vec\(", "StrExt": r"\.try_repeat\(", "TextExt": r"\.try_push_str\(|try_of\(",
           "TryClone": r"\.try_clone\(", "Vec": r"(?<![.\w])Vec\b"}
@@ -61,7 +62,8 @@ class File(Source):
         self.crate, self.known, self.models = crate, known, {}
         self.is_program, self.is_test = crate in known.examples, crate in known.tests + known.examples
         self.links = known.specs.links(self.all_of("u")) if not self.is_test else None
-        self.proofs = set(re.findall(r"[\w']+", " ".join(it.split("{", 1)[1] for it in self.all_of("u") if re.search(r"[pP]roofs.*\{", it, re.S))))
+        of_proofs = [it.split("{", 1)[1] for it in self.all_of("u") if re.search(r"[pP]roofs.*\{", it, re.S)]
+        self.proofs = set(re.findall(r"[\w']+", " ".join(of_proofs)))
 
     def rust(self):
         self.attributes()
@@ -122,40 +124,39 @@ class File(Source):
     def functions(self):
         """Shows the clauses of functions in their docs, and has public ones test what they require."""
         for found in reversed(list(FN.finditer(self.text))):
-            end = body(self.text, found.end())
-            head, rest = self.text[found.end():end], self.text[end:]
+            end, is_public = body(self.text, found.end()), found["before"].startswith("pub ")
+            head, opening, rest = self.text[found.end():end], self.text[end], self.text[end + 1:]
             clauses = [tidy(self.of(it)) for it in re.findall(r"«q\d+»", head)]
-            tests = [self.test_of(found, rest[0], it) for it in clauses if it.startswith("requires") and not self.is_test]
-            tests = [it for it in tests if it]
-            if not self.is_test and rest[0] == "{" and (of_trait := OF_TRAITS.get(found["name"])):
-                tests += [of_trait] if set(re.findall(r"\w+", head)).issuperset(re.findall(r"\w+", of_trait[0])) else []
-            asserts = "".join(f'\nassert!({test}, {self.mark("s", chr(34) + said + chr(34))});' for test, said in tests)
-            panics = [said for _, said in tests if clauses]
-            hint = "" if self.is_test or rest[0] == ";" or re.search(r"\b(inline|cold)\b", found["attributes"]) else self.hint(head)
-            docs = self.docs("Panics", [f"Panics if {', or if '.join(panics)}."] if panics else [], found)
+            if opening == ";":
+                is_public = [it["head"] for it in ITEM.finditer(self.text, 0, found.start()) if it["kind"] == "trait"][-1].startswith("pub ")
+            tests = [] if self.is_test else self.tests_of(found["name"], head, opening, clauses, is_public)
+            asserts = "".join(f"\nassert!({test}, {self.mark('s', chr(34) + said + chr(34))});" for test, said in tests)
+            panics = [f"Panics if {', or if '.join(said for _, said in tests)}."] if tests and is_public else []
+            docs = self.docs("Panics", panics, found)
             docs += self.docs("Contract", clauses, found, after=docs)
-            self.text = (self.text[:found.start()] + docs + found["attributes"] + hint + found["indent"] + f"{found['before']}fn {found['name']}"
-                         + re.sub(r"\s*«q\d+»", "", head).rstrip() + ("\n" if "where" in head else " ") + rest[0] + asserts + rest[1:])
+            hint = "" if self.is_test or opening == ";" or re.search(r"\b(inline|cold)\b", found["attributes"]) else self.hint(head)
+            head = re.sub(r"\s*«q\d+»", "", head).rstrip() + ("\n" if "where" in head else " ") + opening
+            self.text = (self.text[:found.start()] + docs + found["attributes"] + hint + found["indent"] + found["before"]
+                         + f"fn {found['name']}" + head + asserts + rest)
 
     def hint(self, head):
         """A function without a hint gets one: rustc inlines few across crates, and Rattle all."""
         returned = re.search(r"-> (\w+)\s*(?:«q\d+»\s*)*\Z", head)
         return "#[inline(always)]\n" if returned and returned[1] in INLINED_ALWAYS else "#[inline]\n"
 
-    def test_of(self, found, opening, clause):
-        """The test of what a public function requires: no proof covers its callers in Rust."""
-        text = re.sub(r"\s+", " ", clause.removeprefix("requires").strip())
-        is_public = found["before"].startswith("pub ")
-        if text in UNTESTED or opening == "{" and not is_public:
-            return None
+    def tests_of(self, name, head, opening, clauses, is_public):
+        """What a function tests of what it requires, and what its panics say: no proof covers the callers of a public one in Rust."""
+        required = [re.sub(r"\s+", " ", it.removeprefix("requires").strip()) for it in clauses if it.startswith("requires")]
+        required = [it for it in required if it not in UNTESTED]
         if opening == ";":
-            trait = [it for it in ITEM.finditer(self.text, 0, found.start()) if it["kind"] == "trait"][-1]
-            if trait["head"].startswith("pub ") and found["name"] not in OF_TRAITS:
-                raise Unknown(f"{found['name']} of a trait requires {text}")
-            return None
-        if text not in REQUIRES:
-            raise Unknown(f"{found['name']} requires {text}")
-        return REQUIRES[text]
+            if required and is_public and name not in OF_TRAITS:
+                raise Unknown(f"{name} of a trait requires {required[0]}")
+            return []
+        if is_public and (unknown := [it for it in required if it not in REQUIRES]):
+            raise Unknown(f"{name} requires {unknown[0]}")
+        of_trait = OF_TRAITS.get(name)
+        is_of_trait = of_trait and set(re.findall(r"\w+", head)).issuperset(re.findall(r"\w+", of_trait[0]))
+        return [REQUIRES[it] for it in required if is_public] + [of_trait] * bool(is_of_trait)
 
     def docs(self, title, lines, found, after=""):
         """A section of an item's docs, with the links of a contract."""
@@ -171,33 +172,36 @@ class File(Source):
         """Shows ghost members in the docs of their items, and leaves out models and drops that Rust does itself."""
         for found in reversed(list(ITEM.finditer(self.text))):
             end = closing(self.text, found.end() - 1)
-            inside, start = self.text[found.end():end], found.start()
+            head, inside = found["head"], self.text[found.end():end]
             ghosts = [(docs, self.of(mark)) for docs, mark in GHOST_ITEM.findall(inside)]
-            if found["kind"] == "impl" and (trait := re.search(r"\b(Model|Drop|Clone) for (\w+)", found["head"])):
-                rest = GHOST_ITEM.sub("", inside).rstrip("}").strip()
-                if trait[1] == "Model":
-                    self.models[trait[2]] = [line for _, text in ghosts for line in tidy(text).split("\n")]
-                if trait[1] == "Model" and rest or trait[1] == "Drop" and not TAKES_APART.fullmatch(rest):
-                    raise Unknown(f"{trait[0]}: {rest[:200]}")
-                if trait[1] != "Clone":
-                    start = COMMENTS.search(self.text[:start]).start()
+            inside = GHOST_ITEM.sub("", inside)
+            if found["kind"] == "impl":
+                if self.is_left_out(head, inside.rstrip("}").strip(), ghosts):
+                    start = COMMENTS.search(self.text[:found.start()]).start()
                     self.text = self.text[:start] + self.text[end:].lstrip("\n")
                     continue
-                if "fn clone(&self) -> Result<" not in inside:
+                ghosts = [(docs, text) for docs, text in ghosts if not self.is_test and not self.is_evidence(text)]
+                if "Clone for" in head and "fn clone(&self) -> Result<" not in inside:
                     raise Unknown("a clone that can't fail")
-                inside = inside.replace("fn clone(", "fn try_clone(")
-            head = found["head"].replace("Clone for", "crate::rattle::TryClone for") if found["kind"] == "impl" else found["head"]
+                if "Clone for" in head:
+                    head, inside = head.replace("Clone for", "crate::rattle::TryClone for"), inside.replace("fn clone(", "fn try_clone(")
             if found["kind"] == "trait" and re.search(r"<Self[,>]", inside):
                 head = re.sub(r"(trait \w+)(:)?", lambda it: f"{it[1]}: Sized{' +' * bool(it[2])}", head, count=1)
-            if found["kind"] == "impl":
-                ghosts = [(docs, text) for docs, text in ghosts if not self.is_test and not self.is_evidence(text)]
-            lines = [line for docs, text in ghosts for line in [*self.said(docs), *tidy(text).split("\n")]]
-            docs = self.docs("Contract", lines, found)
+            docs = self.docs("Contract", [line for docs, text in ghosts for line in [*self.said(docs), *tidy(text).split("\n")]], found)
             if found["kind"] in ("struct", "enum"):
                 docs += self.docs("Model", self.models.pop(re.search(r"(?:struct|enum) (\w+)", head)[1], []), found)
-            self.text = self.text[:start] + docs + found["attributes"] + found["indent"] + head + "{" + GHOST_ITEM.sub("", inside) + self.text[end:]
+            self.text = self.text[:found.start()] + docs + found["attributes"] + found["indent"] + head + "{" + inside + self.text[end:]
         if self.models:
             raise Unknown(f"models of {set(self.models)}")
+
+    def is_left_out(self, head, rest, ghosts):
+        """Whether an `impl` is a model, which is kept for the docs of its type, or a drop that Rust does itself."""
+        found = re.search(r"\b(Model|Drop) for (\w+)", head)
+        if found and found[1] == "Model":
+            self.models[found[2]] = [line for _, text in ghosts for line in tidy(text).split("\n")]
+        if found and not (TAKES_APART.fullmatch(rest) if found[1] == "Drop" else not rest):
+            raise Unknown(f"{found[0]}: {rest[:200]}")
+        return bool(found)
 
     def is_evidence(self, text):
         """Whether a ghost member of an `impl` is a proof, and no value."""

@@ -73,9 +73,9 @@ UNTESTED = {
 MODULES = {"wasmi_core": "machine", "wasmi_simd": "widening", "wasmi_access": "accesses"}
 # The crates that have laws alone: pages of the reference.
 CRATES_OF_LAWS = {"wasmi_laws"}
-
 # The modules of the Rust crate's root that have another name than under `proved`.
 PUBLIC = {"wasmi_budget": "pool"}
+
 # Functions that return one of these are inlined always: a value that a call returns through memory is stored by words and read as a
 # whole, which stalls a run of calls.
 INLINED_ALWAYS = {"Reply"}
