@@ -1,6 +1,7 @@
-# The examples of the docs of items: each of an item of a crate, or of a module of it
-
-## budget.Pool
+//! The examples of the docs of proved items, by the module and the item: `tools/rust` names each at its item.
+macro_rules! examples {
+    (budget Pool) => {
+        r#"# Examples
 
 ```
 use wasmi_core_proved::machine::{Call, Fuel, FuelCostsProvider, Machine, MemoryType, Reply};
@@ -22,8 +23,10 @@ assert!(matches!(replies[0], Reply::Memory(_)));
 assert_eq!((pool.held_bytes(0), pool.held_bytes(1)), (Some(65_536), Some(0)));
 # Ok::<(), Box<dyn std::error::Error>>(())
 ```
-
-## machine.Machine
+"#
+    };
+    (machine Machine) => {
+        r#"# Examples
 
 ```
 use wasmi_core_proved::RawVal;
@@ -48,8 +51,10 @@ assert!(matches!(&replies[2], Reply::Value(raw) if raw.to_bits64() == 7));
 assert!(matches!(replies[4], Reply::NoSuch));
 # Ok::<(), Box<dyn std::error::Error>>(())
 ```
-
-## meter.Fuel
+"#
+    };
+    (meter Fuel) => {
+        r#"# Examples
 
 ```
 use wasmi_core_proved::{Fuel, FuelCostsProvider, FuelError};
@@ -66,8 +71,10 @@ let mut off = Fuel::new(false, FuelCostsProvider::default());
 assert!(matches!(off.get_fuel(), Err(FuelError::FuelMeteringDisabled)));
 # Ok::<(), FuelError>(())
 ```
-
-## meter.LimiterByKind
+"#
+    };
+    (meter LimiterByKind) => {
+        r#"# Examples
 
 ```
 use wasmi_core_proved::machine::{Kind, LimiterByKind, LimiterError, Memory, MemoryType};
@@ -91,8 +98,10 @@ assert!(Memory::new_lending(ty, &mut AtMost(131_072)).is_ok());
 assert!(Memory::new_lending(ty, &mut AtMost(131_071)).is_err());
 # Ok::<(), wasmi_core_proved::MemoryError>(())
 ```
-
-## meter.Quota
+"#
+    };
+    (meter Quota) => {
+        r#"# Examples
 
 ```
 use wasmi_core_proved::machine::{Memory, MemoryType, Quota};
@@ -111,8 +120,10 @@ drop(memory);
 assert!(Memory::new_lending(ty, &mut quota).is_err());
 # Ok::<(), wasmi_core_proved::MemoryError>(())
 ```
-
-## raw.RawVal
+"#
+    };
+    (raw RawVal) => {
+        r#"# Examples
 
 ```
 use wasmi_core_proved::{RawVal, ReadAs, WriteAs};
@@ -136,8 +147,10 @@ let vector: V128 = register.read_as();
 assert_eq!(vector.as_u128(), (7 << 64) + 3);
 # }
 ```
-
-## raw.V128
+"#
+    };
+    (raw V128) => {
+        r#"# Examples
 
 ```
 use wasmi_core_proved::V128;
@@ -153,8 +166,10 @@ assert_eq!(simd::i16x8_add(vector, vector).as_u128(), 0x0008_0006_0004_0002);
 assert_eq!(simd::v128_xor(vector, vector).as_u128(), 0);
 # }
 ```
-
-## region.memory.make
+"#
+    };
+    (region make) => {
+        r#"# Examples
 
 ```
 use wasmi_core_proved::machine::{Fuel, FuelCostsProvider, MemoryType, NoLimits, ResourceLimiterRef};
@@ -175,8 +190,10 @@ assert_eq!((size, region), (4, [0, 0, 0, 0, 9]));
 assert!(memory::grow(ty, &mut size, &mut region, 2, &mut fuel, &mut limiter).is_err());
 # Ok::<(), wasmi_core_proved::MemoryError>(())
 ```
-
-## script.replay
+"#
+    };
+    (script replay) => {
+        r#"# Examples
 
 ```
 use wasmi_core_proved::script::{Status, replay};
@@ -189,8 +206,10 @@ let printed = String::from_utf8(printed)?;
 assert!(printed.starts_with("memory 0\nvalue 1\n"));
 # Ok::<(), Box<dyn std::error::Error>>(())
 ```
-
-## store.MemoryType
+"#
+    };
+    (store MemoryType) => {
+        r#"# Examples
 
 ```
 use wasmi_core_proved::MemoryType;
@@ -205,8 +224,10 @@ builder.min(5).max(Some(4));
 assert!(builder.build().is_err());
 # Ok::<(), wasmi_core_proved::MemoryError>(())
 ```
-
-## typed.Global
+"#
+    };
+    (typed Global) => {
+        r#"# Examples
 
 ```
 use wasmi_core_proved::{Global, GlobalError, GlobalType, Mutability, TypedRawVal, ValType};
@@ -221,8 +242,10 @@ let mut constant = Global::new(7_i32.into(), GlobalType::new(ValType::I32, Mutab
 assert!(matches!(constant.set(TypedRawVal::from(8_i32)), Err(GlobalError::ImmutableWrite)));
 # Ok::<(), GlobalError>(())
 ```
-
-## typed.TypedRawVal
+"#
+    };
+    (typed TypedRawVal) => {
+        r#"# Examples
 
 ```
 use wasmi_core_proved::{RawVal, TypedRawVal, ValType};
@@ -232,3 +255,6 @@ assert_eq!((value.ty(), i64::from(value)), (ValType::I64, -3));
 let same = TypedRawVal::new(ValType::I64, RawVal::from(-3_i64));
 assert_eq!(value, same);
 ```
+"#
+    };
+}
