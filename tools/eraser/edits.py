@@ -46,10 +46,10 @@ EDITS = [
     # Fields without docs.
     ("grammar", "BadCommand { line: usize }", "BadCommand {\n/// The number of the line, from 1 on.\nline: usize }", 1),
     ("meter", "OutOfFuel { required_fuel: u64 }", "OutOfFuel {\n/// How much fuel the call takes.\nrequired_fuel: u64 }", 3),
-    ("machine", "pub enum Call {", """#[allow(missing_docs)]
-///
+    ("machine", "pub enum Call {", """///
 /// Of the fields, `memory`, `table`, `segment` and `global` are indices, `a`, `b`, `c` and `item` registers of operands; `offset`
 /// is added to `ptr`, or counts bytes itself; `len`, `pages` and `delta` are how many; `lanes` has the index of the byte for each lane.
+#[allow(missing_docs)]
 pub enum Call {""", 1),
     # Upstream's feature.
     ("store", "let Some(page) = PageSize::from_log2(",

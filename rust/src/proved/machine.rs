@@ -25,10 +25,10 @@ mod calls {
     ///
     /// Replies are listed in the order of the tests: the first that applies is the reply. `Memory` and
     /// `Table` carry the error that the method of `Memory` or `Table` returns.
-    #[allow(missing_docs)]
     ///
     /// Of the fields, `memory`, `table`, `segment` and `global` are indices, `a`, `b`, `c` and `item` registers of operands; `offset`
     /// is added to `ptr`, or counts bytes itself; `len`, `pages` and `delta` are how many; `lanes` has the index of the byte for each lane.
+    #[allow(missing_docs)]
     pub enum Call {
         /// Sets the fuel that is left: `Done`, or `Fuel` if metering is off.
         SetFuel(u64),
