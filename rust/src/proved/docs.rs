@@ -697,8 +697,8 @@ view = λ ty. [function_type_of] ty.inner
 invariant = λ ty. [IsKept] ty.inner</code></pre>
 
 [FunctionType]: crate::specs::types::FunctionType#FunctionType "the parameters and the results of a function"
-[function_type_of]: crate::specs::types::FuncTypeInner#function_type_of "the function type that is kept"
-[IsKept]: crate::specs::types::FuncTypeInner#IsKept "at most 21 entries stand inline, and more on the heap, of at most 1,000 parameters and 1,000 results"
+[function_type_of]: crate::specs::types::FunctionType#function_type_of "the function type that is kept"
+[IsKept]: crate::specs::types::FunctionType#IsKept "at most 21 entries stand inline, and more on the heap, of at most 1,000 parameters and 1,000 results"
 "#### };
     (types FuncType.len_params) => { r####"How many parameters there are.
 

@@ -48,39 +48,18 @@ abbrev pub <b id="func_type_error_text">func_type_error_text</b> : FuncTypeError
 </code></pre>
 "####]
     pub mod FuncTypeError {}
-    #[doc = r####"How a function type is kept: inline where it is small, and on the heap otherwise.
+    #[doc = r####"A function type is the pair of its lists of parameters and results (core specification 2.3), and how it is kept.
 
-<pre><code>use Rattle.std.specs.Prelude.{<a href="../../library/index.html#%E2%89%A1" title="x is y">◌≡◌</a>, <a href="../../library/index.html#%2B" title="sum, difference (0 where n is greater), product, quotient and remainder (rounded down), power, of whole numbers from 0 on">◌+◌</a>, <a href="../../library/index.html#%3C" title="comparison of whole numbers">◌&lt;◌</a>, ◌≤◌, <a href="../../library/index.html#length" title="the number of elements of a list">length</a>, <a href="../../library/index.html#take" title="the first n elements">take</a>, <a href="../../library/index.html#drop" title="all but the first n elements">drop</a>}
-use Rattle.std.specs.Rc.{rc_slice_items}
-use Rattle.wasmi_types.specs.declared.func_type.FuncTypeInner.{FuncTypeInner}
-use Rattle.wasmi_types.specs.declared.func_type.FuncTypeInner.TheVariants.{Inline, Big}
-use Rattle.wasmi_types.specs.<a href="../../types/FunctionType/index.html#FunctionType" title="the parameters and the results of a function">FunctionType</a>.{<a href="../../types/FunctionType/index.html#FunctionType" title="the parameters and the results of a function">FunctionType</a>}
-
-<span style="opacity:.7">-- the function type that is kept</span>
-abbrev pub <b id="function_type_of">function_type_of</b> : FuncTypeInner → <a href="../../types/FunctionType/index.html#FunctionType" title="the parameters and the results of a function">FunctionType</a>
-<a href="#function_type_of" title="the function type that is kept">function_type_of</a> (Inline params results types) =
-    record { params = <a href="../../library/index.html#take" title="the first n elements">take</a> params types; results = <a href="../../library/index.html#take" title="the first n elements">take</a> results (<a href="../../library/index.html#drop" title="all but the first n elements">drop</a> params types) }
-<a href="#function_type_of" title="the function type that is kept">function_type_of</a> (Big params types) =
-    record { params = <a href="../../library/index.html#take" title="the first n elements">take</a> params (rc_slice_items types); results = <a href="../../library/index.html#drop" title="all but the first n elements">drop</a> params (rc_slice_items types) }
-
-<span style="opacity:.7">-- at most 21 entries stand inline, and more on the heap, of at most 1,000 parameters and 1,000 results</span>
-abbrev pub <b id="IsKept">IsKept</b> : FuncTypeInner → Type 0
-<a href="#IsKept" title="at most 21 entries stand inline, and more on the heap, of at most 1,000 parameters and 1,000 results">IsKept</a> (Inline params results types) = (params + results ≤ 21) × (<a href="../../library/index.html#length" title="the number of elements of a list">length</a> types ≡ 21)
-<a href="#IsKept" title="at most 21 entries stand inline, and more on the heap, of at most 1,000 parameters and 1,000 results">IsKept</a> (Big params types) =
-    (21 &lt; <a href="../../library/index.html#length" title="the number of elements of a list">length</a> (rc_slice_items types)) × (params ≤ 1000) × (params ≤ <a href="../../library/index.html#length" title="the number of elements of a list">length</a> (rc_slice_items types))
-    × (<a href="../../library/index.html#length" title="the number of elements of a list">length</a> (rc_slice_items types) ≤ params + 1000)
-</code></pre>
-"####]
-    pub mod FuncTypeInner {}
-    #[doc = r####"A function type is the pair of its lists of parameters and results (core specification 2.3, function types).
-
-<pre><code>use Rattle.std.specs.Prelude.{<a href="../../library/index.html#%E2%84%95" title="the whole numbers from 0 on">ℕ</a>, <a href="../../library/index.html#%2B" title="sum, difference (0 where n is greater), product, quotient and remainder (rounded down), power, of whole numbers from 0 on">◌+◌</a>, <a href="../../library/index.html#Bool" title="the Booleans `true` and `false`">Bool</a>, <a href="../../library/index.html#%26%26" title="both, as a Boolean">◌&amp;&amp;◌</a>, <a href="../../library/index.html#List" title="the finite lists">List</a>, <a href="../../library/index.html#%E2%88%B7" title="the list that begins with x and goes on with xs">◌∷◌</a>, <a href="../../library/index.html#%2B%2B" title="a list followed by another one">◌++◌</a>, <a href="../../library/index.html#length" title="the number of elements of a list">length</a>, <a href="../../library/index.html#map" title="f of each element">map</a>, <a href="../../library/index.html#nat_le" title="whether m is at most n, as a Boolean">nat_le</a>, if◌then◌else◌}
+<pre><code>use Rattle.std.specs.Prelude.{<a href="../../library/index.html#%E2%84%95" title="the whole numbers from 0 on">ℕ</a>, <a href="../../library/index.html#%2B" title="sum, difference (0 where n is greater), product, quotient and remainder (rounded down), power, of whole numbers from 0 on">◌+◌</a>, <a href="../../library/index.html#Bool" title="the Booleans `true` and `false`">Bool</a>, <a href="../../library/index.html#%26%26" title="both, as a Boolean">◌&amp;&amp;◌</a>, <a href="../../library/index.html#List" title="the finite lists">List</a>, <a href="../../library/index.html#%E2%88%B7" title="the list that begins with x and goes on with xs">◌∷◌</a>, <a href="../../library/index.html#%2B%2B" title="a list followed by another one">◌++◌</a>, <a href="../../library/index.html#length" title="the number of elements of a list">length</a>, <a href="../../library/index.html#map" title="f of each element">map</a>, <a href="../../library/index.html#nat_le" title="whether m is at most n, as a Boolean">nat_le</a>, if◌then◌else◌, <a href="../../library/index.html#%E2%89%A1" title="x is y">◌≡◌</a>, <a href="../../library/index.html#%3C" title="comparison of whole numbers">◌&lt;◌</a>, ◌≤◌, <a href="../../library/index.html#take" title="the first n elements">take</a>, <a href="../../library/index.html#drop" title="all but the first n elements">drop</a>}
 use Rattle.std.specs.Cmp.Lexicographic.{<a href="../../library/index.html#pointwise" title="the lists are as long, and eq of each two elements">pointwise</a>, slice_cmp}
 use Rattle.std.specs.Hash.{slice}
 use Rattle.std.specs.Ordering.{nat_cmp, on}
 use Rattle.std.specs.declared.cmp.Ordering.{Ordering}
 use Rattle.wasmi_types.specs.declared.value.<a href="../../../enum.ValType.html">ValType</a>.{<a href="../../../enum.ValType.html">ValType</a>}
 use Rattle.wasmi_types.specs.declared.value.<a href="../../../enum.ValType.html">ValType</a>.TheVariants.{<a href="../../../enum.ValType.html#variant.I32">I32</a>, <a href="../../../enum.ValType.html#variant.I64">I64</a>, <a href="../../../enum.ValType.html#variant.F32">F32</a>, <a href="../../../enum.ValType.html#variant.F64">F64</a>, <a href="../../../enum.ValType.html#variant.V128">V128</a>, <a href="../../../enum.ValType.html#variant.FuncRef">FuncRef</a>, <a href="../../../enum.ValType.html#variant.ExternRef">ExternRef</a>}
+use Rattle.std.specs.Rc.{rc_slice_items}
+use Rattle.wasmi_types.specs.declared.func_type.FuncTypeInner.{FuncTypeInner}
+use Rattle.wasmi_types.specs.declared.func_type.FuncTypeInner.TheVariants.{Inline, Big}
 
 <span style="opacity:.7">-- the parameters and the results of a function</span>
 pub record <b id="FunctionType">FunctionType</b> : Type 0 where
@@ -124,10 +103,24 @@ abbrev pub <b id="function_type_cmp">function_type_cmp</b> : <a href="#FunctionT
 <span style="opacity:.7">-- what a function type gives to a hasher: the parameters, then the results</span>
 abbrev pub <b id="lists_input">lists_input</b> : (<a href="../../../enum.ValType.html">ValType</a> → <a href="../../library/index.html#List" title="the finite lists">List</a> (<a href="../../library/index.html#List" title="the finite lists">List</a> <a href="../../library/index.html#%E2%84%95" title="the whole numbers from 0 on">ℕ</a>)) → <a href="#FunctionType" title="the parameters and the results of a function">FunctionType</a> → <a href="../../library/index.html#List" title="the finite lists">List</a> (<a href="../../library/index.html#List" title="the finite lists">List</a> <a href="../../library/index.html#%E2%84%95" title="the whole numbers from 0 on">ℕ</a>)
 <a href="#lists_input" title="what a function type gives to a hasher: the parameters, then the results">lists_input</a> input ty = slice input ty.params ++ slice input ty.results
+
+<span style="opacity:.7">-- the function type that is kept</span>
+abbrev pub <b id="function_type_of">function_type_of</b> : FuncTypeInner → <a href="#FunctionType" title="the parameters and the results of a function">FunctionType</a>
+<a href="#function_type_of" title="the function type that is kept">function_type_of</a> (Inline params results types) =
+    record { params = <a href="../../library/index.html#take" title="the first n elements">take</a> params types; results = <a href="../../library/index.html#take" title="the first n elements">take</a> results (<a href="../../library/index.html#drop" title="all but the first n elements">drop</a> params types) }
+<a href="#function_type_of" title="the function type that is kept">function_type_of</a> (Big params types) =
+    record { params = <a href="../../library/index.html#take" title="the first n elements">take</a> params (rc_slice_items types); results = <a href="../../library/index.html#drop" title="all but the first n elements">drop</a> params (rc_slice_items types) }
+
+<span style="opacity:.7">-- at most 21 entries stand inline, and more on the heap, of at most 1,000 parameters and 1,000 results</span>
+abbrev pub <b id="IsKept">IsKept</b> : FuncTypeInner → Type 0
+<a href="#IsKept" title="at most 21 entries stand inline, and more on the heap, of at most 1,000 parameters and 1,000 results">IsKept</a> (Inline params results types) = (params + results ≤ 21) × (<a href="../../library/index.html#length" title="the number of elements of a list">length</a> types ≡ 21)
+<a href="#IsKept" title="at most 21 entries stand inline, and more on the heap, of at most 1,000 parameters and 1,000 results">IsKept</a> (Big params types) =
+    (21 &lt; <a href="../../library/index.html#length" title="the number of elements of a list">length</a> (rc_slice_items types)) × (params ≤ 1000) × (params ≤ <a href="../../library/index.html#length" title="the number of elements of a list">length</a> (rc_slice_items types))
+    × (<a href="../../library/index.html#length" title="the number of elements of a list">length</a> (rc_slice_items types) ≤ params + 1000)
 </code></pre>
 "####]
     pub mod FunctionType {}
-    #[doc = r####"Two function types have one order key exactly if both of their lists are the same.
+    #[doc = r####"Two function types have one order key exactly if both of their lists are the same; equal value types are one.
 
 <pre><code>use Rattle.std.specs.Prelude.{<a href="../../library/index.html#%E2%89%A1" title="x is y">◌≡◌</a>, <a href="../../library/index.html#%E2%84%95" title="the whole numbers from 0 on">ℕ</a>, <a href="../../library/index.html#zero" title="0">zero</a>, <a href="../../library/index.html#suc" title="n + 1">suc</a>, <a href="../../library/index.html#Bool" title="the Booleans `true` and `false`">Bool</a>, <a href="../../library/index.html#true" title="the Boolean">true</a>, <a href="../../library/index.html#false" title="the Boolean">false</a>, <a href="../../library/index.html#%26%26" title="both, as a Boolean">◌&amp;&amp;◌</a>, <a href="../../library/index.html#List" title="the finite lists">List</a>, [], <a href="../../library/index.html#%E2%88%B7" title="the list that begins with x and goes on with xs">◌∷◌</a>, <a href="../../library/index.html#length" title="the number of elements of a list">length</a>, <a href="../../library/index.html#map" title="f of each element">map</a>, <a href="../../library/index.html#take" title="the first n elements">take</a>, <a href="../../library/index.html#drop" title="all but the first n elements">drop</a>, <a href="../../library/index.html#slice_index" title="element i of a list of numbers; 0 past its end">slice_index</a>, <a href="../../library/index.html#nat_le" title="whether m is at most n, as a Boolean">nat_le</a>, if◌then◌else◌, refl}
 use Rattle.std.proofs.Common.{ap, sym, ◌∙◌, arith}
@@ -139,6 +132,8 @@ use Rattle.std.specs.Cmp.Lexicographic.{pointwise_decides, bytes_decides, lists_
 use Rattle.wasmi_types.specs.declared.value.<a href="../../../enum.ValType.html">ValType</a>.{<a href="../../../enum.ValType.html">ValType</a>}
 use Rattle.wasmi_types.specs.declared.value.<a href="../../../enum.ValType.html">ValType</a>.TheVariants.{<a href="../../../enum.ValType.html#variant.I32">I32</a>, <a href="../../../enum.ValType.html#variant.I64">I64</a>, <a href="../../../enum.ValType.html#variant.F32">F32</a>, <a href="../../../enum.ValType.html#variant.F64">F64</a>, <a href="../../../enum.ValType.html#variant.V128">V128</a>, <a href="../../../enum.ValType.html#variant.FuncRef">FuncRef</a>, <a href="../../../enum.ValType.html#variant.ExternRef">ExternRef</a>}
 use Rattle.wasmi_types.specs.<a href="../../types/FunctionType/index.html#FunctionType" title="the parameters and the results of a function">FunctionType</a>.{<a href="../../types/FunctionType/index.html#FunctionType" title="the parameters and the results of a function">FunctionType</a>, <a href="../../types/FunctionType/index.html#entries" title="the parameters, then the results">entries</a>, <a href="../../types/FunctionType/index.html#entry_count" title="how many parameters and results there are together">entry_count</a>, <a href="../../types/FunctionType/index.html#same_lists" title="whether both lists are the same, by a test of value types">same_lists</a>, <a href="../../types/FunctionType/index.html#type_number" title="the place of a value type in their order">type_number</a>, <a href="../../types/FunctionType/index.html#order_key" title="what function types are ordered by, place by place: small ones (at most 21 entries) come first, then the number of parameters counts, among small ones then that of results, then the entries">order_key</a>, <a href="../../types/FunctionType/index.html#function_type_cmp" title="the order of two function types">function_type_cmp</a>}
+use denote.Enum.Bare.{sameb, same_true, true_same}
+use Rattle.wasmi_types.specs.contracts.value.<a href="../../../enum.ValType.html">ValType</a>.{the_type}
 
 <span style="opacity:.7">-- the value type at a place</span>
 <b id="type_at">type_at</b> : <a href="../../library/index.html#%E2%84%95" title="the whole numbers from 0 on">ℕ</a> → <a href="../../../enum.ValType.html">ValType</a>
@@ -218,6 +213,9 @@ module _ {E : <a href="../../../enum.ValType.html">ValType</a> → <a href="../.
 <span style="opacity:.7">  -- the same function types have the same of anything</span>
   pub same_lists_alike : {B : Type 0} (f : <a href="../../types/FunctionType/index.html#FunctionType" title="the parameters and the results of a function">FunctionType</a> → B) (a b : <a href="../../types/FunctionType/index.html#FunctionType" title="the parameters and the results of a function">FunctionType</a>) → <a href="../../types/FunctionType/index.html#same_lists" title="whether both lists are the same, by a test of value types">same_lists</a> E a b ≡ <a href="../../library/index.html#true" title="the Boolean">true</a> → f a ≡ f b
   same_lists_alike f a b e = ap f ((same_lists_decides a b).0 e)
+
+pub <b id="same_type_decides">same_type_decides</b> : (x y : <a href="../../../enum.ValType.html">ValType</a>) → Decides (sameb the_type x y) (x ≡ y)
+<a href="#same_type_decides">same_type_decides</a> x y = (same_true the_type <a href="../../library/index.html#tt" title="the value `()`">tt</a> x y, true_same the_type x y)
 </code></pre>
 "####]
     pub mod FunctionTypeProofs {}
@@ -225,25 +223,25 @@ module _ {E : <a href="../../../enum.ValType.html">ValType</a> → <a href="../.
 
 <pre><code>use Rattle.std.specs.Prelude.{<a href="../../library/index.html#%E2%84%95" title="the whole numbers from 0 on">ℕ</a>}
 use Rattle.wasmi_types.specs.declared.index_ty.<a href="../../../enum.IndexType.html">IndexType</a>.{<a href="../../../enum.IndexType.html">IndexType</a>}
-use Rattle.wasmi_types.specs.declared.index_ty.<a href="../../../enum.IndexType.html">IndexType</a>.TheVariants.{<a href="../../../enum.IndexType.html#variant.I32">I32</a>, <a href="../../../enum.IndexType.html#variant.I64">I64</a>}
-use Rattle.wasmi_types.specs.declared.<a href="../../../enum.ValType.html">value.ValType</a>.{<a href="../../../enum.ValType.html">ValType</a>}
-use Rattle.wasmi_types.specs.declared.<a href="../../../enum.ValType.html">value.ValType</a>.TheVariants as value
+use Rattle.wasmi_types.specs.declared.index_ty.<a href="../../../enum.IndexType.html">IndexType</a>.TheVariants as index
+use Rattle.wasmi_types.specs.declared.value.<a href="../../../enum.ValType.html">ValType</a>.{<a href="../../../enum.ValType.html">ValType</a>}
+use Rattle.wasmi_types.specs.declared.value.<a href="../../../enum.ValType.html">ValType</a>.TheVariants as types
 
 <span style="opacity:.7">-- the value type of an address</span>
 abbrev pub <b id="address_type">address_type</b> : <a href="../../../enum.IndexType.html">IndexType</a> → <a href="../../../enum.ValType.html">ValType</a>
-<a href="#address_type" title="the value type of an address">address_type</a> <a href="../../../enum.IndexType.html#variant.I32">I32</a> = <a href="../../../enum.ValType.html#variant.I32">value.I32</a>
-<a href="#address_type" title="the value type of an address">address_type</a> <a href="../../../enum.IndexType.html#variant.I64">I64</a> = <a href="../../../enum.ValType.html#variant.I64">value.I64</a>
+<a href="#address_type" title="the value type of an address">address_type</a> <a href="../../../enum.IndexType.html#variant.I32">index.I32</a> = <a href="../../../enum.ValType.html#variant.I32">types.I32</a>
+<a href="#address_type" title="the value type of an address">address_type</a> <a href="../../../enum.IndexType.html#variant.I64">index.I64</a> = <a href="../../../enum.ValType.html#variant.I64">types.I64</a>
 
 <span style="opacity:.7">-- how many bits an address has</span>
 abbrev pub <b id="address_bits">address_bits</b> : <a href="../../../enum.IndexType.html">IndexType</a> → <a href="../../library/index.html#%E2%84%95" title="the whole numbers from 0 on">ℕ</a>
-<a href="#address_bits" title="how many bits an address has">address_bits</a> <a href="../../../enum.IndexType.html#variant.I32">I32</a> = 32
-<a href="#address_bits" title="how many bits an address has">address_bits</a> <a href="../../../enum.IndexType.html#variant.I64">I64</a> = 64
+<a href="#address_bits" title="how many bits an address has">address_bits</a> <a href="../../../enum.IndexType.html#variant.I32">index.I32</a> = 32
+<a href="#address_bits" title="how many bits an address has">address_bits</a> <a href="../../../enum.IndexType.html#variant.I64">index.I64</a> = 64
 
 <span style="opacity:.7">-- the narrower of two address types</span>
 abbrev pub <b id="narrower">narrower</b> : <a href="../../../enum.IndexType.html">IndexType</a> → <a href="../../../enum.IndexType.html">IndexType</a> → <a href="../../../enum.IndexType.html">IndexType</a>
-<a href="#narrower" title="the narrower of two address types">narrower</a> <a href="../../../enum.IndexType.html#variant.I64">I64</a> <a href="../../../enum.IndexType.html#variant.I64">I64</a> = <a href="../../../enum.IndexType.html#variant.I64">I64</a>
-<a href="#narrower" title="the narrower of two address types">narrower</a> <a href="../../../enum.IndexType.html#variant.I64">I64</a> <a href="../../../enum.IndexType.html#variant.I32">I32</a> = <a href="../../../enum.IndexType.html#variant.I32">I32</a>
-<a href="#narrower" title="the narrower of two address types">narrower</a> <a href="../../../enum.IndexType.html#variant.I32">I32</a> _ = <a href="../../../enum.IndexType.html#variant.I32">I32</a>
+<a href="#narrower" title="the narrower of two address types">narrower</a> <a href="../../../enum.IndexType.html#variant.I64">index.I64</a> <a href="../../../enum.IndexType.html#variant.I64">index.I64</a> = <a href="../../../enum.IndexType.html#variant.I64">index.I64</a>
+<a href="#narrower" title="the narrower of two address types">narrower</a> <a href="../../../enum.IndexType.html#variant.I64">index.I64</a> <a href="../../../enum.IndexType.html#variant.I32">index.I32</a> = <a href="../../../enum.IndexType.html#variant.I32">index.I32</a>
+<a href="#narrower" title="the narrower of two address types">narrower</a> <a href="../../../enum.IndexType.html#variant.I32">index.I32</a> _ = <a href="../../../enum.IndexType.html#variant.I32">index.I32</a>
 </code></pre>
 "####]
     pub mod IndexType {}
@@ -256,18 +254,18 @@ use Rattle.std.specs.Iterator.{YieldsThen}
 abbrev pub <b id="EachBecomes">EachBecomes</b> : {X I : Type 0} → (X → I → Type 0) → X → (I → Type 0) → Type 0
 <a href="#EachBecomes" title="each iterator that a value becomes has a fact">EachBecomes</a> {X} {I} becomes x Fact = (it : I) → becomes x it → Fact it
 
-module _ {I A : Type 0} (most : <a href="../../library/index.html#%E2%84%95" title="the whole numbers from 0 on">ℕ</a>) (steps : I → <a href="../../library/index.html#Option" title="a value, or none">Option</a> A → I → Type 0) where
-<span style="opacity:.7">  -- calls from s to t gave the items xs, at most so many, and then the end</span>
-  pub record <b id="ReadsAll">ReadsAll</b> (s : I) (xs : <a href="../../library/index.html#List" title="the finite lists">List</a> A) (t : I) : Type 0 where
+<span style="opacity:.7">-- calls from s to t gave the items xs, at most so many, and then the end</span>
+pub record <b id="ReadsAll">ReadsAll</b> {I A : Type 0} (most : <a href="../../library/index.html#%E2%84%95" title="the whole numbers from 0 on">ℕ</a>) (steps : I → <a href="../../library/index.html#Option" title="a value, or none">Option</a> A → I → Type 0) (s : I) (xs : <a href="../../library/index.html#List" title="the finite lists">List</a> A) (t : I) : Type 0
+  where
     pub run : YieldsThen steps s xs <a href="../../library/index.html#None" title="no value, of an `Option`">None</a> t
     pub short : <a href="../../library/index.html#length" title="the number of elements of a list">length</a> xs ≤ most
 
-<span style="opacity:.7">  -- calls from s to t gave so many items and one more</span>
-  pub record <b id="ReadsTooMany">ReadsTooMany</b> (s t : I) : Type 0 where
-    pub items : <a href="../../library/index.html#List" title="the finite lists">List</a> A
-    pub last : A
-    pub run : YieldsThen steps s items (<a href="../../library/index.html#Some" title="the value x, of an `Option`">Some</a> last) t
-    pub full : <a href="../../library/index.html#length" title="the number of elements of a list">length</a> items ≡ most
+<span style="opacity:.7">-- calls from s to t gave so many items and one more</span>
+pub record <b id="ReadsTooMany">ReadsTooMany</b> {I A : Type 0} (most : <a href="../../library/index.html#%E2%84%95" title="the whole numbers from 0 on">ℕ</a>) (steps : I → <a href="../../library/index.html#Option" title="a value, or none">Option</a> A → I → Type 0) (s t : I) : Type 0 where
+  pub items : <a href="../../library/index.html#List" title="the finite lists">List</a> A
+  pub last : A
+  pub run : YieldsThen steps s items (<a href="../../library/index.html#Some" title="the value x, of an `Option`">Some</a> last) t
+  pub full : <a href="../../library/index.html#length" title="the number of elements of a list">length</a> items ≡ most
 </code></pre>
 "####]
     pub mod Iteration {}
@@ -445,19 +443,6 @@ abbrev pub <b id="text_of">text_of</b> : {H : Type 0} → (H → <a href="../../
 </code></pre>
 "####]
     pub mod TrapReason {}
-    #[doc = r####"The derived equality of value types decides whether two are the same.
-
-<pre><code>use Rattle.std.specs.Prelude.{<a href="../../library/index.html#%E2%89%A1" title="x is y">◌≡◌</a>}
-use Rattle.std.specs.Bool.{Decides}
-use denote.Enum.Bare.{sameb, same_true, true_same}
-use Rattle.wasmi_types.specs.declared.value.<a href="../../../enum.ValType.html">ValType</a>.{<a href="../../../enum.ValType.html">ValType</a>}
-use Rattle.wasmi_types.specs.contracts.value.<a href="../../../enum.ValType.html">ValType</a>.{the_type}
-
-pub <b id="same_type_decides">same_type_decides</b> : (x y : <a href="../../../enum.ValType.html">ValType</a>) → Decides (sameb the_type x y) (x ≡ y)
-<a href="#same_type_decides">same_type_decides</a> x y = (same_true the_type <a href="../../library/index.html#tt" title="the value `()`">tt</a> x y, true_same the_type x y)
-</code></pre>
-"####]
-    pub mod ValTypeProofs {}
     #[doc = r####"Which value types are number types, and which are reference types.
 
 <pre><code>use Rattle.std.specs.Prelude.{<a href="../../library/index.html#Bool" title="the Booleans `true` and `false`">Bool</a>, <a href="../../library/index.html#true" title="the Boolean">true</a>, <a href="../../library/index.html#false" title="the Boolean">false</a>, <a href="../../library/index.html#Option" title="a value, or none">Option</a>, <a href="../../library/index.html#Some" title="the value x, of an `Option`">Some</a>, <a href="../../library/index.html#None" title="no value, of an `Option`">None</a>}

@@ -56,8 +56,8 @@ mod func_type {
     /// invariant = λ ty. [IsKept] ty.inner</code></pre>
     ///
     /// [FunctionType]: crate::specs::types::FunctionType#FunctionType "the parameters and the results of a function"
-    /// [function_type_of]: crate::specs::types::FuncTypeInner#function_type_of "the function type that is kept"
-    /// [IsKept]: crate::specs::types::FuncTypeInner#IsKept "at most 21 entries stand inline, and more on the heap, of at most 1,000 parameters and 1,000 results"
+    /// [function_type_of]: crate::specs::types::FunctionType#function_type_of "the function type that is kept"
+    /// [IsKept]: crate::specs::types::FunctionType#IsKept "at most 21 entries stand inline, and more on the heap, of at most 1,000 parameters and 1,000 results"
     pub struct FuncType {
         inner: FuncTypeInner,
     }
@@ -581,16 +581,6 @@ pub mod hint {
         condition
     }
 }
-mod host_error {
-    //! Errors of the host.
-
-    use core::fmt::{Debug, Display};
-
-    /// An error of the host, which a [`Trap`](crate::Trap) can carry.
-    ///
-    /// Upstream: `wasmi_core::HostError`.
-    pub trait HostError: Display + Debug {}
-}
 mod index_ty {
     //! The types of addresses and of table indices.
 
@@ -672,10 +662,14 @@ mod index_ty {
 mod trap {
     //! Traps: why a call ended early.
 
-    use crate::proved::types::HostError;
     use alloc::string::String;
     use core::error::Error;
     use core::fmt;
+
+    /// An error of the host, which a [`Trap`] can carry.
+    ///
+    /// Upstream: `wasmi_core::HostError`.
+    pub trait HostError: fmt::Display + fmt::Debug {}
 
     /// Why a call of WebAssembly code or of the host ended early: a trap code, an exit status, a
     /// message or an error of the host. It stands in the value, and nothing is allocated for it.
@@ -1086,7 +1080,6 @@ mod value {
 }
 
 pub use func_type::{FuncType, FuncTypeError};
-pub use host_error::HostError;
 pub use index_ty::IndexType;
-pub use trap::{InvalidTrapCode, Trap, TrapCode};
+pub use trap::{HostError, InvalidTrapCode, Trap, TrapCode};
 pub use value::{RefType, ValType};
