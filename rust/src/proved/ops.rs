@@ -237,13 +237,13 @@ mod scalar {
             I32Rotl,
             /// [`i32_rotr`](crate::wasm::i32_rotr): Rotates to the right; the amount is taken modulo 32.
             I32Rotr,
-            /// [`i32_div_s`](crate::wasm::i32_div_s): The quotient towards zero.
+            /// [`i32_div_s`](crate::wasm::i32_div_s): The quotient towards zero; `IntegerDivisionByZero` for a divisor of 0, then `IntegerOverflow` for the least number by -1.
             I32DivS,
-            /// [`i32_div_u`](crate::wasm::i32_div_u): The quotient.
+            /// [`i32_div_u`](crate::wasm::i32_div_u): The quotient, or `IntegerDivisionByZero` for a divisor of 0.
             I32DivU,
-            /// [`i32_rem_s`](crate::wasm::i32_rem_s): The remainder, with the sign of `lhs`; 0 for the least number by -1.
+            /// [`i32_rem_s`](crate::wasm::i32_rem_s): The remainder, with the sign of `lhs`: 0 for the least number by -1; or `IntegerDivisionByZero` for a divisor of 0.
             I32RemS,
-            /// [`i32_rem_u`](crate::wasm::i32_rem_u): The remainder.
+            /// [`i32_rem_u`](crate::wasm::i32_rem_u): The remainder, or `IntegerDivisionByZero` for a divisor of 0.
             I32RemU,
             /// [`i32_eq`](crate::wasm::i32_eq): Whether `lhs` is `rhs`.
             I32Eq,
@@ -287,13 +287,13 @@ mod scalar {
             I64Rotl,
             /// [`i64_rotr`](crate::wasm::i64_rotr): Rotates to the right; the amount is taken modulo 64.
             I64Rotr,
-            /// [`i64_div_s`](crate::wasm::i64_div_s): The quotient towards zero.
+            /// [`i64_div_s`](crate::wasm::i64_div_s): The quotient towards zero; `IntegerDivisionByZero` for a divisor of 0, then `IntegerOverflow` for the least number by -1.
             I64DivS,
-            /// [`i64_div_u`](crate::wasm::i64_div_u): The quotient.
+            /// [`i64_div_u`](crate::wasm::i64_div_u): The quotient, or `IntegerDivisionByZero` for a divisor of 0.
             I64DivU,
-            /// [`i64_rem_s`](crate::wasm::i64_rem_s): The remainder, with the sign of `lhs`; 0 for the least number by -1.
+            /// [`i64_rem_s`](crate::wasm::i64_rem_s): The remainder, with the sign of `lhs`: 0 for the least number by -1; or `IntegerDivisionByZero` for a divisor of 0.
             I64RemS,
-            /// [`i64_rem_u`](crate::wasm::i64_rem_u): The remainder.
+            /// [`i64_rem_u`](crate::wasm::i64_rem_u): The remainder, or `IntegerDivisionByZero` for a divisor of 0.
             I64RemU,
             /// [`i64_eq`](crate::wasm::i64_eq): Whether `lhs` is `rhs`.
             I64Eq,

@@ -160,10 +160,8 @@ pub mod value {
         /// [Self.width]: trait@Integer#contract
         fn rotr(lhs: Self, rhs: Self) -> Self;
 
-        /// The quotient towards zero.
-        ///
-        /// `IntegerDivisionByZero` for a divisor of 0, then `IntegerOverflow` for the least number by
-        /// -1.
+        /// The quotient towards zero; `IntegerDivisionByZero` for a divisor of 0, then
+        /// `IntegerOverflow` for the least number by -1.
         ///
         /// # Contract
         ///
@@ -176,9 +174,7 @@ pub mod value {
         /// [Self.width]: trait@Integer#contract
         fn div_s(lhs: Self, rhs: Self) -> Result<Self, TrapCode>;
 
-        /// The quotient.
-        ///
-        /// `IntegerDivisionByZero` for a divisor of 0.
+        /// The quotient, or `IntegerDivisionByZero` for a divisor of 0.
         ///
         /// # Contract
         ///
@@ -191,8 +187,7 @@ pub mod value {
         /// [idiv_u]: crate::specs::scalar::Numerics#idiv_u "the quotient rounded down, or a trap where the divisor is 0"
         fn div_u(lhs: Self::Uint, rhs: Self::Uint) -> Result<Self::Uint, TrapCode>;
 
-        /// The remainder, with the sign of the dividend; 0 for the least number by -1.
-        ///
+        /// The remainder, with the sign of the dividend: 0 for the least number by -1; or
         /// `IntegerDivisionByZero` for a divisor of 0.
         ///
         /// # Contract
@@ -204,9 +199,7 @@ pub mod value {
         /// [irem_s]: crate::specs::scalar::Numerics#irem_s "the remainder of the quotient rounded towards zero, which has the sign of x, or a trap where the divisor is 0"
         fn rem_s(lhs: Self, rhs: Self) -> Result<Self, TrapCode>;
 
-        /// The remainder.
-        ///
-        /// `IntegerDivisionByZero` for a divisor of 0.
+        /// The remainder, or `IntegerDivisionByZero` for a divisor of 0.
         ///
         /// # Contract
         ///
@@ -381,40 +374,35 @@ pub mod value {
     impl SignExtendFrom<i8> for i32 {
         #[inline]
         fn sign_extend_from(self) -> i32 {
-            let low: i8 = self.wrap_into();
-            low as i32
+            <i32 as WrapInto<i8>>::wrap_into(self) as i32
         }
     }
 
     impl SignExtendFrom<i16> for i32 {
         #[inline]
         fn sign_extend_from(self) -> i32 {
-            let low: i16 = self.wrap_into();
-            low as i32
+            <i32 as WrapInto<i16>>::wrap_into(self) as i32
         }
     }
 
     impl SignExtendFrom<i8> for i64 {
         #[inline]
         fn sign_extend_from(self) -> i64 {
-            let low: i8 = self.wrap_into();
-            low as i64
+            <i64 as WrapInto<i8>>::wrap_into(self) as i64
         }
     }
 
     impl SignExtendFrom<i16> for i64 {
         #[inline]
         fn sign_extend_from(self) -> i64 {
-            let low: i16 = self.wrap_into();
-            low as i64
+            <i64 as WrapInto<i16>>::wrap_into(self) as i64
         }
     }
 
     impl SignExtendFrom<i32> for i64 {
         #[inline]
         fn sign_extend_from(self) -> i64 {
-            let low: i32 = self.wrap_into();
-            low as i64
+            <i64 as WrapInto<i32>>::wrap_into(self) as i64
         }
     }
 }
@@ -573,9 +561,8 @@ pub mod wasm {
         Integer::rotr(lhs, rhs)
     }
 
-    /// The quotient towards zero.
-    ///
-    /// `IntegerDivisionByZero` for a divisor of 0, then `IntegerOverflow` for the least number by -1.
+    /// The quotient towards zero; `IntegerDivisionByZero` for a divisor of 0, then `IntegerOverflow` for
+    /// the least number by -1.
     ///
     /// # Contract
     ///
@@ -588,9 +575,7 @@ pub mod wasm {
         Integer::div_s(lhs, rhs)
     }
 
-    /// The quotient.
-    ///
-    /// `IntegerDivisionByZero` for a divisor of 0.
+    /// The quotient, or `IntegerDivisionByZero` for a divisor of 0.
     ///
     /// # Contract
     ///
@@ -602,9 +587,8 @@ pub mod wasm {
         <i32 as Integer>::div_u(lhs, rhs)
     }
 
-    /// The remainder, with the sign of `lhs`; 0 for the least number by -1.
-    ///
-    /// `IntegerDivisionByZero` for a divisor of 0.
+    /// The remainder, with the sign of `lhs`: 0 for the least number by -1; or `IntegerDivisionByZero`
+    /// for a divisor of 0.
     ///
     /// # Contract
     ///
@@ -616,9 +600,7 @@ pub mod wasm {
         Integer::rem_s(lhs, rhs)
     }
 
-    /// The remainder.
-    ///
-    /// `IntegerDivisionByZero` for a divisor of 0.
+    /// The remainder, or `IntegerDivisionByZero` for a divisor of 0.
     ///
     /// # Contract
     ///
@@ -944,9 +926,8 @@ pub mod wasm {
         Integer::rotr(lhs, rhs)
     }
 
-    /// The quotient towards zero.
-    ///
-    /// `IntegerDivisionByZero` for a divisor of 0, then `IntegerOverflow` for the least number by -1.
+    /// The quotient towards zero; `IntegerDivisionByZero` for a divisor of 0, then `IntegerOverflow` for
+    /// the least number by -1.
     ///
     /// # Contract
     ///
@@ -959,9 +940,7 @@ pub mod wasm {
         Integer::div_s(lhs, rhs)
     }
 
-    /// The quotient.
-    ///
-    /// `IntegerDivisionByZero` for a divisor of 0.
+    /// The quotient, or `IntegerDivisionByZero` for a divisor of 0.
     ///
     /// # Contract
     ///
@@ -973,9 +952,8 @@ pub mod wasm {
         <i64 as Integer>::div_u(lhs, rhs)
     }
 
-    /// The remainder, with the sign of `lhs`; 0 for the least number by -1.
-    ///
-    /// `IntegerDivisionByZero` for a divisor of 0.
+    /// The remainder, with the sign of `lhs`: 0 for the least number by -1; or `IntegerDivisionByZero`
+    /// for a divisor of 0.
     ///
     /// # Contract
     ///
@@ -987,9 +965,7 @@ pub mod wasm {
         Integer::rem_s(lhs, rhs)
     }
 
-    /// The remainder.
-    ///
-    /// `IntegerDivisionByZero` for a divisor of 0.
+    /// The remainder, or `IntegerDivisionByZero` for a divisor of 0.
     ///
     /// # Contract
     ///
