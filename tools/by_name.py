@@ -26,7 +26,7 @@ FUNCTION = re.compile(r"((?:^///[^\n]*\n)+)(?:#\[[^\n]*\n)*^pub fn (\w+)\(([^)]*
 MODULES = {
     "scalar": ("The scalar instructions by name", ("SCALAR_UNARIES", "SCALAR_BINARIES"), "wasmi_scalar/src/wasm.rt", "wasmi_scalar", "wasm"),
     "loads": ("The loads by name", ("LOADS",), "wasmi_access/src/wasm.rt", "wasmi_access", "wasm"),
-    "vector_loads": ("The loads of vectors by name", ("VECTOR_LOADS",), "wasmi_vector_access/src/simd/*.rt", "wasmi_vector_access", "simd"),
+    "vector_loads": ("The loads of vectors by name", ("VECTOR_LOADS",), "wasmi_vector_access/src/simd.rt", "wasmi_vector_access", "simd"),
     "stores": ("The stores by name", ("STORES",), "wasmi_access/src/wasm.rt", "wasmi_access", "wasm"),
 }
 SHAPES = {"UNARY": ("SCALAR_UNARIES",), "BINARY": ("SCALAR_BINARIES",), "LOAD": ("LOADS", "VECTOR_LOADS"), "STORE": ("STORES",)}
