@@ -10,7 +10,7 @@ use Rattle.std.proofs.Math.Seq.{take-suc}
 use Rattle.std.specs.Int.{bytes_low_first, byte_at, byte_worth, sum_through, from_le_bytes, to_le_bytes, byte_len, Width, cast_signed, cast_unsigned, w8, w16, w32, w64, w128}
 use Rattle.wasmi_types.specs.Bytes.{number_of, le_bytes}
 use Rattle.wasmi_types.specs.Wrapping.{wrap}
-use Rattle.wasmi_access.proofs.WrapLemmas.{wrap_unsigned, wrap_signed}
+use Rattle.wasmi_access.proofs.WrapLemmas.{wrap_below, wrap_unsigned, wrap_signed}
 use lib.Arith.{mod-mul}
 
 -- ---- the bytes of a number
@@ -140,46 +140,25 @@ pub le_bytes-unsigned : (w : Width) (bs : List ℕ) (k n : ℕ) → n < 2 ^ bits
     → n ≡ sum_through (λ i. byte_worth i (get_or bs i 0)) k → le_bytes (suc k) (wrap w (pos n)) ≡ bs
 le_bytes-unsigned w bs k n below e h is = ap (le_bytes (suc k)) (wrap_unsigned w n below) ∙ le_bytes-whole bs k n e h is
 
--- as many numbers have the bytes of a width as its bits
-bytes_are_bits : (w : Width) → 256 ^ suc (byte_len w - 1) ≡ 2 ^ bits w
-bytes_are_bits w =
-    elim w as (λ v. 256 ^ suc (byte_len v - 1) ≡ 2 ^ bits v)
-    [ w8 ↦ refl | w16 ↦ refl | w32 ↦ refl | w64 ↦ refl | w128 ↦ refl ]
+-- the number below 2 to the power of a width is cut to it from the signed number with its bits
+pub wrap_of_bits : (w : Width) (n : ℕ) → n < 2 ^ bits w → wrap w (cast_signed w n) ≡ n
+wrap_of_bits w n below =
+    let fits_number : Fits w n = record { fits = below } in
+    wrap_signed w (cast_signed w n) (sfits_to_z fits_number) ∙ of_z-to_z w n below
 
--- a number of a signed type that was read of a list of bytes, as the code's calls say it
-module _ (w : Width) (bs : List ℕ) {z : ℤ} (is : z ≡ cast_signed w (from_le_bytes w bs))
-    (long : length bs ≡ suc (byte_len w - 1)) (each : (i : ℕ) → get_or bs i 0 < 256) where
-  -- cut to its width, it is the number of the list
-  pub number_of-signed : wrap w (cast_signed w (cast_unsigned w z)) ≡ number_of bs
-  number_of-signed =
-      let k = byte_len w - 1 in
-      let whole = sum_through (λ i. byte_worth i (get_or bs i 0)) k in
-      let below : whole < 2 ^ bits w =
-      let P : ℕ → Type 0 = λ m. m < 2 ^ bits w in
-      let Q : ℕ → Type 0 = λ m. number_of bs < m in
-      subst P (sym (number_of-whole bs k long))
-      (subst Q (ap (λ j. 256 ^ j) long ∙ bytes_are_bits w) (number_of-below bs each)) in
-      let fits_whole : Fits w whole = record { fits = below } in
-      let fits : SFits w z = subst (SFits w) (sym is) (sfits_to_z fits_whole) in
-      ap (wrap w) (to_z-of_z w z fits) ∙ wrap_signed w z fits ∙ ap (cast_unsigned w) is ∙ of_z-to_z w whole below
-      ∙ number_of-whole bs k long
+-- the unsigned number with the bits of a signed one is cut to the same number
+pub wrap_of_image : (w : Width) (z : ℤ) → SFits w z → wrap w (pos (cast_unsigned w z)) ≡ wrap w z
+wrap_of_image w z f =
+    ap (λ n. wrap w (pos n)) (sym (wrap_signed w z f)) ∙ wrap_unsigned w (wrap w z) (wrap_below w z)
 
-  -- and its bytes are the list
-  pub le_bytes-signed : le_bytes (suc (byte_len w - 1)) (wrap w (cast_signed w (cast_unsigned w z))) ≡ bs
-  le_bytes-signed =
-      let k = byte_len w - 1 in
-      ap (le_bytes (suc k)) number_of-signed ∙ le_bytes-number_of bs (suc k) long each
-
--- the bytes of an unsigned number are those of the number cut to its width
-pub bytes-unsigned : (w : Width) (n : ℕ) (bs : List ℕ) → n < 2 ^ bits w → bs ≡ to_le_bytes w n
-    → bs ≡ to_le_bytes w (wrap w (pos n))
-bytes-unsigned w n bs h e = e ∙ ap (to_le_bytes w) (sym (wrap_unsigned w n h))
-
--- the bytes of a signed number, as the code's calls say it, are those of the number cut to its width
-pub bytes-signed : (w : Width) (z : ℤ) (bs : List ℕ) → SFits w z
-    → bs ≡ to_le_bytes w (cast_unsigned w (cast_signed w (cast_unsigned w z))) → bs ≡ to_le_bytes w (wrap w z)
-bytes-signed w z bs f e =
-    e ∙ ap (λ y. to_le_bytes w (cast_unsigned w y)) (to_z-of_z w z f) ∙ ap (to_le_bytes w) (sym (wrap_signed w z f))
+-- the bytes of the signed number with the bits of a number are those of that number
+pub le_bytes-of_bits : (w : Width) (k n : ℕ) (z : ℤ) (bs : List ℕ) → n < 2 ^ bits w → z ≡ cast_signed w n
+    → le_bytes k (wrap w (pos n)) ≡ bs → le_bytes k (wrap w (cast_signed w (cast_unsigned w z))) ≡ bs
+le_bytes-of_bits w k n z bs below is bytes =
+    let fits_number : Fits w n = record { fits = below } in
+    let fits : SFits w z = subst (SFits w) (sym is) (sfits_to_z fits_number) in
+    ap (λ y. le_bytes k (wrap w y)) (to_z-of_z w z fits ∙ is)
+    ∙ ap (le_bytes k) (wrap_of_bits w n below ∙ sym (wrap_unsigned w n below)) ∙ bytes
 
 -- what holds at each width of a number
 pub record AtEachWidth (P : Width → Type 0) : Type 0 where
@@ -217,5 +196,8 @@ pub number_of_single : (b : ℕ) → number_of (b ∷ []) ≡ b
 unfolding number_of
 number_of_single b = omega arith
 
--- for `into_le_bytes` and `from_le_bytes`
+-- for the bytes of unsigned numbers
 pub ruleset byte_numbers = (number_of_whole, number_of_bytes_2, number_of_bytes_4, number_of_bytes_8, number_of_single)
+
+-- for the bytes of signed numbers, which are those of their unsigned images
+pub ruleset image_numbers = (wrap_of_bits, wrap_of_image, wrap_signed, to_z-of_z)

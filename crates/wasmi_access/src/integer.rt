@@ -75,72 +75,76 @@ impl LittleEndianConvert for u128 {
     ghost is_as_wide = { refl };
 }
 
+#[tactic(auto, using(crate::proofs::ByteLemmas::image_numbers))]
 impl LittleEndianConvert for i8 {
     type Bytes = [u8; 1];
 
     fn into_le_bytes(self) -> [u8; 1] {
-        self.to_le_bytes()
+        self.cast_unsigned().into_le_bytes()
     }
 
     fn from_le_bytes(bytes: [u8; 1]) -> i8 {
-        i8::from_le_bytes(bytes)
+        <u8 as LittleEndianConvert>::from_le_bytes(bytes).cast_signed()
     }
 
     ghost is_as_wide = { refl };
 }
 
+#[tactic(auto, using(crate::proofs::ByteLemmas::image_numbers))]
 impl LittleEndianConvert for i16 {
     type Bytes = [u8; 2];
 
     fn into_le_bytes(self) -> [u8; 2] {
-        self.to_le_bytes()
+        self.cast_unsigned().into_le_bytes()
     }
 
     fn from_le_bytes(bytes: [u8; 2]) -> i16 {
-        i16::from_le_bytes(bytes)
+        <u16 as LittleEndianConvert>::from_le_bytes(bytes).cast_signed()
     }
 
     ghost is_as_wide = { refl };
 }
 
+#[tactic(auto, using(crate::proofs::ByteLemmas::image_numbers))]
 impl LittleEndianConvert for i32 {
     type Bytes = [u8; 4];
 
     fn into_le_bytes(self) -> [u8; 4] {
-        self.to_le_bytes()
+        self.cast_unsigned().into_le_bytes()
     }
 
     fn from_le_bytes(bytes: [u8; 4]) -> i32 {
-        i32::from_le_bytes(bytes)
+        <u32 as LittleEndianConvert>::from_le_bytes(bytes).cast_signed()
     }
 
     ghost is_as_wide = { refl };
 }
 
+#[tactic(auto, using(crate::proofs::ByteLemmas::image_numbers))]
 impl LittleEndianConvert for i64 {
     type Bytes = [u8; 8];
 
-    #[tactic(auto, using(crate::proofs::ByteLemmas::number_of_bytes_8))]
     fn into_le_bytes(self) -> [u8; 8] {
-        self.to_le_bytes()
+        self.cast_unsigned().into_le_bytes()
     }
 
     fn from_le_bytes(bytes: [u8; 8]) -> i64 {
-        i64::from_le_bytes(bytes)
+        <u64 as LittleEndianConvert>::from_le_bytes(bytes).cast_signed()
     }
 
     ghost is_as_wide = { refl };
 }
 
+#[tactic(auto, using(crate::proofs::ByteLemmas::image_numbers))]
 impl LittleEndianConvert for i128 {
     type Bytes = [u8; 16];
 
     fn into_le_bytes(self) -> [u8; 16] {
-        self.to_le_bytes()
+        self.cast_unsigned().into_le_bytes()
     }
 
     fn from_le_bytes(bytes: [u8; 16]) -> i128 {
-        i128::from_le_bytes(bytes)
+        <u128 as LittleEndianConvert>::from_le_bytes(bytes).cast_signed()
     }
 
     ghost is_as_wide = { refl };

@@ -226,9 +226,8 @@ pub extern "C" fn wasm_i32_rotr(lhs: i32, rhs: i32) -> i32
     wasm::i32_rotr(lhs, rhs)
 }
 
-/// The quotient towards zero.
-///
-/// `IntegerDivisionByZero` for a divisor of 0, then `IntegerOverflow` for the least number by -1.
+/// The quotient towards zero; `IntegerDivisionByZero` for a divisor of 0, then `IntegerOverflow` for
+/// the least number by -1.
 #[unsafe(no_mangle)]
 pub extern "C" fn wasm_i32_div_s(lhs: i32, rhs: i32, value: &mut i32) -> u8
     ensures { Gives (idiv_s w32 lhs rhs) value.old value.new result }
@@ -236,9 +235,7 @@ pub extern "C" fn wasm_i32_div_s(lhs: i32, rhs: i32, value: &mut i32) -> u8
     leave_item(wasm::i32_div_s(lhs, rhs), value)
 }
 
-/// The quotient.
-///
-/// `IntegerDivisionByZero` for a divisor of 0.
+/// The quotient, or `IntegerDivisionByZero` for a divisor of 0.
 #[unsafe(no_mangle)]
 pub extern "C" fn wasm_i32_div_u(lhs: u32, rhs: u32, value: &mut u32) -> u8
     ensures { Gives (idiv_u lhs rhs) value.old value.new result }
@@ -246,9 +243,8 @@ pub extern "C" fn wasm_i32_div_u(lhs: u32, rhs: u32, value: &mut u32) -> u8
     leave_item(wasm::i32_div_u(lhs, rhs), value)
 }
 
-/// The remainder, with the sign of `lhs`; 0 for the least number by -1.
-///
-/// `IntegerDivisionByZero` for a divisor of 0.
+/// The remainder, with the sign of `lhs`: 0 for the least number by -1; or `IntegerDivisionByZero`
+/// for a divisor of 0.
 #[unsafe(no_mangle)]
 pub extern "C" fn wasm_i32_rem_s(lhs: i32, rhs: i32, value: &mut i32) -> u8
     ensures { Gives (irem_s lhs rhs) value.old value.new result }
@@ -256,9 +252,7 @@ pub extern "C" fn wasm_i32_rem_s(lhs: i32, rhs: i32, value: &mut i32) -> u8
     leave_item(wasm::i32_rem_s(lhs, rhs), value)
 }
 
-/// The remainder.
-///
-/// `IntegerDivisionByZero` for a divisor of 0.
+/// The remainder, or `IntegerDivisionByZero` for a divisor of 0.
 #[unsafe(no_mangle)]
 pub extern "C" fn wasm_i32_rem_u(lhs: u32, rhs: u32, value: &mut u32) -> u8
     ensures { Gives (irem_u lhs rhs) value.old value.new result }
@@ -434,9 +428,8 @@ pub extern "C" fn wasm_i64_rotr(lhs: i64, rhs: i64) -> i64
     wasm::i64_rotr(lhs, rhs)
 }
 
-/// The quotient towards zero.
-///
-/// `IntegerDivisionByZero` for a divisor of 0, then `IntegerOverflow` for the least number by -1.
+/// The quotient towards zero; `IntegerDivisionByZero` for a divisor of 0, then `IntegerOverflow` for
+/// the least number by -1.
 #[unsafe(no_mangle)]
 pub extern "C" fn wasm_i64_div_s(lhs: i64, rhs: i64, value: &mut i64) -> u8
     ensures { Gives (idiv_s w64 lhs rhs) value.old value.new result }
@@ -444,9 +437,7 @@ pub extern "C" fn wasm_i64_div_s(lhs: i64, rhs: i64, value: &mut i64) -> u8
     leave_item(wasm::i64_div_s(lhs, rhs), value)
 }
 
-/// The quotient.
-///
-/// `IntegerDivisionByZero` for a divisor of 0.
+/// The quotient, or `IntegerDivisionByZero` for a divisor of 0.
 #[unsafe(no_mangle)]
 pub extern "C" fn wasm_i64_div_u(lhs: u64, rhs: u64, value: &mut u64) -> u8
     ensures { Gives (idiv_u lhs rhs) value.old value.new result }
@@ -454,9 +445,8 @@ pub extern "C" fn wasm_i64_div_u(lhs: u64, rhs: u64, value: &mut u64) -> u8
     leave_item(wasm::i64_div_u(lhs, rhs), value)
 }
 
-/// The remainder, with the sign of `lhs`; 0 for the least number by -1.
-///
-/// `IntegerDivisionByZero` for a divisor of 0.
+/// The remainder, with the sign of `lhs`: 0 for the least number by -1; or `IntegerDivisionByZero`
+/// for a divisor of 0.
 #[unsafe(no_mangle)]
 pub extern "C" fn wasm_i64_rem_s(lhs: i64, rhs: i64, value: &mut i64) -> u8
     ensures { Gives (irem_s lhs rhs) value.old value.new result }
@@ -464,9 +454,7 @@ pub extern "C" fn wasm_i64_rem_s(lhs: i64, rhs: i64, value: &mut i64) -> u8
     leave_item(wasm::i64_rem_s(lhs, rhs), value)
 }
 
-/// The remainder.
-///
-/// `IntegerDivisionByZero` for a divisor of 0.
+/// The remainder, or `IntegerDivisionByZero` for a divisor of 0.
 #[unsafe(no_mangle)]
 pub extern "C" fn wasm_i64_rem_u(lhs: u64, rhs: u64, value: &mut u64) -> u8
     ensures { Gives (irem_u lhs rhs) value.old value.new result }

@@ -1,2 +1,2 @@
-mod WideLemmas
-mod ScalarAccessLemmas
+pub mod WideLemmas
+pub mod ScalarAccessLemmas

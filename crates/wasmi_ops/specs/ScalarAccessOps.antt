@@ -29,52 +29,43 @@ zero_extended w narrow bytes a = as_raw (signed_raw w) (loaded (bits narrow / 8)
 abbrev pub unextended : Width → RawLoad
 unextended w bytes a = as_raw raw_of (loaded (bits w / 8) (λ number. number) bytes a)
 
+-- each load: its name, and the load
+abbrev pub load_row : LoadOp → List ℕ × RawLoad
+load_row load.I32Load8S = (codes "i32_load8_s", sign_extended w32 w8)
+load_row load.I32Load8U = (codes "i32_load8_u", zero_extended w32 w8)
+load_row load.I32Load16S = (codes "i32_load16_s", sign_extended w32 w16)
+load_row load.I32Load16U = (codes "i32_load16_u", zero_extended w32 w16)
+load_row load.I64Load8S = (codes "i64_load8_s", sign_extended w64 w8)
+load_row load.I64Load8U = (codes "i64_load8_u", zero_extended w64 w8)
+load_row load.I64Load16S = (codes "i64_load16_s", sign_extended w64 w16)
+load_row load.I64Load16U = (codes "i64_load16_u", zero_extended w64 w16)
+load_row load.I64Load32S = (codes "i64_load32_s", sign_extended w64 w32)
+load_row load.I64Load32U = (codes "i64_load32_u", zero_extended w64 w32)
+load_row load.LoadU32 = (codes "load_u32", unextended w32)
+load_row load.LoadU64 = (codes "load_u64", unextended w64)
+
 -- the load of each instruction
 abbrev pub loaded_raw : LoadOp → RawLoad
-loaded_raw load.I32Load8S = sign_extended w32 w8
-loaded_raw load.I32Load8U = zero_extended w32 w8
-loaded_raw load.I32Load16S = sign_extended w32 w16
-loaded_raw load.I32Load16U = zero_extended w32 w16
-loaded_raw load.I64Load8S = sign_extended w64 w8
-loaded_raw load.I64Load8U = zero_extended w64 w8
-loaded_raw load.I64Load16S = sign_extended w64 w16
-loaded_raw load.I64Load16U = zero_extended w64 w16
-loaded_raw load.I64Load32S = sign_extended w64 w32
-loaded_raw load.I64Load32U = zero_extended w64 w32
-loaded_raw load.LoadU32 = unextended w32
-loaded_raw load.LoadU64 = unextended w64
-
--- the bytes that a store writes: the low ones of the value
-abbrev pub stored_bytes : StoreOp → RawVal → List ℕ
-stored_bytes store.I32Store8 value = le_bytes 1 (value.lo % 2 ^ 8)
-stored_bytes store.I32Store16 value = le_bytes 2 (value.lo % 2 ^ 16)
-stored_bytes store.I64Store8 value = le_bytes 1 (value.lo % 2 ^ 8)
-stored_bytes store.I64Store16 value = le_bytes 2 (value.lo % 2 ^ 16)
-stored_bytes store.I64Store32 value = le_bytes 4 (value.lo % 2 ^ 32)
-stored_bytes store.Store32 value = le_bytes 4 (value.lo % 2 ^ 32)
-stored_bytes store.Store64 value = le_bytes 8 value.lo
+loaded_raw op = (load_row op).1
 
 -- the name of a scalar load
 abbrev pub load_name : LoadOp → List ℕ
-load_name load.I32Load8S = codes "i32_load8_s"
-load_name load.I32Load8U = codes "i32_load8_u"
-load_name load.I32Load16S = codes "i32_load16_s"
-load_name load.I32Load16U = codes "i32_load16_u"
-load_name load.I64Load8S = codes "i64_load8_s"
-load_name load.I64Load8U = codes "i64_load8_u"
-load_name load.I64Load16S = codes "i64_load16_s"
-load_name load.I64Load16U = codes "i64_load16_u"
-load_name load.I64Load32S = codes "i64_load32_s"
-load_name load.I64Load32U = codes "i64_load32_u"
-load_name load.LoadU32 = codes "load_u32"
-load_name load.LoadU64 = codes "load_u64"
+load_name op = (load_row op).0
+
+-- each store: its name, and the bytes that it writes, the low ones of the value
+abbrev pub store_row : StoreOp → List ℕ × (RawVal → List ℕ)
+store_row store.I32Store8 = (codes "i32_store8", λ value. le_bytes 1 (value.lo % 2 ^ 8))
+store_row store.I32Store16 = (codes "i32_store16", λ value. le_bytes 2 (value.lo % 2 ^ 16))
+store_row store.I64Store8 = (codes "i64_store8", λ value. le_bytes 1 (value.lo % 2 ^ 8))
+store_row store.I64Store16 = (codes "i64_store16", λ value. le_bytes 2 (value.lo % 2 ^ 16))
+store_row store.I64Store32 = (codes "i64_store32", λ value. le_bytes 4 (value.lo % 2 ^ 32))
+store_row store.Store32 = (codes "store32", λ value. le_bytes 4 (value.lo % 2 ^ 32))
+store_row store.Store64 = (codes "store64", λ value. le_bytes 8 value.lo)
+
+-- the bytes that a store writes: the low ones of the value
+abbrev pub stored_bytes : StoreOp → RawVal → List ℕ
+stored_bytes op = (store_row op).1
 
 -- the name of a scalar store
 abbrev pub store_name : StoreOp → List ℕ
-store_name store.I32Store8 = codes "i32_store8"
-store_name store.I32Store16 = codes "i32_store16"
-store_name store.I64Store8 = codes "i64_store8"
-store_name store.I64Store16 = codes "i64_store16"
-store_name store.I64Store32 = codes "i64_store32"
-store_name store.Store32 = codes "store32"
-store_name store.Store64 = codes "store64"
+store_name op = (store_row op).0

@@ -8,10 +8,8 @@ pub mod laws;
 mod number;
 mod raw;
 mod raw_ref;
-mod read;
-mod read_back;
+mod read_write;
 mod vector;
-mod write;
 
 pub use float::{F32, F64};
 pub use number::Number;

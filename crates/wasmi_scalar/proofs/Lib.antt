@@ -1,3 +1,1 @@
 pub mod NumericsLemmas
-pub mod ShiftLemmas
-pub mod WideLemmas

@@ -82,30 +82,23 @@ pub trait Integer: Unsigned + Number {
     fn rotr(lhs: Self, rhs: Self) -> Self
         ensures { Self.number result ≡ irotr Self.width (Self.number lhs) (Self.number rhs) };
 
-    /// The quotient towards zero.
-    ///
-    /// `IntegerDivisionByZero` for a divisor of 0, then `IntegerOverflow` for the least number by
-    /// -1.
+    /// The quotient towards zero; `IntegerDivisionByZero` for a divisor of 0, then
+    /// `IntegerOverflow` for the least number by -1.
     fn div_s(lhs: Self, rhs: Self) -> Result<Self, TrapCode>
         ensures { GivesNumber Self.number result
             (idiv_s Self.width (Self.number lhs) (Self.number rhs)) };
 
-    /// The quotient.
-    ///
-    /// `IntegerDivisionByZero` for a divisor of 0.
+    /// The quotient, or `IntegerDivisionByZero` for a divisor of 0.
     fn div_u(lhs: Self::Uint, rhs: Self::Uint) -> Result<Self::Uint, TrapCode>
         ensures { GivesNumber (λ n. unsigned_abs (Self.Uint.number n)) result
             (idiv_u (unsigned_abs (Self.Uint.number lhs)) (unsigned_abs (Self.Uint.number rhs))) };
 
-    /// The remainder, with the sign of the dividend; 0 for the least number by -1.
-    ///
+    /// The remainder, with the sign of the dividend: 0 for the least number by -1; or
     /// `IntegerDivisionByZero` for a divisor of 0.
     fn rem_s(lhs: Self, rhs: Self) -> Result<Self, TrapCode>
         ensures { GivesNumber Self.number result (irem_s (Self.number lhs) (Self.number rhs)) };
 
-    /// The remainder.
-    ///
-    /// `IntegerDivisionByZero` for a divisor of 0.
+    /// The remainder, or `IntegerDivisionByZero` for a divisor of 0.
     fn rem_u(lhs: Self::Uint, rhs: Self::Uint) -> Result<Self::Uint, TrapCode>
         ensures { GivesNumber (λ n. unsigned_abs (Self.Uint.number n)) result
             (irem_u (unsigned_abs (Self.Uint.number lhs)) (unsigned_abs (Self.Uint.number rhs))) };
@@ -247,6 +240,7 @@ impl Integer for i64 {
 
 // The amount of a shift or a rotation, modulo the width.
 #[inline(always)]
+#[tactic(auto, using(crate::proofs::NumericsLemmas::amount_is))]
 fn amount(rhs: i64) -> u32
     ensures { result ≡ amount_modulo w64 rhs }
 {
@@ -255,35 +249,30 @@ fn amount(rhs: i64) -> u32
 
 impl SignExtendFrom<i8> for i32 {
     fn sign_extend_from(self) -> i32 {
-        let low: i8 = self.wrap_into();
-        low as i32
+        <i32 as WrapInto<i8>>::wrap_into(self) as i32
     }
 }
 
 impl SignExtendFrom<i16> for i32 {
     fn sign_extend_from(self) -> i32 {
-        let low: i16 = self.wrap_into();
-        low as i32
+        <i32 as WrapInto<i16>>::wrap_into(self) as i32
     }
 }
 
 impl SignExtendFrom<i8> for i64 {
     fn sign_extend_from(self) -> i64 {
-        let low: i8 = self.wrap_into();
-        low as i64
+        <i64 as WrapInto<i8>>::wrap_into(self) as i64
     }
 }
 
 impl SignExtendFrom<i16> for i64 {
     fn sign_extend_from(self) -> i64 {
-        let low: i16 = self.wrap_into();
-        low as i64
+        <i64 as WrapInto<i16>>::wrap_into(self) as i64
     }
 }
 
 impl SignExtendFrom<i32> for i64 {
     fn sign_extend_from(self) -> i64 {
-        let low: i32 = self.wrap_into();
-        low as i64
+        <i64 as WrapInto<i32>>::wrap_into(self) as i64
     }
 }

@@ -1,5 +1,8 @@
--- The order of function types, place by place.
+-- The order of function types, place by place, and the parts of their entries.
 use Rattle.std.proofs.Common.{◌≡◌, ℕ, Bool, true, false, not, List, [], ◌∷◌, length, map, refl, ap, subst, ◌∙◌, nat_le, if◌then◌else◌}
+use Rattle.std.proofs.Math.Seq.{take-append_seam, drop-append_seam}
+use Rattle.std.proofs.lemmas.Grind.{common_steps}
+use Rattle.std.proofs.lemmas.List.{drop-take}
 use Rattle.std.specs.declared.cmp.Ordering.{Ordering}
 use Rattle.std.specs.declared.cmp.Ordering.TheVariants.{Less, Equal, Greater}
 use Rattle.std.specs.Ordering.{bool_cmp, nat_cmp, ordering_then, is_eq}
@@ -75,3 +78,9 @@ function_type_cmp-equal a b = (
       ((bytes_decides (order_key a) (order_key b)).0 (texts_ties (order_key a) (order_key b) ∙ ap is_eq e)),
   λ e. subst (λ ty. function_type_cmp a ty ≡ Equal) e (tied_itself (on_texts order_key) a),
 )
+
+-- for `params_results`: the first part of the entries, and the rest
+pub ruleset parts = (take-append_seam, drop-append_seam)
+
+-- for `from_entries`: what follows the parameters among the entries that stand inline
+pub ruleset inline_parts = (common_steps, drop-take)

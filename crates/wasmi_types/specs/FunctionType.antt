@@ -1,11 +1,14 @@
--- A function type is the pair of its lists of parameters and results (core specification 2.3, function types).
-use Rattle.std.specs.Prelude.{ℕ, ◌+◌, Bool, ◌&&◌, List, ◌∷◌, ◌++◌, length, map, nat_le, if◌then◌else◌}
+-- A function type is the pair of its lists of parameters and results (core specification 2.3), and how it is kept.
+use Rattle.std.specs.Prelude.{ℕ, ◌+◌, Bool, ◌&&◌, List, ◌∷◌, ◌++◌, length, map, nat_le, if◌then◌else◌, ◌≡◌, ◌<◌, ◌≤◌, take, drop}
 use Rattle.std.specs.Cmp.Lexicographic.{pointwise, slice_cmp}
 use Rattle.std.specs.Hash.{slice}
 use Rattle.std.specs.Ordering.{nat_cmp, on}
 use Rattle.std.specs.declared.cmp.Ordering.{Ordering}
 use Rattle.wasmi_types.specs.declared.value.ValType.{ValType}
 use Rattle.wasmi_types.specs.declared.value.ValType.TheVariants.{I32, I64, F32, F64, V128, FuncRef, ExternRef}
+use Rattle.std.specs.Rc.{rc_slice_items}
+use Rattle.wasmi_types.specs.declared.func_type.FuncTypeInner.{FuncTypeInner}
+use Rattle.wasmi_types.specs.declared.func_type.FuncTypeInner.TheVariants.{Inline, Big}
 
 -- the parameters and the results of a function
 pub record FunctionType : Type 0 where
@@ -49,3 +52,17 @@ function_type_cmp = on order_key (slice_cmp nat_cmp)
 -- what a function type gives to a hasher: the parameters, then the results
 abbrev pub lists_input : (ValType → List (List ℕ)) → FunctionType → List (List ℕ)
 lists_input input ty = slice input ty.params ++ slice input ty.results
+
+-- the function type that is kept
+abbrev pub function_type_of : FuncTypeInner → FunctionType
+function_type_of (Inline params results types) =
+    record { params = take params types; results = take results (drop params types) }
+function_type_of (Big params types) =
+    record { params = take params (rc_slice_items types); results = drop params (rc_slice_items types) }
+
+-- at most 21 entries stand inline, and more on the heap, of at most 1,000 parameters and 1,000 results
+abbrev pub IsKept : FuncTypeInner → Type 0
+IsKept (Inline params results types) = (params + results ≤ 21) × (length types ≡ 21)
+IsKept (Big params types) =
+    (21 < length (rc_slice_items types)) × (params ≤ 1000) × (params ≤ length (rc_slice_items types))
+    × (length (rc_slice_items types) ≤ params + 1000)

@@ -1,4 +1,4 @@
--- Two function types have one order key exactly if both of their lists are the same.
+-- Two function types have one order key exactly if both of their lists are the same; equal value types are one.
 use Rattle.std.specs.Prelude.{◌≡◌, ℕ, zero, suc, Bool, true, false, ◌&&◌, List, [], ◌∷◌, length, map, take, drop, slice_index, nat_le, if◌then◌else◌, refl}
 use Rattle.std.proofs.Common.{ap, sym, ◌∙◌, arith}
 use Rattle.std.proofs.Math.Seq.{take-append_seam, drop-append_seam}
@@ -9,6 +9,8 @@ use Rattle.std.specs.Cmp.Lexicographic.{pointwise_decides, bytes_decides, lists_
 use Rattle.wasmi_types.specs.declared.value.ValType.{ValType}
 use Rattle.wasmi_types.specs.declared.value.ValType.TheVariants.{I32, I64, F32, F64, V128, FuncRef, ExternRef}
 use Rattle.wasmi_types.specs.FunctionType.{FunctionType, entries, entry_count, same_lists, type_number, order_key, function_type_cmp}
+use denote.Enum.Bare.{sameb, same_true, true_same}
+use Rattle.wasmi_types.specs.contracts.value.ValType.{the_type}
 
 -- the value type at a place
 type_at : ℕ → ValType
@@ -88,3 +90,6 @@ module _ {E : ValType → ValType → Bool} (decides : (x y : ValType) → Decid
   -- the same function types have the same of anything
   pub same_lists_alike : {B : Type 0} (f : FunctionType → B) (a b : FunctionType) → same_lists E a b ≡ true → f a ≡ f b
   same_lists_alike f a b e = ap f ((same_lists_decides a b).0 e)
+
+pub same_type_decides : (x y : ValType) → Decides (sameb the_type x y) (x ≡ y)
+same_type_decides x y = (same_true the_type tt x y, true_same the_type x y)

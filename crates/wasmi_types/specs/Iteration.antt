@@ -6,15 +6,15 @@ use Rattle.std.specs.Iterator.{YieldsThen}
 abbrev pub EachBecomes : {X I : Type 0} → (X → I → Type 0) → X → (I → Type 0) → Type 0
 EachBecomes {X} {I} becomes x Fact = (it : I) → becomes x it → Fact it
 
-module _ {I A : Type 0} (most : ℕ) (steps : I → Option A → I → Type 0) where
-  -- calls from s to t gave the items xs, at most so many, and then the end
-  pub record ReadsAll (s : I) (xs : List A) (t : I) : Type 0 where
+-- calls from s to t gave the items xs, at most so many, and then the end
+pub record ReadsAll {I A : Type 0} (most : ℕ) (steps : I → Option A → I → Type 0) (s : I) (xs : List A) (t : I) : Type 0
+  where
     pub run : YieldsThen steps s xs None t
     pub short : length xs ≤ most
 
-  -- calls from s to t gave so many items and one more
-  pub record ReadsTooMany (s t : I) : Type 0 where
-    pub items : List A
-    pub last : A
-    pub run : YieldsThen steps s items (Some last) t
-    pub full : length items ≡ most
+-- calls from s to t gave so many items and one more
+pub record ReadsTooMany {I A : Type 0} (most : ℕ) (steps : I → Option A → I → Type 0) (s t : I) : Type 0 where
+  pub items : List A
+  pub last : A
+  pub run : YieldsThen steps s items (Some last) t
+  pub full : length items ≡ most

@@ -6,9 +6,7 @@ pub mod IndexType
 pub mod Trap
 pub mod TrapReason
 pub mod FunctionType
-pub mod FuncTypeInner
 pub mod Iteration
 pub mod Reading
 pub mod FunctionTypeProofs
-pub mod ValTypeProofs
 pub mod FuncTypeError

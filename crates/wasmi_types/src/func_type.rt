@@ -6,8 +6,7 @@ ghost use Rattle.std.specs.Cmp.Lexicographic.{on_texts};
 ghost use Rattle.std.specs.Ordering.{as_partial_cmp};
 ghost use Rattle.std.proofs.Common.{refl};
 ghost use Rattle.wasmi_types.specs.FunctionType.{entries, entry_count, same_lists, order_key, function_type_cmp, lists_input};
-ghost use Rattle.wasmi_types.specs.FunctionTypeProofs.{same_lists_equiv, same_lists_by_cmp, same_lists_alike};
-ghost use Rattle.wasmi_types.specs.ValTypeProofs.{same_type_decides};
+ghost use Rattle.wasmi_types.specs.FunctionTypeProofs.{same_lists_equiv, same_lists_by_cmp, same_lists_alike, same_type_decides};
 
 use crate::ValType;
 use std::alloc::{AllocError, Global};
@@ -80,8 +79,7 @@ const MAX_LEN: u16 = 1_000;
 const INLINE_SIZE: usize = 21;
 
 impl Model for FuncType {
-    ghost use Rattle.wasmi_types.specs.FunctionType.{FunctionType};
-    ghost use Rattle.wasmi_types.specs.FuncTypeInner.{function_type_of, IsKept};
+    ghost use Rattle.wasmi_types.specs.FunctionType.{FunctionType, function_type_of, IsKept};
 
     ghost Value = { FunctionType };
 
@@ -147,6 +145,7 @@ impl FuncType {
     }
 
     /// The function type of entries of which so many are parameters.
+    #[tactic(auto, using(crate::proofs::FunctionTypeOrderLemmas::inline_parts))]
     fn from_entries(
         alloc: Global,
         entries: &Entries,
@@ -217,6 +216,7 @@ impl FuncType {
     }
 
     /// The types of the parameters, and those of the results.
+    #[tactic(auto, using(crate::proofs::FunctionTypeOrderLemmas::parts))]
     pub fn params_results(&self) -> (&[ValType], &[ValType])
         ensures params { result.0.now ≡ self.now.params }
         ensures results { result.1.now ≡ self.now.results }

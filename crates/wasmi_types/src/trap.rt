@@ -6,10 +6,14 @@ ghost use Rattle.std.specs.Borrow.{sem, LendsIf};
 ghost use Rattle.wasmi_types.specs.Trap.{code_number, code_message, IsCodeOf};
 ghost use Rattle.wasmi_types.specs.declared.trap.TrapReason.TheVariants as reason;
 
-use crate::HostError;
 use std::error::Error;
 use std::fmt;
 use std::marker::Model;
+
+/// An error of the host, which a [`Trap`] can carry.
+///
+/// Upstream: `wasmi_core::HostError`.
+pub trait HostError: fmt::Display + fmt::Debug + Drop {}
 
 /// Why a call of WebAssembly code or of the host ended early: a trap code, an exit status, a
 /// message or an error of the host. It stands in the value, and nothing is allocated for it.

@@ -622,12 +622,12 @@ mod integer {
 
         #[inline]
         fn into_le_bytes(self) -> [u8; 1] {
-            self.to_le_bytes()
+            self.cast_unsigned().into_le_bytes()
         }
 
         #[inline]
         fn from_le_bytes(bytes: [u8; 1]) -> i8 {
-            i8::from_le_bytes(bytes)
+            <u8 as LittleEndianConvert>::from_le_bytes(bytes).cast_signed()
         }
     }
 
@@ -636,12 +636,12 @@ mod integer {
 
         #[inline]
         fn into_le_bytes(self) -> [u8; 2] {
-            self.to_le_bytes()
+            self.cast_unsigned().into_le_bytes()
         }
 
         #[inline]
         fn from_le_bytes(bytes: [u8; 2]) -> i16 {
-            i16::from_le_bytes(bytes)
+            <u16 as LittleEndianConvert>::from_le_bytes(bytes).cast_signed()
         }
     }
 
@@ -650,12 +650,12 @@ mod integer {
 
         #[inline]
         fn into_le_bytes(self) -> [u8; 4] {
-            self.to_le_bytes()
+            self.cast_unsigned().into_le_bytes()
         }
 
         #[inline]
         fn from_le_bytes(bytes: [u8; 4]) -> i32 {
-            i32::from_le_bytes(bytes)
+            <u32 as LittleEndianConvert>::from_le_bytes(bytes).cast_signed()
         }
     }
 
@@ -664,12 +664,12 @@ mod integer {
 
         #[inline]
         fn into_le_bytes(self) -> [u8; 8] {
-            self.to_le_bytes()
+            self.cast_unsigned().into_le_bytes()
         }
 
         #[inline]
         fn from_le_bytes(bytes: [u8; 8]) -> i64 {
-            i64::from_le_bytes(bytes)
+            <u64 as LittleEndianConvert>::from_le_bytes(bytes).cast_signed()
         }
     }
 
@@ -678,12 +678,12 @@ mod integer {
 
         #[inline]
         fn into_le_bytes(self) -> [u8; 16] {
-            self.to_le_bytes()
+            self.cast_unsigned().into_le_bytes()
         }
 
         #[inline]
         fn from_le_bytes(bytes: [u8; 16]) -> i128 {
-            i128::from_le_bytes(bytes)
+            <u128 as LittleEndianConvert>::from_le_bytes(bytes).cast_signed()
         }
     }
 }

@@ -616,7 +616,7 @@ view = λ ty. function_type_of ty.inner
 invariant = λ ty. IsKept ty.inner
 ```
 
-Definitions: [`FunctionType`](crate::specs::types::FunctionType#FunctionType), [`function_type_of`](crate::specs::types::FuncTypeInner#function_type_of), [`IsKept`](crate::specs::types::FuncTypeInner#IsKept).
+Definitions: [`FunctionType`](crate::specs::types::FunctionType#FunctionType), [`function_type_of`](crate::specs::types::FunctionType#function_type_of), [`IsKept`](crate::specs::types::FunctionType#IsKept).
 "#### };
     (types FuncType.len_params) => { r####"How many parameters there are.
 

@@ -734,11 +734,13 @@ mod raw_ref {
         }
     }
 }
-mod read {
-    //! Reading a raw value, by type.
+mod read_write {
+    //! Reading and writing a raw value, by type, and what is read after a write.
 
-    use crate::proved::raw::raw::{RawVal, ReadAs};
+    use crate::proved::raw::number::Number;
+    use crate::proved::raw::raw::{OneWord, RawVal, ReadAs, ReadBack, WriteAs};
     use crate::proved::raw::vector::V128;
+    use core::num::NonZero;
 
     /// # Contract
     ///
@@ -895,14 +897,6 @@ mod read {
             self.lo != 0
         }
     }
-}
-mod read_back {
-    //! What is read after a write, by type.
-
-    use crate::proved::raw::number::Number;
-    use crate::proved::raw::raw::{OneWord, RawVal, ReadBack};
-    use crate::proved::raw::vector::V128;
-    use core::num::NonZero;
 
     /// # Contract
     ///
@@ -1046,97 +1040,6 @@ mod read_back {
     impl OneWord for NonZero<u32> {}
 
     impl OneWord for NonZero<u64> {}
-}
-mod vector {
-    //! The 128-bit value that vector instructions work on.
-
-    /// A vector of 128 bits, which contracts see as a number below 2^128.
-    ///
-    /// It is kept as two words of 64 bits. Upstream: `wasmi_core::V128`.
-    ///
-    /// # Model
-    ///
-    /// ```text
-    /// Value = ℕ
-    /// view = λ vector. vector_of vector.low vector.high
-    /// invariant = λ vector. vector.low < 2 ^ 64
-    /// inverse = λ number. record { low = number % 2 ^ 64; high = number / 2 ^ 64 }
-    /// ```
-    ///
-    /// Definitions: [`vector_of`](crate::specs::raw::Vector#vector_of).
-    #[doc = examples!(raw V128)]
-    #[derive(Clone, Copy, PartialEq, Eq)]
-    pub struct V128 {
-        low: u64,
-        high: u64,
-    }
-
-    impl V128 {
-        /// The vector whose bits 0 to 63 are `low` and whose bits 64 to 127 are `high`.
-        ///
-        /// # Contract
-        ///
-        /// ```text
-        /// ensures: result ≡ vector_of low high
-        /// ```
-        ///
-        /// Definitions: [`vector_of`](crate::specs::raw::Vector#vector_of).
-        #[inline]
-        pub(crate) fn from_word_pair(low: u64, high: u64) -> V128 {
-            V128 { low, high }
-        }
-
-        /// Bits 0 to 63, and bits 64 to 127.
-        ///
-        /// # Contract
-        ///
-        /// ```text
-        /// ensures whole: self ≡ vector_of result.0 result.1
-        /// ensures low: result.0 ≡ self % 2 ^ 64
-        /// ensures high: result.1 ≡ self / 2 ^ 64
-        /// ```
-        ///
-        /// Definitions: [`vector_of`](crate::specs::raw::Vector#vector_of).
-        #[inline]
-        pub(crate) fn words(self) -> (u64, u64) {
-            (self.low, self.high)
-        }
-
-        /// The number, whose lowest byte is the first of the vector.
-        ///
-        /// # Contract
-        ///
-        /// ```text
-        /// ensures value: result ≡ self
-        /// ensures in_range: self < 2 ^ 128
-        /// ```
-        #[inline]
-        pub fn as_u128(&self) -> u128 {
-            (u128::from(self.high) << 64) | u128::from(self.low)
-        }
-    }
-
-    /// # Contract
-    ///
-    /// ```text
-    /// from_gives = λ number vector. vector ≡ number
-    /// ```
-    impl From<u128> for V128 {
-        #[inline]
-        fn from(number: u128) -> V128 {
-            V128 {
-                low: (number & 0xffff_ffff_ffff_ffff) as u64,
-                high: (number >> 64) as u64,
-            }
-        }
-    }
-}
-mod write {
-    //! Writing to a raw value, by type.
-
-    use crate::proved::raw::raw::{RawVal, WriteAs};
-    use crate::proved::raw::vector::V128;
-    use core::num::NonZero;
 
     /// # Contract
     ///
@@ -1399,6 +1302,90 @@ mod write {
         #[inline]
         fn write_as(&mut self, value: V128) {
             *self = RawVal::from(value);
+        }
+    }
+}
+mod vector {
+    //! The 128-bit value that vector instructions work on.
+
+    /// A vector of 128 bits, which contracts see as a number below 2^128.
+    ///
+    /// It is kept as two words of 64 bits. Upstream: `wasmi_core::V128`.
+    ///
+    /// # Model
+    ///
+    /// ```text
+    /// Value = ℕ
+    /// view = λ vector. vector_of vector.low vector.high
+    /// invariant = λ vector. vector.low < 2 ^ 64
+    /// inverse = λ number. record { low = number % 2 ^ 64; high = number / 2 ^ 64 }
+    /// ```
+    ///
+    /// Definitions: [`vector_of`](crate::specs::raw::Vector#vector_of).
+    #[doc = examples!(raw V128)]
+    #[derive(Clone, Copy, PartialEq, Eq)]
+    pub struct V128 {
+        low: u64,
+        high: u64,
+    }
+
+    impl V128 {
+        /// The vector whose bits 0 to 63 are `low` and whose bits 64 to 127 are `high`.
+        ///
+        /// # Contract
+        ///
+        /// ```text
+        /// ensures: result ≡ vector_of low high
+        /// ```
+        ///
+        /// Definitions: [`vector_of`](crate::specs::raw::Vector#vector_of).
+        #[inline]
+        pub(crate) fn from_word_pair(low: u64, high: u64) -> V128 {
+            V128 { low, high }
+        }
+
+        /// Bits 0 to 63, and bits 64 to 127.
+        ///
+        /// # Contract
+        ///
+        /// ```text
+        /// ensures whole: self ≡ vector_of result.0 result.1
+        /// ensures low: result.0 ≡ self % 2 ^ 64
+        /// ensures high: result.1 ≡ self / 2 ^ 64
+        /// ```
+        ///
+        /// Definitions: [`vector_of`](crate::specs::raw::Vector#vector_of).
+        #[inline]
+        pub(crate) fn words(self) -> (u64, u64) {
+            (self.low, self.high)
+        }
+
+        /// The number, whose lowest byte is the first of the vector.
+        ///
+        /// # Contract
+        ///
+        /// ```text
+        /// ensures value: result ≡ self
+        /// ensures in_range: self < 2 ^ 128
+        /// ```
+        #[inline]
+        pub fn as_u128(&self) -> u128 {
+            (u128::from(self.high) << 64) | u128::from(self.low)
+        }
+    }
+
+    /// # Contract
+    ///
+    /// ```text
+    /// from_gives = λ number vector. vector ≡ number
+    /// ```
+    impl From<u128> for V128 {
+        #[inline]
+        fn from(number: u128) -> V128 {
+            V128 {
+                low: (number & 0xffff_ffff_ffff_ffff) as u64,
+                high: (number >> 64) as u64,
+            }
         }
     }
 }

@@ -157,10 +157,8 @@ pub mod value {
         /// Definitions: [`irotr`](crate::specs::scalar::Numerics#irotr).
         fn rotr(lhs: Self, rhs: Self) -> Self;
 
-        /// The quotient towards zero.
-        ///
-        /// `IntegerDivisionByZero` for a divisor of 0, then `IntegerOverflow` for the least number by
-        /// -1.
+        /// The quotient towards zero; `IntegerDivisionByZero` for a divisor of 0, then
+        /// `IntegerOverflow` for the least number by -1.
         ///
         /// # Contract
         ///
@@ -172,9 +170,7 @@ pub mod value {
         /// Definitions: [`GivesNumber`](crate::specs::accesses::LoadStore#GivesNumber), [`idiv_s`](crate::specs::scalar::Numerics#idiv_s).
         fn div_s(lhs: Self, rhs: Self) -> Result<Self, TrapCode>;
 
-        /// The quotient.
-        ///
-        /// `IntegerDivisionByZero` for a divisor of 0.
+        /// The quotient, or `IntegerDivisionByZero` for a divisor of 0.
         ///
         /// # Contract
         ///
@@ -186,8 +182,7 @@ pub mod value {
         /// Definitions: [`GivesNumber`](crate::specs::accesses::LoadStore#GivesNumber), [`idiv_u`](crate::specs::scalar::Numerics#idiv_u).
         fn div_u(lhs: Self::Uint, rhs: Self::Uint) -> Result<Self::Uint, TrapCode>;
 
-        /// The remainder, with the sign of the dividend; 0 for the least number by -1.
-        ///
+        /// The remainder, with the sign of the dividend: 0 for the least number by -1; or
         /// `IntegerDivisionByZero` for a divisor of 0.
         ///
         /// # Contract
@@ -199,9 +194,7 @@ pub mod value {
         /// Definitions: [`GivesNumber`](crate::specs::accesses::LoadStore#GivesNumber), [`irem_s`](crate::specs::scalar::Numerics#irem_s).
         fn rem_s(lhs: Self, rhs: Self) -> Result<Self, TrapCode>;
 
-        /// The remainder.
-        ///
-        /// `IntegerDivisionByZero` for a divisor of 0.
+        /// The remainder, or `IntegerDivisionByZero` for a divisor of 0.
         ///
         /// # Contract
         ///
@@ -376,40 +369,35 @@ pub mod value {
     impl SignExtendFrom<i8> for i32 {
         #[inline]
         fn sign_extend_from(self) -> i32 {
-            let low: i8 = self.wrap_into();
-            low as i32
+            <i32 as WrapInto<i8>>::wrap_into(self) as i32
         }
     }
 
     impl SignExtendFrom<i16> for i32 {
         #[inline]
         fn sign_extend_from(self) -> i32 {
-            let low: i16 = self.wrap_into();
-            low as i32
+            <i32 as WrapInto<i16>>::wrap_into(self) as i32
         }
     }
 
     impl SignExtendFrom<i8> for i64 {
         #[inline]
         fn sign_extend_from(self) -> i64 {
-            let low: i8 = self.wrap_into();
-            low as i64
+            <i64 as WrapInto<i8>>::wrap_into(self) as i64
         }
     }
 
     impl SignExtendFrom<i16> for i64 {
         #[inline]
         fn sign_extend_from(self) -> i64 {
-            let low: i16 = self.wrap_into();
-            low as i64
+            <i64 as WrapInto<i16>>::wrap_into(self) as i64
         }
     }
 
     impl SignExtendFrom<i32> for i64 {
         #[inline]
         fn sign_extend_from(self) -> i64 {
-            let low: i32 = self.wrap_into();
-            low as i64
+            <i64 as WrapInto<i32>>::wrap_into(self) as i64
         }
     }
 }
@@ -579,9 +567,8 @@ pub mod wasm {
         Integer::rotr(lhs, rhs)
     }
 
-    /// The quotient towards zero.
-    ///
-    /// `IntegerDivisionByZero` for a divisor of 0, then `IntegerOverflow` for the least number by -1.
+    /// The quotient towards zero; `IntegerDivisionByZero` for a divisor of 0, then `IntegerOverflow` for
+    /// the least number by -1.
     ///
     /// # Contract
     ///
@@ -595,9 +582,7 @@ pub mod wasm {
         Integer::div_s(lhs, rhs)
     }
 
-    /// The quotient.
-    ///
-    /// `IntegerDivisionByZero` for a divisor of 0.
+    /// The quotient, or `IntegerDivisionByZero` for a divisor of 0.
     ///
     /// # Contract
     ///
@@ -611,9 +596,8 @@ pub mod wasm {
         <i32 as Integer>::div_u(lhs, rhs)
     }
 
-    /// The remainder, with the sign of `lhs`; 0 for the least number by -1.
-    ///
-    /// `IntegerDivisionByZero` for a divisor of 0.
+    /// The remainder, with the sign of `lhs`: 0 for the least number by -1; or `IntegerDivisionByZero`
+    /// for a divisor of 0.
     ///
     /// # Contract
     ///
@@ -627,9 +611,7 @@ pub mod wasm {
         Integer::rem_s(lhs, rhs)
     }
 
-    /// The remainder.
-    ///
-    /// `IntegerDivisionByZero` for a divisor of 0.
+    /// The remainder, or `IntegerDivisionByZero` for a divisor of 0.
     ///
     /// # Contract
     ///
@@ -993,9 +975,8 @@ pub mod wasm {
         Integer::rotr(lhs, rhs)
     }
 
-    /// The quotient towards zero.
-    ///
-    /// `IntegerDivisionByZero` for a divisor of 0, then `IntegerOverflow` for the least number by -1.
+    /// The quotient towards zero; `IntegerDivisionByZero` for a divisor of 0, then `IntegerOverflow` for
+    /// the least number by -1.
     ///
     /// # Contract
     ///
@@ -1009,9 +990,7 @@ pub mod wasm {
         Integer::div_s(lhs, rhs)
     }
 
-    /// The quotient.
-    ///
-    /// `IntegerDivisionByZero` for a divisor of 0.
+    /// The quotient, or `IntegerDivisionByZero` for a divisor of 0.
     ///
     /// # Contract
     ///
@@ -1025,9 +1004,8 @@ pub mod wasm {
         <i64 as Integer>::div_u(lhs, rhs)
     }
 
-    /// The remainder, with the sign of `lhs`; 0 for the least number by -1.
-    ///
-    /// `IntegerDivisionByZero` for a divisor of 0.
+    /// The remainder, with the sign of `lhs`: 0 for the least number by -1; or `IntegerDivisionByZero`
+    /// for a divisor of 0.
     ///
     /// # Contract
     ///
@@ -1041,9 +1019,7 @@ pub mod wasm {
         Integer::rem_s(lhs, rhs)
     }
 
-    /// The remainder.
-    ///
-    /// `IntegerDivisionByZero` for a divisor of 0.
+    /// The remainder, or `IntegerDivisionByZero` for a divisor of 0.
     ///
     /// # Contract
     ///

@@ -47,39 +47,18 @@ abbrev pub <b id="func_type_error_text">func_type_error_text</b> : FuncTypeError
 </code></pre>
 "####]
     pub mod FuncTypeError {}
-    #[doc = r####"How a function type is kept: inline where it is small, and on the heap otherwise.
+    #[doc = r####"A function type is the pair of its lists of parameters and results (core specification 2.3), and how it is kept.
 
-<pre><code>use Rattle.std.specs.Prelude.{◌≡◌, ◌+◌, ◌&lt;◌, ◌≤◌, length, take, drop}
-use Rattle.std.specs.Rc.{rc_slice_items}
-use Rattle.wasmi_types.specs.declared.func_type.FuncTypeInner.{FuncTypeInner}
-use Rattle.wasmi_types.specs.declared.func_type.FuncTypeInner.TheVariants.{Inline, Big}
-use Rattle.wasmi_types.specs.FunctionType.{<a href="../../types/FunctionType/index.html#FunctionType">FunctionType</a>}
-
--- the function type that is kept
-abbrev pub <b id="function_type_of">function_type_of</b> : FuncTypeInner → <a href="../../types/FunctionType/index.html#FunctionType">FunctionType</a>
-<a href="../../types/FuncTypeInner/index.html#function_type_of">function_type_of</a> (Inline params results types) =
-    record { params = take params types; results = take results (drop params types) }
-<a href="../../types/FuncTypeInner/index.html#function_type_of">function_type_of</a> (Big params types) =
-    record { params = take params (rc_slice_items types); results = drop params (rc_slice_items types) }
-
--- at most 21 entries stand inline, and more on the heap, of at most 1,000 parameters and 1,000 results
-abbrev pub <b id="IsKept">IsKept</b> : FuncTypeInner → Type 0
-<a href="../../types/FuncTypeInner/index.html#IsKept">IsKept</a> (Inline params results types) = (params + results ≤ 21) × (length types ≡ 21)
-<a href="../../types/FuncTypeInner/index.html#IsKept">IsKept</a> (Big params types) =
-    (21 &lt; length (rc_slice_items types)) × (params ≤ 1000) × (params ≤ length (rc_slice_items types))
-    × (length (rc_slice_items types) ≤ params + 1000)
-</code></pre>
-"####]
-    pub mod FuncTypeInner {}
-    #[doc = r####"A function type is the pair of its lists of parameters and results (core specification 2.3, function types).
-
-<pre><code>use Rattle.std.specs.Prelude.{ℕ, ◌+◌, Bool, ◌&amp;&amp;◌, List, ◌∷◌, ◌++◌, length, map, nat_le, if◌then◌else◌}
+<pre><code>use Rattle.std.specs.Prelude.{ℕ, ◌+◌, Bool, ◌&amp;&amp;◌, List, ◌∷◌, ◌++◌, length, map, nat_le, if◌then◌else◌, ◌≡◌, ◌&lt;◌, ◌≤◌, take, drop}
 use Rattle.std.specs.Cmp.Lexicographic.{pointwise, slice_cmp}
 use Rattle.std.specs.Hash.{slice}
 use Rattle.std.specs.Ordering.{nat_cmp, on}
 use Rattle.std.specs.declared.cmp.Ordering.{Ordering}
 use Rattle.wasmi_types.specs.declared.value.ValType.{ValType}
 use Rattle.wasmi_types.specs.declared.value.ValType.TheVariants.{I32, I64, F32, F64, V128, FuncRef, ExternRef}
+use Rattle.std.specs.Rc.{rc_slice_items}
+use Rattle.wasmi_types.specs.declared.func_type.FuncTypeInner.{FuncTypeInner}
+use Rattle.wasmi_types.specs.declared.func_type.FuncTypeInner.TheVariants.{Inline, Big}
 
 -- the parameters and the results of a function
 pub record <b id="FunctionType">FunctionType</b> : Type 0 where
@@ -123,10 +102,24 @@ abbrev pub <b id="function_type_cmp">function_type_cmp</b> : <a href="../../type
 -- what a function type gives to a hasher: the parameters, then the results
 abbrev pub <b id="lists_input">lists_input</b> : (ValType → List (List ℕ)) → <a href="../../types/FunctionType/index.html#FunctionType">FunctionType</a> → List (List ℕ)
 <a href="../../types/FunctionType/index.html#lists_input">lists_input</a> input ty = slice input ty.params ++ slice input ty.results
+
+-- the function type that is kept
+abbrev pub <b id="function_type_of">function_type_of</b> : FuncTypeInner → <a href="../../types/FunctionType/index.html#FunctionType">FunctionType</a>
+<a href="../../types/FunctionType/index.html#function_type_of">function_type_of</a> (Inline <a href="../../types/FunctionType/index.html#params">params</a> <a href="../../types/FunctionType/index.html#results">results</a> types) =
+    record { <a href="../../types/FunctionType/index.html#params">params</a> = take <a href="../../types/FunctionType/index.html#params">params</a> types; <a href="../../types/FunctionType/index.html#results">results</a> = take <a href="../../types/FunctionType/index.html#results">results</a> (drop <a href="../../types/FunctionType/index.html#params">params</a> types) }
+<a href="../../types/FunctionType/index.html#function_type_of">function_type_of</a> (Big <a href="../../types/FunctionType/index.html#params">params</a> types) =
+    record { <a href="../../types/FunctionType/index.html#params">params</a> = take <a href="../../types/FunctionType/index.html#params">params</a> (rc_slice_items types); <a href="../../types/FunctionType/index.html#results">results</a> = drop <a href="../../types/FunctionType/index.html#params">params</a> (rc_slice_items types) }
+
+-- at most 21 entries stand inline, and more on the heap, of at most 1,000 parameters and 1,000 results
+abbrev pub <b id="IsKept">IsKept</b> : FuncTypeInner → Type 0
+<a href="../../types/FunctionType/index.html#IsKept">IsKept</a> (Inline <a href="../../types/FunctionType/index.html#params">params</a> <a href="../../types/FunctionType/index.html#results">results</a> types) = (<a href="../../types/FunctionType/index.html#params">params</a> + <a href="../../types/FunctionType/index.html#results">results</a> ≤ 21) × (length types ≡ 21)
+<a href="../../types/FunctionType/index.html#IsKept">IsKept</a> (Big <a href="../../types/FunctionType/index.html#params">params</a> types) =
+    (21 &lt; length (rc_slice_items types)) × (<a href="../../types/FunctionType/index.html#params">params</a> ≤ 1000) × (<a href="../../types/FunctionType/index.html#params">params</a> ≤ length (rc_slice_items types))
+    × (length (rc_slice_items types) ≤ <a href="../../types/FunctionType/index.html#params">params</a> + 1000)
 </code></pre>
 "####]
     pub mod FunctionType {}
-    #[doc = r####"Two function types have one order key exactly if both of their lists are the same.
+    #[doc = r####"Two function types have one order key exactly if both of their lists are the same; equal value types are one.
 
 <pre><code>use Rattle.std.specs.Prelude.{◌≡◌, ℕ, zero, suc, Bool, true, false, ◌&amp;&amp;◌, List, [], ◌∷◌, length, map, take, drop, slice_index, nat_le, if◌then◌else◌, refl}
 use Rattle.std.proofs.Common.{ap, sym, ◌∙◌, arith}
@@ -138,6 +131,8 @@ use Rattle.std.specs.Cmp.Lexicographic.{pointwise_decides, bytes_decides, lists_
 use Rattle.wasmi_types.specs.declared.value.ValType.{ValType}
 use Rattle.wasmi_types.specs.declared.value.ValType.TheVariants.{I32, I64, F32, F64, V128, FuncRef, ExternRef}
 use Rattle.wasmi_types.specs.FunctionType.{<a href="../../types/FunctionType/index.html#FunctionType">FunctionType</a>, <a href="../../types/FunctionType/index.html#entries">entries</a>, <a href="../../types/FunctionType/index.html#entry_count">entry_count</a>, <a href="../../types/FunctionType/index.html#same_lists">same_lists</a>, <a href="../../types/FunctionType/index.html#type_number">type_number</a>, <a href="../../types/FunctionType/index.html#order_key">order_key</a>, <a href="../../types/FunctionType/index.html#function_type_cmp">function_type_cmp</a>}
+use denote.Enum.Bare.{sameb, same_true, true_same}
+use Rattle.wasmi_types.specs.contracts.value.ValType.{the_type}
 
 -- the value type at a place
 type_at : ℕ → ValType
@@ -217,6 +212,9 @@ module _ {E : ValType → ValType → Bool} (decides : (x y : ValType) → Decid
   -- the same function types have the same of anything
   pub <b id="same_lists_alike">same_lists_alike</b> : {B : Type 0} (f : <a href="../../types/FunctionType/index.html#FunctionType">FunctionType</a> → B) (a b : <a href="../../types/FunctionType/index.html#FunctionType">FunctionType</a>) → <a href="../../types/FunctionType/index.html#same_lists">same_lists</a> E a b ≡ true → f a ≡ f b
   <a href="../../types/FunctionTypeProofs/index.html#same_lists_alike">same_lists_alike</a> f a b e = ap f ((<a href="../../types/FunctionTypeProofs/index.html#same_lists_decides">same_lists_decides</a> a b).0 e)
+
+pub <b id="same_type_decides">same_type_decides</b> : (x y : ValType) → Decides (sameb the_type x y) (x ≡ y)
+<a href="../../types/FunctionTypeProofs/index.html#same_type_decides">same_type_decides</a> x y = (same_true the_type tt x y, true_same the_type x y)
 </code></pre>
 "####]
     pub mod FunctionTypeProofs {}
@@ -224,25 +222,25 @@ module _ {E : ValType → ValType → Bool} (decides : (x y : ValType) → Decid
 
 <pre><code>use Rattle.std.specs.Prelude.{ℕ}
 use Rattle.wasmi_types.specs.declared.index_ty.IndexType.{IndexType}
-use Rattle.wasmi_types.specs.declared.index_ty.IndexType.TheVariants.{I32, I64}
+use Rattle.wasmi_types.specs.declared.index_ty.IndexType.TheVariants as index
 use Rattle.wasmi_types.specs.declared.value.ValType.{ValType}
-use Rattle.wasmi_types.specs.declared.value.ValType.TheVariants as value
+use Rattle.wasmi_types.specs.declared.value.ValType.TheVariants as types
 
 -- the value type of an address
 abbrev pub <b id="address_type">address_type</b> : IndexType → ValType
-<a href="../../types/IndexType/index.html#address_type">address_type</a> I32 = value.I32
-<a href="../../types/IndexType/index.html#address_type">address_type</a> I64 = value.I64
+<a href="../../types/IndexType/index.html#address_type">address_type</a> index.I32 = types.I32
+<a href="../../types/IndexType/index.html#address_type">address_type</a> index.I64 = types.I64
 
 -- how many bits an address has
 abbrev pub <b id="address_bits">address_bits</b> : IndexType → ℕ
-<a href="../../types/IndexType/index.html#address_bits">address_bits</a> I32 = 32
-<a href="../../types/IndexType/index.html#address_bits">address_bits</a> I64 = 64
+<a href="../../types/IndexType/index.html#address_bits">address_bits</a> index.I32 = 32
+<a href="../../types/IndexType/index.html#address_bits">address_bits</a> index.I64 = 64
 
 -- the narrower of two address types
 abbrev pub <b id="narrower">narrower</b> : IndexType → IndexType → IndexType
-<a href="../../types/IndexType/index.html#narrower">narrower</a> I64 I64 = I64
-<a href="../../types/IndexType/index.html#narrower">narrower</a> I64 I32 = I32
-<a href="../../types/IndexType/index.html#narrower">narrower</a> I32 _ = I32
+<a href="../../types/IndexType/index.html#narrower">narrower</a> index.I64 index.I64 = index.I64
+<a href="../../types/IndexType/index.html#narrower">narrower</a> index.I64 index.I32 = index.I32
+<a href="../../types/IndexType/index.html#narrower">narrower</a> index.I32 _ = index.I32
 </code></pre>
 "####]
     pub mod IndexType {}
@@ -255,18 +253,18 @@ use Rattle.std.specs.Iterator.{YieldsThen}
 abbrev pub <b id="EachBecomes">EachBecomes</b> : {X I : Type 0} → (X → I → Type 0) → X → (I → Type 0) → Type 0
 <a href="../../types/Iteration/index.html#EachBecomes">EachBecomes</a> {X} {I} becomes x Fact = (it : I) → becomes x it → Fact it
 
-module _ {I A : Type 0} (most : ℕ) (steps : I → Option A → I → Type 0) where
-  -- calls from s to t gave the items xs, at most so many, and then the end
-  pub record <b id="ReadsAll">ReadsAll</b> (s : I) (xs : List A) (t : I) : Type 0 where
+-- calls from s to t gave the items xs, at most so many, and then the end
+pub record <b id="ReadsAll">ReadsAll</b> {I A : Type 0} (most : ℕ) (steps : I → Option A → I → Type 0) (s : I) (xs : List A) (t : I) : Type 0
+  where
     pub <b id="run">run</b> : YieldsThen steps s xs None t
     pub <b id="short">short</b> : length xs ≤ most
 
-  -- calls from s to t gave so many items and one more
-  pub record <b id="ReadsTooMany">ReadsTooMany</b> (s t : I) : Type 0 where
-    pub <b id="items">items</b> : List A
-    pub <b id="last">last</b> : A
-    pub <b id="run">run</b> : YieldsThen steps s <a href="../../types/Iteration/index.html#items">items</a> (Some <a href="../../types/Iteration/index.html#last">last</a>) t
-    pub <b id="full">full</b> : length <a href="../../types/Iteration/index.html#items">items</a> ≡ most
+-- calls from s to t gave so many items and one more
+pub record <b id="ReadsTooMany">ReadsTooMany</b> {I A : Type 0} (most : ℕ) (steps : I → Option A → I → Type 0) (s t : I) : Type 0 where
+  pub <b id="items">items</b> : List A
+  pub <b id="last">last</b> : A
+  pub <b id="run">run</b> : YieldsThen steps s <a href="../../types/Iteration/index.html#items">items</a> (Some <a href="../../types/Iteration/index.html#last">last</a>) t
+  pub <b id="full">full</b> : length <a href="../../types/Iteration/index.html#items">items</a> ≡ most
 </code></pre>
 "####]
     pub mod Iteration {}
@@ -444,19 +442,6 @@ abbrev pub <b id="text_of">text_of</b> : {H : Type 0} → (H → Option (List �
 </code></pre>
 "####]
     pub mod TrapReason {}
-    #[doc = r####"The derived equality of value types decides whether two are the same.
-
-<pre><code>use Rattle.std.specs.Prelude.{◌≡◌}
-use Rattle.std.specs.Bool.{Decides}
-use denote.Enum.Bare.{sameb, same_true, true_same}
-use Rattle.wasmi_types.specs.declared.value.ValType.{ValType}
-use Rattle.wasmi_types.specs.contracts.value.ValType.{the_type}
-
-pub <b id="same_type_decides">same_type_decides</b> : (x y : ValType) → Decides (sameb the_type x y) (x ≡ y)
-<a href="../../types/ValTypeProofs/index.html#same_type_decides">same_type_decides</a> x y = (same_true the_type tt x y, true_same the_type x y)
-</code></pre>
-"####]
-    pub mod ValTypeProofs {}
     #[doc = r####"Which value types are number types, and which are reference types.
 
 <pre><code>use Rattle.std.specs.Prelude.{Bool, true, false, Option, Some, None}
@@ -1528,203 +1513,112 @@ use Rattle.wasmi_simd.specs.WideningTable as widening
 use Rattle.wasmi_ops.specs.declared.vector.binary.BinaryOp.{BinaryOp}
 use Rattle.wasmi_ops.specs.declared.vector.binary.BinaryOp.TheVariants as binary
 
+-- each instruction of two vectors: its name, and what it gives
+abbrev pub <b id="binary_row">binary_row</b> : BinaryOp → List ℕ × (ℕ → ℕ → ℕ)
+<a href="../../ops/BinaryOps/index.html#binary_row">binary_row</a> binary.I8x16Add = (codes "i8x16_add", <a href="../../lanewise/VectorTable/index.html#add">vector.add</a> w8)
+<a href="../../ops/BinaryOps/index.html#binary_row">binary_row</a> binary.I16x8Add = (codes "i16x8_add", <a href="../../lanewise/VectorTable/index.html#add">vector.add</a> w16)
+<a href="../../ops/BinaryOps/index.html#binary_row">binary_row</a> binary.I32x4Add = (codes "i32x4_add", <a href="../../lanewise/VectorTable/index.html#add">vector.add</a> w32)
+<a href="../../ops/BinaryOps/index.html#binary_row">binary_row</a> binary.I64x2Add = (codes "i64x2_add", <a href="../../lanewise/VectorTable/index.html#add">vector.add</a> w64)
+<a href="../../ops/BinaryOps/index.html#binary_row">binary_row</a> binary.I8x16Sub = (codes "i8x16_sub", <a href="../../lanewise/VectorTable/index.html#sub">vector.sub</a> w8)
+<a href="../../ops/BinaryOps/index.html#binary_row">binary_row</a> binary.I16x8Sub = (codes "i16x8_sub", <a href="../../lanewise/VectorTable/index.html#sub">vector.sub</a> w16)
+<a href="../../ops/BinaryOps/index.html#binary_row">binary_row</a> binary.I32x4Sub = (codes "i32x4_sub", <a href="../../lanewise/VectorTable/index.html#sub">vector.sub</a> w32)
+<a href="../../ops/BinaryOps/index.html#binary_row">binary_row</a> binary.I64x2Sub = (codes "i64x2_sub", <a href="../../lanewise/VectorTable/index.html#sub">vector.sub</a> w64)
+<a href="../../ops/BinaryOps/index.html#binary_row">binary_row</a> binary.I8x16Mul = (codes "i8x16_mul", <a href="../../lanewise/VectorTable/index.html#mul">vector.mul</a> w8)
+<a href="../../ops/BinaryOps/index.html#binary_row">binary_row</a> binary.I16x8Mul = (codes "i16x8_mul", <a href="../../lanewise/VectorTable/index.html#mul">vector.mul</a> w16)
+<a href="../../ops/BinaryOps/index.html#binary_row">binary_row</a> binary.I32x4Mul = (codes "i32x4_mul", <a href="../../lanewise/VectorTable/index.html#mul">vector.mul</a> w32)
+<a href="../../ops/BinaryOps/index.html#binary_row">binary_row</a> binary.I64x2Mul = (codes "i64x2_mul", <a href="../../lanewise/VectorTable/index.html#mul">vector.mul</a> w64)
+<a href="../../ops/BinaryOps/index.html#binary_row">binary_row</a> binary.I8x16AddSatS = (codes "i8x16_add_sat_s", <a href="../../lanewise/VectorTable/index.html#add_sat_s">vector.add_sat_s</a> w8)
+<a href="../../ops/BinaryOps/index.html#binary_row">binary_row</a> binary.I8x16AddSatU = (codes "i8x16_add_sat_u", <a href="../../lanewise/VectorTable/index.html#add_sat_u">vector.add_sat_u</a> w8)
+<a href="../../ops/BinaryOps/index.html#binary_row">binary_row</a> binary.I16x8AddSatS = (codes "i16x8_add_sat_s", <a href="../../lanewise/VectorTable/index.html#add_sat_s">vector.add_sat_s</a> w16)
+<a href="../../ops/BinaryOps/index.html#binary_row">binary_row</a> binary.I16x8AddSatU = (codes "i16x8_add_sat_u", <a href="../../lanewise/VectorTable/index.html#add_sat_u">vector.add_sat_u</a> w16)
+<a href="../../ops/BinaryOps/index.html#binary_row">binary_row</a> binary.I8x16SubSatS = (codes "i8x16_sub_sat_s", <a href="../../lanewise/VectorTable/index.html#sub_sat_s">vector.sub_sat_s</a> w8)
+<a href="../../ops/BinaryOps/index.html#binary_row">binary_row</a> binary.I8x16SubSatU = (codes "i8x16_sub_sat_u", <a href="../../lanewise/VectorTable/index.html#sub_sat_u">vector.sub_sat_u</a> w8)
+<a href="../../ops/BinaryOps/index.html#binary_row">binary_row</a> binary.I16x8SubSatS = (codes "i16x8_sub_sat_s", <a href="../../lanewise/VectorTable/index.html#sub_sat_s">vector.sub_sat_s</a> w16)
+<a href="../../ops/BinaryOps/index.html#binary_row">binary_row</a> binary.I16x8SubSatU = (codes "i16x8_sub_sat_u", <a href="../../lanewise/VectorTable/index.html#sub_sat_u">vector.sub_sat_u</a> w16)
+<a href="../../ops/BinaryOps/index.html#binary_row">binary_row</a> binary.I16x8Q15mulrSatS = (codes "i16x8_q15mulr_sat_s", <a href="../../lanewise/VectorTable/index.html#q15mulr_sat_s">vector.q15mulr_sat_s</a>)
+<a href="../../ops/BinaryOps/index.html#binary_row">binary_row</a> binary.I8x16MinS = (codes "i8x16_min_s", <a href="../../lanewise/VectorTable/index.html#min_s">vector.min_s</a> w8)
+<a href="../../ops/BinaryOps/index.html#binary_row">binary_row</a> binary.I8x16MinU = (codes "i8x16_min_u", <a href="../../lanewise/VectorTable/index.html#min_u">vector.min_u</a> w8)
+<a href="../../ops/BinaryOps/index.html#binary_row">binary_row</a> binary.I16x8MinS = (codes "i16x8_min_s", <a href="../../lanewise/VectorTable/index.html#min_s">vector.min_s</a> w16)
+<a href="../../ops/BinaryOps/index.html#binary_row">binary_row</a> binary.I16x8MinU = (codes "i16x8_min_u", <a href="../../lanewise/VectorTable/index.html#min_u">vector.min_u</a> w16)
+<a href="../../ops/BinaryOps/index.html#binary_row">binary_row</a> binary.I32x4MinS = (codes "i32x4_min_s", <a href="../../lanewise/VectorTable/index.html#min_s">vector.min_s</a> w32)
+<a href="../../ops/BinaryOps/index.html#binary_row">binary_row</a> binary.I32x4MinU = (codes "i32x4_min_u", <a href="../../lanewise/VectorTable/index.html#min_u">vector.min_u</a> w32)
+<a href="../../ops/BinaryOps/index.html#binary_row">binary_row</a> binary.I8x16MaxS = (codes "i8x16_max_s", <a href="../../lanewise/VectorTable/index.html#max_s">vector.max_s</a> w8)
+<a href="../../ops/BinaryOps/index.html#binary_row">binary_row</a> binary.I8x16MaxU = (codes "i8x16_max_u", <a href="../../lanewise/VectorTable/index.html#max_u">vector.max_u</a> w8)
+<a href="../../ops/BinaryOps/index.html#binary_row">binary_row</a> binary.I16x8MaxS = (codes "i16x8_max_s", <a href="../../lanewise/VectorTable/index.html#max_s">vector.max_s</a> w16)
+<a href="../../ops/BinaryOps/index.html#binary_row">binary_row</a> binary.I16x8MaxU = (codes "i16x8_max_u", <a href="../../lanewise/VectorTable/index.html#max_u">vector.max_u</a> w16)
+<a href="../../ops/BinaryOps/index.html#binary_row">binary_row</a> binary.I32x4MaxS = (codes "i32x4_max_s", <a href="../../lanewise/VectorTable/index.html#max_s">vector.max_s</a> w32)
+<a href="../../ops/BinaryOps/index.html#binary_row">binary_row</a> binary.I32x4MaxU = (codes "i32x4_max_u", <a href="../../lanewise/VectorTable/index.html#max_u">vector.max_u</a> w32)
+<a href="../../ops/BinaryOps/index.html#binary_row">binary_row</a> binary.I8x16AvgrU = (codes "i8x16_avgr_u", <a href="../../lanewise/VectorTable/index.html#avgr_u">vector.avgr_u</a> w8)
+<a href="../../ops/BinaryOps/index.html#binary_row">binary_row</a> binary.I16x8AvgrU = (codes "i16x8_avgr_u", <a href="../../lanewise/VectorTable/index.html#avgr_u">vector.avgr_u</a> w16)
+<a href="../../ops/BinaryOps/index.html#binary_row">binary_row</a> binary.V128And = (codes "v128_and", <a href="../../lanewise/VectorTable/index.html#v128_and">vector.v128_and</a>)
+<a href="../../ops/BinaryOps/index.html#binary_row">binary_row</a> binary.V128Or = (codes "v128_or", <a href="../../lanewise/VectorTable/index.html#v128_or">vector.v128_or</a>)
+<a href="../../ops/BinaryOps/index.html#binary_row">binary_row</a> binary.V128Xor = (codes "v128_xor", <a href="../../lanewise/VectorTable/index.html#v128_xor">vector.v128_xor</a>)
+<a href="../../ops/BinaryOps/index.html#binary_row">binary_row</a> binary.V128Andnot = (codes "v128_andnot", <a href="../../lanewise/VectorTable/index.html#v128_andnot">vector.v128_andnot</a>)
+<a href="../../ops/BinaryOps/index.html#binary_row">binary_row</a> binary.I8x16Eq = (codes "i8x16_eq", <a href="../../lanewise/VectorTable/index.html#eq">vector.eq</a> w8)
+<a href="../../ops/BinaryOps/index.html#binary_row">binary_row</a> binary.I16x8Eq = (codes "i16x8_eq", <a href="../../lanewise/VectorTable/index.html#eq">vector.eq</a> w16)
+<a href="../../ops/BinaryOps/index.html#binary_row">binary_row</a> binary.I32x4Eq = (codes "i32x4_eq", <a href="../../lanewise/VectorTable/index.html#eq">vector.eq</a> w32)
+<a href="../../ops/BinaryOps/index.html#binary_row">binary_row</a> binary.I64x2Eq = (codes "i64x2_eq", <a href="../../lanewise/VectorTable/index.html#eq">vector.eq</a> w64)
+<a href="../../ops/BinaryOps/index.html#binary_row">binary_row</a> binary.I8x16Ne = (codes "i8x16_ne", <a href="../../lanewise/VectorTable/index.html#ne">vector.ne</a> w8)
+<a href="../../ops/BinaryOps/index.html#binary_row">binary_row</a> binary.I16x8Ne = (codes "i16x8_ne", <a href="../../lanewise/VectorTable/index.html#ne">vector.ne</a> w16)
+<a href="../../ops/BinaryOps/index.html#binary_row">binary_row</a> binary.I32x4Ne = (codes "i32x4_ne", <a href="../../lanewise/VectorTable/index.html#ne">vector.ne</a> w32)
+<a href="../../ops/BinaryOps/index.html#binary_row">binary_row</a> binary.I64x2Ne = (codes "i64x2_ne", <a href="../../lanewise/VectorTable/index.html#ne">vector.ne</a> w64)
+<a href="../../ops/BinaryOps/index.html#binary_row">binary_row</a> binary.I8x16LtS = (codes "i8x16_lt_s", <a href="../../lanewise/VectorTable/index.html#lt_s">vector.lt_s</a> w8)
+<a href="../../ops/BinaryOps/index.html#binary_row">binary_row</a> binary.I16x8LtS = (codes "i16x8_lt_s", <a href="../../lanewise/VectorTable/index.html#lt_s">vector.lt_s</a> w16)
+<a href="../../ops/BinaryOps/index.html#binary_row">binary_row</a> binary.I32x4LtS = (codes "i32x4_lt_s", <a href="../../lanewise/VectorTable/index.html#lt_s">vector.lt_s</a> w32)
+<a href="../../ops/BinaryOps/index.html#binary_row">binary_row</a> binary.I64x2LtS = (codes "i64x2_lt_s", <a href="../../lanewise/VectorTable/index.html#lt_s">vector.lt_s</a> w64)
+<a href="../../ops/BinaryOps/index.html#binary_row">binary_row</a> binary.I8x16LtU = (codes "i8x16_lt_u", <a href="../../lanewise/VectorTable/index.html#lt_u">vector.lt_u</a> w8)
+<a href="../../ops/BinaryOps/index.html#binary_row">binary_row</a> binary.I16x8LtU = (codes "i16x8_lt_u", <a href="../../lanewise/VectorTable/index.html#lt_u">vector.lt_u</a> w16)
+<a href="../../ops/BinaryOps/index.html#binary_row">binary_row</a> binary.I32x4LtU = (codes "i32x4_lt_u", <a href="../../lanewise/VectorTable/index.html#lt_u">vector.lt_u</a> w32)
+<a href="../../ops/BinaryOps/index.html#binary_row">binary_row</a> binary.I8x16LeS = (codes "i8x16_le_s", <a href="../../lanewise/VectorTable/index.html#le_s">vector.le_s</a> w8)
+<a href="../../ops/BinaryOps/index.html#binary_row">binary_row</a> binary.I16x8LeS = (codes "i16x8_le_s", <a href="../../lanewise/VectorTable/index.html#le_s">vector.le_s</a> w16)
+<a href="../../ops/BinaryOps/index.html#binary_row">binary_row</a> binary.I32x4LeS = (codes "i32x4_le_s", <a href="../../lanewise/VectorTable/index.html#le_s">vector.le_s</a> w32)
+<a href="../../ops/BinaryOps/index.html#binary_row">binary_row</a> binary.I64x2LeS = (codes "i64x2_le_s", <a href="../../lanewise/VectorTable/index.html#le_s">vector.le_s</a> w64)
+<a href="../../ops/BinaryOps/index.html#binary_row">binary_row</a> binary.I8x16LeU = (codes "i8x16_le_u", <a href="../../lanewise/VectorTable/index.html#le_u">vector.le_u</a> w8)
+<a href="../../ops/BinaryOps/index.html#binary_row">binary_row</a> binary.I16x8LeU = (codes "i16x8_le_u", <a href="../../lanewise/VectorTable/index.html#le_u">vector.le_u</a> w16)
+<a href="../../ops/BinaryOps/index.html#binary_row">binary_row</a> binary.I32x4LeU = (codes "i32x4_le_u", <a href="../../lanewise/VectorTable/index.html#le_u">vector.le_u</a> w32)
+<a href="../../ops/BinaryOps/index.html#binary_row">binary_row</a> binary.I8x16GtS = (codes "i8x16_gt_s", <a href="../../lanewise/VectorTable/index.html#gt_s">vector.gt_s</a> w8)
+<a href="../../ops/BinaryOps/index.html#binary_row">binary_row</a> binary.I16x8GtS = (codes "i16x8_gt_s", <a href="../../lanewise/VectorTable/index.html#gt_s">vector.gt_s</a> w16)
+<a href="../../ops/BinaryOps/index.html#binary_row">binary_row</a> binary.I32x4GtS = (codes "i32x4_gt_s", <a href="../../lanewise/VectorTable/index.html#gt_s">vector.gt_s</a> w32)
+<a href="../../ops/BinaryOps/index.html#binary_row">binary_row</a> binary.I64x2GtS = (codes "i64x2_gt_s", <a href="../../lanewise/VectorTable/index.html#gt_s">vector.gt_s</a> w64)
+<a href="../../ops/BinaryOps/index.html#binary_row">binary_row</a> binary.I8x16GtU = (codes "i8x16_gt_u", <a href="../../lanewise/VectorTable/index.html#gt_u">vector.gt_u</a> w8)
+<a href="../../ops/BinaryOps/index.html#binary_row">binary_row</a> binary.I16x8GtU = (codes "i16x8_gt_u", <a href="../../lanewise/VectorTable/index.html#gt_u">vector.gt_u</a> w16)
+<a href="../../ops/BinaryOps/index.html#binary_row">binary_row</a> binary.I32x4GtU = (codes "i32x4_gt_u", <a href="../../lanewise/VectorTable/index.html#gt_u">vector.gt_u</a> w32)
+<a href="../../ops/BinaryOps/index.html#binary_row">binary_row</a> binary.I8x16GeS = (codes "i8x16_ge_s", <a href="../../lanewise/VectorTable/index.html#ge_s">vector.ge_s</a> w8)
+<a href="../../ops/BinaryOps/index.html#binary_row">binary_row</a> binary.I16x8GeS = (codes "i16x8_ge_s", <a href="../../lanewise/VectorTable/index.html#ge_s">vector.ge_s</a> w16)
+<a href="../../ops/BinaryOps/index.html#binary_row">binary_row</a> binary.I32x4GeS = (codes "i32x4_ge_s", <a href="../../lanewise/VectorTable/index.html#ge_s">vector.ge_s</a> w32)
+<a href="../../ops/BinaryOps/index.html#binary_row">binary_row</a> binary.I64x2GeS = (codes "i64x2_ge_s", <a href="../../lanewise/VectorTable/index.html#ge_s">vector.ge_s</a> w64)
+<a href="../../ops/BinaryOps/index.html#binary_row">binary_row</a> binary.I8x16GeU = (codes "i8x16_ge_u", <a href="../../lanewise/VectorTable/index.html#ge_u">vector.ge_u</a> w8)
+<a href="../../ops/BinaryOps/index.html#binary_row">binary_row</a> binary.I16x8GeU = (codes "i16x8_ge_u", <a href="../../lanewise/VectorTable/index.html#ge_u">vector.ge_u</a> w16)
+<a href="../../ops/BinaryOps/index.html#binary_row">binary_row</a> binary.I32x4GeU = (codes "i32x4_ge_u", <a href="../../lanewise/VectorTable/index.html#ge_u">vector.ge_u</a> w32)
+<a href="../../ops/BinaryOps/index.html#binary_row">binary_row</a> binary.I8x16Swizzle = (codes "i8x16_swizzle", <a href="../../lanewise/VectorTable/index.html#swizzle">vector.swizzle</a>)
+<a href="../../ops/BinaryOps/index.html#binary_row">binary_row</a> binary.I16x8ExtmulLowI8x16S = (codes "i16x8_extmul_low_i8x16_s", <a href="../../widening/WideningTable/index.html#extmul_low_s">widening.extmul_low_s</a> w8 w16)
+<a href="../../ops/BinaryOps/index.html#binary_row">binary_row</a> binary.I16x8ExtmulLowI8x16U = (codes "i16x8_extmul_low_i8x16_u", <a href="../../widening/WideningTable/index.html#extmul_low_u">widening.extmul_low_u</a> w8 w16)
+<a href="../../ops/BinaryOps/index.html#binary_row">binary_row</a> binary.I16x8ExtmulHighI8x16S = (codes "i16x8_extmul_high_i8x16_s", <a href="../../widening/WideningTable/index.html#extmul_high_s">widening.extmul_high_s</a> w8 w16)
+<a href="../../ops/BinaryOps/index.html#binary_row">binary_row</a> binary.I16x8ExtmulHighI8x16U = (codes "i16x8_extmul_high_i8x16_u", <a href="../../widening/WideningTable/index.html#extmul_high_u">widening.extmul_high_u</a> w8 w16)
+<a href="../../ops/BinaryOps/index.html#binary_row">binary_row</a> binary.I32x4ExtmulLowI16x8S = (codes "i32x4_extmul_low_i16x8_s", <a href="../../widening/WideningTable/index.html#extmul_low_s">widening.extmul_low_s</a> w16 w32)
+<a href="../../ops/BinaryOps/index.html#binary_row">binary_row</a> binary.I32x4ExtmulLowI16x8U = (codes "i32x4_extmul_low_i16x8_u", <a href="../../widening/WideningTable/index.html#extmul_low_u">widening.extmul_low_u</a> w16 w32)
+<a href="../../ops/BinaryOps/index.html#binary_row">binary_row</a> binary.I32x4ExtmulHighI16x8S = (codes "i32x4_extmul_high_i16x8_s", <a href="../../widening/WideningTable/index.html#extmul_high_s">widening.extmul_high_s</a> w16 w32)
+<a href="../../ops/BinaryOps/index.html#binary_row">binary_row</a> binary.I32x4ExtmulHighI16x8U = (codes "i32x4_extmul_high_i16x8_u", <a href="../../widening/WideningTable/index.html#extmul_high_u">widening.extmul_high_u</a> w16 w32)
+<a href="../../ops/BinaryOps/index.html#binary_row">binary_row</a> binary.I64x2ExtmulLowI32x4S = (codes "i64x2_extmul_low_i32x4_s", <a href="../../widening/WideningTable/index.html#extmul_low_s">widening.extmul_low_s</a> w32 w64)
+<a href="../../ops/BinaryOps/index.html#binary_row">binary_row</a> binary.I64x2ExtmulLowI32x4U = (codes "i64x2_extmul_low_i32x4_u", <a href="../../widening/WideningTable/index.html#extmul_low_u">widening.extmul_low_u</a> w32 w64)
+<a href="../../ops/BinaryOps/index.html#binary_row">binary_row</a> binary.I64x2ExtmulHighI32x4S = (codes "i64x2_extmul_high_i32x4_s", <a href="../../widening/WideningTable/index.html#extmul_high_s">widening.extmul_high_s</a> w32 w64)
+<a href="../../ops/BinaryOps/index.html#binary_row">binary_row</a> binary.I64x2ExtmulHighI32x4U = (codes "i64x2_extmul_high_i32x4_u", <a href="../../widening/WideningTable/index.html#extmul_high_u">widening.extmul_high_u</a> w32 w64)
+<a href="../../ops/BinaryOps/index.html#binary_row">binary_row</a> binary.I8x16NarrowI16x8S = (codes "i8x16_narrow_i16x8_s", <a href="../../widening/WideningTable/index.html#narrow_s">widening.narrow_s</a> w16 w8)
+<a href="../../ops/BinaryOps/index.html#binary_row">binary_row</a> binary.I8x16NarrowI16x8U = (codes "i8x16_narrow_i16x8_u", <a href="../../widening/WideningTable/index.html#narrow_u">widening.narrow_u</a> w16 w8)
+<a href="../../ops/BinaryOps/index.html#binary_row">binary_row</a> binary.I16x8NarrowI32x4S = (codes "i16x8_narrow_i32x4_s", <a href="../../widening/WideningTable/index.html#narrow_s">widening.narrow_s</a> w32 w16)
+<a href="../../ops/BinaryOps/index.html#binary_row">binary_row</a> binary.I16x8NarrowI32x4U = (codes "i16x8_narrow_i32x4_u", <a href="../../widening/WideningTable/index.html#narrow_u">widening.narrow_u</a> w32 w16)
+<a href="../../ops/BinaryOps/index.html#binary_row">binary_row</a> binary.I32x4DotI16x8S = (codes "i32x4_dot_i16x8_s", <a href="../../widening/WideningTable/index.html#dot_s">widening.dot_s</a> w16 w32)
+<a href="../../ops/BinaryOps/index.html#binary_row">binary_row</a> binary.I16x8RelaxedDotI8x16I7x16S = (codes "i16x8_relaxed_dot_i8x16_i7x16_s", <a href="../../widening/WideningTable/index.html#relaxed_dot_s">widening.relaxed_dot_s</a>)
+<a href="../../ops/BinaryOps/index.html#binary_row">binary_row</a> binary.I8x16RelaxedSwizzle = (codes "i8x16_relaxed_swizzle", <a href="../../widening/WideningTable/index.html#relaxed_swizzle">widening.relaxed_swizzle</a>)
+<a href="../../ops/BinaryOps/index.html#binary_row">binary_row</a> binary.I16x8RelaxedQ15mulrS = (codes "i16x8_relaxed_q15mulr_s", <a href="../../widening/WideningTable/index.html#relaxed_q15mulr_s">widening.relaxed_q15mulr_s</a>)
+
 -- what an instruction of two vectors gives
 abbrev pub <b id="binary_vector">binary_vector</b> : BinaryOp → ℕ → ℕ → ℕ
-<a href="../../ops/BinaryOps/index.html#binary_vector">binary_vector</a> binary.I8x16Add = <a href="../../lanewise/VectorTable/index.html#add">vector.add</a> w8
-<a href="../../ops/BinaryOps/index.html#binary_vector">binary_vector</a> binary.I16x8Add = <a href="../../lanewise/VectorTable/index.html#add">vector.add</a> w16
-<a href="../../ops/BinaryOps/index.html#binary_vector">binary_vector</a> binary.I32x4Add = <a href="../../lanewise/VectorTable/index.html#add">vector.add</a> w32
-<a href="../../ops/BinaryOps/index.html#binary_vector">binary_vector</a> binary.I64x2Add = <a href="../../lanewise/VectorTable/index.html#add">vector.add</a> w64
-<a href="../../ops/BinaryOps/index.html#binary_vector">binary_vector</a> binary.I8x16Sub = <a href="../../lanewise/VectorTable/index.html#sub">vector.sub</a> w8
-<a href="../../ops/BinaryOps/index.html#binary_vector">binary_vector</a> binary.I16x8Sub = <a href="../../lanewise/VectorTable/index.html#sub">vector.sub</a> w16
-<a href="../../ops/BinaryOps/index.html#binary_vector">binary_vector</a> binary.I32x4Sub = <a href="../../lanewise/VectorTable/index.html#sub">vector.sub</a> w32
-<a href="../../ops/BinaryOps/index.html#binary_vector">binary_vector</a> binary.I64x2Sub = <a href="../../lanewise/VectorTable/index.html#sub">vector.sub</a> w64
-<a href="../../ops/BinaryOps/index.html#binary_vector">binary_vector</a> binary.I8x16Mul = <a href="../../lanewise/VectorTable/index.html#mul">vector.mul</a> w8
-<a href="../../ops/BinaryOps/index.html#binary_vector">binary_vector</a> binary.I16x8Mul = <a href="../../lanewise/VectorTable/index.html#mul">vector.mul</a> w16
-<a href="../../ops/BinaryOps/index.html#binary_vector">binary_vector</a> binary.I32x4Mul = <a href="../../lanewise/VectorTable/index.html#mul">vector.mul</a> w32
-<a href="../../ops/BinaryOps/index.html#binary_vector">binary_vector</a> binary.I64x2Mul = <a href="../../lanewise/VectorTable/index.html#mul">vector.mul</a> w64
-<a href="../../ops/BinaryOps/index.html#binary_vector">binary_vector</a> binary.I8x16AddSatS = <a href="../../lanewise/VectorTable/index.html#add_sat_s">vector.add_sat_s</a> w8
-<a href="../../ops/BinaryOps/index.html#binary_vector">binary_vector</a> binary.I8x16AddSatU = <a href="../../lanewise/VectorTable/index.html#add_sat_u">vector.add_sat_u</a> w8
-<a href="../../ops/BinaryOps/index.html#binary_vector">binary_vector</a> binary.I16x8AddSatS = <a href="../../lanewise/VectorTable/index.html#add_sat_s">vector.add_sat_s</a> w16
-<a href="../../ops/BinaryOps/index.html#binary_vector">binary_vector</a> binary.I16x8AddSatU = <a href="../../lanewise/VectorTable/index.html#add_sat_u">vector.add_sat_u</a> w16
-<a href="../../ops/BinaryOps/index.html#binary_vector">binary_vector</a> binary.I8x16SubSatS = <a href="../../lanewise/VectorTable/index.html#sub_sat_s">vector.sub_sat_s</a> w8
-<a href="../../ops/BinaryOps/index.html#binary_vector">binary_vector</a> binary.I8x16SubSatU = <a href="../../lanewise/VectorTable/index.html#sub_sat_u">vector.sub_sat_u</a> w8
-<a href="../../ops/BinaryOps/index.html#binary_vector">binary_vector</a> binary.I16x8SubSatS = <a href="../../lanewise/VectorTable/index.html#sub_sat_s">vector.sub_sat_s</a> w16
-<a href="../../ops/BinaryOps/index.html#binary_vector">binary_vector</a> binary.I16x8SubSatU = <a href="../../lanewise/VectorTable/index.html#sub_sat_u">vector.sub_sat_u</a> w16
-<a href="../../ops/BinaryOps/index.html#binary_vector">binary_vector</a> binary.I16x8Q15mulrSatS = <a href="../../lanewise/VectorTable/index.html#q15mulr_sat_s">vector.q15mulr_sat_s</a>
-<a href="../../ops/BinaryOps/index.html#binary_vector">binary_vector</a> binary.I8x16MinS = <a href="../../lanewise/VectorTable/index.html#min_s">vector.min_s</a> w8
-<a href="../../ops/BinaryOps/index.html#binary_vector">binary_vector</a> binary.I8x16MinU = <a href="../../lanewise/VectorTable/index.html#min_u">vector.min_u</a> w8
-<a href="../../ops/BinaryOps/index.html#binary_vector">binary_vector</a> binary.I16x8MinS = <a href="../../lanewise/VectorTable/index.html#min_s">vector.min_s</a> w16
-<a href="../../ops/BinaryOps/index.html#binary_vector">binary_vector</a> binary.I16x8MinU = <a href="../../lanewise/VectorTable/index.html#min_u">vector.min_u</a> w16
-<a href="../../ops/BinaryOps/index.html#binary_vector">binary_vector</a> binary.I32x4MinS = <a href="../../lanewise/VectorTable/index.html#min_s">vector.min_s</a> w32
-<a href="../../ops/BinaryOps/index.html#binary_vector">binary_vector</a> binary.I32x4MinU = <a href="../../lanewise/VectorTable/index.html#min_u">vector.min_u</a> w32
-<a href="../../ops/BinaryOps/index.html#binary_vector">binary_vector</a> binary.I8x16MaxS = <a href="../../lanewise/VectorTable/index.html#max_s">vector.max_s</a> w8
-<a href="../../ops/BinaryOps/index.html#binary_vector">binary_vector</a> binary.I8x16MaxU = <a href="../../lanewise/VectorTable/index.html#max_u">vector.max_u</a> w8
-<a href="../../ops/BinaryOps/index.html#binary_vector">binary_vector</a> binary.I16x8MaxS = <a href="../../lanewise/VectorTable/index.html#max_s">vector.max_s</a> w16
-<a href="../../ops/BinaryOps/index.html#binary_vector">binary_vector</a> binary.I16x8MaxU = <a href="../../lanewise/VectorTable/index.html#max_u">vector.max_u</a> w16
-<a href="../../ops/BinaryOps/index.html#binary_vector">binary_vector</a> binary.I32x4MaxS = <a href="../../lanewise/VectorTable/index.html#max_s">vector.max_s</a> w32
-<a href="../../ops/BinaryOps/index.html#binary_vector">binary_vector</a> binary.I32x4MaxU = <a href="../../lanewise/VectorTable/index.html#max_u">vector.max_u</a> w32
-<a href="../../ops/BinaryOps/index.html#binary_vector">binary_vector</a> binary.I8x16AvgrU = <a href="../../lanewise/VectorTable/index.html#avgr_u">vector.avgr_u</a> w8
-<a href="../../ops/BinaryOps/index.html#binary_vector">binary_vector</a> binary.I16x8AvgrU = <a href="../../lanewise/VectorTable/index.html#avgr_u">vector.avgr_u</a> w16
-<a href="../../ops/BinaryOps/index.html#binary_vector">binary_vector</a> binary.V128And = <a href="../../lanewise/VectorTable/index.html#v128_and">vector.v128_and</a>
-<a href="../../ops/BinaryOps/index.html#binary_vector">binary_vector</a> binary.V128Or = <a href="../../lanewise/VectorTable/index.html#v128_or">vector.v128_or</a>
-<a href="../../ops/BinaryOps/index.html#binary_vector">binary_vector</a> binary.V128Xor = <a href="../../lanewise/VectorTable/index.html#v128_xor">vector.v128_xor</a>
-<a href="../../ops/BinaryOps/index.html#binary_vector">binary_vector</a> binary.V128Andnot = <a href="../../lanewise/VectorTable/index.html#v128_andnot">vector.v128_andnot</a>
-<a href="../../ops/BinaryOps/index.html#binary_vector">binary_vector</a> binary.I8x16Eq = <a href="../../lanewise/VectorTable/index.html#eq">vector.eq</a> w8
-<a href="../../ops/BinaryOps/index.html#binary_vector">binary_vector</a> binary.I16x8Eq = <a href="../../lanewise/VectorTable/index.html#eq">vector.eq</a> w16
-<a href="../../ops/BinaryOps/index.html#binary_vector">binary_vector</a> binary.I32x4Eq = <a href="../../lanewise/VectorTable/index.html#eq">vector.eq</a> w32
-<a href="../../ops/BinaryOps/index.html#binary_vector">binary_vector</a> binary.I64x2Eq = <a href="../../lanewise/VectorTable/index.html#eq">vector.eq</a> w64
-<a href="../../ops/BinaryOps/index.html#binary_vector">binary_vector</a> binary.I8x16Ne = <a href="../../lanewise/VectorTable/index.html#ne">vector.ne</a> w8
-<a href="../../ops/BinaryOps/index.html#binary_vector">binary_vector</a> binary.I16x8Ne = <a href="../../lanewise/VectorTable/index.html#ne">vector.ne</a> w16
-<a href="../../ops/BinaryOps/index.html#binary_vector">binary_vector</a> binary.I32x4Ne = <a href="../../lanewise/VectorTable/index.html#ne">vector.ne</a> w32
-<a href="../../ops/BinaryOps/index.html#binary_vector">binary_vector</a> binary.I64x2Ne = <a href="../../lanewise/VectorTable/index.html#ne">vector.ne</a> w64
-<a href="../../ops/BinaryOps/index.html#binary_vector">binary_vector</a> binary.I8x16LtS = <a href="../../lanewise/VectorTable/index.html#lt_s">vector.lt_s</a> w8
-<a href="../../ops/BinaryOps/index.html#binary_vector">binary_vector</a> binary.I16x8LtS = <a href="../../lanewise/VectorTable/index.html#lt_s">vector.lt_s</a> w16
-<a href="../../ops/BinaryOps/index.html#binary_vector">binary_vector</a> binary.I32x4LtS = <a href="../../lanewise/VectorTable/index.html#lt_s">vector.lt_s</a> w32
-<a href="../../ops/BinaryOps/index.html#binary_vector">binary_vector</a> binary.I64x2LtS = <a href="../../lanewise/VectorTable/index.html#lt_s">vector.lt_s</a> w64
-<a href="../../ops/BinaryOps/index.html#binary_vector">binary_vector</a> binary.I8x16LtU = <a href="../../lanewise/VectorTable/index.html#lt_u">vector.lt_u</a> w8
-<a href="../../ops/BinaryOps/index.html#binary_vector">binary_vector</a> binary.I16x8LtU = <a href="../../lanewise/VectorTable/index.html#lt_u">vector.lt_u</a> w16
-<a href="../../ops/BinaryOps/index.html#binary_vector">binary_vector</a> binary.I32x4LtU = <a href="../../lanewise/VectorTable/index.html#lt_u">vector.lt_u</a> w32
-<a href="../../ops/BinaryOps/index.html#binary_vector">binary_vector</a> binary.I8x16LeS = <a href="../../lanewise/VectorTable/index.html#le_s">vector.le_s</a> w8
-<a href="../../ops/BinaryOps/index.html#binary_vector">binary_vector</a> binary.I16x8LeS = <a href="../../lanewise/VectorTable/index.html#le_s">vector.le_s</a> w16
-<a href="../../ops/BinaryOps/index.html#binary_vector">binary_vector</a> binary.I32x4LeS = <a href="../../lanewise/VectorTable/index.html#le_s">vector.le_s</a> w32
-<a href="../../ops/BinaryOps/index.html#binary_vector">binary_vector</a> binary.I64x2LeS = <a href="../../lanewise/VectorTable/index.html#le_s">vector.le_s</a> w64
-<a href="../../ops/BinaryOps/index.html#binary_vector">binary_vector</a> binary.I8x16LeU = <a href="../../lanewise/VectorTable/index.html#le_u">vector.le_u</a> w8
-<a href="../../ops/BinaryOps/index.html#binary_vector">binary_vector</a> binary.I16x8LeU = <a href="../../lanewise/VectorTable/index.html#le_u">vector.le_u</a> w16
-<a href="../../ops/BinaryOps/index.html#binary_vector">binary_vector</a> binary.I32x4LeU = <a href="../../lanewise/VectorTable/index.html#le_u">vector.le_u</a> w32
-<a href="../../ops/BinaryOps/index.html#binary_vector">binary_vector</a> binary.I8x16GtS = <a href="../../lanewise/VectorTable/index.html#gt_s">vector.gt_s</a> w8
-<a href="../../ops/BinaryOps/index.html#binary_vector">binary_vector</a> binary.I16x8GtS = <a href="../../lanewise/VectorTable/index.html#gt_s">vector.gt_s</a> w16
-<a href="../../ops/BinaryOps/index.html#binary_vector">binary_vector</a> binary.I32x4GtS = <a href="../../lanewise/VectorTable/index.html#gt_s">vector.gt_s</a> w32
-<a href="../../ops/BinaryOps/index.html#binary_vector">binary_vector</a> binary.I64x2GtS = <a href="../../lanewise/VectorTable/index.html#gt_s">vector.gt_s</a> w64
-<a href="../../ops/BinaryOps/index.html#binary_vector">binary_vector</a> binary.I8x16GtU = <a href="../../lanewise/VectorTable/index.html#gt_u">vector.gt_u</a> w8
-<a href="../../ops/BinaryOps/index.html#binary_vector">binary_vector</a> binary.I16x8GtU = <a href="../../lanewise/VectorTable/index.html#gt_u">vector.gt_u</a> w16
-<a href="../../ops/BinaryOps/index.html#binary_vector">binary_vector</a> binary.I32x4GtU = <a href="../../lanewise/VectorTable/index.html#gt_u">vector.gt_u</a> w32
-<a href="../../ops/BinaryOps/index.html#binary_vector">binary_vector</a> binary.I8x16GeS = <a href="../../lanewise/VectorTable/index.html#ge_s">vector.ge_s</a> w8
-<a href="../../ops/BinaryOps/index.html#binary_vector">binary_vector</a> binary.I16x8GeS = <a href="../../lanewise/VectorTable/index.html#ge_s">vector.ge_s</a> w16
-<a href="../../ops/BinaryOps/index.html#binary_vector">binary_vector</a> binary.I32x4GeS = <a href="../../lanewise/VectorTable/index.html#ge_s">vector.ge_s</a> w32
-<a href="../../ops/BinaryOps/index.html#binary_vector">binary_vector</a> binary.I64x2GeS = <a href="../../lanewise/VectorTable/index.html#ge_s">vector.ge_s</a> w64
-<a href="../../ops/BinaryOps/index.html#binary_vector">binary_vector</a> binary.I8x16GeU = <a href="../../lanewise/VectorTable/index.html#ge_u">vector.ge_u</a> w8
-<a href="../../ops/BinaryOps/index.html#binary_vector">binary_vector</a> binary.I16x8GeU = <a href="../../lanewise/VectorTable/index.html#ge_u">vector.ge_u</a> w16
-<a href="../../ops/BinaryOps/index.html#binary_vector">binary_vector</a> binary.I32x4GeU = <a href="../../lanewise/VectorTable/index.html#ge_u">vector.ge_u</a> w32
-<a href="../../ops/BinaryOps/index.html#binary_vector">binary_vector</a> binary.I8x16Swizzle = <a href="../../lanewise/VectorTable/index.html#swizzle">vector.swizzle</a>
-<a href="../../ops/BinaryOps/index.html#binary_vector">binary_vector</a> binary.I16x8ExtmulLowI8x16S = <a href="../../widening/WideningTable/index.html#extmul_low_s">widening.extmul_low_s</a> w8 w16
-<a href="../../ops/BinaryOps/index.html#binary_vector">binary_vector</a> binary.I16x8ExtmulLowI8x16U = <a href="../../widening/WideningTable/index.html#extmul_low_u">widening.extmul_low_u</a> w8 w16
-<a href="../../ops/BinaryOps/index.html#binary_vector">binary_vector</a> binary.I16x8ExtmulHighI8x16S = <a href="../../widening/WideningTable/index.html#extmul_high_s">widening.extmul_high_s</a> w8 w16
-<a href="../../ops/BinaryOps/index.html#binary_vector">binary_vector</a> binary.I16x8ExtmulHighI8x16U = <a href="../../widening/WideningTable/index.html#extmul_high_u">widening.extmul_high_u</a> w8 w16
-<a href="../../ops/BinaryOps/index.html#binary_vector">binary_vector</a> binary.I32x4ExtmulLowI16x8S = <a href="../../widening/WideningTable/index.html#extmul_low_s">widening.extmul_low_s</a> w16 w32
-<a href="../../ops/BinaryOps/index.html#binary_vector">binary_vector</a> binary.I32x4ExtmulLowI16x8U = <a href="../../widening/WideningTable/index.html#extmul_low_u">widening.extmul_low_u</a> w16 w32
-<a href="../../ops/BinaryOps/index.html#binary_vector">binary_vector</a> binary.I32x4ExtmulHighI16x8S = <a href="../../widening/WideningTable/index.html#extmul_high_s">widening.extmul_high_s</a> w16 w32
-<a href="../../ops/BinaryOps/index.html#binary_vector">binary_vector</a> binary.I32x4ExtmulHighI16x8U = <a href="../../widening/WideningTable/index.html#extmul_high_u">widening.extmul_high_u</a> w16 w32
-<a href="../../ops/BinaryOps/index.html#binary_vector">binary_vector</a> binary.I64x2ExtmulLowI32x4S = <a href="../../widening/WideningTable/index.html#extmul_low_s">widening.extmul_low_s</a> w32 w64
-<a href="../../ops/BinaryOps/index.html#binary_vector">binary_vector</a> binary.I64x2ExtmulLowI32x4U = <a href="../../widening/WideningTable/index.html#extmul_low_u">widening.extmul_low_u</a> w32 w64
-<a href="../../ops/BinaryOps/index.html#binary_vector">binary_vector</a> binary.I64x2ExtmulHighI32x4S = <a href="../../widening/WideningTable/index.html#extmul_high_s">widening.extmul_high_s</a> w32 w64
-<a href="../../ops/BinaryOps/index.html#binary_vector">binary_vector</a> binary.I64x2ExtmulHighI32x4U = <a href="../../widening/WideningTable/index.html#extmul_high_u">widening.extmul_high_u</a> w32 w64
-<a href="../../ops/BinaryOps/index.html#binary_vector">binary_vector</a> binary.I8x16NarrowI16x8S = <a href="../../widening/WideningTable/index.html#narrow_s">widening.narrow_s</a> w16 w8
-<a href="../../ops/BinaryOps/index.html#binary_vector">binary_vector</a> binary.I8x16NarrowI16x8U = <a href="../../widening/WideningTable/index.html#narrow_u">widening.narrow_u</a> w16 w8
-<a href="../../ops/BinaryOps/index.html#binary_vector">binary_vector</a> binary.I16x8NarrowI32x4S = <a href="../../widening/WideningTable/index.html#narrow_s">widening.narrow_s</a> w32 w16
-<a href="../../ops/BinaryOps/index.html#binary_vector">binary_vector</a> binary.I16x8NarrowI32x4U = <a href="../../widening/WideningTable/index.html#narrow_u">widening.narrow_u</a> w32 w16
-<a href="../../ops/BinaryOps/index.html#binary_vector">binary_vector</a> binary.I32x4DotI16x8S = <a href="../../widening/WideningTable/index.html#dot_s">widening.dot_s</a> w16 w32
-<a href="../../ops/BinaryOps/index.html#binary_vector">binary_vector</a> binary.I16x8RelaxedDotI8x16I7x16S = <a href="../../widening/WideningTable/index.html#relaxed_dot_s">widening.relaxed_dot_s</a>
-<a href="../../ops/BinaryOps/index.html#binary_vector">binary_vector</a> binary.I8x16RelaxedSwizzle = <a href="../../widening/WideningTable/index.html#relaxed_swizzle">widening.relaxed_swizzle</a>
-<a href="../../ops/BinaryOps/index.html#binary_vector">binary_vector</a> binary.I16x8RelaxedQ15mulrS = <a href="../../widening/WideningTable/index.html#relaxed_q15mulr_s">widening.relaxed_q15mulr_s</a>
+<a href="../../ops/BinaryOps/index.html#binary_vector">binary_vector</a> op = (<a href="../../ops/BinaryOps/index.html#binary_row">binary_row</a> op).1
 
 -- the name of an instruction of two vectors
 abbrev pub <b id="binary_name">binary_name</b> : BinaryOp → List ℕ
-<a href="../../ops/BinaryOps/index.html#binary_name">binary_name</a> binary.I8x16Add = codes "i8x16_add"
-<a href="../../ops/BinaryOps/index.html#binary_name">binary_name</a> binary.I16x8Add = codes "i16x8_add"
-<a href="../../ops/BinaryOps/index.html#binary_name">binary_name</a> binary.I32x4Add = codes "i32x4_add"
-<a href="../../ops/BinaryOps/index.html#binary_name">binary_name</a> binary.I64x2Add = codes "i64x2_add"
-<a href="../../ops/BinaryOps/index.html#binary_name">binary_name</a> binary.I8x16Sub = codes "i8x16_sub"
-<a href="../../ops/BinaryOps/index.html#binary_name">binary_name</a> binary.I16x8Sub = codes "i16x8_sub"
-<a href="../../ops/BinaryOps/index.html#binary_name">binary_name</a> binary.I32x4Sub = codes "i32x4_sub"
-<a href="../../ops/BinaryOps/index.html#binary_name">binary_name</a> binary.I64x2Sub = codes "i64x2_sub"
-<a href="../../ops/BinaryOps/index.html#binary_name">binary_name</a> binary.I8x16Mul = codes "i8x16_mul"
-<a href="../../ops/BinaryOps/index.html#binary_name">binary_name</a> binary.I16x8Mul = codes "i16x8_mul"
-<a href="../../ops/BinaryOps/index.html#binary_name">binary_name</a> binary.I32x4Mul = codes "i32x4_mul"
-<a href="../../ops/BinaryOps/index.html#binary_name">binary_name</a> binary.I64x2Mul = codes "i64x2_mul"
-<a href="../../ops/BinaryOps/index.html#binary_name">binary_name</a> binary.I8x16AddSatS = codes "i8x16_add_sat_s"
-<a href="../../ops/BinaryOps/index.html#binary_name">binary_name</a> binary.I8x16AddSatU = codes "i8x16_add_sat_u"
-<a href="../../ops/BinaryOps/index.html#binary_name">binary_name</a> binary.I16x8AddSatS = codes "i16x8_add_sat_s"
-<a href="../../ops/BinaryOps/index.html#binary_name">binary_name</a> binary.I16x8AddSatU = codes "i16x8_add_sat_u"
-<a href="../../ops/BinaryOps/index.html#binary_name">binary_name</a> binary.I8x16SubSatS = codes "i8x16_sub_sat_s"
-<a href="../../ops/BinaryOps/index.html#binary_name">binary_name</a> binary.I8x16SubSatU = codes "i8x16_sub_sat_u"
-<a href="../../ops/BinaryOps/index.html#binary_name">binary_name</a> binary.I16x8SubSatS = codes "i16x8_sub_sat_s"
-<a href="../../ops/BinaryOps/index.html#binary_name">binary_name</a> binary.I16x8SubSatU = codes "i16x8_sub_sat_u"
-<a href="../../ops/BinaryOps/index.html#binary_name">binary_name</a> binary.I16x8Q15mulrSatS = codes "i16x8_q15mulr_sat_s"
-<a href="../../ops/BinaryOps/index.html#binary_name">binary_name</a> binary.I8x16MinS = codes "i8x16_min_s"
-<a href="../../ops/BinaryOps/index.html#binary_name">binary_name</a> binary.I8x16MinU = codes "i8x16_min_u"
-<a href="../../ops/BinaryOps/index.html#binary_name">binary_name</a> binary.I16x8MinS = codes "i16x8_min_s"
-<a href="../../ops/BinaryOps/index.html#binary_name">binary_name</a> binary.I16x8MinU = codes "i16x8_min_u"
-<a href="../../ops/BinaryOps/index.html#binary_name">binary_name</a> binary.I32x4MinS = codes "i32x4_min_s"
-<a href="../../ops/BinaryOps/index.html#binary_name">binary_name</a> binary.I32x4MinU = codes "i32x4_min_u"
-<a href="../../ops/BinaryOps/index.html#binary_name">binary_name</a> binary.I8x16MaxS = codes "i8x16_max_s"
-<a href="../../ops/BinaryOps/index.html#binary_name">binary_name</a> binary.I8x16MaxU = codes "i8x16_max_u"
-<a href="../../ops/BinaryOps/index.html#binary_name">binary_name</a> binary.I16x8MaxS = codes "i16x8_max_s"
-<a href="../../ops/BinaryOps/index.html#binary_name">binary_name</a> binary.I16x8MaxU = codes "i16x8_max_u"
-<a href="../../ops/BinaryOps/index.html#binary_name">binary_name</a> binary.I32x4MaxS = codes "i32x4_max_s"
-<a href="../../ops/BinaryOps/index.html#binary_name">binary_name</a> binary.I32x4MaxU = codes "i32x4_max_u"
-<a href="../../ops/BinaryOps/index.html#binary_name">binary_name</a> binary.I8x16AvgrU = codes "i8x16_avgr_u"
-<a href="../../ops/BinaryOps/index.html#binary_name">binary_name</a> binary.I16x8AvgrU = codes "i16x8_avgr_u"
-<a href="../../ops/BinaryOps/index.html#binary_name">binary_name</a> binary.V128And = codes "v128_and"
-<a href="../../ops/BinaryOps/index.html#binary_name">binary_name</a> binary.V128Or = codes "v128_or"
-<a href="../../ops/BinaryOps/index.html#binary_name">binary_name</a> binary.V128Xor = codes "v128_xor"
-<a href="../../ops/BinaryOps/index.html#binary_name">binary_name</a> binary.V128Andnot = codes "v128_andnot"
-<a href="../../ops/BinaryOps/index.html#binary_name">binary_name</a> binary.I8x16Eq = codes "i8x16_eq"
-<a href="../../ops/BinaryOps/index.html#binary_name">binary_name</a> binary.I16x8Eq = codes "i16x8_eq"
-<a href="../../ops/BinaryOps/index.html#binary_name">binary_name</a> binary.I32x4Eq = codes "i32x4_eq"
-<a href="../../ops/BinaryOps/index.html#binary_name">binary_name</a> binary.I64x2Eq = codes "i64x2_eq"
-<a href="../../ops/BinaryOps/index.html#binary_name">binary_name</a> binary.I8x16Ne = codes "i8x16_ne"
-<a href="../../ops/BinaryOps/index.html#binary_name">binary_name</a> binary.I16x8Ne = codes "i16x8_ne"
-<a href="../../ops/BinaryOps/index.html#binary_name">binary_name</a> binary.I32x4Ne = codes "i32x4_ne"
-<a href="../../ops/BinaryOps/index.html#binary_name">binary_name</a> binary.I64x2Ne = codes "i64x2_ne"
-<a href="../../ops/BinaryOps/index.html#binary_name">binary_name</a> binary.I8x16LtS = codes "i8x16_lt_s"
-<a href="../../ops/BinaryOps/index.html#binary_name">binary_name</a> binary.I16x8LtS = codes "i16x8_lt_s"
-<a href="../../ops/BinaryOps/index.html#binary_name">binary_name</a> binary.I32x4LtS = codes "i32x4_lt_s"
-<a href="../../ops/BinaryOps/index.html#binary_name">binary_name</a> binary.I64x2LtS = codes "i64x2_lt_s"
-<a href="../../ops/BinaryOps/index.html#binary_name">binary_name</a> binary.I8x16LtU = codes "i8x16_lt_u"
-<a href="../../ops/BinaryOps/index.html#binary_name">binary_name</a> binary.I16x8LtU = codes "i16x8_lt_u"
-<a href="../../ops/BinaryOps/index.html#binary_name">binary_name</a> binary.I32x4LtU = codes "i32x4_lt_u"
-<a href="../../ops/BinaryOps/index.html#binary_name">binary_name</a> binary.I8x16LeS = codes "i8x16_le_s"
-<a href="../../ops/BinaryOps/index.html#binary_name">binary_name</a> binary.I16x8LeS = codes "i16x8_le_s"
-<a href="../../ops/BinaryOps/index.html#binary_name">binary_name</a> binary.I32x4LeS = codes "i32x4_le_s"
-<a href="../../ops/BinaryOps/index.html#binary_name">binary_name</a> binary.I64x2LeS = codes "i64x2_le_s"
-<a href="../../ops/BinaryOps/index.html#binary_name">binary_name</a> binary.I8x16LeU = codes "i8x16_le_u"
-<a href="../../ops/BinaryOps/index.html#binary_name">binary_name</a> binary.I16x8LeU = codes "i16x8_le_u"
-<a href="../../ops/BinaryOps/index.html#binary_name">binary_name</a> binary.I32x4LeU = codes "i32x4_le_u"
-<a href="../../ops/BinaryOps/index.html#binary_name">binary_name</a> binary.I8x16GtS = codes "i8x16_gt_s"
-<a href="../../ops/BinaryOps/index.html#binary_name">binary_name</a> binary.I16x8GtS = codes "i16x8_gt_s"
-<a href="../../ops/BinaryOps/index.html#binary_name">binary_name</a> binary.I32x4GtS = codes "i32x4_gt_s"
-<a href="../../ops/BinaryOps/index.html#binary_name">binary_name</a> binary.I64x2GtS = codes "i64x2_gt_s"
-<a href="../../ops/BinaryOps/index.html#binary_name">binary_name</a> binary.I8x16GtU = codes "i8x16_gt_u"
-<a href="../../ops/BinaryOps/index.html#binary_name">binary_name</a> binary.I16x8GtU = codes "i16x8_gt_u"
-<a href="../../ops/BinaryOps/index.html#binary_name">binary_name</a> binary.I32x4GtU = codes "i32x4_gt_u"
-<a href="../../ops/BinaryOps/index.html#binary_name">binary_name</a> binary.I8x16GeS = codes "i8x16_ge_s"
-<a href="../../ops/BinaryOps/index.html#binary_name">binary_name</a> binary.I16x8GeS = codes "i16x8_ge_s"
-<a href="../../ops/BinaryOps/index.html#binary_name">binary_name</a> binary.I32x4GeS = codes "i32x4_ge_s"
-<a href="../../ops/BinaryOps/index.html#binary_name">binary_name</a> binary.I64x2GeS = codes "i64x2_ge_s"
-<a href="../../ops/BinaryOps/index.html#binary_name">binary_name</a> binary.I8x16GeU = codes "i8x16_ge_u"
-<a href="../../ops/BinaryOps/index.html#binary_name">binary_name</a> binary.I16x8GeU = codes "i16x8_ge_u"
-<a href="../../ops/BinaryOps/index.html#binary_name">binary_name</a> binary.I32x4GeU = codes "i32x4_ge_u"
-<a href="../../ops/BinaryOps/index.html#binary_name">binary_name</a> binary.I8x16Swizzle = codes "i8x16_swizzle"
-<a href="../../ops/BinaryOps/index.html#binary_name">binary_name</a> binary.I16x8ExtmulLowI8x16S = codes "i16x8_extmul_low_i8x16_s"
-<a href="../../ops/BinaryOps/index.html#binary_name">binary_name</a> binary.I16x8ExtmulLowI8x16U = codes "i16x8_extmul_low_i8x16_u"
-<a href="../../ops/BinaryOps/index.html#binary_name">binary_name</a> binary.I16x8ExtmulHighI8x16S = codes "i16x8_extmul_high_i8x16_s"
-<a href="../../ops/BinaryOps/index.html#binary_name">binary_name</a> binary.I16x8ExtmulHighI8x16U = codes "i16x8_extmul_high_i8x16_u"
-<a href="../../ops/BinaryOps/index.html#binary_name">binary_name</a> binary.I32x4ExtmulLowI16x8S = codes "i32x4_extmul_low_i16x8_s"
-<a href="../../ops/BinaryOps/index.html#binary_name">binary_name</a> binary.I32x4ExtmulLowI16x8U = codes "i32x4_extmul_low_i16x8_u"
-<a href="../../ops/BinaryOps/index.html#binary_name">binary_name</a> binary.I32x4ExtmulHighI16x8S = codes "i32x4_extmul_high_i16x8_s"
-<a href="../../ops/BinaryOps/index.html#binary_name">binary_name</a> binary.I32x4ExtmulHighI16x8U = codes "i32x4_extmul_high_i16x8_u"
-<a href="../../ops/BinaryOps/index.html#binary_name">binary_name</a> binary.I64x2ExtmulLowI32x4S = codes "i64x2_extmul_low_i32x4_s"
-<a href="../../ops/BinaryOps/index.html#binary_name">binary_name</a> binary.I64x2ExtmulLowI32x4U = codes "i64x2_extmul_low_i32x4_u"
-<a href="../../ops/BinaryOps/index.html#binary_name">binary_name</a> binary.I64x2ExtmulHighI32x4S = codes "i64x2_extmul_high_i32x4_s"
-<a href="../../ops/BinaryOps/index.html#binary_name">binary_name</a> binary.I64x2ExtmulHighI32x4U = codes "i64x2_extmul_high_i32x4_u"
-<a href="../../ops/BinaryOps/index.html#binary_name">binary_name</a> binary.I8x16NarrowI16x8S = codes "i8x16_narrow_i16x8_s"
-<a href="../../ops/BinaryOps/index.html#binary_name">binary_name</a> binary.I8x16NarrowI16x8U = codes "i8x16_narrow_i16x8_u"
-<a href="../../ops/BinaryOps/index.html#binary_name">binary_name</a> binary.I16x8NarrowI32x4S = codes "i16x8_narrow_i32x4_s"
-<a href="../../ops/BinaryOps/index.html#binary_name">binary_name</a> binary.I16x8NarrowI32x4U = codes "i16x8_narrow_i32x4_u"
-<a href="../../ops/BinaryOps/index.html#binary_name">binary_name</a> binary.I32x4DotI16x8S = codes "i32x4_dot_i16x8_s"
-<a href="../../ops/BinaryOps/index.html#binary_name">binary_name</a> binary.I16x8RelaxedDotI8x16I7x16S = codes "i16x8_relaxed_dot_i8x16_i7x16_s"
-<a href="../../ops/BinaryOps/index.html#binary_name">binary_name</a> binary.I8x16RelaxedSwizzle = codes "i8x16_relaxed_swizzle"
-<a href="../../ops/BinaryOps/index.html#binary_name">binary_name</a> binary.I16x8RelaxedQ15mulrS = codes "i16x8_relaxed_q15mulr_s"
+<a href="../../ops/BinaryOps/index.html#binary_name">binary_name</a> op = (<a href="../../ops/BinaryOps/index.html#binary_row">binary_row</a> op).0
 </code></pre>
 "####]
     pub mod BinaryOps {}
@@ -1856,35 +1750,28 @@ use Rattle.wasmi_raw.specs.RawVal.{<a href="../../raw/RawVal/index.html#signed_i
 use Rattle.wasmi_ops.specs.declared.vector.make.MakeOp.{MakeOp}
 use Rattle.wasmi_ops.specs.declared.vector.make.MakeOp.TheVariants as make
 
+-- each instruction that makes a vector of an item: its name, and the vector for an item in a raw value
+abbrev pub <b id="make_row">make_row</b> : MakeOp → List ℕ × (RawVal → ℕ)
+<a href="../../ops/MakeOps/index.html#make_row">make_row</a> make.I8x16Splat = (codes "i8x16_splat", λ raw. <a href="../../lanewise/VectorTable/index.html#splat">vector.splat</a> w8 (<a href="../../raw/RawVal/index.html#signed_in">signed_in</a> w8 raw))
+<a href="../../ops/MakeOps/index.html#make_row">make_row</a> make.I16x8Splat = (codes "i16x8_splat", λ raw. <a href="../../lanewise/VectorTable/index.html#splat">vector.splat</a> w16 (<a href="../../raw/RawVal/index.html#signed_in">signed_in</a> w16 raw))
+<a href="../../ops/MakeOps/index.html#make_row">make_row</a> make.I32x4Splat = (codes "i32x4_splat", λ raw. <a href="../../lanewise/VectorTable/index.html#splat">vector.splat</a> w32 (<a href="../../raw/RawVal/index.html#signed_in">signed_in</a> w32 raw))
+<a href="../../ops/MakeOps/index.html#make_row">make_row</a> make.I64x2Splat = (codes "i64x2_splat", λ raw. <a href="../../lanewise/VectorTable/index.html#splat">vector.splat</a> w64 (<a href="../../raw/RawVal/index.html#signed_in">signed_in</a> w64 raw))
+<a href="../../ops/MakeOps/index.html#make_row">make_row</a> make.V128Widen8x8S = (codes "v128_widen8x8_s", λ raw. <a href="../../widening/WideningTable/index.html#widen_s">widening.widen_s</a> w8 w16 (<a href="../../raw/RawVal/index.html#unsigned_in">unsigned_in</a> w64 raw))
+<a href="../../ops/MakeOps/index.html#make_row">make_row</a> make.V128Widen8x8U = (codes "v128_widen8x8_u", λ raw. <a href="../../widening/WideningTable/index.html#widen_u">widening.widen_u</a> w8 w16 (<a href="../../raw/RawVal/index.html#unsigned_in">unsigned_in</a> w64 raw))
+<a href="../../ops/MakeOps/index.html#make_row">make_row</a> make.V128Widen16x4S = (codes "v128_widen16x4_s", λ raw. <a href="../../widening/WideningTable/index.html#widen_s">widening.widen_s</a> w16 w32 (<a href="../../raw/RawVal/index.html#unsigned_in">unsigned_in</a> w64 raw))
+<a href="../../ops/MakeOps/index.html#make_row">make_row</a> make.V128Widen16x4U = (codes "v128_widen16x4_u", λ raw. <a href="../../widening/WideningTable/index.html#widen_u">widening.widen_u</a> w16 w32 (<a href="../../raw/RawVal/index.html#unsigned_in">unsigned_in</a> w64 raw))
+<a href="../../ops/MakeOps/index.html#make_row">make_row</a> make.V128Widen32x2S = (codes "v128_widen32x2_s", λ raw. <a href="../../widening/WideningTable/index.html#widen_s">widening.widen_s</a> w32 w64 (<a href="../../raw/RawVal/index.html#unsigned_in">unsigned_in</a> w64 raw))
+<a href="../../ops/MakeOps/index.html#make_row">make_row</a> make.V128Widen32x2U = (codes "v128_widen32x2_u", λ raw. <a href="../../widening/WideningTable/index.html#widen_u">widening.widen_u</a> w32 w64 (<a href="../../raw/RawVal/index.html#unsigned_in">unsigned_in</a> w64 raw))
+<a href="../../ops/MakeOps/index.html#make_row">make_row</a> make.V128Low32Zero = (codes "v128_low32_zero", λ raw. <a href="../../widening/WideningTable/index.html#low_zero">widening.low_zero</a> w32 (<a href="../../raw/RawVal/index.html#unsigned_in">unsigned_in</a> w32 raw))
+<a href="../../ops/MakeOps/index.html#make_row">make_row</a> make.V128Low64Zero = (codes "v128_low64_zero", λ raw. <a href="../../widening/WideningTable/index.html#low_zero">widening.low_zero</a> w64 (<a href="../../raw/RawVal/index.html#unsigned_in">unsigned_in</a> w64 raw))
+
 -- the vector that an instruction makes of an item in a raw value
 abbrev pub <b id="made_vector">made_vector</b> : MakeOp → RawVal → ℕ
-<a href="../../ops/MakeOps/index.html#made_vector">made_vector</a> make.I8x16Splat raw = <a href="../../lanewise/VectorTable/index.html#splat">vector.splat</a> w8 (<a href="../../raw/RawVal/index.html#signed_in">signed_in</a> w8 raw)
-<a href="../../ops/MakeOps/index.html#made_vector">made_vector</a> make.I16x8Splat raw = <a href="../../lanewise/VectorTable/index.html#splat">vector.splat</a> w16 (<a href="../../raw/RawVal/index.html#signed_in">signed_in</a> w16 raw)
-<a href="../../ops/MakeOps/index.html#made_vector">made_vector</a> make.I32x4Splat raw = <a href="../../lanewise/VectorTable/index.html#splat">vector.splat</a> w32 (<a href="../../raw/RawVal/index.html#signed_in">signed_in</a> w32 raw)
-<a href="../../ops/MakeOps/index.html#made_vector">made_vector</a> make.I64x2Splat raw = <a href="../../lanewise/VectorTable/index.html#splat">vector.splat</a> w64 (<a href="../../raw/RawVal/index.html#signed_in">signed_in</a> w64 raw)
-<a href="../../ops/MakeOps/index.html#made_vector">made_vector</a> make.V128Widen8x8S raw = <a href="../../widening/WideningTable/index.html#widen_s">widening.widen_s</a> w8 w16 (<a href="../../raw/RawVal/index.html#unsigned_in">unsigned_in</a> w64 raw)
-<a href="../../ops/MakeOps/index.html#made_vector">made_vector</a> make.V128Widen8x8U raw = <a href="../../widening/WideningTable/index.html#widen_u">widening.widen_u</a> w8 w16 (<a href="../../raw/RawVal/index.html#unsigned_in">unsigned_in</a> w64 raw)
-<a href="../../ops/MakeOps/index.html#made_vector">made_vector</a> make.V128Widen16x4S raw = <a href="../../widening/WideningTable/index.html#widen_s">widening.widen_s</a> w16 w32 (<a href="../../raw/RawVal/index.html#unsigned_in">unsigned_in</a> w64 raw)
-<a href="../../ops/MakeOps/index.html#made_vector">made_vector</a> make.V128Widen16x4U raw = <a href="../../widening/WideningTable/index.html#widen_u">widening.widen_u</a> w16 w32 (<a href="../../raw/RawVal/index.html#unsigned_in">unsigned_in</a> w64 raw)
-<a href="../../ops/MakeOps/index.html#made_vector">made_vector</a> make.V128Widen32x2S raw = <a href="../../widening/WideningTable/index.html#widen_s">widening.widen_s</a> w32 w64 (<a href="../../raw/RawVal/index.html#unsigned_in">unsigned_in</a> w64 raw)
-<a href="../../ops/MakeOps/index.html#made_vector">made_vector</a> make.V128Widen32x2U raw = <a href="../../widening/WideningTable/index.html#widen_u">widening.widen_u</a> w32 w64 (<a href="../../raw/RawVal/index.html#unsigned_in">unsigned_in</a> w64 raw)
-<a href="../../ops/MakeOps/index.html#made_vector">made_vector</a> make.V128Low32Zero raw = <a href="../../widening/WideningTable/index.html#low_zero">widening.low_zero</a> w32 (<a href="../../raw/RawVal/index.html#unsigned_in">unsigned_in</a> w32 raw)
-<a href="../../ops/MakeOps/index.html#made_vector">made_vector</a> make.V128Low64Zero raw = <a href="../../widening/WideningTable/index.html#low_zero">widening.low_zero</a> w64 (<a href="../../raw/RawVal/index.html#unsigned_in">unsigned_in</a> w64 raw)
+<a href="../../ops/MakeOps/index.html#made_vector">made_vector</a> op = (<a href="../../ops/MakeOps/index.html#make_row">make_row</a> op).1
 
 -- the name of what makes a vector of an item
 abbrev pub <b id="make_name">make_name</b> : MakeOp → List ℕ
-<a href="../../ops/MakeOps/index.html#make_name">make_name</a> make.I8x16Splat = codes "i8x16_splat"
-<a href="../../ops/MakeOps/index.html#make_name">make_name</a> make.I16x8Splat = codes "i16x8_splat"
-<a href="../../ops/MakeOps/index.html#make_name">make_name</a> make.I32x4Splat = codes "i32x4_splat"
-<a href="../../ops/MakeOps/index.html#make_name">make_name</a> make.I64x2Splat = codes "i64x2_splat"
-<a href="../../ops/MakeOps/index.html#make_name">make_name</a> make.V128Widen8x8S = codes "v128_widen8x8_s"
-<a href="../../ops/MakeOps/index.html#make_name">make_name</a> make.V128Widen8x8U = codes "v128_widen8x8_u"
-<a href="../../ops/MakeOps/index.html#make_name">make_name</a> make.V128Widen16x4S = codes "v128_widen16x4_s"
-<a href="../../ops/MakeOps/index.html#make_name">make_name</a> make.V128Widen16x4U = codes "v128_widen16x4_u"
-<a href="../../ops/MakeOps/index.html#make_name">make_name</a> make.V128Widen32x2S = codes "v128_widen32x2_s"
-<a href="../../ops/MakeOps/index.html#make_name">make_name</a> make.V128Widen32x2U = codes "v128_widen32x2_u"
-<a href="../../ops/MakeOps/index.html#make_name">make_name</a> make.V128Low32Zero = codes "v128_low32_zero"
-<a href="../../ops/MakeOps/index.html#make_name">make_name</a> make.V128Low64Zero = codes "v128_low64_zero"
+<a href="../../ops/MakeOps/index.html#make_name">make_name</a> op = (<a href="../../ops/MakeOps/index.html#make_row">make_row</a> op).0
 </code></pre>
 "####]
     pub mod MakeOps {}
@@ -1943,55 +1830,46 @@ abbrev pub <b id="zero_extended">zero_extended</b> : Width → Width → <a href
 abbrev pub <b id="unextended">unextended</b> : Width → <a href="../../ops/ScalarAccessOps/index.html#RawLoad">RawLoad</a>
 <a href="../../ops/ScalarAccessOps/index.html#unextended">unextended</a> w bytes a = <a href="../../ops/RawResults/index.html#as_raw">as_raw</a> <a href="../../raw/RawVal/index.html#raw_of">raw_of</a> (<a href="../../accesses/LoadStore/index.html#loaded">loaded</a> (bits w / 8) (λ number. number) bytes a)
 
+-- each load: its name, and the load
+abbrev pub <b id="load_row">load_row</b> : LoadOp → List ℕ × <a href="../../ops/ScalarAccessOps/index.html#RawLoad">RawLoad</a>
+<a href="../../ops/ScalarAccessOps/index.html#load_row">load_row</a> load.I32Load8S = (codes "i32_load8_s", <a href="../../ops/ScalarAccessOps/index.html#sign_extended">sign_extended</a> w32 w8)
+<a href="../../ops/ScalarAccessOps/index.html#load_row">load_row</a> load.I32Load8U = (codes "i32_load8_u", <a href="../../ops/ScalarAccessOps/index.html#zero_extended">zero_extended</a> w32 w8)
+<a href="../../ops/ScalarAccessOps/index.html#load_row">load_row</a> load.I32Load16S = (codes "i32_load16_s", <a href="../../ops/ScalarAccessOps/index.html#sign_extended">sign_extended</a> w32 w16)
+<a href="../../ops/ScalarAccessOps/index.html#load_row">load_row</a> load.I32Load16U = (codes "i32_load16_u", <a href="../../ops/ScalarAccessOps/index.html#zero_extended">zero_extended</a> w32 w16)
+<a href="../../ops/ScalarAccessOps/index.html#load_row">load_row</a> load.I64Load8S = (codes "i64_load8_s", <a href="../../ops/ScalarAccessOps/index.html#sign_extended">sign_extended</a> w64 w8)
+<a href="../../ops/ScalarAccessOps/index.html#load_row">load_row</a> load.I64Load8U = (codes "i64_load8_u", <a href="../../ops/ScalarAccessOps/index.html#zero_extended">zero_extended</a> w64 w8)
+<a href="../../ops/ScalarAccessOps/index.html#load_row">load_row</a> load.I64Load16S = (codes "i64_load16_s", <a href="../../ops/ScalarAccessOps/index.html#sign_extended">sign_extended</a> w64 w16)
+<a href="../../ops/ScalarAccessOps/index.html#load_row">load_row</a> load.I64Load16U = (codes "i64_load16_u", <a href="../../ops/ScalarAccessOps/index.html#zero_extended">zero_extended</a> w64 w16)
+<a href="../../ops/ScalarAccessOps/index.html#load_row">load_row</a> load.I64Load32S = (codes "i64_load32_s", <a href="../../ops/ScalarAccessOps/index.html#sign_extended">sign_extended</a> w64 w32)
+<a href="../../ops/ScalarAccessOps/index.html#load_row">load_row</a> load.I64Load32U = (codes "i64_load32_u", <a href="../../ops/ScalarAccessOps/index.html#zero_extended">zero_extended</a> w64 w32)
+<a href="../../ops/ScalarAccessOps/index.html#load_row">load_row</a> load.LoadU32 = (codes "load_u32", <a href="../../ops/ScalarAccessOps/index.html#unextended">unextended</a> w32)
+<a href="../../ops/ScalarAccessOps/index.html#load_row">load_row</a> load.LoadU64 = (codes "load_u64", <a href="../../ops/ScalarAccessOps/index.html#unextended">unextended</a> w64)
+
 -- the load of each instruction
 abbrev pub <b id="loaded_raw">loaded_raw</b> : LoadOp → <a href="../../ops/ScalarAccessOps/index.html#RawLoad">RawLoad</a>
-<a href="../../ops/ScalarAccessOps/index.html#loaded_raw">loaded_raw</a> load.I32Load8S = <a href="../../ops/ScalarAccessOps/index.html#sign_extended">sign_extended</a> w32 w8
-<a href="../../ops/ScalarAccessOps/index.html#loaded_raw">loaded_raw</a> load.I32Load8U = <a href="../../ops/ScalarAccessOps/index.html#zero_extended">zero_extended</a> w32 w8
-<a href="../../ops/ScalarAccessOps/index.html#loaded_raw">loaded_raw</a> load.I32Load16S = <a href="../../ops/ScalarAccessOps/index.html#sign_extended">sign_extended</a> w32 w16
-<a href="../../ops/ScalarAccessOps/index.html#loaded_raw">loaded_raw</a> load.I32Load16U = <a href="../../ops/ScalarAccessOps/index.html#zero_extended">zero_extended</a> w32 w16
-<a href="../../ops/ScalarAccessOps/index.html#loaded_raw">loaded_raw</a> load.I64Load8S = <a href="../../ops/ScalarAccessOps/index.html#sign_extended">sign_extended</a> w64 w8
-<a href="../../ops/ScalarAccessOps/index.html#loaded_raw">loaded_raw</a> load.I64Load8U = <a href="../../ops/ScalarAccessOps/index.html#zero_extended">zero_extended</a> w64 w8
-<a href="../../ops/ScalarAccessOps/index.html#loaded_raw">loaded_raw</a> load.I64Load16S = <a href="../../ops/ScalarAccessOps/index.html#sign_extended">sign_extended</a> w64 w16
-<a href="../../ops/ScalarAccessOps/index.html#loaded_raw">loaded_raw</a> load.I64Load16U = <a href="../../ops/ScalarAccessOps/index.html#zero_extended">zero_extended</a> w64 w16
-<a href="../../ops/ScalarAccessOps/index.html#loaded_raw">loaded_raw</a> load.I64Load32S = <a href="../../ops/ScalarAccessOps/index.html#sign_extended">sign_extended</a> w64 w32
-<a href="../../ops/ScalarAccessOps/index.html#loaded_raw">loaded_raw</a> load.I64Load32U = <a href="../../ops/ScalarAccessOps/index.html#zero_extended">zero_extended</a> w64 w32
-<a href="../../ops/ScalarAccessOps/index.html#loaded_raw">loaded_raw</a> load.LoadU32 = <a href="../../ops/ScalarAccessOps/index.html#unextended">unextended</a> w32
-<a href="../../ops/ScalarAccessOps/index.html#loaded_raw">loaded_raw</a> load.LoadU64 = <a href="../../ops/ScalarAccessOps/index.html#unextended">unextended</a> w64
-
--- the bytes that a store writes: the low ones of the value
-abbrev pub <b id="stored_bytes">stored_bytes</b> : StoreOp → RawVal → List ℕ
-<a href="../../ops/ScalarAccessOps/index.html#stored_bytes">stored_bytes</a> store.I32Store8 value = <a href="../../types/Bytes/index.html#le_bytes">le_bytes</a> 1 (value.lo % 2 ^ 8)
-<a href="../../ops/ScalarAccessOps/index.html#stored_bytes">stored_bytes</a> store.I32Store16 value = <a href="../../types/Bytes/index.html#le_bytes">le_bytes</a> 2 (value.lo % 2 ^ 16)
-<a href="../../ops/ScalarAccessOps/index.html#stored_bytes">stored_bytes</a> store.I64Store8 value = <a href="../../types/Bytes/index.html#le_bytes">le_bytes</a> 1 (value.lo % 2 ^ 8)
-<a href="../../ops/ScalarAccessOps/index.html#stored_bytes">stored_bytes</a> store.I64Store16 value = <a href="../../types/Bytes/index.html#le_bytes">le_bytes</a> 2 (value.lo % 2 ^ 16)
-<a href="../../ops/ScalarAccessOps/index.html#stored_bytes">stored_bytes</a> store.I64Store32 value = <a href="../../types/Bytes/index.html#le_bytes">le_bytes</a> 4 (value.lo % 2 ^ 32)
-<a href="../../ops/ScalarAccessOps/index.html#stored_bytes">stored_bytes</a> store.Store32 value = <a href="../../types/Bytes/index.html#le_bytes">le_bytes</a> 4 (value.lo % 2 ^ 32)
-<a href="../../ops/ScalarAccessOps/index.html#stored_bytes">stored_bytes</a> store.Store64 value = <a href="../../types/Bytes/index.html#le_bytes">le_bytes</a> 8 value.lo
+<a href="../../ops/ScalarAccessOps/index.html#loaded_raw">loaded_raw</a> op = (<a href="../../ops/ScalarAccessOps/index.html#load_row">load_row</a> op).1
 
 -- the name of a scalar load
 abbrev pub <b id="load_name">load_name</b> : LoadOp → List ℕ
-<a href="../../ops/ScalarAccessOps/index.html#load_name">load_name</a> load.I32Load8S = codes "i32_load8_s"
-<a href="../../ops/ScalarAccessOps/index.html#load_name">load_name</a> load.I32Load8U = codes "i32_load8_u"
-<a href="../../ops/ScalarAccessOps/index.html#load_name">load_name</a> load.I32Load16S = codes "i32_load16_s"
-<a href="../../ops/ScalarAccessOps/index.html#load_name">load_name</a> load.I32Load16U = codes "i32_load16_u"
-<a href="../../ops/ScalarAccessOps/index.html#load_name">load_name</a> load.I64Load8S = codes "i64_load8_s"
-<a href="../../ops/ScalarAccessOps/index.html#load_name">load_name</a> load.I64Load8U = codes "i64_load8_u"
-<a href="../../ops/ScalarAccessOps/index.html#load_name">load_name</a> load.I64Load16S = codes "i64_load16_s"
-<a href="../../ops/ScalarAccessOps/index.html#load_name">load_name</a> load.I64Load16U = codes "i64_load16_u"
-<a href="../../ops/ScalarAccessOps/index.html#load_name">load_name</a> load.I64Load32S = codes "i64_load32_s"
-<a href="../../ops/ScalarAccessOps/index.html#load_name">load_name</a> load.I64Load32U = codes "i64_load32_u"
-<a href="../../ops/ScalarAccessOps/index.html#load_name">load_name</a> load.LoadU32 = codes "load_u32"
-<a href="../../ops/ScalarAccessOps/index.html#load_name">load_name</a> load.LoadU64 = codes "load_u64"
+<a href="../../ops/ScalarAccessOps/index.html#load_name">load_name</a> op = (<a href="../../ops/ScalarAccessOps/index.html#load_row">load_row</a> op).0
+
+-- each store: its name, and the bytes that it writes, the low ones of the value
+abbrev pub <b id="store_row">store_row</b> : StoreOp → List ℕ × (RawVal → List ℕ)
+<a href="../../ops/ScalarAccessOps/index.html#store_row">store_row</a> store.I32Store8 = (codes "i32_store8", λ value. <a href="../../types/Bytes/index.html#le_bytes">le_bytes</a> 1 (value.lo % 2 ^ 8))
+<a href="../../ops/ScalarAccessOps/index.html#store_row">store_row</a> store.I32Store16 = (codes "i32_store16", λ value. <a href="../../types/Bytes/index.html#le_bytes">le_bytes</a> 2 (value.lo % 2 ^ 16))
+<a href="../../ops/ScalarAccessOps/index.html#store_row">store_row</a> store.I64Store8 = (codes "i64_store8", λ value. <a href="../../types/Bytes/index.html#le_bytes">le_bytes</a> 1 (value.lo % 2 ^ 8))
+<a href="../../ops/ScalarAccessOps/index.html#store_row">store_row</a> store.I64Store16 = (codes "i64_store16", λ value. <a href="../../types/Bytes/index.html#le_bytes">le_bytes</a> 2 (value.lo % 2 ^ 16))
+<a href="../../ops/ScalarAccessOps/index.html#store_row">store_row</a> store.I64Store32 = (codes "i64_store32", λ value. <a href="../../types/Bytes/index.html#le_bytes">le_bytes</a> 4 (value.lo % 2 ^ 32))
+<a href="../../ops/ScalarAccessOps/index.html#store_row">store_row</a> store.Store32 = (codes "store32", λ value. <a href="../../types/Bytes/index.html#le_bytes">le_bytes</a> 4 (value.lo % 2 ^ 32))
+<a href="../../ops/ScalarAccessOps/index.html#store_row">store_row</a> store.Store64 = (codes "store64", λ value. <a href="../../types/Bytes/index.html#le_bytes">le_bytes</a> 8 value.lo)
+
+-- the bytes that a store writes: the low ones of the value
+abbrev pub <b id="stored_bytes">stored_bytes</b> : StoreOp → RawVal → List ℕ
+<a href="../../ops/ScalarAccessOps/index.html#stored_bytes">stored_bytes</a> op = (<a href="../../ops/ScalarAccessOps/index.html#store_row">store_row</a> op).1
 
 -- the name of a scalar store
 abbrev pub <b id="store_name">store_name</b> : StoreOp → List ℕ
-<a href="../../ops/ScalarAccessOps/index.html#store_name">store_name</a> store.I32Store8 = codes "i32_store8"
-<a href="../../ops/ScalarAccessOps/index.html#store_name">store_name</a> store.I32Store16 = codes "i32_store16"
-<a href="../../ops/ScalarAccessOps/index.html#store_name">store_name</a> store.I64Store8 = codes "i64_store8"
-<a href="../../ops/ScalarAccessOps/index.html#store_name">store_name</a> store.I64Store16 = codes "i64_store16"
-<a href="../../ops/ScalarAccessOps/index.html#store_name">store_name</a> store.I64Store32 = codes "i64_store32"
-<a href="../../ops/ScalarAccessOps/index.html#store_name">store_name</a> store.Store32 = codes "store32"
-<a href="../../ops/ScalarAccessOps/index.html#store_name">store_name</a> store.Store64 = codes "store64"
+<a href="../../ops/ScalarAccessOps/index.html#store_name">store_name</a> op = (<a href="../../ops/ScalarAccessOps/index.html#store_row">store_row</a> op).0
 </code></pre>
 "####]
     pub mod ScalarAccessOps {}
@@ -2040,120 +1918,72 @@ abbrev pub <b id="unsigned_comparison">unsigned_comparison</b> : Width → (ℕ 
 abbrev pub <b id="wide_operation">wide_operation</b> : (ℕ → ℕ → ℕ) → <a href="../../ops/ScalarBinaryOps/index.html#RawOperation">RawOperation</a>
 <a href="../../ops/ScalarBinaryOps/index.html#wide_operation">wide_operation</a> operator lhs rhs = Ok (<a href="../../raw/RawVal/index.html#raw_of_vector">raw_of_vector</a> (operator (<a href="../../raw/RawVal/index.html#vector_in">vector_in</a> lhs) (<a href="../../raw/RawVal/index.html#vector_in">vector_in</a> rhs)))
 
+-- each instruction of two raw values: its name, and its operation
+abbrev pub <b id="scalar_binary_row">scalar_binary_row</b> : ScalarBinaryOp → List ℕ × <a href="../../ops/ScalarBinaryOps/index.html#RawOperation">RawOperation</a>
+<a href="../../ops/ScalarBinaryOps/index.html#scalar_binary_row">scalar_binary_row</a> binary.I32Add = (codes "i32_add", <a href="../../ops/ScalarBinaryOps/index.html#signed_operation">signed_operation</a> w32 <a href="../../scalar/Numerics/index.html#iadd">iadd</a>)
+<a href="../../ops/ScalarBinaryOps/index.html#scalar_binary_row">scalar_binary_row</a> binary.I32Sub = (codes "i32_sub", <a href="../../ops/ScalarBinaryOps/index.html#signed_operation">signed_operation</a> w32 <a href="../../scalar/Numerics/index.html#isub">isub</a>)
+<a href="../../ops/ScalarBinaryOps/index.html#scalar_binary_row">scalar_binary_row</a> binary.I32Mul = (codes "i32_mul", <a href="../../ops/ScalarBinaryOps/index.html#signed_operation">signed_operation</a> w32 <a href="../../scalar/Numerics/index.html#imul">imul</a>)
+<a href="../../ops/ScalarBinaryOps/index.html#scalar_binary_row">scalar_binary_row</a> binary.I32Bitand = (codes "i32_bitand", <a href="../../ops/ScalarBinaryOps/index.html#signed_operation">signed_operation</a> w32 <a href="../../scalar/Numerics/index.html#iand">iand</a>)
+<a href="../../ops/ScalarBinaryOps/index.html#scalar_binary_row">scalar_binary_row</a> binary.I32Bitor = (codes "i32_bitor", <a href="../../ops/ScalarBinaryOps/index.html#signed_operation">signed_operation</a> w32 <a href="../../scalar/Numerics/index.html#ior">ior</a>)
+<a href="../../ops/ScalarBinaryOps/index.html#scalar_binary_row">scalar_binary_row</a> binary.I32Bitxor = (codes "i32_bitxor", <a href="../../ops/ScalarBinaryOps/index.html#signed_operation">signed_operation</a> w32 <a href="../../scalar/Numerics/index.html#ixor">ixor</a>)
+<a href="../../ops/ScalarBinaryOps/index.html#scalar_binary_row">scalar_binary_row</a> binary.I32Shl = (codes "i32_shl", <a href="../../ops/ScalarBinaryOps/index.html#signed_operation">signed_operation</a> w32 <a href="../../scalar/Numerics/index.html#ishl">ishl</a>)
+<a href="../../ops/ScalarBinaryOps/index.html#scalar_binary_row">scalar_binary_row</a> binary.I32ShrS = (codes "i32_shr_s", <a href="../../ops/ScalarBinaryOps/index.html#signed_operation">signed_operation</a> w32 <a href="../../scalar/Numerics/index.html#ishr_s">ishr_s</a>)
+<a href="../../ops/ScalarBinaryOps/index.html#scalar_binary_row">scalar_binary_row</a> binary.I32ShrU = (codes "i32_shr_u", <a href="../../ops/ScalarBinaryOps/index.html#unsigned_operation">unsigned_operation</a> w32 <a href="../../scalar/Numerics/index.html#ishr_u">ishr_u</a>)
+<a href="../../ops/ScalarBinaryOps/index.html#scalar_binary_row">scalar_binary_row</a> binary.I32Rotl = (codes "i32_rotl", <a href="../../ops/ScalarBinaryOps/index.html#signed_operation">signed_operation</a> w32 <a href="../../scalar/Numerics/index.html#irotl">irotl</a>)
+<a href="../../ops/ScalarBinaryOps/index.html#scalar_binary_row">scalar_binary_row</a> binary.I32Rotr = (codes "i32_rotr", <a href="../../ops/ScalarBinaryOps/index.html#signed_operation">signed_operation</a> w32 <a href="../../scalar/Numerics/index.html#irotr">irotr</a>)
+<a href="../../ops/ScalarBinaryOps/index.html#scalar_binary_row">scalar_binary_row</a> binary.I32DivS = (codes "i32_div_s", <a href="../../ops/ScalarBinaryOps/index.html#signed_partial">signed_partial</a> w32 (<a href="../../scalar/Numerics/index.html#idiv_s">idiv_s</a> w32))
+<a href="../../ops/ScalarBinaryOps/index.html#scalar_binary_row">scalar_binary_row</a> binary.I32DivU = (codes "i32_div_u", <a href="../../ops/ScalarBinaryOps/index.html#unsigned_partial">unsigned_partial</a> w32 <a href="../../scalar/Numerics/index.html#idiv_u">idiv_u</a>)
+<a href="../../ops/ScalarBinaryOps/index.html#scalar_binary_row">scalar_binary_row</a> binary.I32RemS = (codes "i32_rem_s", <a href="../../ops/ScalarBinaryOps/index.html#signed_partial">signed_partial</a> w32 <a href="../../scalar/Numerics/index.html#irem_s">irem_s</a>)
+<a href="../../ops/ScalarBinaryOps/index.html#scalar_binary_row">scalar_binary_row</a> binary.I32RemU = (codes "i32_rem_u", <a href="../../ops/ScalarBinaryOps/index.html#unsigned_partial">unsigned_partial</a> w32 <a href="../../scalar/Numerics/index.html#irem_u">irem_u</a>)
+<a href="../../ops/ScalarBinaryOps/index.html#scalar_binary_row">scalar_binary_row</a> binary.I32Eq = (codes "i32_eq", <a href="../../ops/ScalarBinaryOps/index.html#signed_comparison">signed_comparison</a> w32 <a href="../../scalar/Numerics/index.html#ieq">ieq</a>)
+<a href="../../ops/ScalarBinaryOps/index.html#scalar_binary_row">scalar_binary_row</a> binary.I32Ne = (codes "i32_ne", <a href="../../ops/ScalarBinaryOps/index.html#signed_comparison">signed_comparison</a> w32 <a href="../../scalar/Numerics/index.html#ine">ine</a>)
+<a href="../../ops/ScalarBinaryOps/index.html#scalar_binary_row">scalar_binary_row</a> binary.I32LtS = (codes "i32_lt_s", <a href="../../ops/ScalarBinaryOps/index.html#signed_comparison">signed_comparison</a> w32 <a href="../../scalar/Numerics/index.html#ilt_s">ilt_s</a>)
+<a href="../../ops/ScalarBinaryOps/index.html#scalar_binary_row">scalar_binary_row</a> binary.I32LtU = (codes "i32_lt_u", <a href="../../ops/ScalarBinaryOps/index.html#unsigned_comparison">unsigned_comparison</a> w32 <a href="../../scalar/Numerics/index.html#ilt_u">ilt_u</a>)
+<a href="../../ops/ScalarBinaryOps/index.html#scalar_binary_row">scalar_binary_row</a> binary.I32LeS = (codes "i32_le_s", <a href="../../ops/ScalarBinaryOps/index.html#signed_comparison">signed_comparison</a> w32 <a href="../../scalar/Numerics/index.html#ile_s">ile_s</a>)
+<a href="../../ops/ScalarBinaryOps/index.html#scalar_binary_row">scalar_binary_row</a> binary.I32LeU = (codes "i32_le_u", <a href="../../ops/ScalarBinaryOps/index.html#unsigned_comparison">unsigned_comparison</a> w32 <a href="../../scalar/Numerics/index.html#ile_u">ile_u</a>)
+<a href="../../ops/ScalarBinaryOps/index.html#scalar_binary_row">scalar_binary_row</a> binary.I32GtS = (codes "i32_gt_s", <a href="../../ops/ScalarBinaryOps/index.html#signed_comparison">signed_comparison</a> w32 <a href="../../scalar/Numerics/index.html#igt_s">igt_s</a>)
+<a href="../../ops/ScalarBinaryOps/index.html#scalar_binary_row">scalar_binary_row</a> binary.I32GtU = (codes "i32_gt_u", <a href="../../ops/ScalarBinaryOps/index.html#unsigned_comparison">unsigned_comparison</a> w32 <a href="../../scalar/Numerics/index.html#igt_u">igt_u</a>)
+<a href="../../ops/ScalarBinaryOps/index.html#scalar_binary_row">scalar_binary_row</a> binary.I32GeS = (codes "i32_ge_s", <a href="../../ops/ScalarBinaryOps/index.html#signed_comparison">signed_comparison</a> w32 <a href="../../scalar/Numerics/index.html#ige_s">ige_s</a>)
+<a href="../../ops/ScalarBinaryOps/index.html#scalar_binary_row">scalar_binary_row</a> binary.I32GeU = (codes "i32_ge_u", <a href="../../ops/ScalarBinaryOps/index.html#unsigned_comparison">unsigned_comparison</a> w32 <a href="../../scalar/Numerics/index.html#ige_u">ige_u</a>)
+<a href="../../ops/ScalarBinaryOps/index.html#scalar_binary_row">scalar_binary_row</a> binary.I64Add = (codes "i64_add", <a href="../../ops/ScalarBinaryOps/index.html#signed_operation">signed_operation</a> w64 <a href="../../scalar/Numerics/index.html#iadd">iadd</a>)
+<a href="../../ops/ScalarBinaryOps/index.html#scalar_binary_row">scalar_binary_row</a> binary.I64Sub = (codes "i64_sub", <a href="../../ops/ScalarBinaryOps/index.html#signed_operation">signed_operation</a> w64 <a href="../../scalar/Numerics/index.html#isub">isub</a>)
+<a href="../../ops/ScalarBinaryOps/index.html#scalar_binary_row">scalar_binary_row</a> binary.I64Mul = (codes "i64_mul", <a href="../../ops/ScalarBinaryOps/index.html#signed_operation">signed_operation</a> w64 <a href="../../scalar/Numerics/index.html#imul">imul</a>)
+<a href="../../ops/ScalarBinaryOps/index.html#scalar_binary_row">scalar_binary_row</a> binary.I64Bitand = (codes "i64_bitand", <a href="../../ops/ScalarBinaryOps/index.html#signed_operation">signed_operation</a> w64 <a href="../../scalar/Numerics/index.html#iand">iand</a>)
+<a href="../../ops/ScalarBinaryOps/index.html#scalar_binary_row">scalar_binary_row</a> binary.I64Bitor = (codes "i64_bitor", <a href="../../ops/ScalarBinaryOps/index.html#signed_operation">signed_operation</a> w64 <a href="../../scalar/Numerics/index.html#ior">ior</a>)
+<a href="../../ops/ScalarBinaryOps/index.html#scalar_binary_row">scalar_binary_row</a> binary.I64Bitxor = (codes "i64_bitxor", <a href="../../ops/ScalarBinaryOps/index.html#signed_operation">signed_operation</a> w64 <a href="../../scalar/Numerics/index.html#ixor">ixor</a>)
+<a href="../../ops/ScalarBinaryOps/index.html#scalar_binary_row">scalar_binary_row</a> binary.I64Shl = (codes "i64_shl", <a href="../../ops/ScalarBinaryOps/index.html#signed_operation">signed_operation</a> w64 <a href="../../scalar/Numerics/index.html#ishl">ishl</a>)
+<a href="../../ops/ScalarBinaryOps/index.html#scalar_binary_row">scalar_binary_row</a> binary.I64ShrS = (codes "i64_shr_s", <a href="../../ops/ScalarBinaryOps/index.html#signed_operation">signed_operation</a> w64 <a href="../../scalar/Numerics/index.html#ishr_s">ishr_s</a>)
+<a href="../../ops/ScalarBinaryOps/index.html#scalar_binary_row">scalar_binary_row</a> binary.I64ShrU = (codes "i64_shr_u", <a href="../../ops/ScalarBinaryOps/index.html#unsigned_operation">unsigned_operation</a> w64 <a href="../../scalar/Numerics/index.html#ishr_u">ishr_u</a>)
+<a href="../../ops/ScalarBinaryOps/index.html#scalar_binary_row">scalar_binary_row</a> binary.I64Rotl = (codes "i64_rotl", <a href="../../ops/ScalarBinaryOps/index.html#signed_operation">signed_operation</a> w64 <a href="../../scalar/Numerics/index.html#irotl">irotl</a>)
+<a href="../../ops/ScalarBinaryOps/index.html#scalar_binary_row">scalar_binary_row</a> binary.I64Rotr = (codes "i64_rotr", <a href="../../ops/ScalarBinaryOps/index.html#signed_operation">signed_operation</a> w64 <a href="../../scalar/Numerics/index.html#irotr">irotr</a>)
+<a href="../../ops/ScalarBinaryOps/index.html#scalar_binary_row">scalar_binary_row</a> binary.I64DivS = (codes "i64_div_s", <a href="../../ops/ScalarBinaryOps/index.html#signed_partial">signed_partial</a> w64 (<a href="../../scalar/Numerics/index.html#idiv_s">idiv_s</a> w64))
+<a href="../../ops/ScalarBinaryOps/index.html#scalar_binary_row">scalar_binary_row</a> binary.I64DivU = (codes "i64_div_u", <a href="../../ops/ScalarBinaryOps/index.html#unsigned_partial">unsigned_partial</a> w64 <a href="../../scalar/Numerics/index.html#idiv_u">idiv_u</a>)
+<a href="../../ops/ScalarBinaryOps/index.html#scalar_binary_row">scalar_binary_row</a> binary.I64RemS = (codes "i64_rem_s", <a href="../../ops/ScalarBinaryOps/index.html#signed_partial">signed_partial</a> w64 <a href="../../scalar/Numerics/index.html#irem_s">irem_s</a>)
+<a href="../../ops/ScalarBinaryOps/index.html#scalar_binary_row">scalar_binary_row</a> binary.I64RemU = (codes "i64_rem_u", <a href="../../ops/ScalarBinaryOps/index.html#unsigned_partial">unsigned_partial</a> w64 <a href="../../scalar/Numerics/index.html#irem_u">irem_u</a>)
+<a href="../../ops/ScalarBinaryOps/index.html#scalar_binary_row">scalar_binary_row</a> binary.I64Eq = (codes "i64_eq", <a href="../../ops/ScalarBinaryOps/index.html#signed_comparison">signed_comparison</a> w64 <a href="../../scalar/Numerics/index.html#ieq">ieq</a>)
+<a href="../../ops/ScalarBinaryOps/index.html#scalar_binary_row">scalar_binary_row</a> binary.I64Ne = (codes "i64_ne", <a href="../../ops/ScalarBinaryOps/index.html#signed_comparison">signed_comparison</a> w64 <a href="../../scalar/Numerics/index.html#ine">ine</a>)
+<a href="../../ops/ScalarBinaryOps/index.html#scalar_binary_row">scalar_binary_row</a> binary.I64LtS = (codes "i64_lt_s", <a href="../../ops/ScalarBinaryOps/index.html#signed_comparison">signed_comparison</a> w64 <a href="../../scalar/Numerics/index.html#ilt_s">ilt_s</a>)
+<a href="../../ops/ScalarBinaryOps/index.html#scalar_binary_row">scalar_binary_row</a> binary.I64LtU = (codes "i64_lt_u", <a href="../../ops/ScalarBinaryOps/index.html#unsigned_comparison">unsigned_comparison</a> w64 <a href="../../scalar/Numerics/index.html#ilt_u">ilt_u</a>)
+<a href="../../ops/ScalarBinaryOps/index.html#scalar_binary_row">scalar_binary_row</a> binary.I64LeS = (codes "i64_le_s", <a href="../../ops/ScalarBinaryOps/index.html#signed_comparison">signed_comparison</a> w64 <a href="../../scalar/Numerics/index.html#ile_s">ile_s</a>)
+<a href="../../ops/ScalarBinaryOps/index.html#scalar_binary_row">scalar_binary_row</a> binary.I64LeU = (codes "i64_le_u", <a href="../../ops/ScalarBinaryOps/index.html#unsigned_comparison">unsigned_comparison</a> w64 <a href="../../scalar/Numerics/index.html#ile_u">ile_u</a>)
+<a href="../../ops/ScalarBinaryOps/index.html#scalar_binary_row">scalar_binary_row</a> binary.I64GtS = (codes "i64_gt_s", <a href="../../ops/ScalarBinaryOps/index.html#signed_comparison">signed_comparison</a> w64 <a href="../../scalar/Numerics/index.html#igt_s">igt_s</a>)
+<a href="../../ops/ScalarBinaryOps/index.html#scalar_binary_row">scalar_binary_row</a> binary.I64GtU = (codes "i64_gt_u", <a href="../../ops/ScalarBinaryOps/index.html#unsigned_comparison">unsigned_comparison</a> w64 <a href="../../scalar/Numerics/index.html#igt_u">igt_u</a>)
+<a href="../../ops/ScalarBinaryOps/index.html#scalar_binary_row">scalar_binary_row</a> binary.I64GeS = (codes "i64_ge_s", <a href="../../ops/ScalarBinaryOps/index.html#signed_comparison">signed_comparison</a> w64 <a href="../../scalar/Numerics/index.html#ige_s">ige_s</a>)
+<a href="../../ops/ScalarBinaryOps/index.html#scalar_binary_row">scalar_binary_row</a> binary.I64GeU = (codes "i64_ge_u", <a href="../../ops/ScalarBinaryOps/index.html#unsigned_comparison">unsigned_comparison</a> w64 <a href="../../scalar/Numerics/index.html#ige_u">ige_u</a>)
+<a href="../../ops/ScalarBinaryOps/index.html#scalar_binary_row">scalar_binary_row</a> binary.I64Add128 = (codes "i64_add128", <a href="../../ops/ScalarBinaryOps/index.html#wide_operation">wide_operation</a> <a href="../../scalar/Wide/index.html#add128">add128</a>)
+<a href="../../ops/ScalarBinaryOps/index.html#scalar_binary_row">scalar_binary_row</a> binary.I64Sub128 = (codes "i64_sub128", <a href="../../ops/ScalarBinaryOps/index.html#wide_operation">wide_operation</a> <a href="../../scalar/Wide/index.html#sub128">sub128</a>)
+<a href="../../ops/ScalarBinaryOps/index.html#scalar_binary_row">scalar_binary_row</a> binary.I64MulWideS =
+    (codes "i64_mul_wide_s", λ lhs rhs. Ok (<a href="../../raw/RawVal/index.html#raw_of_vector">raw_of_vector</a> (cast_unsigned w128 (<a href="../../raw/RawVal/index.html#signed_in">signed_in</a> w64 lhs *ℤ <a href="../../raw/RawVal/index.html#signed_in">signed_in</a> w64 rhs))))
+<a href="../../ops/ScalarBinaryOps/index.html#scalar_binary_row">scalar_binary_row</a> binary.I64MulWideU =
+    (codes "i64_mul_wide_u", λ lhs rhs. Ok (<a href="../../raw/RawVal/index.html#raw_of_vector">raw_of_vector</a> (<a href="../../raw/RawVal/index.html#unsigned_in">unsigned_in</a> w64 lhs * <a href="../../raw/RawVal/index.html#unsigned_in">unsigned_in</a> w64 rhs)))
+
 -- the operation of each instruction
 abbrev pub <b id="binary_raw">binary_raw</b> : ScalarBinaryOp → <a href="../../ops/ScalarBinaryOps/index.html#RawOperation">RawOperation</a>
-<a href="../../ops/ScalarBinaryOps/index.html#binary_raw">binary_raw</a> binary.I32Add = <a href="../../ops/ScalarBinaryOps/index.html#signed_operation">signed_operation</a> w32 <a href="../../scalar/Numerics/index.html#iadd">iadd</a>
-<a href="../../ops/ScalarBinaryOps/index.html#binary_raw">binary_raw</a> binary.I32Sub = <a href="../../ops/ScalarBinaryOps/index.html#signed_operation">signed_operation</a> w32 <a href="../../scalar/Numerics/index.html#isub">isub</a>
-<a href="../../ops/ScalarBinaryOps/index.html#binary_raw">binary_raw</a> binary.I32Mul = <a href="../../ops/ScalarBinaryOps/index.html#signed_operation">signed_operation</a> w32 <a href="../../scalar/Numerics/index.html#imul">imul</a>
-<a href="../../ops/ScalarBinaryOps/index.html#binary_raw">binary_raw</a> binary.I32Bitand = <a href="../../ops/ScalarBinaryOps/index.html#signed_operation">signed_operation</a> w32 <a href="../../scalar/Numerics/index.html#iand">iand</a>
-<a href="../../ops/ScalarBinaryOps/index.html#binary_raw">binary_raw</a> binary.I32Bitor = <a href="../../ops/ScalarBinaryOps/index.html#signed_operation">signed_operation</a> w32 <a href="../../scalar/Numerics/index.html#ior">ior</a>
-<a href="../../ops/ScalarBinaryOps/index.html#binary_raw">binary_raw</a> binary.I32Bitxor = <a href="../../ops/ScalarBinaryOps/index.html#signed_operation">signed_operation</a> w32 <a href="../../scalar/Numerics/index.html#ixor">ixor</a>
-<a href="../../ops/ScalarBinaryOps/index.html#binary_raw">binary_raw</a> binary.I32Shl = <a href="../../ops/ScalarBinaryOps/index.html#signed_operation">signed_operation</a> w32 <a href="../../scalar/Numerics/index.html#ishl">ishl</a>
-<a href="../../ops/ScalarBinaryOps/index.html#binary_raw">binary_raw</a> binary.I32ShrS = <a href="../../ops/ScalarBinaryOps/index.html#signed_operation">signed_operation</a> w32 <a href="../../scalar/Numerics/index.html#ishr_s">ishr_s</a>
-<a href="../../ops/ScalarBinaryOps/index.html#binary_raw">binary_raw</a> binary.I32ShrU = <a href="../../ops/ScalarBinaryOps/index.html#unsigned_operation">unsigned_operation</a> w32 <a href="../../scalar/Numerics/index.html#ishr_u">ishr_u</a>
-<a href="../../ops/ScalarBinaryOps/index.html#binary_raw">binary_raw</a> binary.I32Rotl = <a href="../../ops/ScalarBinaryOps/index.html#signed_operation">signed_operation</a> w32 <a href="../../scalar/Numerics/index.html#irotl">irotl</a>
-<a href="../../ops/ScalarBinaryOps/index.html#binary_raw">binary_raw</a> binary.I32Rotr = <a href="../../ops/ScalarBinaryOps/index.html#signed_operation">signed_operation</a> w32 <a href="../../scalar/Numerics/index.html#irotr">irotr</a>
-<a href="../../ops/ScalarBinaryOps/index.html#binary_raw">binary_raw</a> binary.I32DivS = <a href="../../ops/ScalarBinaryOps/index.html#signed_partial">signed_partial</a> w32 (<a href="../../scalar/Numerics/index.html#idiv_s">idiv_s</a> w32)
-<a href="../../ops/ScalarBinaryOps/index.html#binary_raw">binary_raw</a> binary.I32DivU = <a href="../../ops/ScalarBinaryOps/index.html#unsigned_partial">unsigned_partial</a> w32 <a href="../../scalar/Numerics/index.html#idiv_u">idiv_u</a>
-<a href="../../ops/ScalarBinaryOps/index.html#binary_raw">binary_raw</a> binary.I32RemS = <a href="../../ops/ScalarBinaryOps/index.html#signed_partial">signed_partial</a> w32 <a href="../../scalar/Numerics/index.html#irem_s">irem_s</a>
-<a href="../../ops/ScalarBinaryOps/index.html#binary_raw">binary_raw</a> binary.I32RemU = <a href="../../ops/ScalarBinaryOps/index.html#unsigned_partial">unsigned_partial</a> w32 <a href="../../scalar/Numerics/index.html#irem_u">irem_u</a>
-<a href="../../ops/ScalarBinaryOps/index.html#binary_raw">binary_raw</a> binary.I32Eq = <a href="../../ops/ScalarBinaryOps/index.html#signed_comparison">signed_comparison</a> w32 <a href="../../scalar/Numerics/index.html#ieq">ieq</a>
-<a href="../../ops/ScalarBinaryOps/index.html#binary_raw">binary_raw</a> binary.I32Ne = <a href="../../ops/ScalarBinaryOps/index.html#signed_comparison">signed_comparison</a> w32 <a href="../../scalar/Numerics/index.html#ine">ine</a>
-<a href="../../ops/ScalarBinaryOps/index.html#binary_raw">binary_raw</a> binary.I32LtS = <a href="../../ops/ScalarBinaryOps/index.html#signed_comparison">signed_comparison</a> w32 <a href="../../scalar/Numerics/index.html#ilt_s">ilt_s</a>
-<a href="../../ops/ScalarBinaryOps/index.html#binary_raw">binary_raw</a> binary.I32LtU = <a href="../../ops/ScalarBinaryOps/index.html#unsigned_comparison">unsigned_comparison</a> w32 <a href="../../scalar/Numerics/index.html#ilt_u">ilt_u</a>
-<a href="../../ops/ScalarBinaryOps/index.html#binary_raw">binary_raw</a> binary.I32LeS = <a href="../../ops/ScalarBinaryOps/index.html#signed_comparison">signed_comparison</a> w32 <a href="../../scalar/Numerics/index.html#ile_s">ile_s</a>
-<a href="../../ops/ScalarBinaryOps/index.html#binary_raw">binary_raw</a> binary.I32LeU = <a href="../../ops/ScalarBinaryOps/index.html#unsigned_comparison">unsigned_comparison</a> w32 <a href="../../scalar/Numerics/index.html#ile_u">ile_u</a>
-<a href="../../ops/ScalarBinaryOps/index.html#binary_raw">binary_raw</a> binary.I32GtS = <a href="../../ops/ScalarBinaryOps/index.html#signed_comparison">signed_comparison</a> w32 <a href="../../scalar/Numerics/index.html#igt_s">igt_s</a>
-<a href="../../ops/ScalarBinaryOps/index.html#binary_raw">binary_raw</a> binary.I32GtU = <a href="../../ops/ScalarBinaryOps/index.html#unsigned_comparison">unsigned_comparison</a> w32 <a href="../../scalar/Numerics/index.html#igt_u">igt_u</a>
-<a href="../../ops/ScalarBinaryOps/index.html#binary_raw">binary_raw</a> binary.I32GeS = <a href="../../ops/ScalarBinaryOps/index.html#signed_comparison">signed_comparison</a> w32 <a href="../../scalar/Numerics/index.html#ige_s">ige_s</a>
-<a href="../../ops/ScalarBinaryOps/index.html#binary_raw">binary_raw</a> binary.I32GeU = <a href="../../ops/ScalarBinaryOps/index.html#unsigned_comparison">unsigned_comparison</a> w32 <a href="../../scalar/Numerics/index.html#ige_u">ige_u</a>
-<a href="../../ops/ScalarBinaryOps/index.html#binary_raw">binary_raw</a> binary.I64Add = <a href="../../ops/ScalarBinaryOps/index.html#signed_operation">signed_operation</a> w64 <a href="../../scalar/Numerics/index.html#iadd">iadd</a>
-<a href="../../ops/ScalarBinaryOps/index.html#binary_raw">binary_raw</a> binary.I64Sub = <a href="../../ops/ScalarBinaryOps/index.html#signed_operation">signed_operation</a> w64 <a href="../../scalar/Numerics/index.html#isub">isub</a>
-<a href="../../ops/ScalarBinaryOps/index.html#binary_raw">binary_raw</a> binary.I64Mul = <a href="../../ops/ScalarBinaryOps/index.html#signed_operation">signed_operation</a> w64 <a href="../../scalar/Numerics/index.html#imul">imul</a>
-<a href="../../ops/ScalarBinaryOps/index.html#binary_raw">binary_raw</a> binary.I64Bitand = <a href="../../ops/ScalarBinaryOps/index.html#signed_operation">signed_operation</a> w64 <a href="../../scalar/Numerics/index.html#iand">iand</a>
-<a href="../../ops/ScalarBinaryOps/index.html#binary_raw">binary_raw</a> binary.I64Bitor = <a href="../../ops/ScalarBinaryOps/index.html#signed_operation">signed_operation</a> w64 <a href="../../scalar/Numerics/index.html#ior">ior</a>
-<a href="../../ops/ScalarBinaryOps/index.html#binary_raw">binary_raw</a> binary.I64Bitxor = <a href="../../ops/ScalarBinaryOps/index.html#signed_operation">signed_operation</a> w64 <a href="../../scalar/Numerics/index.html#ixor">ixor</a>
-<a href="../../ops/ScalarBinaryOps/index.html#binary_raw">binary_raw</a> binary.I64Shl = <a href="../../ops/ScalarBinaryOps/index.html#signed_operation">signed_operation</a> w64 <a href="../../scalar/Numerics/index.html#ishl">ishl</a>
-<a href="../../ops/ScalarBinaryOps/index.html#binary_raw">binary_raw</a> binary.I64ShrS = <a href="../../ops/ScalarBinaryOps/index.html#signed_operation">signed_operation</a> w64 <a href="../../scalar/Numerics/index.html#ishr_s">ishr_s</a>
-<a href="../../ops/ScalarBinaryOps/index.html#binary_raw">binary_raw</a> binary.I64ShrU = <a href="../../ops/ScalarBinaryOps/index.html#unsigned_operation">unsigned_operation</a> w64 <a href="../../scalar/Numerics/index.html#ishr_u">ishr_u</a>
-<a href="../../ops/ScalarBinaryOps/index.html#binary_raw">binary_raw</a> binary.I64Rotl = <a href="../../ops/ScalarBinaryOps/index.html#signed_operation">signed_operation</a> w64 <a href="../../scalar/Numerics/index.html#irotl">irotl</a>
-<a href="../../ops/ScalarBinaryOps/index.html#binary_raw">binary_raw</a> binary.I64Rotr = <a href="../../ops/ScalarBinaryOps/index.html#signed_operation">signed_operation</a> w64 <a href="../../scalar/Numerics/index.html#irotr">irotr</a>
-<a href="../../ops/ScalarBinaryOps/index.html#binary_raw">binary_raw</a> binary.I64DivS = <a href="../../ops/ScalarBinaryOps/index.html#signed_partial">signed_partial</a> w64 (<a href="../../scalar/Numerics/index.html#idiv_s">idiv_s</a> w64)
-<a href="../../ops/ScalarBinaryOps/index.html#binary_raw">binary_raw</a> binary.I64DivU = <a href="../../ops/ScalarBinaryOps/index.html#unsigned_partial">unsigned_partial</a> w64 <a href="../../scalar/Numerics/index.html#idiv_u">idiv_u</a>
-<a href="../../ops/ScalarBinaryOps/index.html#binary_raw">binary_raw</a> binary.I64RemS = <a href="../../ops/ScalarBinaryOps/index.html#signed_partial">signed_partial</a> w64 <a href="../../scalar/Numerics/index.html#irem_s">irem_s</a>
-<a href="../../ops/ScalarBinaryOps/index.html#binary_raw">binary_raw</a> binary.I64RemU = <a href="../../ops/ScalarBinaryOps/index.html#unsigned_partial">unsigned_partial</a> w64 <a href="../../scalar/Numerics/index.html#irem_u">irem_u</a>
-<a href="../../ops/ScalarBinaryOps/index.html#binary_raw">binary_raw</a> binary.I64Eq = <a href="../../ops/ScalarBinaryOps/index.html#signed_comparison">signed_comparison</a> w64 <a href="../../scalar/Numerics/index.html#ieq">ieq</a>
-<a href="../../ops/ScalarBinaryOps/index.html#binary_raw">binary_raw</a> binary.I64Ne = <a href="../../ops/ScalarBinaryOps/index.html#signed_comparison">signed_comparison</a> w64 <a href="../../scalar/Numerics/index.html#ine">ine</a>
-<a href="../../ops/ScalarBinaryOps/index.html#binary_raw">binary_raw</a> binary.I64LtS = <a href="../../ops/ScalarBinaryOps/index.html#signed_comparison">signed_comparison</a> w64 <a href="../../scalar/Numerics/index.html#ilt_s">ilt_s</a>
-<a href="../../ops/ScalarBinaryOps/index.html#binary_raw">binary_raw</a> binary.I64LtU = <a href="../../ops/ScalarBinaryOps/index.html#unsigned_comparison">unsigned_comparison</a> w64 <a href="../../scalar/Numerics/index.html#ilt_u">ilt_u</a>
-<a href="../../ops/ScalarBinaryOps/index.html#binary_raw">binary_raw</a> binary.I64LeS = <a href="../../ops/ScalarBinaryOps/index.html#signed_comparison">signed_comparison</a> w64 <a href="../../scalar/Numerics/index.html#ile_s">ile_s</a>
-<a href="../../ops/ScalarBinaryOps/index.html#binary_raw">binary_raw</a> binary.I64LeU = <a href="../../ops/ScalarBinaryOps/index.html#unsigned_comparison">unsigned_comparison</a> w64 <a href="../../scalar/Numerics/index.html#ile_u">ile_u</a>
-<a href="../../ops/ScalarBinaryOps/index.html#binary_raw">binary_raw</a> binary.I64GtS = <a href="../../ops/ScalarBinaryOps/index.html#signed_comparison">signed_comparison</a> w64 <a href="../../scalar/Numerics/index.html#igt_s">igt_s</a>
-<a href="../../ops/ScalarBinaryOps/index.html#binary_raw">binary_raw</a> binary.I64GtU = <a href="../../ops/ScalarBinaryOps/index.html#unsigned_comparison">unsigned_comparison</a> w64 <a href="../../scalar/Numerics/index.html#igt_u">igt_u</a>
-<a href="../../ops/ScalarBinaryOps/index.html#binary_raw">binary_raw</a> binary.I64GeS = <a href="../../ops/ScalarBinaryOps/index.html#signed_comparison">signed_comparison</a> w64 <a href="../../scalar/Numerics/index.html#ige_s">ige_s</a>
-<a href="../../ops/ScalarBinaryOps/index.html#binary_raw">binary_raw</a> binary.I64GeU = <a href="../../ops/ScalarBinaryOps/index.html#unsigned_comparison">unsigned_comparison</a> w64 <a href="../../scalar/Numerics/index.html#ige_u">ige_u</a>
-<a href="../../ops/ScalarBinaryOps/index.html#binary_raw">binary_raw</a> binary.I64Add128 = <a href="../../ops/ScalarBinaryOps/index.html#wide_operation">wide_operation</a> <a href="../../scalar/Wide/index.html#add128">add128</a>
-<a href="../../ops/ScalarBinaryOps/index.html#binary_raw">binary_raw</a> binary.I64Sub128 = <a href="../../ops/ScalarBinaryOps/index.html#wide_operation">wide_operation</a> <a href="../../scalar/Wide/index.html#sub128">sub128</a>
-<a href="../../ops/ScalarBinaryOps/index.html#binary_raw">binary_raw</a> binary.I64MulWideS =
-    λ lhs rhs. Ok (<a href="../../raw/RawVal/index.html#raw_of_vector">raw_of_vector</a> (cast_unsigned w128 (<a href="../../raw/RawVal/index.html#signed_in">signed_in</a> w64 lhs *ℤ <a href="../../raw/RawVal/index.html#signed_in">signed_in</a> w64 rhs)))
-<a href="../../ops/ScalarBinaryOps/index.html#binary_raw">binary_raw</a> binary.I64MulWideU = λ lhs rhs. Ok (<a href="../../raw/RawVal/index.html#raw_of_vector">raw_of_vector</a> (<a href="../../raw/RawVal/index.html#unsigned_in">unsigned_in</a> w64 lhs * <a href="../../raw/RawVal/index.html#unsigned_in">unsigned_in</a> w64 rhs))
+<a href="../../ops/ScalarBinaryOps/index.html#binary_raw">binary_raw</a> op = (<a href="../../ops/ScalarBinaryOps/index.html#scalar_binary_row">scalar_binary_row</a> op).1
 
 -- the name of a scalar instruction of two operands
 abbrev pub <b id="scalar_binary_name">scalar_binary_name</b> : ScalarBinaryOp → List ℕ
-<a href="../../ops/ScalarBinaryOps/index.html#scalar_binary_name">scalar_binary_name</a> binary.I32Add = codes "i32_add"
-<a href="../../ops/ScalarBinaryOps/index.html#scalar_binary_name">scalar_binary_name</a> binary.I32Sub = codes "i32_sub"
-<a href="../../ops/ScalarBinaryOps/index.html#scalar_binary_name">scalar_binary_name</a> binary.I32Mul = codes "i32_mul"
-<a href="../../ops/ScalarBinaryOps/index.html#scalar_binary_name">scalar_binary_name</a> binary.I32Bitand = codes "i32_bitand"
-<a href="../../ops/ScalarBinaryOps/index.html#scalar_binary_name">scalar_binary_name</a> binary.I32Bitor = codes "i32_bitor"
-<a href="../../ops/ScalarBinaryOps/index.html#scalar_binary_name">scalar_binary_name</a> binary.I32Bitxor = codes "i32_bitxor"
-<a href="../../ops/ScalarBinaryOps/index.html#scalar_binary_name">scalar_binary_name</a> binary.I32Shl = codes "i32_shl"
-<a href="../../ops/ScalarBinaryOps/index.html#scalar_binary_name">scalar_binary_name</a> binary.I32ShrS = codes "i32_shr_s"
-<a href="../../ops/ScalarBinaryOps/index.html#scalar_binary_name">scalar_binary_name</a> binary.I32ShrU = codes "i32_shr_u"
-<a href="../../ops/ScalarBinaryOps/index.html#scalar_binary_name">scalar_binary_name</a> binary.I32Rotl = codes "i32_rotl"
-<a href="../../ops/ScalarBinaryOps/index.html#scalar_binary_name">scalar_binary_name</a> binary.I32Rotr = codes "i32_rotr"
-<a href="../../ops/ScalarBinaryOps/index.html#scalar_binary_name">scalar_binary_name</a> binary.I32DivS = codes "i32_div_s"
-<a href="../../ops/ScalarBinaryOps/index.html#scalar_binary_name">scalar_binary_name</a> binary.I32DivU = codes "i32_div_u"
-<a href="../../ops/ScalarBinaryOps/index.html#scalar_binary_name">scalar_binary_name</a> binary.I32RemS = codes "i32_rem_s"
-<a href="../../ops/ScalarBinaryOps/index.html#scalar_binary_name">scalar_binary_name</a> binary.I32RemU = codes "i32_rem_u"
-<a href="../../ops/ScalarBinaryOps/index.html#scalar_binary_name">scalar_binary_name</a> binary.I32Eq = codes "i32_eq"
-<a href="../../ops/ScalarBinaryOps/index.html#scalar_binary_name">scalar_binary_name</a> binary.I32Ne = codes "i32_ne"
-<a href="../../ops/ScalarBinaryOps/index.html#scalar_binary_name">scalar_binary_name</a> binary.I32LtS = codes "i32_lt_s"
-<a href="../../ops/ScalarBinaryOps/index.html#scalar_binary_name">scalar_binary_name</a> binary.I32LtU = codes "i32_lt_u"
-<a href="../../ops/ScalarBinaryOps/index.html#scalar_binary_name">scalar_binary_name</a> binary.I32LeS = codes "i32_le_s"
-<a href="../../ops/ScalarBinaryOps/index.html#scalar_binary_name">scalar_binary_name</a> binary.I32LeU = codes "i32_le_u"
-<a href="../../ops/ScalarBinaryOps/index.html#scalar_binary_name">scalar_binary_name</a> binary.I32GtS = codes "i32_gt_s"
-<a href="../../ops/ScalarBinaryOps/index.html#scalar_binary_name">scalar_binary_name</a> binary.I32GtU = codes "i32_gt_u"
-<a href="../../ops/ScalarBinaryOps/index.html#scalar_binary_name">scalar_binary_name</a> binary.I32GeS = codes "i32_ge_s"
-<a href="../../ops/ScalarBinaryOps/index.html#scalar_binary_name">scalar_binary_name</a> binary.I32GeU = codes "i32_ge_u"
-<a href="../../ops/ScalarBinaryOps/index.html#scalar_binary_name">scalar_binary_name</a> binary.I64Add = codes "i64_add"
-<a href="../../ops/ScalarBinaryOps/index.html#scalar_binary_name">scalar_binary_name</a> binary.I64Sub = codes "i64_sub"
-<a href="../../ops/ScalarBinaryOps/index.html#scalar_binary_name">scalar_binary_name</a> binary.I64Mul = codes "i64_mul"
-<a href="../../ops/ScalarBinaryOps/index.html#scalar_binary_name">scalar_binary_name</a> binary.I64Bitand = codes "i64_bitand"
-<a href="../../ops/ScalarBinaryOps/index.html#scalar_binary_name">scalar_binary_name</a> binary.I64Bitor = codes "i64_bitor"
-<a href="../../ops/ScalarBinaryOps/index.html#scalar_binary_name">scalar_binary_name</a> binary.I64Bitxor = codes "i64_bitxor"
-<a href="../../ops/ScalarBinaryOps/index.html#scalar_binary_name">scalar_binary_name</a> binary.I64Shl = codes "i64_shl"
-<a href="../../ops/ScalarBinaryOps/index.html#scalar_binary_name">scalar_binary_name</a> binary.I64ShrS = codes "i64_shr_s"
-<a href="../../ops/ScalarBinaryOps/index.html#scalar_binary_name">scalar_binary_name</a> binary.I64ShrU = codes "i64_shr_u"
-<a href="../../ops/ScalarBinaryOps/index.html#scalar_binary_name">scalar_binary_name</a> binary.I64Rotl = codes "i64_rotl"
-<a href="../../ops/ScalarBinaryOps/index.html#scalar_binary_name">scalar_binary_name</a> binary.I64Rotr = codes "i64_rotr"
-<a href="../../ops/ScalarBinaryOps/index.html#scalar_binary_name">scalar_binary_name</a> binary.I64DivS = codes "i64_div_s"
-<a href="../../ops/ScalarBinaryOps/index.html#scalar_binary_name">scalar_binary_name</a> binary.I64DivU = codes "i64_div_u"
-<a href="../../ops/ScalarBinaryOps/index.html#scalar_binary_name">scalar_binary_name</a> binary.I64RemS = codes "i64_rem_s"
-<a href="../../ops/ScalarBinaryOps/index.html#scalar_binary_name">scalar_binary_name</a> binary.I64RemU = codes "i64_rem_u"
-<a href="../../ops/ScalarBinaryOps/index.html#scalar_binary_name">scalar_binary_name</a> binary.I64Eq = codes "i64_eq"
-<a href="../../ops/ScalarBinaryOps/index.html#scalar_binary_name">scalar_binary_name</a> binary.I64Ne = codes "i64_ne"
-<a href="../../ops/ScalarBinaryOps/index.html#scalar_binary_name">scalar_binary_name</a> binary.I64LtS = codes "i64_lt_s"
-<a href="../../ops/ScalarBinaryOps/index.html#scalar_binary_name">scalar_binary_name</a> binary.I64LtU = codes "i64_lt_u"
-<a href="../../ops/ScalarBinaryOps/index.html#scalar_binary_name">scalar_binary_name</a> binary.I64LeS = codes "i64_le_s"
-<a href="../../ops/ScalarBinaryOps/index.html#scalar_binary_name">scalar_binary_name</a> binary.I64LeU = codes "i64_le_u"
-<a href="../../ops/ScalarBinaryOps/index.html#scalar_binary_name">scalar_binary_name</a> binary.I64GtS = codes "i64_gt_s"
-<a href="../../ops/ScalarBinaryOps/index.html#scalar_binary_name">scalar_binary_name</a> binary.I64GtU = codes "i64_gt_u"
-<a href="../../ops/ScalarBinaryOps/index.html#scalar_binary_name">scalar_binary_name</a> binary.I64GeS = codes "i64_ge_s"
-<a href="../../ops/ScalarBinaryOps/index.html#scalar_binary_name">scalar_binary_name</a> binary.I64GeU = codes "i64_ge_u"
-<a href="../../ops/ScalarBinaryOps/index.html#scalar_binary_name">scalar_binary_name</a> binary.I64Add128 = codes "i64_add128"
-<a href="../../ops/ScalarBinaryOps/index.html#scalar_binary_name">scalar_binary_name</a> binary.I64Sub128 = codes "i64_sub128"
-<a href="../../ops/ScalarBinaryOps/index.html#scalar_binary_name">scalar_binary_name</a> binary.I64MulWideS = codes "i64_mul_wide_s"
-<a href="../../ops/ScalarBinaryOps/index.html#scalar_binary_name">scalar_binary_name</a> binary.I64MulWideU = codes "i64_mul_wide_u"
+<a href="../../ops/ScalarBinaryOps/index.html#scalar_binary_name">scalar_binary_name</a> op = (<a href="../../ops/ScalarBinaryOps/index.html#scalar_binary_row">scalar_binary_row</a> op).0
 </code></pre>
 "####]
     pub mod ScalarBinaryOps {}
@@ -2168,43 +1998,32 @@ use Rattle.wasmi_ops.specs.RawResults.{<a href="../../ops/RawResults/index.html#
 use Rattle.wasmi_ops.specs.declared.scalar.unary.ScalarUnaryOp.{ScalarUnaryOp}
 use Rattle.wasmi_ops.specs.declared.scalar.unary.ScalarUnaryOp.TheVariants as unary
 
+-- each instruction of one raw value: its name, and what it gives
+abbrev pub <b id="scalar_unary_row">scalar_unary_row</b> : ScalarUnaryOp → List ℕ × (RawVal → RawVal)
+<a href="../../ops/ScalarUnaryOps/index.html#scalar_unary_row">scalar_unary_row</a> unary.I32Clz = (codes "i32_clz", λ raw. <a href="../../ops/RawResults/index.html#signed_raw">signed_raw</a> w32 (<a href="../../scalar/Numerics/index.html#iclz">iclz</a> w32 (<a href="../../raw/RawVal/index.html#signed_in">signed_in</a> w32 raw)))
+<a href="../../ops/ScalarUnaryOps/index.html#scalar_unary_row">scalar_unary_row</a> unary.I32Ctz = (codes "i32_ctz", λ raw. <a href="../../ops/RawResults/index.html#signed_raw">signed_raw</a> w32 (<a href="../../scalar/Numerics/index.html#ictz">ictz</a> w32 (<a href="../../raw/RawVal/index.html#signed_in">signed_in</a> w32 raw)))
+<a href="../../ops/ScalarUnaryOps/index.html#scalar_unary_row">scalar_unary_row</a> unary.I32Popcnt = (codes "i32_popcnt", λ raw. <a href="../../ops/RawResults/index.html#signed_raw">signed_raw</a> w32 (<a href="../../scalar/Numerics/index.html#ipopcnt">ipopcnt</a> w32 (<a href="../../raw/RawVal/index.html#signed_in">signed_in</a> w32 raw)))
+<a href="../../ops/ScalarUnaryOps/index.html#scalar_unary_row">scalar_unary_row</a> unary.I32Eqz = (codes "i32_eqz", λ raw. <a href="../../ops/RawResults/index.html#bool_raw">bool_raw</a> (<a href="../../scalar/Numerics/index.html#ieqz">ieqz</a> (<a href="../../raw/RawVal/index.html#signed_in">signed_in</a> w32 raw)))
+<a href="../../ops/ScalarUnaryOps/index.html#scalar_unary_row">scalar_unary_row</a> unary.I64Clz = (codes "i64_clz", λ raw. <a href="../../ops/RawResults/index.html#signed_raw">signed_raw</a> w64 (<a href="../../scalar/Numerics/index.html#iclz">iclz</a> w64 (<a href="../../raw/RawVal/index.html#signed_in">signed_in</a> w64 raw)))
+<a href="../../ops/ScalarUnaryOps/index.html#scalar_unary_row">scalar_unary_row</a> unary.I64Ctz = (codes "i64_ctz", λ raw. <a href="../../ops/RawResults/index.html#signed_raw">signed_raw</a> w64 (<a href="../../scalar/Numerics/index.html#ictz">ictz</a> w64 (<a href="../../raw/RawVal/index.html#signed_in">signed_in</a> w64 raw)))
+<a href="../../ops/ScalarUnaryOps/index.html#scalar_unary_row">scalar_unary_row</a> unary.I64Popcnt = (codes "i64_popcnt", λ raw. <a href="../../ops/RawResults/index.html#signed_raw">signed_raw</a> w64 (<a href="../../scalar/Numerics/index.html#ipopcnt">ipopcnt</a> w64 (<a href="../../raw/RawVal/index.html#signed_in">signed_in</a> w64 raw)))
+<a href="../../ops/ScalarUnaryOps/index.html#scalar_unary_row">scalar_unary_row</a> unary.I64Eqz = (codes "i64_eqz", λ raw. <a href="../../ops/RawResults/index.html#bool_raw">bool_raw</a> (<a href="../../scalar/Numerics/index.html#ieqz">ieqz</a> (<a href="../../raw/RawVal/index.html#signed_in">signed_in</a> w64 raw)))
+<a href="../../ops/ScalarUnaryOps/index.html#scalar_unary_row">scalar_unary_row</a> unary.I32WrapI64 = (codes "i32_wrap_i64", λ raw. <a href="../../ops/RawResults/index.html#signed_raw">signed_raw</a> w32 (int_wrap w32 (<a href="../../raw/RawVal/index.html#signed_in">signed_in</a> w64 raw)))
+<a href="../../ops/ScalarUnaryOps/index.html#scalar_unary_row">scalar_unary_row</a> unary.I64ExtendI32S = (codes "i64_extend_i32_s", λ raw. <a href="../../ops/RawResults/index.html#signed_raw">signed_raw</a> w64 (<a href="../../raw/RawVal/index.html#signed_in">signed_in</a> w32 raw))
+<a href="../../ops/ScalarUnaryOps/index.html#scalar_unary_row">scalar_unary_row</a> unary.I64ExtendI32U = (codes "i64_extend_i32_u", λ raw. <a href="../../raw/RawVal/index.html#raw_of">raw_of</a> (<a href="../../raw/RawVal/index.html#unsigned_in">unsigned_in</a> w32 raw))
+<a href="../../ops/ScalarUnaryOps/index.html#scalar_unary_row">scalar_unary_row</a> unary.I32Extend8S = (codes "i32_extend8_s", λ raw. <a href="../../ops/RawResults/index.html#signed_raw">signed_raw</a> w32 (int_wrap w8 (<a href="../../raw/RawVal/index.html#signed_in">signed_in</a> w32 raw)))
+<a href="../../ops/ScalarUnaryOps/index.html#scalar_unary_row">scalar_unary_row</a> unary.I32Extend16S = (codes "i32_extend16_s", λ raw. <a href="../../ops/RawResults/index.html#signed_raw">signed_raw</a> w32 (int_wrap w16 (<a href="../../raw/RawVal/index.html#signed_in">signed_in</a> w32 raw)))
+<a href="../../ops/ScalarUnaryOps/index.html#scalar_unary_row">scalar_unary_row</a> unary.I64Extend8S = (codes "i64_extend8_s", λ raw. <a href="../../ops/RawResults/index.html#signed_raw">signed_raw</a> w64 (int_wrap w8 (<a href="../../raw/RawVal/index.html#signed_in">signed_in</a> w64 raw)))
+<a href="../../ops/ScalarUnaryOps/index.html#scalar_unary_row">scalar_unary_row</a> unary.I64Extend16S = (codes "i64_extend16_s", λ raw. <a href="../../ops/RawResults/index.html#signed_raw">signed_raw</a> w64 (int_wrap w16 (<a href="../../raw/RawVal/index.html#signed_in">signed_in</a> w64 raw)))
+<a href="../../ops/ScalarUnaryOps/index.html#scalar_unary_row">scalar_unary_row</a> unary.I64Extend32S = (codes "i64_extend32_s", λ raw. <a href="../../ops/RawResults/index.html#signed_raw">signed_raw</a> w64 (int_wrap w32 (<a href="../../raw/RawVal/index.html#signed_in">signed_in</a> w64 raw)))
+
 -- what an instruction of one raw value gives
 abbrev pub <b id="unary_raw">unary_raw</b> : ScalarUnaryOp → RawVal → RawVal
-<a href="../../ops/ScalarUnaryOps/index.html#unary_raw">unary_raw</a> unary.I32Clz raw = <a href="../../ops/RawResults/index.html#signed_raw">signed_raw</a> w32 (<a href="../../scalar/Numerics/index.html#iclz">iclz</a> w32 (<a href="../../raw/RawVal/index.html#signed_in">signed_in</a> w32 raw))
-<a href="../../ops/ScalarUnaryOps/index.html#unary_raw">unary_raw</a> unary.I32Ctz raw = <a href="../../ops/RawResults/index.html#signed_raw">signed_raw</a> w32 (<a href="../../scalar/Numerics/index.html#ictz">ictz</a> w32 (<a href="../../raw/RawVal/index.html#signed_in">signed_in</a> w32 raw))
-<a href="../../ops/ScalarUnaryOps/index.html#unary_raw">unary_raw</a> unary.I32Popcnt raw = <a href="../../ops/RawResults/index.html#signed_raw">signed_raw</a> w32 (<a href="../../scalar/Numerics/index.html#ipopcnt">ipopcnt</a> w32 (<a href="../../raw/RawVal/index.html#signed_in">signed_in</a> w32 raw))
-<a href="../../ops/ScalarUnaryOps/index.html#unary_raw">unary_raw</a> unary.I32Eqz raw = <a href="../../ops/RawResults/index.html#bool_raw">bool_raw</a> (<a href="../../scalar/Numerics/index.html#ieqz">ieqz</a> (<a href="../../raw/RawVal/index.html#signed_in">signed_in</a> w32 raw))
-<a href="../../ops/ScalarUnaryOps/index.html#unary_raw">unary_raw</a> unary.I64Clz raw = <a href="../../ops/RawResults/index.html#signed_raw">signed_raw</a> w64 (<a href="../../scalar/Numerics/index.html#iclz">iclz</a> w64 (<a href="../../raw/RawVal/index.html#signed_in">signed_in</a> w64 raw))
-<a href="../../ops/ScalarUnaryOps/index.html#unary_raw">unary_raw</a> unary.I64Ctz raw = <a href="../../ops/RawResults/index.html#signed_raw">signed_raw</a> w64 (<a href="../../scalar/Numerics/index.html#ictz">ictz</a> w64 (<a href="../../raw/RawVal/index.html#signed_in">signed_in</a> w64 raw))
-<a href="../../ops/ScalarUnaryOps/index.html#unary_raw">unary_raw</a> unary.I64Popcnt raw = <a href="../../ops/RawResults/index.html#signed_raw">signed_raw</a> w64 (<a href="../../scalar/Numerics/index.html#ipopcnt">ipopcnt</a> w64 (<a href="../../raw/RawVal/index.html#signed_in">signed_in</a> w64 raw))
-<a href="../../ops/ScalarUnaryOps/index.html#unary_raw">unary_raw</a> unary.I64Eqz raw = <a href="../../ops/RawResults/index.html#bool_raw">bool_raw</a> (<a href="../../scalar/Numerics/index.html#ieqz">ieqz</a> (<a href="../../raw/RawVal/index.html#signed_in">signed_in</a> w64 raw))
-<a href="../../ops/ScalarUnaryOps/index.html#unary_raw">unary_raw</a> unary.I32WrapI64 raw = <a href="../../ops/RawResults/index.html#signed_raw">signed_raw</a> w32 (int_wrap w32 (<a href="../../raw/RawVal/index.html#signed_in">signed_in</a> w64 raw))
-<a href="../../ops/ScalarUnaryOps/index.html#unary_raw">unary_raw</a> unary.I64ExtendI32S raw = <a href="../../ops/RawResults/index.html#signed_raw">signed_raw</a> w64 (<a href="../../raw/RawVal/index.html#signed_in">signed_in</a> w32 raw)
-<a href="../../ops/ScalarUnaryOps/index.html#unary_raw">unary_raw</a> unary.I64ExtendI32U raw = <a href="../../raw/RawVal/index.html#raw_of">raw_of</a> (<a href="../../raw/RawVal/index.html#unsigned_in">unsigned_in</a> w32 raw)
-<a href="../../ops/ScalarUnaryOps/index.html#unary_raw">unary_raw</a> unary.I32Extend8S raw = <a href="../../ops/RawResults/index.html#signed_raw">signed_raw</a> w32 (int_wrap w8 (<a href="../../raw/RawVal/index.html#signed_in">signed_in</a> w32 raw))
-<a href="../../ops/ScalarUnaryOps/index.html#unary_raw">unary_raw</a> unary.I32Extend16S raw = <a href="../../ops/RawResults/index.html#signed_raw">signed_raw</a> w32 (int_wrap w16 (<a href="../../raw/RawVal/index.html#signed_in">signed_in</a> w32 raw))
-<a href="../../ops/ScalarUnaryOps/index.html#unary_raw">unary_raw</a> unary.I64Extend8S raw = <a href="../../ops/RawResults/index.html#signed_raw">signed_raw</a> w64 (int_wrap w8 (<a href="../../raw/RawVal/index.html#signed_in">signed_in</a> w64 raw))
-<a href="../../ops/ScalarUnaryOps/index.html#unary_raw">unary_raw</a> unary.I64Extend16S raw = <a href="../../ops/RawResults/index.html#signed_raw">signed_raw</a> w64 (int_wrap w16 (<a href="../../raw/RawVal/index.html#signed_in">signed_in</a> w64 raw))
-<a href="../../ops/ScalarUnaryOps/index.html#unary_raw">unary_raw</a> unary.I64Extend32S raw = <a href="../../ops/RawResults/index.html#signed_raw">signed_raw</a> w64 (int_wrap w32 (<a href="../../raw/RawVal/index.html#signed_in">signed_in</a> w64 raw))
+<a href="../../ops/ScalarUnaryOps/index.html#unary_raw">unary_raw</a> op = (<a href="../../ops/ScalarUnaryOps/index.html#scalar_unary_row">scalar_unary_row</a> op).1
 
 -- the name of a scalar instruction of one operand
 abbrev pub <b id="scalar_unary_name">scalar_unary_name</b> : ScalarUnaryOp → List ℕ
-<a href="../../ops/ScalarUnaryOps/index.html#scalar_unary_name">scalar_unary_name</a> unary.I32Clz = codes "i32_clz"
-<a href="../../ops/ScalarUnaryOps/index.html#scalar_unary_name">scalar_unary_name</a> unary.I32Ctz = codes "i32_ctz"
-<a href="../../ops/ScalarUnaryOps/index.html#scalar_unary_name">scalar_unary_name</a> unary.I32Popcnt = codes "i32_popcnt"
-<a href="../../ops/ScalarUnaryOps/index.html#scalar_unary_name">scalar_unary_name</a> unary.I32Eqz = codes "i32_eqz"
-<a href="../../ops/ScalarUnaryOps/index.html#scalar_unary_name">scalar_unary_name</a> unary.I64Clz = codes "i64_clz"
-<a href="../../ops/ScalarUnaryOps/index.html#scalar_unary_name">scalar_unary_name</a> unary.I64Ctz = codes "i64_ctz"
-<a href="../../ops/ScalarUnaryOps/index.html#scalar_unary_name">scalar_unary_name</a> unary.I64Popcnt = codes "i64_popcnt"
-<a href="../../ops/ScalarUnaryOps/index.html#scalar_unary_name">scalar_unary_name</a> unary.I64Eqz = codes "i64_eqz"
-<a href="../../ops/ScalarUnaryOps/index.html#scalar_unary_name">scalar_unary_name</a> unary.I32WrapI64 = codes "i32_wrap_i64"
-<a href="../../ops/ScalarUnaryOps/index.html#scalar_unary_name">scalar_unary_name</a> unary.I64ExtendI32S = codes "i64_extend_i32_s"
-<a href="../../ops/ScalarUnaryOps/index.html#scalar_unary_name">scalar_unary_name</a> unary.I64ExtendI32U = codes "i64_extend_i32_u"
-<a href="../../ops/ScalarUnaryOps/index.html#scalar_unary_name">scalar_unary_name</a> unary.I32Extend8S = codes "i32_extend8_s"
-<a href="../../ops/ScalarUnaryOps/index.html#scalar_unary_name">scalar_unary_name</a> unary.I32Extend16S = codes "i32_extend16_s"
-<a href="../../ops/ScalarUnaryOps/index.html#scalar_unary_name">scalar_unary_name</a> unary.I64Extend8S = codes "i64_extend8_s"
-<a href="../../ops/ScalarUnaryOps/index.html#scalar_unary_name">scalar_unary_name</a> unary.I64Extend16S = codes "i64_extend16_s"
-<a href="../../ops/ScalarUnaryOps/index.html#scalar_unary_name">scalar_unary_name</a> unary.I64Extend32S = codes "i64_extend32_s"
+<a href="../../ops/ScalarUnaryOps/index.html#scalar_unary_name">scalar_unary_name</a> op = (<a href="../../ops/ScalarUnaryOps/index.html#scalar_unary_row">scalar_unary_row</a> op).0
 </code></pre>
 "####]
     pub mod ScalarUnaryOps {}
@@ -2216,35 +2035,28 @@ use Rattle.wasmi_simd.specs.WideningTable as widening
 use Rattle.wasmi_ops.specs.declared.vector.shift.ShiftOp.{ShiftOp}
 use Rattle.wasmi_ops.specs.declared.vector.shift.ShiftOp.TheVariants as shift
 
+-- each shift: its name, and what it gives for a vector and an amount
+abbrev pub <b id="shift_row">shift_row</b> : ShiftOp → List ℕ × (ℕ → ℕ → ℕ)
+<a href="../../ops/ShiftOps/index.html#shift_row">shift_row</a> shift.I8x16Shl = (codes "i8x16_shl", <a href="../../widening/WideningTable/index.html#shl">widening.shl</a> w8)
+<a href="../../ops/ShiftOps/index.html#shift_row">shift_row</a> shift.I8x16ShrS = (codes "i8x16_shr_s", <a href="../../widening/WideningTable/index.html#shr_s">widening.shr_s</a> w8)
+<a href="../../ops/ShiftOps/index.html#shift_row">shift_row</a> shift.I8x16ShrU = (codes "i8x16_shr_u", <a href="../../widening/WideningTable/index.html#shr_u">widening.shr_u</a> w8)
+<a href="../../ops/ShiftOps/index.html#shift_row">shift_row</a> shift.I16x8Shl = (codes "i16x8_shl", <a href="../../widening/WideningTable/index.html#shl">widening.shl</a> w16)
+<a href="../../ops/ShiftOps/index.html#shift_row">shift_row</a> shift.I16x8ShrS = (codes "i16x8_shr_s", <a href="../../widening/WideningTable/index.html#shr_s">widening.shr_s</a> w16)
+<a href="../../ops/ShiftOps/index.html#shift_row">shift_row</a> shift.I16x8ShrU = (codes "i16x8_shr_u", <a href="../../widening/WideningTable/index.html#shr_u">widening.shr_u</a> w16)
+<a href="../../ops/ShiftOps/index.html#shift_row">shift_row</a> shift.I32x4Shl = (codes "i32x4_shl", <a href="../../widening/WideningTable/index.html#shl">widening.shl</a> w32)
+<a href="../../ops/ShiftOps/index.html#shift_row">shift_row</a> shift.I32x4ShrS = (codes "i32x4_shr_s", <a href="../../widening/WideningTable/index.html#shr_s">widening.shr_s</a> w32)
+<a href="../../ops/ShiftOps/index.html#shift_row">shift_row</a> shift.I32x4ShrU = (codes "i32x4_shr_u", <a href="../../widening/WideningTable/index.html#shr_u">widening.shr_u</a> w32)
+<a href="../../ops/ShiftOps/index.html#shift_row">shift_row</a> shift.I64x2Shl = (codes "i64x2_shl", <a href="../../widening/WideningTable/index.html#shl">widening.shl</a> w64)
+<a href="../../ops/ShiftOps/index.html#shift_row">shift_row</a> shift.I64x2ShrS = (codes "i64x2_shr_s", <a href="../../widening/WideningTable/index.html#shr_s">widening.shr_s</a> w64)
+<a href="../../ops/ShiftOps/index.html#shift_row">shift_row</a> shift.I64x2ShrU = (codes "i64x2_shr_u", <a href="../../widening/WideningTable/index.html#shr_u">widening.shr_u</a> w64)
+
 -- what a shift of a vector by an amount gives
 abbrev pub <b id="shifted_vector">shifted_vector</b> : ShiftOp → ℕ → ℕ → ℕ
-<a href="../../ops/ShiftOps/index.html#shifted_vector">shifted_vector</a> shift.I8x16Shl = <a href="../../widening/WideningTable/index.html#shl">widening.shl</a> w8
-<a href="../../ops/ShiftOps/index.html#shifted_vector">shifted_vector</a> shift.I8x16ShrS = <a href="../../widening/WideningTable/index.html#shr_s">widening.shr_s</a> w8
-<a href="../../ops/ShiftOps/index.html#shifted_vector">shifted_vector</a> shift.I8x16ShrU = <a href="../../widening/WideningTable/index.html#shr_u">widening.shr_u</a> w8
-<a href="../../ops/ShiftOps/index.html#shifted_vector">shifted_vector</a> shift.I16x8Shl = <a href="../../widening/WideningTable/index.html#shl">widening.shl</a> w16
-<a href="../../ops/ShiftOps/index.html#shifted_vector">shifted_vector</a> shift.I16x8ShrS = <a href="../../widening/WideningTable/index.html#shr_s">widening.shr_s</a> w16
-<a href="../../ops/ShiftOps/index.html#shifted_vector">shifted_vector</a> shift.I16x8ShrU = <a href="../../widening/WideningTable/index.html#shr_u">widening.shr_u</a> w16
-<a href="../../ops/ShiftOps/index.html#shifted_vector">shifted_vector</a> shift.I32x4Shl = <a href="../../widening/WideningTable/index.html#shl">widening.shl</a> w32
-<a href="../../ops/ShiftOps/index.html#shifted_vector">shifted_vector</a> shift.I32x4ShrS = <a href="../../widening/WideningTable/index.html#shr_s">widening.shr_s</a> w32
-<a href="../../ops/ShiftOps/index.html#shifted_vector">shifted_vector</a> shift.I32x4ShrU = <a href="../../widening/WideningTable/index.html#shr_u">widening.shr_u</a> w32
-<a href="../../ops/ShiftOps/index.html#shifted_vector">shifted_vector</a> shift.I64x2Shl = <a href="../../widening/WideningTable/index.html#shl">widening.shl</a> w64
-<a href="../../ops/ShiftOps/index.html#shifted_vector">shifted_vector</a> shift.I64x2ShrS = <a href="../../widening/WideningTable/index.html#shr_s">widening.shr_s</a> w64
-<a href="../../ops/ShiftOps/index.html#shifted_vector">shifted_vector</a> shift.I64x2ShrU = <a href="../../widening/WideningTable/index.html#shr_u">widening.shr_u</a> w64
+<a href="../../ops/ShiftOps/index.html#shifted_vector">shifted_vector</a> op = (<a href="../../ops/ShiftOps/index.html#shift_row">shift_row</a> op).1
 
 -- the name of a shift of lanes
 abbrev pub <b id="shift_name">shift_name</b> : ShiftOp → List ℕ
-<a href="../../ops/ShiftOps/index.html#shift_name">shift_name</a> shift.I8x16Shl = codes "i8x16_shl"
-<a href="../../ops/ShiftOps/index.html#shift_name">shift_name</a> shift.I8x16ShrS = codes "i8x16_shr_s"
-<a href="../../ops/ShiftOps/index.html#shift_name">shift_name</a> shift.I8x16ShrU = codes "i8x16_shr_u"
-<a href="../../ops/ShiftOps/index.html#shift_name">shift_name</a> shift.I16x8Shl = codes "i16x8_shl"
-<a href="../../ops/ShiftOps/index.html#shift_name">shift_name</a> shift.I16x8ShrS = codes "i16x8_shr_s"
-<a href="../../ops/ShiftOps/index.html#shift_name">shift_name</a> shift.I16x8ShrU = codes "i16x8_shr_u"
-<a href="../../ops/ShiftOps/index.html#shift_name">shift_name</a> shift.I32x4Shl = codes "i32x4_shl"
-<a href="../../ops/ShiftOps/index.html#shift_name">shift_name</a> shift.I32x4ShrS = codes "i32x4_shr_s"
-<a href="../../ops/ShiftOps/index.html#shift_name">shift_name</a> shift.I32x4ShrU = codes "i32x4_shr_u"
-<a href="../../ops/ShiftOps/index.html#shift_name">shift_name</a> shift.I64x2Shl = codes "i64x2_shl"
-<a href="../../ops/ShiftOps/index.html#shift_name">shift_name</a> shift.I64x2ShrS = codes "i64x2_shr_s"
-<a href="../../ops/ShiftOps/index.html#shift_name">shift_name</a> shift.I64x2ShrU = codes "i64x2_shr_u"
+<a href="../../ops/ShiftOps/index.html#shift_name">shift_name</a> op = (<a href="../../ops/ShiftOps/index.html#shift_row">shift_row</a> op).0
 </code></pre>
 "####]
     pub mod ShiftOps {}
@@ -2256,23 +2068,23 @@ use Rattle.wasmi_simd.specs.WideningTable as widening
 use Rattle.wasmi_ops.specs.declared.vector.ternary.TernaryOp.{TernaryOp}
 use Rattle.wasmi_ops.specs.declared.vector.ternary.TernaryOp.TheVariants as ternary
 
+-- each instruction of three vectors: its name, and what it gives
+abbrev pub <b id="ternary_row">ternary_row</b> : TernaryOp → List ℕ × (ℕ → ℕ → ℕ → ℕ)
+<a href="../../ops/TernaryOps/index.html#ternary_row">ternary_row</a> ternary.V128Bitselect = (codes "v128_bitselect", <a href="../../lanewise/VectorTable/index.html#v128_bitselect">vector.v128_bitselect</a>)
+<a href="../../ops/TernaryOps/index.html#ternary_row">ternary_row</a> ternary.I8x16RelaxedLaneselect = (codes "i8x16_relaxed_laneselect", <a href="../../widening/WideningTable/index.html#relaxed_laneselect">widening.relaxed_laneselect</a>)
+<a href="../../ops/TernaryOps/index.html#ternary_row">ternary_row</a> ternary.I16x8RelaxedLaneselect = (codes "i16x8_relaxed_laneselect", <a href="../../widening/WideningTable/index.html#relaxed_laneselect">widening.relaxed_laneselect</a>)
+<a href="../../ops/TernaryOps/index.html#ternary_row">ternary_row</a> ternary.I32x4RelaxedLaneselect = (codes "i32x4_relaxed_laneselect", <a href="../../widening/WideningTable/index.html#relaxed_laneselect">widening.relaxed_laneselect</a>)
+<a href="../../ops/TernaryOps/index.html#ternary_row">ternary_row</a> ternary.I64x2RelaxedLaneselect = (codes "i64x2_relaxed_laneselect", <a href="../../widening/WideningTable/index.html#relaxed_laneselect">widening.relaxed_laneselect</a>)
+<a href="../../ops/TernaryOps/index.html#ternary_row">ternary_row</a> ternary.I32x4RelaxedDotI8x16I7x16AddS =
+    (codes "i32x4_relaxed_dot_i8x16_i7x16_add_s", <a href="../../widening/WideningTable/index.html#relaxed_dot_add_s">widening.relaxed_dot_add_s</a>)
+
 -- what an instruction of three vectors gives
 abbrev pub <b id="ternary_vector">ternary_vector</b> : TernaryOp → ℕ → ℕ → ℕ → ℕ
-<a href="../../ops/TernaryOps/index.html#ternary_vector">ternary_vector</a> ternary.V128Bitselect = <a href="../../lanewise/VectorTable/index.html#v128_bitselect">vector.v128_bitselect</a>
-<a href="../../ops/TernaryOps/index.html#ternary_vector">ternary_vector</a> ternary.I8x16RelaxedLaneselect = <a href="../../widening/WideningTable/index.html#relaxed_laneselect">widening.relaxed_laneselect</a>
-<a href="../../ops/TernaryOps/index.html#ternary_vector">ternary_vector</a> ternary.I16x8RelaxedLaneselect = <a href="../../widening/WideningTable/index.html#relaxed_laneselect">widening.relaxed_laneselect</a>
-<a href="../../ops/TernaryOps/index.html#ternary_vector">ternary_vector</a> ternary.I32x4RelaxedLaneselect = <a href="../../widening/WideningTable/index.html#relaxed_laneselect">widening.relaxed_laneselect</a>
-<a href="../../ops/TernaryOps/index.html#ternary_vector">ternary_vector</a> ternary.I64x2RelaxedLaneselect = <a href="../../widening/WideningTable/index.html#relaxed_laneselect">widening.relaxed_laneselect</a>
-<a href="../../ops/TernaryOps/index.html#ternary_vector">ternary_vector</a> ternary.I32x4RelaxedDotI8x16I7x16AddS = <a href="../../widening/WideningTable/index.html#relaxed_dot_add_s">widening.relaxed_dot_add_s</a>
+<a href="../../ops/TernaryOps/index.html#ternary_vector">ternary_vector</a> op = (<a href="../../ops/TernaryOps/index.html#ternary_row">ternary_row</a> op).1
 
 -- the name of an instruction of three vectors
 abbrev pub <b id="ternary_name">ternary_name</b> : TernaryOp → List ℕ
-<a href="../../ops/TernaryOps/index.html#ternary_name">ternary_name</a> ternary.V128Bitselect = codes "v128_bitselect"
-<a href="../../ops/TernaryOps/index.html#ternary_name">ternary_name</a> ternary.I8x16RelaxedLaneselect = codes "i8x16_relaxed_laneselect"
-<a href="../../ops/TernaryOps/index.html#ternary_name">ternary_name</a> ternary.I16x8RelaxedLaneselect = codes "i16x8_relaxed_laneselect"
-<a href="../../ops/TernaryOps/index.html#ternary_name">ternary_name</a> ternary.I32x4RelaxedLaneselect = codes "i32x4_relaxed_laneselect"
-<a href="../../ops/TernaryOps/index.html#ternary_name">ternary_name</a> ternary.I64x2RelaxedLaneselect = codes "i64x2_relaxed_laneselect"
-<a href="../../ops/TernaryOps/index.html#ternary_name">ternary_name</a> ternary.I32x4RelaxedDotI8x16I7x16AddS = codes "i32x4_relaxed_dot_i8x16_i7x16_add_s"
+<a href="../../ops/TernaryOps/index.html#ternary_name">ternary_name</a> op = (<a href="../../ops/TernaryOps/index.html#ternary_row">ternary_row</a> op).0
 </code></pre>
 "####]
     pub mod TernaryOps {}
@@ -2287,29 +2099,25 @@ use Rattle.wasmi_raw.specs.RawVal.{<a href="../../raw/RawVal/index.html#raw_of">
 use Rattle.wasmi_ops.specs.declared.vector.test.TestOp.{TestOp}
 use Rattle.wasmi_ops.specs.declared.vector.test.TestOp.TheVariants as test
 
+-- each test: its name, and the Boolean or the mask that it gives, as a raw value
+abbrev pub <b id="test_row">test_row</b> : TestOp → List ℕ × (ℕ → RawVal)
+<a href="../../ops/TestOps/index.html#test_row">test_row</a> test.I8x16AllTrue = (codes "i8x16_all_true", λ a. <a href="../../raw/RawVal/index.html#raw_of">raw_of</a> (from_bool (<a href="../../widening/WideningTable/index.html#all_true">widening.all_true</a> w8 a)))
+<a href="../../ops/TestOps/index.html#test_row">test_row</a> test.I16x8AllTrue = (codes "i16x8_all_true", λ a. <a href="../../raw/RawVal/index.html#raw_of">raw_of</a> (from_bool (<a href="../../widening/WideningTable/index.html#all_true">widening.all_true</a> w16 a)))
+<a href="../../ops/TestOps/index.html#test_row">test_row</a> test.I32x4AllTrue = (codes "i32x4_all_true", λ a. <a href="../../raw/RawVal/index.html#raw_of">raw_of</a> (from_bool (<a href="../../widening/WideningTable/index.html#all_true">widening.all_true</a> w32 a)))
+<a href="../../ops/TestOps/index.html#test_row">test_row</a> test.I64x2AllTrue = (codes "i64x2_all_true", λ a. <a href="../../raw/RawVal/index.html#raw_of">raw_of</a> (from_bool (<a href="../../widening/WideningTable/index.html#all_true">widening.all_true</a> w64 a)))
+<a href="../../ops/TestOps/index.html#test_row">test_row</a> test.V128AnyTrue = (codes "v128_any_true", λ a. <a href="../../raw/RawVal/index.html#raw_of">raw_of</a> (from_bool (<a href="../../widening/WideningTable/index.html#any_true">widening.any_true</a> a)))
+<a href="../../ops/TestOps/index.html#test_row">test_row</a> test.I8x16Bitmask = (codes "i8x16_bitmask", λ a. <a href="../../raw/RawVal/index.html#raw_of">raw_of</a> (<a href="../../widening/WideningTable/index.html#bitmask">widening.bitmask</a> w8 a))
+<a href="../../ops/TestOps/index.html#test_row">test_row</a> test.I16x8Bitmask = (codes "i16x8_bitmask", λ a. <a href="../../raw/RawVal/index.html#raw_of">raw_of</a> (<a href="../../widening/WideningTable/index.html#bitmask">widening.bitmask</a> w16 a))
+<a href="../../ops/TestOps/index.html#test_row">test_row</a> test.I32x4Bitmask = (codes "i32x4_bitmask", λ a. <a href="../../raw/RawVal/index.html#raw_of">raw_of</a> (<a href="../../widening/WideningTable/index.html#bitmask">widening.bitmask</a> w32 a))
+<a href="../../ops/TestOps/index.html#test_row">test_row</a> test.I64x2Bitmask = (codes "i64x2_bitmask", λ a. <a href="../../raw/RawVal/index.html#raw_of">raw_of</a> (<a href="../../widening/WideningTable/index.html#bitmask">widening.bitmask</a> w64 a))
+
 -- the Boolean or the mask that a test of a vector gives, as a raw value
 abbrev pub <b id="tested_raw">tested_raw</b> : TestOp → ℕ → RawVal
-<a href="../../ops/TestOps/index.html#tested_raw">tested_raw</a> test.I8x16AllTrue a = <a href="../../raw/RawVal/index.html#raw_of">raw_of</a> (from_bool (<a href="../../widening/WideningTable/index.html#all_true">widening.all_true</a> w8 a))
-<a href="../../ops/TestOps/index.html#tested_raw">tested_raw</a> test.I16x8AllTrue a = <a href="../../raw/RawVal/index.html#raw_of">raw_of</a> (from_bool (<a href="../../widening/WideningTable/index.html#all_true">widening.all_true</a> w16 a))
-<a href="../../ops/TestOps/index.html#tested_raw">tested_raw</a> test.I32x4AllTrue a = <a href="../../raw/RawVal/index.html#raw_of">raw_of</a> (from_bool (<a href="../../widening/WideningTable/index.html#all_true">widening.all_true</a> w32 a))
-<a href="../../ops/TestOps/index.html#tested_raw">tested_raw</a> test.I64x2AllTrue a = <a href="../../raw/RawVal/index.html#raw_of">raw_of</a> (from_bool (<a href="../../widening/WideningTable/index.html#all_true">widening.all_true</a> w64 a))
-<a href="../../ops/TestOps/index.html#tested_raw">tested_raw</a> test.V128AnyTrue a = <a href="../../raw/RawVal/index.html#raw_of">raw_of</a> (from_bool (<a href="../../widening/WideningTable/index.html#any_true">widening.any_true</a> a))
-<a href="../../ops/TestOps/index.html#tested_raw">tested_raw</a> test.I8x16Bitmask a = <a href="../../raw/RawVal/index.html#raw_of">raw_of</a> (<a href="../../widening/WideningTable/index.html#bitmask">widening.bitmask</a> w8 a)
-<a href="../../ops/TestOps/index.html#tested_raw">tested_raw</a> test.I16x8Bitmask a = <a href="../../raw/RawVal/index.html#raw_of">raw_of</a> (<a href="../../widening/WideningTable/index.html#bitmask">widening.bitmask</a> w16 a)
-<a href="../../ops/TestOps/index.html#tested_raw">tested_raw</a> test.I32x4Bitmask a = <a href="../../raw/RawVal/index.html#raw_of">raw_of</a> (<a href="../../widening/WideningTable/index.html#bitmask">widening.bitmask</a> w32 a)
-<a href="../../ops/TestOps/index.html#tested_raw">tested_raw</a> test.I64x2Bitmask a = <a href="../../raw/RawVal/index.html#raw_of">raw_of</a> (<a href="../../widening/WideningTable/index.html#bitmask">widening.bitmask</a> w64 a)
+<a href="../../ops/TestOps/index.html#tested_raw">tested_raw</a> op = (<a href="../../ops/TestOps/index.html#test_row">test_row</a> op).1
 
 -- the name of a test of a vector, or of its mask
 abbrev pub <b id="test_name">test_name</b> : TestOp → List ℕ
-<a href="../../ops/TestOps/index.html#test_name">test_name</a> test.I8x16AllTrue = codes "i8x16_all_true"
-<a href="../../ops/TestOps/index.html#test_name">test_name</a> test.I16x8AllTrue = codes "i16x8_all_true"
-<a href="../../ops/TestOps/index.html#test_name">test_name</a> test.I32x4AllTrue = codes "i32x4_all_true"
-<a href="../../ops/TestOps/index.html#test_name">test_name</a> test.I64x2AllTrue = codes "i64x2_all_true"
-<a href="../../ops/TestOps/index.html#test_name">test_name</a> test.V128AnyTrue = codes "v128_any_true"
-<a href="../../ops/TestOps/index.html#test_name">test_name</a> test.I8x16Bitmask = codes "i8x16_bitmask"
-<a href="../../ops/TestOps/index.html#test_name">test_name</a> test.I16x8Bitmask = codes "i16x8_bitmask"
-<a href="../../ops/TestOps/index.html#test_name">test_name</a> test.I32x4Bitmask = codes "i32x4_bitmask"
-<a href="../../ops/TestOps/index.html#test_name">test_name</a> test.I64x2Bitmask = codes "i64x2_bitmask"
+<a href="../../ops/TestOps/index.html#test_name">test_name</a> op = (<a href="../../ops/TestOps/index.html#test_row">test_row</a> op).0
 </code></pre>
 "####]
     pub mod TestOps {}
@@ -2322,63 +2130,42 @@ use Rattle.wasmi_simd.specs.WideningTable as widening
 use Rattle.wasmi_ops.specs.declared.vector.unary.UnaryOp.{UnaryOp}
 use Rattle.wasmi_ops.specs.declared.vector.unary.UnaryOp.TheVariants as unary
 
+-- each instruction of one vector: its name, and what it gives
+abbrev pub <b id="unary_row">unary_row</b> : UnaryOp → List ℕ × (ℕ → ℕ)
+<a href="../../ops/UnaryOps/index.html#unary_row">unary_row</a> unary.V128Not = (codes "v128_not", <a href="../../lanewise/VectorTable/index.html#v128_not">vector.v128_not</a>)
+<a href="../../ops/UnaryOps/index.html#unary_row">unary_row</a> unary.I8x16Neg = (codes "i8x16_neg", <a href="../../lanewise/VectorTable/index.html#neg">vector.neg</a> w8)
+<a href="../../ops/UnaryOps/index.html#unary_row">unary_row</a> unary.I16x8Neg = (codes "i16x8_neg", <a href="../../lanewise/VectorTable/index.html#neg">vector.neg</a> w16)
+<a href="../../ops/UnaryOps/index.html#unary_row">unary_row</a> unary.I32x4Neg = (codes "i32x4_neg", <a href="../../lanewise/VectorTable/index.html#neg">vector.neg</a> w32)
+<a href="../../ops/UnaryOps/index.html#unary_row">unary_row</a> unary.I64x2Neg = (codes "i64x2_neg", <a href="../../lanewise/VectorTable/index.html#neg">vector.neg</a> w64)
+<a href="../../ops/UnaryOps/index.html#unary_row">unary_row</a> unary.I8x16Abs = (codes "i8x16_abs", <a href="../../lanewise/VectorTable/index.html#abs">vector.abs</a> w8)
+<a href="../../ops/UnaryOps/index.html#unary_row">unary_row</a> unary.I16x8Abs = (codes "i16x8_abs", <a href="../../lanewise/VectorTable/index.html#abs">vector.abs</a> w16)
+<a href="../../ops/UnaryOps/index.html#unary_row">unary_row</a> unary.I32x4Abs = (codes "i32x4_abs", <a href="../../lanewise/VectorTable/index.html#abs">vector.abs</a> w32)
+<a href="../../ops/UnaryOps/index.html#unary_row">unary_row</a> unary.I64x2Abs = (codes "i64x2_abs", <a href="../../lanewise/VectorTable/index.html#abs">vector.abs</a> w64)
+<a href="../../ops/UnaryOps/index.html#unary_row">unary_row</a> unary.I8x16Popcnt = (codes "i8x16_popcnt", <a href="../../lanewise/VectorTable/index.html#popcnt">vector.popcnt</a> w8)
+<a href="../../ops/UnaryOps/index.html#unary_row">unary_row</a> unary.I16x8ExtendLowI8x16S = (codes "i16x8_extend_low_i8x16_s", <a href="../../widening/WideningTable/index.html#extend_low_s">widening.extend_low_s</a> w8 w16)
+<a href="../../ops/UnaryOps/index.html#unary_row">unary_row</a> unary.I16x8ExtendLowI8x16U = (codes "i16x8_extend_low_i8x16_u", <a href="../../widening/WideningTable/index.html#extend_low_u">widening.extend_low_u</a> w8 w16)
+<a href="../../ops/UnaryOps/index.html#unary_row">unary_row</a> unary.I16x8ExtendHighI8x16S = (codes "i16x8_extend_high_i8x16_s", <a href="../../widening/WideningTable/index.html#extend_high_s">widening.extend_high_s</a> w8 w16)
+<a href="../../ops/UnaryOps/index.html#unary_row">unary_row</a> unary.I16x8ExtendHighI8x16U = (codes "i16x8_extend_high_i8x16_u", <a href="../../widening/WideningTable/index.html#extend_high_u">widening.extend_high_u</a> w8 w16)
+<a href="../../ops/UnaryOps/index.html#unary_row">unary_row</a> unary.I32x4ExtendLowI16x8S = (codes "i32x4_extend_low_i16x8_s", <a href="../../widening/WideningTable/index.html#extend_low_s">widening.extend_low_s</a> w16 w32)
+<a href="../../ops/UnaryOps/index.html#unary_row">unary_row</a> unary.I32x4ExtendLowI16x8U = (codes "i32x4_extend_low_i16x8_u", <a href="../../widening/WideningTable/index.html#extend_low_u">widening.extend_low_u</a> w16 w32)
+<a href="../../ops/UnaryOps/index.html#unary_row">unary_row</a> unary.I32x4ExtendHighI16x8S = (codes "i32x4_extend_high_i16x8_s", <a href="../../widening/WideningTable/index.html#extend_high_s">widening.extend_high_s</a> w16 w32)
+<a href="../../ops/UnaryOps/index.html#unary_row">unary_row</a> unary.I32x4ExtendHighI16x8U = (codes "i32x4_extend_high_i16x8_u", <a href="../../widening/WideningTable/index.html#extend_high_u">widening.extend_high_u</a> w16 w32)
+<a href="../../ops/UnaryOps/index.html#unary_row">unary_row</a> unary.I64x2ExtendLowI32x4S = (codes "i64x2_extend_low_i32x4_s", <a href="../../widening/WideningTable/index.html#extend_low_s">widening.extend_low_s</a> w32 w64)
+<a href="../../ops/UnaryOps/index.html#unary_row">unary_row</a> unary.I64x2ExtendLowI32x4U = (codes "i64x2_extend_low_i32x4_u", <a href="../../widening/WideningTable/index.html#extend_low_u">widening.extend_low_u</a> w32 w64)
+<a href="../../ops/UnaryOps/index.html#unary_row">unary_row</a> unary.I64x2ExtendHighI32x4S = (codes "i64x2_extend_high_i32x4_s", <a href="../../widening/WideningTable/index.html#extend_high_s">widening.extend_high_s</a> w32 w64)
+<a href="../../ops/UnaryOps/index.html#unary_row">unary_row</a> unary.I64x2ExtendHighI32x4U = (codes "i64x2_extend_high_i32x4_u", <a href="../../widening/WideningTable/index.html#extend_high_u">widening.extend_high_u</a> w32 w64)
+<a href="../../ops/UnaryOps/index.html#unary_row">unary_row</a> unary.I16x8ExtaddPairwiseI8x16S = (codes "i16x8_extadd_pairwise_i8x16_s", <a href="../../widening/WideningTable/index.html#extadd_pairwise_s">widening.extadd_pairwise_s</a> w8 w16)
+<a href="../../ops/UnaryOps/index.html#unary_row">unary_row</a> unary.I16x8ExtaddPairwiseI8x16U = (codes "i16x8_extadd_pairwise_i8x16_u", <a href="../../widening/WideningTable/index.html#extadd_pairwise_u">widening.extadd_pairwise_u</a> w8 w16)
+<a href="../../ops/UnaryOps/index.html#unary_row">unary_row</a> unary.I32x4ExtaddPairwiseI16x8S = (codes "i32x4_extadd_pairwise_i16x8_s", <a href="../../widening/WideningTable/index.html#extadd_pairwise_s">widening.extadd_pairwise_s</a> w16 w32)
+<a href="../../ops/UnaryOps/index.html#unary_row">unary_row</a> unary.I32x4ExtaddPairwiseI16x8U = (codes "i32x4_extadd_pairwise_i16x8_u", <a href="../../widening/WideningTable/index.html#extadd_pairwise_u">widening.extadd_pairwise_u</a> w16 w32)
+
 -- what an instruction of one vector gives
 abbrev pub <b id="unary_vector">unary_vector</b> : UnaryOp → ℕ → ℕ
-<a href="../../ops/UnaryOps/index.html#unary_vector">unary_vector</a> unary.V128Not = <a href="../../lanewise/VectorTable/index.html#v128_not">vector.v128_not</a>
-<a href="../../ops/UnaryOps/index.html#unary_vector">unary_vector</a> unary.I8x16Neg = <a href="../../lanewise/VectorTable/index.html#neg">vector.neg</a> w8
-<a href="../../ops/UnaryOps/index.html#unary_vector">unary_vector</a> unary.I16x8Neg = <a href="../../lanewise/VectorTable/index.html#neg">vector.neg</a> w16
-<a href="../../ops/UnaryOps/index.html#unary_vector">unary_vector</a> unary.I32x4Neg = <a href="../../lanewise/VectorTable/index.html#neg">vector.neg</a> w32
-<a href="../../ops/UnaryOps/index.html#unary_vector">unary_vector</a> unary.I64x2Neg = <a href="../../lanewise/VectorTable/index.html#neg">vector.neg</a> w64
-<a href="../../ops/UnaryOps/index.html#unary_vector">unary_vector</a> unary.I8x16Abs = <a href="../../lanewise/VectorTable/index.html#abs">vector.abs</a> w8
-<a href="../../ops/UnaryOps/index.html#unary_vector">unary_vector</a> unary.I16x8Abs = <a href="../../lanewise/VectorTable/index.html#abs">vector.abs</a> w16
-<a href="../../ops/UnaryOps/index.html#unary_vector">unary_vector</a> unary.I32x4Abs = <a href="../../lanewise/VectorTable/index.html#abs">vector.abs</a> w32
-<a href="../../ops/UnaryOps/index.html#unary_vector">unary_vector</a> unary.I64x2Abs = <a href="../../lanewise/VectorTable/index.html#abs">vector.abs</a> w64
-<a href="../../ops/UnaryOps/index.html#unary_vector">unary_vector</a> unary.I8x16Popcnt = <a href="../../lanewise/VectorTable/index.html#popcnt">vector.popcnt</a> w8
-<a href="../../ops/UnaryOps/index.html#unary_vector">unary_vector</a> unary.I16x8ExtendLowI8x16S = <a href="../../widening/WideningTable/index.html#extend_low_s">widening.extend_low_s</a> w8 w16
-<a href="../../ops/UnaryOps/index.html#unary_vector">unary_vector</a> unary.I16x8ExtendLowI8x16U = <a href="../../widening/WideningTable/index.html#extend_low_u">widening.extend_low_u</a> w8 w16
-<a href="../../ops/UnaryOps/index.html#unary_vector">unary_vector</a> unary.I16x8ExtendHighI8x16S = <a href="../../widening/WideningTable/index.html#extend_high_s">widening.extend_high_s</a> w8 w16
-<a href="../../ops/UnaryOps/index.html#unary_vector">unary_vector</a> unary.I16x8ExtendHighI8x16U = <a href="../../widening/WideningTable/index.html#extend_high_u">widening.extend_high_u</a> w8 w16
-<a href="../../ops/UnaryOps/index.html#unary_vector">unary_vector</a> unary.I32x4ExtendLowI16x8S = <a href="../../widening/WideningTable/index.html#extend_low_s">widening.extend_low_s</a> w16 w32
-<a href="../../ops/UnaryOps/index.html#unary_vector">unary_vector</a> unary.I32x4ExtendLowI16x8U = <a href="../../widening/WideningTable/index.html#extend_low_u">widening.extend_low_u</a> w16 w32
-<a href="../../ops/UnaryOps/index.html#unary_vector">unary_vector</a> unary.I32x4ExtendHighI16x8S = <a href="../../widening/WideningTable/index.html#extend_high_s">widening.extend_high_s</a> w16 w32
-<a href="../../ops/UnaryOps/index.html#unary_vector">unary_vector</a> unary.I32x4ExtendHighI16x8U = <a href="../../widening/WideningTable/index.html#extend_high_u">widening.extend_high_u</a> w16 w32
-<a href="../../ops/UnaryOps/index.html#unary_vector">unary_vector</a> unary.I64x2ExtendLowI32x4S = <a href="../../widening/WideningTable/index.html#extend_low_s">widening.extend_low_s</a> w32 w64
-<a href="../../ops/UnaryOps/index.html#unary_vector">unary_vector</a> unary.I64x2ExtendLowI32x4U = <a href="../../widening/WideningTable/index.html#extend_low_u">widening.extend_low_u</a> w32 w64
-<a href="../../ops/UnaryOps/index.html#unary_vector">unary_vector</a> unary.I64x2ExtendHighI32x4S = <a href="../../widening/WideningTable/index.html#extend_high_s">widening.extend_high_s</a> w32 w64
-<a href="../../ops/UnaryOps/index.html#unary_vector">unary_vector</a> unary.I64x2ExtendHighI32x4U = <a href="../../widening/WideningTable/index.html#extend_high_u">widening.extend_high_u</a> w32 w64
-<a href="../../ops/UnaryOps/index.html#unary_vector">unary_vector</a> unary.I16x8ExtaddPairwiseI8x16S = <a href="../../widening/WideningTable/index.html#extadd_pairwise_s">widening.extadd_pairwise_s</a> w8 w16
-<a href="../../ops/UnaryOps/index.html#unary_vector">unary_vector</a> unary.I16x8ExtaddPairwiseI8x16U = <a href="../../widening/WideningTable/index.html#extadd_pairwise_u">widening.extadd_pairwise_u</a> w8 w16
-<a href="../../ops/UnaryOps/index.html#unary_vector">unary_vector</a> unary.I32x4ExtaddPairwiseI16x8S = <a href="../../widening/WideningTable/index.html#extadd_pairwise_s">widening.extadd_pairwise_s</a> w16 w32
-<a href="../../ops/UnaryOps/index.html#unary_vector">unary_vector</a> unary.I32x4ExtaddPairwiseI16x8U = <a href="../../widening/WideningTable/index.html#extadd_pairwise_u">widening.extadd_pairwise_u</a> w16 w32
+<a href="../../ops/UnaryOps/index.html#unary_vector">unary_vector</a> op = (<a href="../../ops/UnaryOps/index.html#unary_row">unary_row</a> op).1
 
 -- the name of an instruction of one vector
 abbrev pub <b id="unary_name">unary_name</b> : UnaryOp → List ℕ
-<a href="../../ops/UnaryOps/index.html#unary_name">unary_name</a> unary.V128Not = codes "v128_not"
-<a href="../../ops/UnaryOps/index.html#unary_name">unary_name</a> unary.I8x16Neg = codes "i8x16_neg"
-<a href="../../ops/UnaryOps/index.html#unary_name">unary_name</a> unary.I16x8Neg = codes "i16x8_neg"
-<a href="../../ops/UnaryOps/index.html#unary_name">unary_name</a> unary.I32x4Neg = codes "i32x4_neg"
-<a href="../../ops/UnaryOps/index.html#unary_name">unary_name</a> unary.I64x2Neg = codes "i64x2_neg"
-<a href="../../ops/UnaryOps/index.html#unary_name">unary_name</a> unary.I8x16Abs = codes "i8x16_abs"
-<a href="../../ops/UnaryOps/index.html#unary_name">unary_name</a> unary.I16x8Abs = codes "i16x8_abs"
-<a href="../../ops/UnaryOps/index.html#unary_name">unary_name</a> unary.I32x4Abs = codes "i32x4_abs"
-<a href="../../ops/UnaryOps/index.html#unary_name">unary_name</a> unary.I64x2Abs = codes "i64x2_abs"
-<a href="../../ops/UnaryOps/index.html#unary_name">unary_name</a> unary.I8x16Popcnt = codes "i8x16_popcnt"
-<a href="../../ops/UnaryOps/index.html#unary_name">unary_name</a> unary.I16x8ExtendLowI8x16S = codes "i16x8_extend_low_i8x16_s"
-<a href="../../ops/UnaryOps/index.html#unary_name">unary_name</a> unary.I16x8ExtendLowI8x16U = codes "i16x8_extend_low_i8x16_u"
-<a href="../../ops/UnaryOps/index.html#unary_name">unary_name</a> unary.I16x8ExtendHighI8x16S = codes "i16x8_extend_high_i8x16_s"
-<a href="../../ops/UnaryOps/index.html#unary_name">unary_name</a> unary.I16x8ExtendHighI8x16U = codes "i16x8_extend_high_i8x16_u"
-<a href="../../ops/UnaryOps/index.html#unary_name">unary_name</a> unary.I32x4ExtendLowI16x8S = codes "i32x4_extend_low_i16x8_s"
-<a href="../../ops/UnaryOps/index.html#unary_name">unary_name</a> unary.I32x4ExtendLowI16x8U = codes "i32x4_extend_low_i16x8_u"
-<a href="../../ops/UnaryOps/index.html#unary_name">unary_name</a> unary.I32x4ExtendHighI16x8S = codes "i32x4_extend_high_i16x8_s"
-<a href="../../ops/UnaryOps/index.html#unary_name">unary_name</a> unary.I32x4ExtendHighI16x8U = codes "i32x4_extend_high_i16x8_u"
-<a href="../../ops/UnaryOps/index.html#unary_name">unary_name</a> unary.I64x2ExtendLowI32x4S = codes "i64x2_extend_low_i32x4_s"
-<a href="../../ops/UnaryOps/index.html#unary_name">unary_name</a> unary.I64x2ExtendLowI32x4U = codes "i64x2_extend_low_i32x4_u"
-<a href="../../ops/UnaryOps/index.html#unary_name">unary_name</a> unary.I64x2ExtendHighI32x4S = codes "i64x2_extend_high_i32x4_s"
-<a href="../../ops/UnaryOps/index.html#unary_name">unary_name</a> unary.I64x2ExtendHighI32x4U = codes "i64x2_extend_high_i32x4_u"
-<a href="../../ops/UnaryOps/index.html#unary_name">unary_name</a> unary.I16x8ExtaddPairwiseI8x16S = codes "i16x8_extadd_pairwise_i8x16_s"
-<a href="../../ops/UnaryOps/index.html#unary_name">unary_name</a> unary.I16x8ExtaddPairwiseI8x16U = codes "i16x8_extadd_pairwise_i8x16_u"
-<a href="../../ops/UnaryOps/index.html#unary_name">unary_name</a> unary.I32x4ExtaddPairwiseI16x8S = codes "i32x4_extadd_pairwise_i16x8_s"
-<a href="../../ops/UnaryOps/index.html#unary_name">unary_name</a> unary.I32x4ExtaddPairwiseI16x8U = codes "i32x4_extadd_pairwise_i16x8_u"
+<a href="../../ops/UnaryOps/index.html#unary_name">unary_name</a> op = (<a href="../../ops/UnaryOps/index.html#unary_row">unary_row</a> op).0
 </code></pre>
 "####]
     pub mod UnaryOps {}
@@ -2399,21 +2186,29 @@ use Rattle.wasmi_ops.specs.declared.vector.access.LoadLaneOp.TheVariants as load
 use Rattle.wasmi_ops.specs.declared.vector.access.StoreLaneOp.{StoreLaneOp}
 use Rattle.wasmi_ops.specs.declared.vector.access.StoreLaneOp.TheVariants as store_lane
 
+-- each load of a vector: its name, and the vector that it gives from an address, or the trap
+abbrev pub <b id="vector_load_row">vector_load_row</b> : VectorLoadOp → List ℕ × (List ℕ → ℕ → Result ℕ TrapCode)
+<a href="../../ops/VectorAccessOps/index.html#vector_load_row">vector_load_row</a> load.V128Load = (codes "v128_load", <a href="../../accesses/LoadStore/index.html#loaded">loaded</a> 16 (λ n. n))
+<a href="../../ops/VectorAccessOps/index.html#vector_load_row">vector_load_row</a> load.V128Load8x8S = (codes "v128_load8x8_s", <a href="../../accesses/LoadStore/index.html#loaded">loaded</a> 8 (<a href="../../widening/WideningTable/index.html#widen_s">widening.widen_s</a> w8 w16))
+<a href="../../ops/VectorAccessOps/index.html#vector_load_row">vector_load_row</a> load.V128Load8x8U = (codes "v128_load8x8_u", <a href="../../accesses/LoadStore/index.html#loaded">loaded</a> 8 (<a href="../../widening/WideningTable/index.html#widen_u">widening.widen_u</a> w8 w16))
+<a href="../../ops/VectorAccessOps/index.html#vector_load_row">vector_load_row</a> load.V128Load16x4S = (codes "v128_load16x4_s", <a href="../../accesses/LoadStore/index.html#loaded">loaded</a> 8 (<a href="../../widening/WideningTable/index.html#widen_s">widening.widen_s</a> w16 w32))
+<a href="../../ops/VectorAccessOps/index.html#vector_load_row">vector_load_row</a> load.V128Load16x4U = (codes "v128_load16x4_u", <a href="../../accesses/LoadStore/index.html#loaded">loaded</a> 8 (<a href="../../widening/WideningTable/index.html#widen_u">widening.widen_u</a> w16 w32))
+<a href="../../ops/VectorAccessOps/index.html#vector_load_row">vector_load_row</a> load.V128Load32x2S = (codes "v128_load32x2_s", <a href="../../accesses/LoadStore/index.html#loaded">loaded</a> 8 (<a href="../../widening/WideningTable/index.html#widen_s">widening.widen_s</a> w32 w64))
+<a href="../../ops/VectorAccessOps/index.html#vector_load_row">vector_load_row</a> load.V128Load32x2U = (codes "v128_load32x2_u", <a href="../../accesses/LoadStore/index.html#loaded">loaded</a> 8 (<a href="../../widening/WideningTable/index.html#widen_u">widening.widen_u</a> w32 w64))
+<a href="../../ops/VectorAccessOps/index.html#vector_load_row">vector_load_row</a> load.V128Load8Splat = (codes "v128_load8_splat", <a href="../../accesses/LoadStore/index.html#loaded">loaded</a> 1 (<a href="../../lanes/Vector/index.html#splat_of">splat_of</a> w8))
+<a href="../../ops/VectorAccessOps/index.html#vector_load_row">vector_load_row</a> load.V128Load16Splat = (codes "v128_load16_splat", <a href="../../accesses/LoadStore/index.html#loaded">loaded</a> 2 (<a href="../../lanes/Vector/index.html#splat_of">splat_of</a> w16))
+<a href="../../ops/VectorAccessOps/index.html#vector_load_row">vector_load_row</a> load.V128Load32Splat = (codes "v128_load32_splat", <a href="../../accesses/LoadStore/index.html#loaded">loaded</a> 4 (<a href="../../lanes/Vector/index.html#splat_of">splat_of</a> w32))
+<a href="../../ops/VectorAccessOps/index.html#vector_load_row">vector_load_row</a> load.V128Load64Splat = (codes "v128_load64_splat", <a href="../../accesses/LoadStore/index.html#loaded">loaded</a> 8 (<a href="../../lanes/Vector/index.html#splat_of">splat_of</a> w64))
+<a href="../../ops/VectorAccessOps/index.html#vector_load_row">vector_load_row</a> load.V128Load32Zero = (codes "v128_load32_zero", <a href="../../accesses/LoadStore/index.html#loaded">loaded</a> 4 (<a href="../../widening/WideningTable/index.html#low_zero">widening.low_zero</a> w32))
+<a href="../../ops/VectorAccessOps/index.html#vector_load_row">vector_load_row</a> load.V128Load64Zero = (codes "v128_load64_zero", <a href="../../accesses/LoadStore/index.html#loaded">loaded</a> 8 (<a href="../../widening/WideningTable/index.html#low_zero">widening.low_zero</a> w64))
+
 -- the vector that a load from an address gives, or the trap
 abbrev pub <b id="loaded_vector">loaded_vector</b> : VectorLoadOp → List ℕ → ℕ → Result ℕ TrapCode
-<a href="../../ops/VectorAccessOps/index.html#loaded_vector">loaded_vector</a> load.V128Load = <a href="../../accesses/LoadStore/index.html#loaded">loaded</a> 16 (λ n. n)
-<a href="../../ops/VectorAccessOps/index.html#loaded_vector">loaded_vector</a> load.V128Load8x8S = <a href="../../accesses/LoadStore/index.html#loaded">loaded</a> 8 (<a href="../../widening/WideningTable/index.html#widen_s">widening.widen_s</a> w8 w16)
-<a href="../../ops/VectorAccessOps/index.html#loaded_vector">loaded_vector</a> load.V128Load8x8U = <a href="../../accesses/LoadStore/index.html#loaded">loaded</a> 8 (<a href="../../widening/WideningTable/index.html#widen_u">widening.widen_u</a> w8 w16)
-<a href="../../ops/VectorAccessOps/index.html#loaded_vector">loaded_vector</a> load.V128Load16x4S = <a href="../../accesses/LoadStore/index.html#loaded">loaded</a> 8 (<a href="../../widening/WideningTable/index.html#widen_s">widening.widen_s</a> w16 w32)
-<a href="../../ops/VectorAccessOps/index.html#loaded_vector">loaded_vector</a> load.V128Load16x4U = <a href="../../accesses/LoadStore/index.html#loaded">loaded</a> 8 (<a href="../../widening/WideningTable/index.html#widen_u">widening.widen_u</a> w16 w32)
-<a href="../../ops/VectorAccessOps/index.html#loaded_vector">loaded_vector</a> load.V128Load32x2S = <a href="../../accesses/LoadStore/index.html#loaded">loaded</a> 8 (<a href="../../widening/WideningTable/index.html#widen_s">widening.widen_s</a> w32 w64)
-<a href="../../ops/VectorAccessOps/index.html#loaded_vector">loaded_vector</a> load.V128Load32x2U = <a href="../../accesses/LoadStore/index.html#loaded">loaded</a> 8 (<a href="../../widening/WideningTable/index.html#widen_u">widening.widen_u</a> w32 w64)
-<a href="../../ops/VectorAccessOps/index.html#loaded_vector">loaded_vector</a> load.V128Load8Splat = <a href="../../accesses/LoadStore/index.html#loaded">loaded</a> 1 (<a href="../../lanes/Vector/index.html#splat_of">splat_of</a> w8)
-<a href="../../ops/VectorAccessOps/index.html#loaded_vector">loaded_vector</a> load.V128Load16Splat = <a href="../../accesses/LoadStore/index.html#loaded">loaded</a> 2 (<a href="../../lanes/Vector/index.html#splat_of">splat_of</a> w16)
-<a href="../../ops/VectorAccessOps/index.html#loaded_vector">loaded_vector</a> load.V128Load32Splat = <a href="../../accesses/LoadStore/index.html#loaded">loaded</a> 4 (<a href="../../lanes/Vector/index.html#splat_of">splat_of</a> w32)
-<a href="../../ops/VectorAccessOps/index.html#loaded_vector">loaded_vector</a> load.V128Load64Splat = <a href="../../accesses/LoadStore/index.html#loaded">loaded</a> 8 (<a href="../../lanes/Vector/index.html#splat_of">splat_of</a> w64)
-<a href="../../ops/VectorAccessOps/index.html#loaded_vector">loaded_vector</a> load.V128Load32Zero = <a href="../../accesses/LoadStore/index.html#loaded">loaded</a> 4 (<a href="../../widening/WideningTable/index.html#low_zero">widening.low_zero</a> w32)
-<a href="../../ops/VectorAccessOps/index.html#loaded_vector">loaded_vector</a> load.V128Load64Zero = <a href="../../accesses/LoadStore/index.html#loaded">loaded</a> 8 (<a href="../../widening/WideningTable/index.html#low_zero">widening.low_zero</a> w64)
+<a href="../../ops/VectorAccessOps/index.html#loaded_vector">loaded_vector</a> op = (<a href="../../ops/VectorAccessOps/index.html#vector_load_row">vector_load_row</a> op).1
+
+-- the name of a load of a vector
+abbrev pub <b id="vector_load_name">vector_load_name</b> : VectorLoadOp → List ℕ
+<a href="../../ops/VectorAccessOps/index.html#vector_load_name">vector_load_name</a> op = (<a href="../../ops/VectorAccessOps/index.html#vector_load_row">vector_load_row</a> op).0
 
 -- the vector with a lane that is loaded from an address, or the trap
 abbrev pub <b id="loaded_lane">loaded_lane</b> : LoadLaneOp → ℕ → List ℕ → ℕ → Result ℕ TrapCode
@@ -2428,22 +2223,6 @@ abbrev pub <b id="stored_lane">stored_lane</b> : StoreLaneOp → ℕ → List �
 <a href="../../ops/VectorAccessOps/index.html#stored_lane">stored_lane</a> (store_lane.V128Store16Lane index) vector = <a href="../../types/Bytes/index.html#le_bytes">le_bytes</a> 2 (<a href="../../lanes/Lane/index.html#lane">lane</a> w16 vector index)
 <a href="../../ops/VectorAccessOps/index.html#stored_lane">stored_lane</a> (store_lane.V128Store32Lane index) vector = <a href="../../types/Bytes/index.html#le_bytes">le_bytes</a> 4 (<a href="../../lanes/Lane/index.html#lane">lane</a> w32 vector index)
 <a href="../../ops/VectorAccessOps/index.html#stored_lane">stored_lane</a> (store_lane.V128Store64Lane index) vector = <a href="../../types/Bytes/index.html#le_bytes">le_bytes</a> 8 (<a href="../../lanes/Lane/index.html#lane">lane</a> w64 vector index)
-
--- the name of a load of a vector
-abbrev pub <b id="vector_load_name">vector_load_name</b> : VectorLoadOp → List ℕ
-<a href="../../ops/VectorAccessOps/index.html#vector_load_name">vector_load_name</a> load.V128Load = codes "v128_load"
-<a href="../../ops/VectorAccessOps/index.html#vector_load_name">vector_load_name</a> load.V128Load8x8S = codes "v128_load8x8_s"
-<a href="../../ops/VectorAccessOps/index.html#vector_load_name">vector_load_name</a> load.V128Load8x8U = codes "v128_load8x8_u"
-<a href="../../ops/VectorAccessOps/index.html#vector_load_name">vector_load_name</a> load.V128Load16x4S = codes "v128_load16x4_s"
-<a href="../../ops/VectorAccessOps/index.html#vector_load_name">vector_load_name</a> load.V128Load16x4U = codes "v128_load16x4_u"
-<a href="../../ops/VectorAccessOps/index.html#vector_load_name">vector_load_name</a> load.V128Load32x2S = codes "v128_load32x2_s"
-<a href="../../ops/VectorAccessOps/index.html#vector_load_name">vector_load_name</a> load.V128Load32x2U = codes "v128_load32x2_u"
-<a href="../../ops/VectorAccessOps/index.html#vector_load_name">vector_load_name</a> load.V128Load8Splat = codes "v128_load8_splat"
-<a href="../../ops/VectorAccessOps/index.html#vector_load_name">vector_load_name</a> load.V128Load16Splat = codes "v128_load16_splat"
-<a href="../../ops/VectorAccessOps/index.html#vector_load_name">vector_load_name</a> load.V128Load32Splat = codes "v128_load32_splat"
-<a href="../../ops/VectorAccessOps/index.html#vector_load_name">vector_load_name</a> load.V128Load64Splat = codes "v128_load64_splat"
-<a href="../../ops/VectorAccessOps/index.html#vector_load_name">vector_load_name</a> load.V128Load32Zero = codes "v128_load32_zero"
-<a href="../../ops/VectorAccessOps/index.html#vector_load_name">vector_load_name</a> load.V128Load64Zero = codes "v128_load64_zero"
 </code></pre>
 "####]
     pub mod VectorAccessOps {}

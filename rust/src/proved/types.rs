@@ -58,7 +58,7 @@ mod func_type {
     /// invariant = λ ty. IsKept ty.inner
     /// ```
     ///
-    /// Definitions: [`FunctionType`](crate::specs::types::FunctionType#FunctionType), [`function_type_of`](crate::specs::types::FuncTypeInner#function_type_of), [`IsKept`](crate::specs::types::FuncTypeInner#IsKept).
+    /// Definitions: [`FunctionType`](crate::specs::types::FunctionType#FunctionType), [`function_type_of`](crate::specs::types::FunctionType#function_type_of), [`IsKept`](crate::specs::types::FunctionType#IsKept).
     pub struct FuncType {
         inner: FuncTypeInner,
     }
@@ -584,16 +584,6 @@ pub mod hint {
         condition
     }
 }
-mod host_error {
-    //! Errors of the host.
-
-    use core::fmt::{Debug, Display};
-
-    /// An error of the host, which a [`Trap`](crate::Trap) can carry.
-    ///
-    /// Upstream: `wasmi_core::HostError`.
-    pub trait HostError: Display + Debug {}
-}
 mod index_ty {
     //! The types of addresses and of table indices.
 
@@ -680,10 +670,14 @@ mod index_ty {
 mod trap {
     //! Traps: why a call ended early.
 
-    use crate::proved::types::HostError;
     use ::alloc::string::String;
     use core::error::Error;
     use core::fmt;
+
+    /// An error of the host, which a [`Trap`] can carry.
+    ///
+    /// Upstream: `wasmi_core::HostError`.
+    pub trait HostError: fmt::Display + fmt::Debug {}
 
     /// Why a call of WebAssembly code or of the host ended early: a trap code, an exit status, a
     /// message or an error of the host. It stands in the value, and nothing is allocated for it.
@@ -1118,7 +1112,6 @@ mod value {
 }
 
 pub use func_type::{FuncType, FuncTypeError};
-pub use host_error::HostError;
 pub use index_ty::IndexType;
-pub use trap::{InvalidTrapCode, Trap, TrapCode};
+pub use trap::{HostError, InvalidTrapCode, Trap, TrapCode};
 pub use value::{RefType, ValType};

@@ -1,6 +1,6 @@
 use Rattle.std.proofs.Common.{rules}
 use Rattle.std.specs.Prelude.{◌*ℤ◌}
-use Rattle.wasmi_scalar.proofs.WideLemmas.{signed_of-is}
+use Rattle.wasmi_scalar.proofs.NumericsLemmas.{signed_of-is}
 use Rattle.wasmi_scalar.proofs.wasm.i64_mul_wide_s.Goals as goal
 
 pub returns : goal.returns

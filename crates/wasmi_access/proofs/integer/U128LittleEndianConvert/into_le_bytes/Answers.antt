@@ -1,12 +1,13 @@
 use Rattle.std.proofs.Common.{rules, ap, sym, ◌∙◌}
 use Rattle.std.specs.Int.{w128}
-use Rattle.wasmi_access.proofs.ByteLemmas.{bytes-unsigned, number_of-bytes}
+use Rattle.wasmi_access.proofs.ByteLemmas.{number_of-bytes}
 use Rattle.wasmi_access.proofs.WrapLemmas.{wrap_unsigned}
-use Rattle.wasmi_types.specs.Bytes.{number_of}
+use Rattle.wasmi_types.specs.Bytes.{number_of, le_bytes}
 use Rattle.wasmi_access.proofs.integer.U128LittleEndianConvert.into_le_bytes.Goals as goal
 
 pub returns-clause-bytes : goal.returns-clause-bytes
-returns-clause-bytes c = bytes-unsigned w128 c.args.self c.to_le_bytes.result (search rules) c.to_le_bytes.ensures
+returns-clause-bytes c =
+    c.to_le_bytes.ensures ∙ ap (le_bytes 16) (sym (wrap_unsigned w128 c.args.self (search rules)))
 
 pub returns-clause-number : goal.returns-clause-number
 returns-clause-number c =

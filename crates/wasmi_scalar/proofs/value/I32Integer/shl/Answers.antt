@@ -1,6 +1,6 @@
 use Rattle.std.proofs.Common.{rules, lit≤}
 use Rattle.std.specs.Int.{w32}
-use Rattle.wasmi_scalar.proofs.ShiftLemmas.{amount_is, shifted}
+use Rattle.wasmi_scalar.proofs.NumericsLemmas.{amount_is, shifted}
 use Rattle.wasmi_scalar.proofs.value.I32Integer.shl.Goals as goal
 
 pub returns : goal.returns

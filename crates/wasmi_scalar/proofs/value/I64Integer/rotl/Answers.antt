@@ -1,6 +1,6 @@
 use Rattle.std.proofs.Common.{rules, lit<, lit≤}
 use Rattle.std.specs.Int.{w64}
-use Rattle.wasmi_scalar.proofs.ShiftLemmas.{cut_amount_is, rotated_to_left}
+use Rattle.wasmi_scalar.proofs.NumericsLemmas.{cut_amount_is, rotated_to_left}
 use Rattle.wasmi_scalar.proofs.value.I64Integer.rotl.Goals as goal
 
 pub returns : goal.returns

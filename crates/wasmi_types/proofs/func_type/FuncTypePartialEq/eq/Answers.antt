@@ -3,8 +3,7 @@ use Rattle.std.specs.Bool.{Decides}
 use denote.Enum.Bare.{sameb}
 use Rattle.wasmi_types.specs.contracts.value.ValType.{the_type}
 use Rattle.wasmi_types.specs.FunctionType.{same_lists}
-use Rattle.wasmi_types.specs.FunctionTypeProofs.{same_lists_decides}
-use Rattle.wasmi_types.specs.ValTypeProofs.{same_type_decides}
+use Rattle.wasmi_types.specs.FunctionTypeProofs.{same_lists_decides, same_type_decides}
 use Rattle.wasmi_types.proofs.func_type.FuncTypePartialEq.eq.Goals as goal
 
 pub returns-clause-same : goal.returns-clause-same

@@ -1,6 +1,6 @@
 use Rattle.std.specs.Int.{w128}
 use Rattle.wasmi_access.proofs.WrapLemmas.{wrap_unsigned}
-use Rattle.wasmi_vector_access.proofs.simd.whole.v128_store.Goals as goal
+use Rattle.wasmi_vector_access.proofs.simd.v128_store.Goals as goal
 
 pub returns : goal.returns
 returns c = rw (wrap_unsigned w128 c.as_u128.result c.as_u128.type_inv, c.as_u128.ensures.value) at c.store.ensures

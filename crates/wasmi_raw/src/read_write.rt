@@ -1,12 +1,212 @@
-//! Writing to a raw value, by type.
+//! Reading and writing a raw value, by type, and what is read after a write.
 
 ghost use Rattle.std.specs.Int.{w8, w16, w32, w64, cast_unsigned, from_bool};
 ghost use Rattle.std.specs.Int.NonZero.{non_zero_i8_get, non_zero_i16_get, non_zero_i32_get, non_zero_i64_get, non_zero_u8_get, non_zero_u16_get, non_zero_u32_get, non_zero_u64_get};
-ghost use Rattle.wasmi_raw.specs.RawVal.{with_low, raw_of_vector};
+ghost use Rattle.wasmi_raw.specs.RawVal.{unsigned_in, signed_in, bool_in, vector_in, with_low, raw_of_vector};
 
-use crate::raw::{RawVal, WriteAs};
+use crate::number::Number;
+use crate::raw::{OneWord, RawVal, ReadAs, ReadBack, WriteAs};
 use crate::vector::V128;
 use std::num::NonZero;
+
+impl ReadAs<RawVal> for RawVal {
+    ghost read = { λ raw. raw };
+
+    fn read_as(&self) -> RawVal {
+        *self
+    }
+}
+
+impl ReadAs<i8> for RawVal {
+    ghost read = { signed_in w8 };
+
+    fn read_as(&self) -> i8 {
+        let bits: u8 = self.read_as();
+        bits.cast_signed()
+    }
+}
+
+impl ReadAs<i16> for RawVal {
+    ghost read = { signed_in w16 };
+
+    fn read_as(&self) -> i16 {
+        let bits: u16 = self.read_as();
+        bits.cast_signed()
+    }
+}
+
+impl ReadAs<i32> for RawVal {
+    ghost read = { signed_in w32 };
+
+    fn read_as(&self) -> i32 {
+        let bits: u32 = self.read_as();
+        bits.cast_signed()
+    }
+}
+
+impl ReadAs<i64> for RawVal {
+    ghost read = { signed_in w64 };
+
+    fn read_as(&self) -> i64 {
+        let bits: u64 = self.read_as();
+        bits.cast_signed()
+    }
+}
+
+impl ReadAs<u8> for RawVal {
+    ghost read = { unsigned_in w8 };
+
+    fn read_as(&self) -> u8 {
+        (self.lo & 0xff) as u8
+    }
+}
+
+impl ReadAs<u16> for RawVal {
+    ghost read = { unsigned_in w16 };
+
+    fn read_as(&self) -> u16 {
+        (self.lo & 0xffff) as u16
+    }
+}
+
+impl ReadAs<u32> for RawVal {
+    ghost read = { unsigned_in w32 };
+
+    fn read_as(&self) -> u32 {
+        (self.lo & 0xffff_ffff) as u32
+    }
+}
+
+impl ReadAs<u64> for RawVal {
+    ghost read = { unsigned_in w64 };
+
+    fn read_as(&self) -> u64 {
+        self.lo
+    }
+}
+
+impl ReadAs<V128> for RawVal {
+    ghost read = { vector_in };
+
+    fn read_as(&self) -> V128 {
+        V128::from_word_pair(self.lo, self.hi)
+    }
+}
+
+impl ReadAs<bool> for RawVal {
+    ghost read = { bool_in };
+
+    fn read_as(&self) -> bool {
+        self.lo != 0
+    }
+}
+
+impl ReadBack for RawVal {
+    type Read = RawVal;
+
+    ghost read_back = { λ value. value };
+}
+
+// An integer is read back as it is.
+impl<T: Number> ReadBack for T {
+    type Read = T;
+
+    ghost read_back = { λ value. value };
+}
+
+impl ReadBack for bool {
+    type Read = bool;
+
+    ghost read_back = { λ value. value };
+}
+
+impl ReadBack for V128 {
+    type Read = V128;
+
+    ghost read_back = { λ value. value };
+}
+
+impl ReadBack for NonZero<i8> {
+    type Read = i8;
+
+    ghost read_back = { non_zero_i8_get };
+}
+
+impl ReadBack for NonZero<i16> {
+    type Read = i16;
+
+    ghost read_back = { non_zero_i16_get };
+}
+
+impl ReadBack for NonZero<i32> {
+    type Read = i32;
+
+    ghost read_back = { non_zero_i32_get };
+}
+
+impl ReadBack for NonZero<i64> {
+    type Read = i64;
+
+    ghost read_back = { non_zero_i64_get };
+}
+
+impl ReadBack for NonZero<u8> {
+    type Read = u8;
+
+    ghost read_back = { non_zero_u8_get };
+}
+
+impl ReadBack for NonZero<u16> {
+    type Read = u16;
+
+    ghost read_back = { non_zero_u16_get };
+}
+
+impl ReadBack for NonZero<u32> {
+    type Read = u32;
+
+    ghost read_back = { non_zero_u32_get };
+}
+
+impl ReadBack for NonZero<u64> {
+    type Read = u64;
+
+    ghost read_back = { non_zero_u64_get };
+}
+
+impl OneWord for i8 {}
+
+impl OneWord for i16 {}
+
+impl OneWord for i32 {}
+
+impl OneWord for i64 {}
+
+impl OneWord for u8 {}
+
+impl OneWord for u16 {}
+
+impl OneWord for u32 {}
+
+impl OneWord for u64 {}
+
+impl OneWord for bool {}
+
+impl OneWord for NonZero<i8> {}
+
+impl OneWord for NonZero<i16> {}
+
+impl OneWord for NonZero<i32> {}
+
+impl OneWord for NonZero<i64> {}
+
+impl OneWord for NonZero<u8> {}
+
+impl OneWord for NonZero<u16> {}
+
+impl OneWord for NonZero<u32> {}
+
+impl OneWord for NonZero<u64> {}
 
 impl WriteAs<RawVal> for RawVal {
     ghost written = { λ _ value. value };

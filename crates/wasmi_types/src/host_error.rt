@@ -1,8 +1,0 @@
-//! Errors of the host.
-
-use std::fmt::{Debug, Display};
-
-/// An error of the host, which a [`Trap`](crate::Trap) can carry.
-///
-/// Upstream: `wasmi_core::HostError`.
-pub trait HostError: Display + Debug + Drop {}
