@@ -843,19 +843,19 @@ mod vector {
             I16x8LeU,
             /// [`i32x4_le_u`](crate::simd::i32x4_le_u): All ones where the lane of `lhs` is at most that of `rhs`, both read unsigned, else all zeros.
             I32x4LeU,
-            /// [`i8x16_gt_s`](crate::simd::i8x16_gt_s): All ones where the lane of `lhs` is greater than that of `rhs`, both read signed, else all zeros.
+            /// [`i8x16_gt_s`](crate::simd::i8x16_gt_s): All ones where the lane of `lhs` is the greater one, both read signed, else all zeros.
             I8x16GtS,
-            /// [`i16x8_gt_s`](crate::simd::i16x8_gt_s): All ones where the lane of `lhs` is greater than that of `rhs`, both read signed, else all zeros.
+            /// [`i16x8_gt_s`](crate::simd::i16x8_gt_s): All ones where the lane of `lhs` is the greater one, both read signed, else all zeros.
             I16x8GtS,
-            /// [`i32x4_gt_s`](crate::simd::i32x4_gt_s): All ones where the lane of `lhs` is greater than that of `rhs`, both read signed, else all zeros.
+            /// [`i32x4_gt_s`](crate::simd::i32x4_gt_s): All ones where the lane of `lhs` is the greater one, both read signed, else all zeros.
             I32x4GtS,
-            /// [`i64x2_gt_s`](crate::simd::i64x2_gt_s): All ones where the lane of `lhs` is greater than that of `rhs`, both read signed, else all zeros.
+            /// [`i64x2_gt_s`](crate::simd::i64x2_gt_s): All ones where the lane of `lhs` is the greater one, both read signed, else all zeros.
             I64x2GtS,
-            /// [`i8x16_gt_u`](crate::simd::i8x16_gt_u): All ones where the lane of `lhs` is greater than that of `rhs`, both read unsigned, else all zeros.
+            /// [`i8x16_gt_u`](crate::simd::i8x16_gt_u): All ones where the lane of `lhs` is the greater one, both read unsigned, else all zeros.
             I8x16GtU,
-            /// [`i16x8_gt_u`](crate::simd::i16x8_gt_u): All ones where the lane of `lhs` is greater than that of `rhs`, both read unsigned, else all zeros.
+            /// [`i16x8_gt_u`](crate::simd::i16x8_gt_u): All ones where the lane of `lhs` is the greater one, both read unsigned, else all zeros.
             I16x8GtU,
-            /// [`i32x4_gt_u`](crate::simd::i32x4_gt_u): All ones where the lane of `lhs` is greater than that of `rhs`, both read unsigned, else all zeros.
+            /// [`i32x4_gt_u`](crate::simd::i32x4_gt_u): All ones where the lane of `lhs` is the greater one, both read unsigned, else all zeros.
             I32x4GtU,
             /// [`i8x16_ge_s`](crate::simd::i8x16_ge_s): All ones where the lane of `lhs` is at least that of `rhs`, both read signed, else all zeros.
             I8x16GeS,
@@ -1474,13 +1474,13 @@ mod vector {
             I32x4Neg,
             /// [`i64x2_neg`](crate::simd::i64x2_neg): The lanes negated, modulo 2 to the power 64.
             I64x2Neg,
-            /// [`i8x16_abs`](crate::simd::i8x16_abs): The absolute values of the lanes, read signed; the least number is its own, modulo 2 to the power 8.
+            /// [`i8x16_abs`](crate::simd::i8x16_abs): The absolute values of the lanes, read signed; that of the least number is itself.
             I8x16Abs,
-            /// [`i16x8_abs`](crate::simd::i16x8_abs): The absolute values of the lanes, read signed; the least number is its own, modulo 2 to the power 16.
+            /// [`i16x8_abs`](crate::simd::i16x8_abs): The absolute values of the lanes, read signed; that of the least number is itself.
             I16x8Abs,
-            /// [`i32x4_abs`](crate::simd::i32x4_abs): The absolute values of the lanes, read signed; the least number is its own, modulo 2 to the power 32.
+            /// [`i32x4_abs`](crate::simd::i32x4_abs): The absolute values of the lanes, read signed; that of the least number is itself.
             I32x4Abs,
-            /// [`i64x2_abs`](crate::simd::i64x2_abs): The absolute values of the lanes, read signed; the least number is its own, modulo 2 to the power 64.
+            /// [`i64x2_abs`](crate::simd::i64x2_abs): The absolute values of the lanes, read signed; that of the least number is itself.
             I64x2Abs,
             /// [`i8x16_popcnt`](crate::simd::i8x16_popcnt): How many bits of each lane are one.
             I8x16Popcnt,

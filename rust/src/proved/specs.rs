@@ -1394,6 +1394,35 @@ unfoldable pub <b id="lane_bits">lane_bits</b> : {A : Type 0} → <a href="../..
 </code></pre>
 "####]
     pub mod Widening {}
+    #[doc = r####"The widths of which one is twice another, and what follows of their lanes.
+
+<pre><code>use Rattle.std.proofs.Common.{<a href="../../library/index.html#%E2%84%95" title="the whole numbers from 0 on">ℕ</a>, <a href="../../library/index.html#%2B" title="sum, difference (0 where n is greater), product, quotient and remainder (rounded down), power, of whole numbers from 0 on">◌+◌</a>, <a href="../../library/index.html#%2B" title="sum, difference (0 where n is greater), product, quotient and remainder (rounded down), power, of whole numbers from 0 on">◌*◌</a>, ◌^◌, <a href="../../library/index.html#%3C" title="comparison of whole numbers">◌&lt;◌</a>, <a href="../../library/index.html#%E2%89%A1" title="x is y">◌≡◌</a>, leb, lit&lt;, refl}
+use Rattle.wasmi_types.specs.Wrapping.{<a href="../../library/index.html#Width" title="the widths of integers: 8, 16, 32, 64 or 128 bits">Width</a>, <a href="../../library/index.html#w8" title="the widths of integers in bits">w8</a>, <a href="../../library/index.html#w16" title="the widths of integers in bits">w16</a>, <a href="../../library/index.html#w32" title="the widths of integers in bits">w32</a>, <a href="../../library/index.html#w64" title="the widths of integers in bits">w64</a>, <a href="../../library/index.html#bits" title="the number of bits of a width">bits</a>}
+use lib.Dec.{T}
+use mir.Val.{hbits}
+
+<span style="opacity:.7">-- a lane of `wide` has twice the bits of one of `narrow`, and n lanes of `wide` make a vector</span>
+pub record <b id="IsWidening">IsWidening</b> (narrow wide : <a href="../../library/index.html#Width" title="the widths of integers: 8, 16, 32, 64 or 128 bits">Width</a>) (n : <a href="../../library/index.html#%E2%84%95" title="the whole numbers from 0 on">ℕ</a>) : Type 0 where
+  pub filled : n * <a href="../../library/index.html#bits" title="the number of bits of a width">bits</a> wide ≡ 128
+  pub twice : <a href="../../library/index.html#bits" title="the number of bits of a width">bits</a> wide ≡ <a href="../../library/index.html#bits" title="the number of bits of a width">bits</a> narrow + <a href="../../library/index.html#bits" title="the number of bits of a width">bits</a> narrow
+  pub half : hbits wide ≡ hbits narrow + <a href="../../library/index.html#bits" title="the number of bits of a width">bits</a> narrow
+  pub wider : T (leb (hbits narrow) (hbits wide))
+  pub room : 2 ^ hbits narrow * 2 ^ hbits narrow &lt; 2 ^ hbits wide
+
+<span style="opacity:.7">-- 8 lanes of 16 bits, each of two bytes</span>
+pub <b id="bytes_widened">bytes_widened</b> : <a href="#IsWidening" title="a lane of `wide` has twice the bits of one of `narrow`, and n lanes of `wide` make a vector">IsWidening</a> <a href="../../library/index.html#w8" title="the widths of integers in bits">w8</a> <a href="../../library/index.html#w16" title="the widths of integers in bits">w16</a> 8
+<a href="#bytes_widened" title="8 lanes of 16 bits, each of two bytes">bytes_widened</a> = record { filled = refl; twice = refl; half = refl; wider = <a href="../../library/index.html#tt" title="the value `()`">tt</a>; room = lit&lt; <a href="../../library/index.html#tt" title="the value `()`">tt</a> }
+
+<span style="opacity:.7">-- 4 lanes of 32 bits, each of two of 16</span>
+pub <b id="u16x8_widened">u16x8_widened</b> : <a href="#IsWidening" title="a lane of `wide` has twice the bits of one of `narrow`, and n lanes of `wide` make a vector">IsWidening</a> <a href="../../library/index.html#w16" title="the widths of integers in bits">w16</a> <a href="../../library/index.html#w32" title="the widths of integers in bits">w32</a> 4
+<a href="#u16x8_widened" title="4 lanes of 32 bits, each of two of 16">u16x8_widened</a> = record { filled = refl; twice = refl; half = refl; wider = <a href="../../library/index.html#tt" title="the value `()`">tt</a>; room = lit&lt; <a href="../../library/index.html#tt" title="the value `()`">tt</a> }
+
+<span style="opacity:.7">-- 2 lanes of 64 bits, each of two of 32</span>
+pub <b id="u32x4_widened">u32x4_widened</b> : <a href="#IsWidening" title="a lane of `wide` has twice the bits of one of `narrow`, and n lanes of `wide` make a vector">IsWidening</a> <a href="../../library/index.html#w32" title="the widths of integers in bits">w32</a> <a href="../../library/index.html#w64" title="the widths of integers in bits">w64</a> 2
+<a href="#u32x4_widened" title="2 lanes of 64 bits, each of two of 32">u32x4_widened</a> = record { filled = refl; twice = refl; half = refl; wider = <a href="../../library/index.html#tt" title="the value `()`">tt</a>; room = lit&lt; <a href="../../library/index.html#tt" title="the value `()`">tt</a> }
+</code></pre>
+"####]
+    pub mod WideningProofs {}
     #[doc = r####"The vector instructions of the WebAssembly core specification (section "Numerics", "Vector Operations") that change the width of lanes, shift lanes or test them, and the relaxed ones with the choice made here: what each gives, over whole numbers. A vector is a number below 2 ^ 128, and each lane's number is read as it is (\`unsigned\`) or as a signed number (\`signed w\`). A lane is computed without bounds, then wrapped or clamped.
 
 <pre><code>use Rattle.std.specs.Prelude.{<a href="../../library/index.html#%E2%84%95" title="the whole numbers from 0 on">ℕ</a>, <a href="../../library/index.html#%2B" title="sum, difference (0 where n is greater), product, quotient and remainder (rounded down), power, of whole numbers from 0 on">◌+◌</a>, ◌-◌, <a href="../../library/index.html#%2B" title="sum, difference (0 where n is greater), product, quotient and remainder (rounded down), power, of whole numbers from 0 on">◌*◌</a>, ◌/◌, <a href="../../library/index.html#%2B" title="sum, difference (0 where n is greater), product, quotient and remainder (rounded down), power, of whole numbers from 0 on">◌%◌</a>, ◌^◌, <a href="../../library/index.html#Bool" title="the Booleans `true` and `false`">Bool</a>, <a href="../../library/index.html#not" title="the other Boolean">not</a>, <a href="../../library/index.html#nat_eq" title="whether two numbers are equal, as a Boolean">nat_eq</a>, <a href="../../library/index.html#nat_le" title="whether m is at most n, as a Boolean">nat_le</a>, <a href="../../library/index.html#%2B%E2%84%A4" title="sum, difference and product of numbers with a sign">◌+ℤ◌</a>, <a href="../../library/index.html#%2B%E2%84%A4" title="sum, difference and product of numbers with a sign">◌*ℤ◌</a>}
