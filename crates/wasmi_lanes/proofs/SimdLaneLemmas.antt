@@ -33,6 +33,7 @@ added_at w n x xs i long inside =
     (subst (λ k. i < k) (sym (length-replicate n x)) inside)
     ∙ ap (λ b. (get_or xs i 0 + b) % 2 ^ bits w) (get_or-replicate n i x 0 inside)
 
+-- a lane of 8 bits moved by half of its range
 pub biased_8 : (xs : List ℕ) (i : ℕ) → length xs ≡ 16 → i < 16
     → get_or (zip2 (λ a b. (a + b) % 256) xs (replicate 16 128)) i 0 ≡ (get_or xs i 0 + 128) % 256
 biased_8 = added_at w8 16 128
@@ -129,15 +130,17 @@ written_at w n xs r i filled long fits below is =
     let whole : number % 2 ^ 128 ≡ number = mod-eq_of_lt (subst (λ k. number < 2 ^ k) exponent small) in
     lane_of_number w n xs r i long fits below (is ∙ number_of_digits 8 16 number ∙ whole)
 
--- the lanes of each width, as they are written to the bytes of a vector
+-- a lane of 16 bits of a vector, as it is written by its bytes
 pub written_16 : (xs : List ℕ) (i : ℕ) → i < 8 → length xs ≡ 8 → ((k : ℕ) → get_or xs k 0 < 65536)
     → get_or xs i 0 ≡ number_l 256 (digits_l 256 16 (number_l 65536 xs)) / 2 ^ (16 * i) % 65536
 written_16 xs i below long fits = written_at w16 8 xs _ i refl long fits below refl
 
+-- a lane of 32 bits
 pub written_32 : (xs : List ℕ) (i : ℕ) → i < 4 → length xs ≡ 4 → ((k : ℕ) → get_or xs k 0 < 2 ^ 32)
     → get_or xs i 0 ≡ number_l 256 (digits_l 256 16 (number_l (2 ^ 32) xs)) / 2 ^ (32 * i) % 2 ^ 32
 written_32 xs i below long fits = written_at w32 4 xs _ i refl long fits below refl
 
+-- a lane of 64 bits
 pub written_64 : (xs : List ℕ) (i : ℕ) → i < 2 → length xs ≡ 2 → ((k : ℕ) → get_or xs k 0 < 2 ^ 64)
     → get_or xs i 0 ≡ number_l 256 (digits_l 256 16 (number_l (2 ^ 64) xs)) / 2 ^ (64 * i) % 2 ^ 64
 written_64 xs i below long fits = written_at w64 2 xs _ i refl long fits below refl

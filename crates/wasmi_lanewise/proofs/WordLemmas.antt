@@ -152,14 +152,17 @@ by_words : (op : ℕ → ℕ → ℕ) → IsBitwise op → (a b : ℕ)
     → op a b ≡ vector_of (op (a % 2 ^ 64) (b % 2 ^ 64)) (op (a / 2 ^ 64) (b / 2 ^ 64))
 by_words op bitwise a b = sym (on_words op bitwise (u64x2_of refl refl) (u64x2_of refl refl) refl)
 
+-- the bits that two vectors share
 pub and_by_words : (a b : ℕ)
     → bit_and a b ≡ vector_of (bit_and (a % 2 ^ 64) (b % 2 ^ 64)) (bit_and (a / 2 ^ 64) (b / 2 ^ 64))
 and_by_words = by_words bit_and (record { on_high = and_shr; on_low = and_mod })
 
+-- the bits that either of two vectors has
 pub or_by_words : (a b : ℕ)
     → bit_or a b ≡ vector_of (bit_or (a % 2 ^ 64) (b % 2 ^ 64)) (bit_or (a / 2 ^ 64) (b / 2 ^ 64))
 or_by_words = by_words bit_or (record { on_high = or_shr; on_low = or_mod })
 
+-- the bits in which two vectors differ
 pub xor_by_words : (a b : ℕ)
     → bit_xor a b ≡ vector_of (bit_xor (a % 2 ^ 64) (b % 2 ^ 64)) (bit_xor (a / 2 ^ 64) (b / 2 ^ 64))
 xor_by_words = by_words bit_xor (record { on_high = xor_shr; on_low = xor_mod })

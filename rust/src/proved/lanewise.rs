@@ -991,8 +991,8 @@ pub mod simd {
         }
     }
     mod lane_access {
-        //! Vectors of one item, one lane of a vector, and bytes chosen by their indices. Of bytes an array is
-        //! slower than `core::simd` (docs/SPEED.md).
+        //! Vectors of one item, one lane of a vector, and bytes chosen by their indices, for which an array
+        //! is slower than `core::simd` (docs/SPEED.md).
 
         use crate::proved::lanes::{
             I8x16, I32x4, ImmLaneIdx2, ImmLaneIdx4, ImmLaneIdx8, ImmLaneIdx16, ImmLaneIdx32,

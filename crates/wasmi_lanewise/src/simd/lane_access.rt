@@ -1,5 +1,5 @@
-//! Vectors of one item, one lane of a vector, and bytes chosen by their indices. Of bytes an array is
-//! slower than `std::simd` (docs/SPEED.md).
+//! Vectors of one item, one lane of a vector, and bytes chosen by their indices, for which an array
+//! is slower than `std::simd` (docs/SPEED.md).
 
 ghost use Rattle.std.specs.Prelude.{◌≡◌, ◌∷◌, [], ℕ, ◌%◌, ◌<◌, slice_index, length, nat_lt, if◌then◌else◌};
 ghost use Rattle.wasmi_types.specs.Wrapping.{w8, w16, w32, w64};
