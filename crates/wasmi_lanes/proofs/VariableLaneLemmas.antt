@@ -10,7 +10,7 @@ use Rattle.std.specs.List.{range_with_len}
 use Rattle.wasmi_types.specs.Wrapping.{Width, w8, bits}
 use Rattle.wasmi_lanes.specs.Lane.{lane}
 use Rattle.wasmi_lanes.specs.Vector.{with_lane}
-use Rattle.wasmi_lanes.proofs.LaneVectorLemmas.{lanes_make_vector, lane_below}
+use Rattle.wasmi_lanes.proofs.VectorLemmas.{lanes_make_vector, lane_below}
 use mir.Val.{hbits}
 use lib.Lanes.{top}
 

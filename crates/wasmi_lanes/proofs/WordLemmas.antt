@@ -1,11 +1,13 @@
--- The sums, differences and inequality of the lanes of a word, at one lane of tops or above the last top.
-use Rattle.std.proofs.Common.{◌≡◌, ℕ, zero, suc, ◌+◌, ◌-◌, ◌*◌, ◌%◌, ◌^◌, ◌<◌, ◌≤◌, ◌⊎◌, ap, ap₂, subst, ◌∙◌, arith, mod-eq_of_lt, bit_and, bit_or, bit_xor, cond, eqb, pow-suc}
-use Rattle.std.proofs.lemmas.Nat.{and_le_l, and_mask}
+-- Sums, differences and inequality of the lanes of a word, and a word made of its lanes.
+use Rattle.std.proofs.Common.{◌≡◌, ℕ, zero, suc, ◌+◌, ◌-◌, ◌*◌, ◌%◌, ◌^◌, ◌<◌, ◌≤◌, ◌⊎◌, ap, ap₂, subst, ◌∙◌, arith, mod-eq_of_lt, bit_and, bit_or, bit_xor, cond, eqb, pow-suc, ◌/◌, List, [], ◌∷◌, sum, refl, sym, mul_assoc, mul_comm, add-mul, div-one, mul-one}
+use Rattle.std.proofs.lemmas.Nat.{and_assoc, and_le_l, and_mask, div-add-mod', shr-shr, pow-add}
 use Rattle.std.specs.Int.{bit_at}
 use Rattle.std.specs.Int.Bits.{and_self, and_zero_r, or_zero_r, xor_zero_r}
-use Rattle.wasmi_lanes.specs.Words.{field, IsLane, IsLastLane}
+use Rattle.wasmi_lanes.specs.Words.{field, IsLane, IsLastLane, AreLanes, word_of_lanes}
 use Rattle.wasmi_lanes.proofs.FieldLemmas.{field_lt, field_and, field_or, field_xor, field_add, field_mod, field_not, field_wrapping_sub}
 use Rattle.wasmi_lanes.proofs.TopLemmas.{room, filled, lane_add, lane_sub, lane_differ}
+use Rattle.std.proofs.lemmas.List.Sums.{sum_by-cons}
+use Rattle.std.proofs.Math.Nat.{div-eq_of_lt, zero-mul}
 
 -- the bits of a word from k to k + w - 1, where those of tops are `top` and what comes from below has room
 module _ (tops k w top : ℕ) (fits : tops < 2 ^ 64) (starts : (k ≡ 0) ⊎ (bit_at tops (k - 1) ≡ 1)) (within : k + w ≤ 64)
@@ -169,3 +171,56 @@ sub_last tops k w a b fits fits_b last =
     difference_at tops k w 0 fits last.starts within last.free a b fits_b
     ∙ unflipped _ _
     ∙ ap₂ (λ m n. (m + (2 ^ w - n)) % 2 ^ w) (or_zero_r (field k w a)) (all_kept w (field k w b) (field_lt k w b))
+
+-- a word's bits masked twice are those masked once
+pub masked_twice : (x tops : ℕ) → bit_and (bit_and x tops) tops ≡ bit_and x tops
+masked_twice x tops = and_assoc tops x tops ∙ ap (bit_and x) (and_self tops)
+
+pub ruleset differ = (differ_lane, masked_twice)
+
+-- the bits of v from start on, put together of their lanes
+from_fields : (v start : ℕ) (widths : List ℕ) → v < 2 ^ 64 → start + sum widths ≡ 64
+    → word_of_lanes (λ k w. field k w v) start widths ≡ v / 2 ^ start * 2 ^ start
+unfolding field
+from_fields v start [] fits whole =
+    let end : start ≡ 64 = omega arith in
+    sym (ap (λ n. v / 2 ^ n * 2 ^ n) end ∙ ap (λ n. n * 2 ^ 64) (div-eq_of_lt fits) ∙ zero-mul (2 ^ 64))
+from_fields v start (width ∷ widths) fits whole =
+    let p : ℕ = 2 ^ start in
+    let q : ℕ = 2 ^ width in
+    let x : ℕ = v / p in
+    let above : v / 2 ^ (start + width) ≡ x / q = sym (shr-shr v start width) in
+    let place : 2 ^ (start + width) ≡ p * q = pow-add 2 start width in
+    let rest : word_of_lanes (λ k w. field k w v) (start + width) widths
+    ≡ v / 2 ^ (start + width) * 2 ^ (start + width) =
+    from_fields v (start + width) widths fits (omega (arith, sum_by-cons (λ x. x) width widths)) in
+    let moved : x / q * (p * q) ≡ x / q * q * p = ap (λ n. x / q * n) (mul_comm p q) ∙ sym (mul_assoc (x / q) q p) in
+    ap (λ n. x % q * p + n) (rest ∙ ap₂ ◌*◌ above place ∙ moved)
+    ∙ omega (arith, add-mul (x / q * q) (x % q) p, ap (λ n. n * p) (div-add-mod' x q))
+
+-- a word is the word of its own lanes, whatever their widths are, where these have the sum 64
+pub word_from_lanes : (v : ℕ) (widths : List ℕ) → v < 2 ^ 64 → sum widths ≡ 64
+    → v ≡ word_of_lanes (λ k w. field k w v) 0 widths
+word_from_lanes v widths fits whole = sym (from_fields v 0 widths fits (omega arith) ∙ mul-one (v / 1) ∙ div-one v)
+
+-- lanes of tops from start on up to the end of the word have widths whose sum with start is 64
+widths_of_lanes : (tops start : ℕ) (widths : List ℕ) → AreLanes tops start widths → start + sum widths ≡ 64
+widths_of_lanes tops start [] end = omega arith
+widths_of_lanes tops start (width ∷ widths) lanes =
+    omega (arith, widths_of_lanes tops (start + width) widths lanes.1, sum_by-cons (λ x. x) width widths)
+
+-- two functions that agree on every lane of tops give the same word of these lanes
+same_lanes : (tops start : ℕ) (widths : List ℕ) (f g : ℕ → ℕ → ℕ) → ((k w : ℕ) → IsLane tops k w → f k w ≡ g k w)
+    → AreLanes tops start widths
+    → word_of_lanes f start widths ≡ word_of_lanes g start widths
+same_lanes tops start [] f g each end = refl
+same_lanes tops start (width ∷ widths) f g each lanes =
+    ap₂ (λ m n. m * 2 ^ start + n) (each start width lanes.0) (same_lanes tops (start + width) widths f g each lanes.1)
+
+-- a word whose lanes of tops are f is the word of the lanes f
+pub lanes_make_word : (tops v : ℕ) (widths : List ℕ) (f : ℕ → ℕ → ℕ) → v < 2 ^ 64 → AreLanes tops 0 widths
+    → ((k w : ℕ) → IsLane tops k w → field k w v ≡ f k w)
+    → v ≡ word_of_lanes f 0 widths
+lanes_make_word tops v widths f fits lanes each =
+    let whole : sum widths ≡ 64 = omega (arith, widths_of_lanes tops 0 widths lanes) in
+    word_from_lanes v widths fits whole ∙ same_lanes tops 0 widths (λ k w. field k w v) f each lanes

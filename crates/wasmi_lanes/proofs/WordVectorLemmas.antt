@@ -12,7 +12,7 @@ use Rattle.wasmi_lanes.specs.Lane.{lane}
 use Rattle.wasmi_lanes.specs.Vector.{from_lanes}
 use Rattle.wasmi_lanes.specs.Words.{field, IsLane, IsLastLane, lanes_in_word, in_each_lane}
 use Rattle.wasmi_lanes.proofs.FieldLemmas.{field_mod, top_of_lane, repeated_lane}
-use Rattle.wasmi_lanes.proofs.LaneVectorLemmas.{lanes_make_vector}
+use Rattle.wasmi_lanes.proofs.VectorLemmas.{lanes_make_vector}
 use mir.Syntax.{w128}
 
 -- the words of the vector v

@@ -6,7 +6,7 @@ ghost use Rattle.std.specs.Int.{cast_unsigned};
 ghost use Rattle.wasmi_lanes.specs.Lane.{lane, unsigned, ReadsLanes};
 ghost use Rattle.wasmi_lanes.specs.LaneProofs.{unsigned_lanes, signed_lanes};
 
-use crate::vector_bytes::{bytes_to_take_out, from_bytes};
+use crate::simd_lane::{bytes_to_take_out, from_bytes};
 use std::simd::prelude::*;
 use wasmi_raw::V128;
 
@@ -162,6 +162,7 @@ impl LaneItem<8> for u16 {
         *items = u16x8::from_le_bytes(bytes_to_take_out(vector)).to_array();
     }
 
+    #[tactic(auto, using(crate::proofs::SimdLaneLemmas::written))]
     #[inline(always)]
     fn write_from(items: &[u16; 8]) -> V128 {
         let items = *items;
@@ -239,6 +240,7 @@ impl LaneItem<4> for u32 {
         *items = u32x4::from_le_bytes(bytes_to_take_out(vector)).to_array();
     }
 
+    #[tactic(auto, using(crate::proofs::SimdLaneLemmas::written))]
     #[inline(always)]
     fn write_from(items: &[u32; 4]) -> V128 {
         let items = *items;
@@ -316,6 +318,7 @@ impl LaneItem<2> for u64 {
         *items = u64x2::from_le_bytes(bytes_to_take_out(vector)).to_array();
     }
 
+    #[tactic(auto, using(crate::proofs::SimdLaneLemmas::written))]
     #[inline(always)]
     fn write_from(items: &[u64; 2]) -> V128 {
         let items = *items;

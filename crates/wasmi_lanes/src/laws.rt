@@ -18,6 +18,7 @@ pub fn lanes_there_and_back<L: Lanes>(lanes: L) -> L
 
 /// Lane i of a vector that is made of lanes is the number of lane i, wrapped to the width of the
 /// lanes.
+#[tactic(auto, using(crate::proofs::VectorLemmas::made))]
 pub fn lanes_of_made_vector()
     ensures made { (w : Width) (f : ℕ → ℕ) (i : ℕ) → i < 128 / bits w
         → lane w (from_lanes w f) i ≡ f i % 2 ^ bits w }

@@ -1,6 +1,7 @@
-//! Lanes made of narrower lanes, and of wider ones.
+//! Lanes made of narrower lanes, and of wider ones; numbers clamped to half of their width.
 
 ghost use Rattle.std.specs.Prelude.{◌≡◌, refl, ℕ, ◌+◌, ◌*◌, ◌<◌, [], ◌∷◌};
+ghost use Rattle.wasmi_types.specs.Wrapping.{w8, w16, clamp_signed};
 
 use crate::index::{CountsLanes, ImmLaneIdx};
 use crate::item::LaneItem;
@@ -142,6 +143,7 @@ where
         LaneArray { items }
     }
 
+    #[tactic(auto, using(std::proofs::lemmas::List::get_or_default))]
     #[inline(always)]
     fn low_unary<F: Fn(T) -> U>(narrow: LaneArray<T, N>, f: F) -> Self {
         let mut items = [U::ALL_ZEROS; M];
@@ -160,6 +162,7 @@ where
         LaneArray { items }
     }
 
+    #[tactic(auto, using(std::proofs::lemmas::List::get_or_default))]
     #[inline(always)]
     fn low_binary<F: Fn(T, T) -> U>(a: LaneArray<T, N>, b: LaneArray<T, N>, f: F) -> Self {
         let mut items = [U::ALL_ZEROS; M];
@@ -177,4 +180,21 @@ where
         }
         LaneArray { items }
     }
+}
+
+/// The number clamped to the signed range of 8 bits.
+///
+/// Of a clamped sum or difference LLVM makes a saturating one, which it doesn't of `saturating_add`
+/// and `saturating_sub`.
+pub fn clamped_i8(number: i16) -> i8
+    ensures { result ≡ clamp_signed w8 number }
+{
+    number.clamp(-128, 127) as i8
+}
+
+/// The number clamped to the signed range of 16 bits, as `clamped_i8` does at 8.
+pub fn clamped_i16(number: i32) -> i16
+    ensures { result ≡ clamp_signed w16 number }
+{
+    number.clamp(-32768, 32767) as i16
 }

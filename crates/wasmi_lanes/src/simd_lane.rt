@@ -1,11 +1,12 @@
 //! The lanes of a vector as a vector of `std::simd`.
 
-ghost use Rattle.std.specs.Prelude.{◌≡◌, ℕ, ◌+◌, ◌-◌, ◌%◌, ◌^◌, ◌<◌, nat_lt, slice_index, if◌then◌else◌};
-ghost use Rattle.wasmi_types.specs.Wrapping.{bits};
+ghost use Rattle.std.specs.Prelude.{◌≡◌, ℕ, ◌+◌, ◌-◌, ◌%◌, ◌^◌, ◌<◌, nat_lt, slice_index, if◌then◌else◌, ◌/◌, [], ◌∷◌, slice_index_or};
+ghost use Rattle.wasmi_types.specs.Wrapping.{bits, w8};
 ghost use Rattle.wasmi_lanes.specs.Lane.{lane, lane_count};
+ghost use Rattle.std.specs.Simd.Lanes.{number_l};
+ghost use Rattle.wasmi_raw.specs.Vector.{vector_of};
 
 use crate::item::{LaneInteger, LaneItem};
-use crate::vector_bytes::{bytes_of, from_bytes};
 use std::simd::prelude::*;
 use wasmi_raw::V128;
 
@@ -69,6 +70,7 @@ impl SimdLane for u8 {
         u8x16::splat(number)
     }
 
+    #[tactic(auto, using(crate::proofs::SimdLaneLemmas::biased_8))]
     #[inline(always)]
     fn biased(items: u8x16) -> u8x16 {
         items + u8x16::splat(0x80)
@@ -171,4 +173,58 @@ impl SimdLane for u64 {
     fn choose_if_less(a: u64x2, b: u64x2, chosen: u64x2, other: u64x2) -> u64x2 {
         a.simd_lt(b).select(chosen, other)
     }
+}
+
+/// The bytes of a vector, the lowest first.
+#[inline(always)]
+pub fn bytes_of(vector: V128) -> u8x16
+    ensures number { number_l (2 ^ 8) result ≡ vector }
+    ensures lanes { (i : ℕ) → i < 16 → slice_index_or result i 0 ≡ lane w8 vector i }
+{
+    let (low, high) = vector.words();
+    u64x2::from_array([low, high]).to_le_bytes()
+}
+
+/// The bytes of a vector, the lowest first, to be taken out one by one or in lanes.
+///
+/// The words come together by a shuffle. Of a vector made of them LLVM takes the lowest lane of
+/// each word out of the word once more, and inserts it.
+#[inline(always)]
+pub(crate) fn bytes_to_take_out(vector: V128) -> u8x16
+    ensures number { number_l (2 ^ 8) result ≡ vector }
+    ensures lanes { (i : ℕ) → i < 16 → slice_index_or result i 0 ≡ lane w8 vector i }
+{
+    let (low, high) = vector.words();
+    let lower = u64x2::from_array([0, low]);
+    let upper = u64x2::from_array([high, 0]);
+    lower.shuffle(upper, [1, 2]).to_le_bytes()
+}
+
+/// The vector of these bytes, the lowest first.
+#[inline(always)]
+pub fn from_bytes(bytes: u8x16) -> V128
+    ensures number { result ≡ number_l (2 ^ 8) bytes }
+    ensures lanes { (i : ℕ) → i < 16 → lane w8 result i ≡ slice_index_or bytes i 0 }
+    ensures in_range { result < 2 ^ 128 }
+{
+    let [low, high] = u64x2::from_le_bytes(bytes).to_array();
+    V128::from_word_pair(low, high)
+}
+
+/// The words of a vector, the lower one first, as one value of the processor's.
+#[inline(always)]
+pub fn u64x2_of(vector: V128) -> u64x2
+    ensures { result ≡ vector % 2 ^ 64 ∷ vector / 2 ^ 64 ∷ [] }
+{
+    let (low, high) = vector.words();
+    u64x2::from_array([low, high])
+}
+
+/// The vector of these words, the lower one first.
+#[inline(always)]
+pub fn from_u64x2(words: u64x2) -> V128
+    ensures { (low high : ℕ) → words ≡ low ∷ high ∷ [] → result ≡ vector_of low high }
+{
+    let [low, high] = words.to_array();
+    V128::from_word_pair(low, high)
 }

@@ -10,8 +10,7 @@ ghost use Rattle.wasmi_lanes.specs.Lane.{lane};
 ghost use Rattle.wasmi_lanes.specs.Vector as vectors;
 
 use crate::index::{ImmLaneIdx2, ImmLaneIdx4, ImmLaneIdx8, ImmLaneIdx16, IntoLaneIdx};
-use crate::simd_lane::SimdLane;
-use crate::vector_bytes::bytes_of;
+use crate::simd_lane::{SimdLane, bytes_of};
 use std::simd::prelude::*;
 use wasmi_raw::V128;
 

@@ -9,7 +9,7 @@ use Rattle.std.specs.Int.Count.{ones}
 use Rattle.wasmi_lanes.specs.Words.{field}
 use Rattle.wasmi_lanes.proofs.FieldLemmas.{field_and, field_add, field_lt, field_mod, field_wrapping_sub, repeated_lane, top_of_lane}
 use Rattle.wasmi_lanes.proofs.TopLemmas.{clear_top}
-use Rattle.wasmi_lanewise.proofs.MeanLemmas.{mean_low}
+use Rattle.wasmi_lanewise.proofs.WordLemmas.{mean_low}
 
 -- a lane, masked by the ones of its lower half, is that half
 lower_half : (w k y mask : ℕ) → field k (w + w) mask ≡ 2 ^ w - 1 → field k (w + w) (bit_and y mask) ≡ field k w y

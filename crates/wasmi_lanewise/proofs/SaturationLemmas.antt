@@ -1,20 +1,24 @@
--- Sums and differences that are clamped to the unsigned range. Those of std::simd are a sum with the lesser of two
--- numbers and a difference of the greater of two.
-use Rattle.std.proofs.Common.{ℕ, ◌+◌, ◌-◌, ◌%◌, ◌^◌, ◌<◌, ◌≡◌, List, length, get_or, map, min, refl, sym, ap, subst, ◌∙◌, arith, Bool, true, false, cond, ltb, Fits, pos, ◌+ℤ◌, ◌-ℤ◌}
+-- Clamped sums and differences, and rounded products of q15 numbers, as std::simd computes them.
+use Rattle.std.proofs.Common.{ℕ, ◌+◌, ◌-◌, ◌%◌, ◌^◌, ◌<◌, ◌≡◌, List, length, get_or, map, min, refl, sym, ap, subst, ◌∙◌, arith, Bool, true, false, cond, ltb, Fits, pos, ◌+ℤ◌, ◌-ℤ◌, ℤ, negsuc, suc, ◌*◌, ◌/◌, ◌≤◌, ◌⊎◌, inl, inr, ◌*ℤ◌, nat_lt, if◌then◌else◌, ap₂, FitsSigned, unsigned_abs, replicate, bit_xor, mod-lt}
 use Rattle.std.specs.Simd.Lanes.{zip2, sel_l, Each1}
-use Rattle.std.proofs.Math.Nat.{mod-eq_of_lt, add-mod_right}
-use Rattle.std.proofs.lemmas.Bool.{ltb-true, ltb-false}
-use Rattle.std.proofs.lemmas.Int.{ints}
+use Rattle.std.proofs.Math.Nat.{mod-eq_of_lt, add-mod_right, mul-le-mul, mod-add-mod}
+use Rattle.std.proofs.lemmas.Bool.{ltb-true, ltb-false, cases_lt, lt-ltb, le-ltb}
+use Rattle.std.proofs.lemmas.Int.{ints, fits_signed_from_abs, unsigned_abs-mul, of_z-to_z, wrapping_mul_is, int_wrap_fits}
 use Rattle.std.proofs.lemmas.List.{length-map, get_or-map}
-use Rattle.std.proofs.lemmas.Simd.{length-zip2, get_or-zip2, length-sel_l, Each1-get_or}
-use Rattle.wasmi_types.specs.Wrapping.{Width, bits, clamp_unsigned}
-use Rattle.wasmi_lanes.specs.Lane.{lane, lane_count}
+use Rattle.std.proofs.lemmas.Simd.{length-zip2, get_or-zip2, length-sel_l, Each1-get_or, Each1-from_get_or, below_from_Fits, get_or-replicate}
+use Rattle.wasmi_types.specs.Wrapping.{Width, bits, clamp_unsigned, w16, w32, signed, wrap, clamp_signed}
+use Rattle.wasmi_lanes.specs.Lane.{lane, lane_count, signed_fits}
 use Rattle.wasmi_lanes.specs.Vector.{binary_of_lanes}
-use Rattle.wasmi_lanes.proofs.ChoiceLemmas.{chosen_where_less}
-use Rattle.wasmi_lanewise.specs.VectorTable.{add_sat_u, sub_sat_u}
+use Rattle.wasmi_lanes.proofs.SimdLaneLemmas.{chosen_where_less}
+use Rattle.wasmi_lanewise.specs.VectorTable.{add_sat_u, sub_sat_u, q15mulr}
 use Rattle.wasmi_lanewise.proofs.OrderLemmas.{rows_make_vector}
 use lib.Lanes.{top}
-use mir.Val.{hbits}
+use mir.Val.{hbits, sel}
+use Rattle.std.specs.Int.{cast_unsigned, int_shr}
+use Rattle.std.specs.Int.Signed.{shr_z}
+use Rattle.std.proofs.lemmas.Nat.{pow_pos, mul-mod}
+use Rattle.std.proofs.Math.Pow.{mod-mod-pow}
+use Rattle.wasmi_lanes.proofs.TopLemmas.{xor_top}
 
 -- for each lane, all ones where that of xs is less than that of ys
 abbrev tests : Width → List ℕ → List ℕ → List Bool
@@ -102,3 +106,225 @@ module _ (w : Width) (a b : ℕ) {r : ℕ} (below : r < 2 ^ 128) {x y : ℕ → 
   differences_u_make_vector is =
       rows_make_vector w a b below is_x is_y (λ p q. p - q) (λ p q. clamp_unsigned w (pos p -ℤ pos q)) is
       (λ p q fits _. omega (arith, ints))
+
+-- ---- a product of two lanes, at 32 bits
+
+-- a signed number of 16 bits is at most 2 ^ 15 away from 0
+abs_of_lane : (x : ℤ) → FitsSigned w16 x → unsigned_abs x ≤ 32768
+abs_of_lane (pos n) fits = let below = fits.sfits in omega arith
+abs_of_lane (negsuc n) fits = let below = fits.sfits in omega arith
+
+module _ (x y : ℤ) (fits_x : FitsSigned w16 x) (fits_y : FitsSigned w16 y) where
+  -- the product is at most 2 ^ 30 away from 0
+  product_is_small : unsigned_abs (x *ℤ y) ≤ 2 ^ 30
+  product_is_small =
+      let bound : unsigned_abs x * unsigned_abs y ≤ 32768 * 32768 =
+      mul-le-mul (abs_of_lane x fits_x) (abs_of_lane y fits_y) in
+      omega (arith, bound, unsigned_abs-mul x y)
+
+  -- the largest product is far above the next one
+  product_has_gap : (unsigned_abs (x *ℤ y) ≤ 2 ^ 30 - 2 ^ 15) ⊎ (2 ^ 30 ≤ unsigned_abs (x *ℤ y))
+  product_has_gap = gap (cases_lt (unsigned_abs x) 32768) (cases_lt (unsigned_abs y) 32768)
+    where
+      gap : (unsigned_abs x < 32768) ⊎ (32768 ≤ unsigned_abs x) → (unsigned_abs y < 32768) ⊎ (32768 ≤ unsigned_abs y)
+          → (unsigned_abs (x *ℤ y) ≤ 2 ^ 30 - 2 ^ 15) ⊎ (2 ^ 30 ≤ unsigned_abs (x *ℤ y))
+      gap (inl below) _ =
+          let small : unsigned_abs x ≤ 32767 = omega arith in
+          let bound : unsigned_abs x * unsigned_abs y ≤ 32767 * 32768 = mul-le-mul small (abs_of_lane y fits_y) in
+          inl (omega (arith, bound, unsigned_abs-mul x y))
+      gap (inr _) (inl below) =
+          let small : unsigned_abs y ≤ 32767 = omega arith in
+          let bound : unsigned_abs x * unsigned_abs y ≤ 32768 * 32767 = mul-le-mul (abs_of_lane x fits_x) small in
+          inl (omega (arith, bound, unsigned_abs-mul x y))
+      gap (inr least_x) (inr least_y) =
+          let bound : 32768 * 32768 ≤ unsigned_abs x * unsigned_abs y = mul-le-mul least_x least_y in
+          inr (omega (arith, bound, unsigned_abs-mul x y))
+
+  -- a signed number of 16 bits is one of 32 bits
+  lane_in_32_bits : (z : ℤ) → FitsSigned w16 z → FitsSigned w32 z
+  lane_in_32_bits z fits = fits_signed_from_abs w32 z (let small = abs_of_lane z fits in omega arith)
+
+  -- the product of the bits, modulo 2 ^ 32, has the bits of the product
+  product_in_32_bits : cast_unsigned w32 x * cast_unsigned w32 y % 2 ^ 32 ≡ cast_unsigned w32 (x *ℤ y)
+  product_in_32_bits =
+      sym (of_z-to_z w32 _ (mod-lt _ (pow_pos 32)))
+      ∙ ap (cast_unsigned w32)
+      (wrapping_mul_is w32 x y (lane_in_32_bits x fits_x) (lane_in_32_bits y fits_y)
+      ∙ int_wrap_fits w32 (x *ℤ y) (fits_signed_from_abs w32 (x *ℤ y) (let small = product_is_small in omega arith)))
+
+-- the bits of a lane whose sign was copied to 32 bits
+abbrev pub extended : ℕ → ℕ
+extended x = cast_unsigned w32 (signed w16 x)
+
+-- the lower half of an extended lane is the lane
+lower_is : (x : ℕ) → x < 65536 → extended x % 65536 ≡ x
+lower_is x fits = read (ltb x 32768) refl
+  where
+    read : (low : Bool) → ltb x 32768 ≡ low → cast_unsigned w32 (sel low (pos x) (negsuc (65536 - suc x))) % 65536 ≡ x
+    read true is = omega arith
+    read false is = omega arith
+
+-- the lower half of the product of two lanes is that of the product of the extended lanes
+lower_half : (x y : ℕ) → x < 65536 → y < 65536 → x * y % 65536 ≡ extended x * extended y % 2 ^ 32 % 65536
+lower_half x y fits_x fits_y =
+    sym (mod-mod-pow (extended x * extended y) 16 16 ∙ mul-mod (extended x) (extended y) 65536
+    ∙ ap₂ (λ a b. a * b % 65536) (lower_is x fits_x) (lower_is y fits_y))
+
+-- ---- what is made of its halves
+
+-- twice an upper half, but for the one whose double does not fit
+abbrev pub doubled : ℕ → ℕ
+doubled h = (h + (if nat_lt ((h + 32768) % 65536) 49151 then h else 16383)) % 65536
+
+abbrev pub rounded : ℕ → ℕ
+rounded l = (l / 2 + 8192) % 65536 / 16384
+
+-- an upper half whose double fits
+abbrev HasDouble : ℕ → Type 0
+HasDouble h = (h < 16384) ⊎ (32768 ≤ h)
+
+-- an upper half whose double fits is doubled, modulo 2 ^ 16
+doubled_is : (h : ℕ) → HasDouble h → h < 65536 → doubled h ≡ (h + h) % 65536
+doubled_is h part fits = chosen (cases_lt ((h + 32768) % 65536) 49151) part
+  where
+    chosen : ((h + 32768) % 65536 < 49151) ⊎ (49151 ≤ (h + 32768) % 65536) → HasDouble h → doubled h ≡ (h + h) % 65536
+    chosen (inl below) _ = ap (λ t. (h + (if t then h else 16383)) % 65536) (lt-ltb ((h + 32768) % 65536) 49151 below)
+    chosen (inr above) (inl small) =
+        let last : 16383 ≡ h = omega arith in
+        ap (λ t. (h + (if t then h else 16383)) % 65536) (le-ltb ((h + 32768) % 65536) 49151 above)
+        ∙ ap (λ k. (h + k) % 65536) last
+    chosen (inr above) (inr large) = absurd (omega arith)
+
+-- both halves of u together
+abbrev of_halves : ℕ → ℕ
+of_halves u = (doubled (u / 65536) + rounded (u % 65536)) % 65536
+
+-- both halves of u together are u / 2 ^ 15, rounded, modulo 2 ^ 16, where the double of the upper half fits
+halves_rounded : (u : ℕ) → u < 2 ^ 32 → HasDouble (u / 65536) → of_halves u ≡ (u + 16384) / 32768 % 65536
+halves_rounded u fits part =
+    let h : ℕ = u / 65536 in
+    let below : h < 65536 = omega arith in
+    let sum : (h + h) + rounded (u % 65536) ≡ (u + 16384) / 32768 = omega arith in
+    ap (λ d. (d + rounded (u % 65536)) % 65536) (doubled_is h part below)
+    ∙ mod-add-mod (h + h) 65536 (rounded (u % 65536)) ∙ ap (λ n. n % 65536) sum
+
+-- a product with its rounding added, in 17 bits
+rounded_negative : (n : ℕ) (t : Bool) → ltb 16384 (suc n) ≡ t → suc n ≤ 2 ^ 30
+    → (2 ^ 32 - suc n + 16384) / 32768 % 65536
+    ≡ wrap w16 (clamp_signed w16 (shr_z (cond t (negsuc (suc n - suc 16384)) (pos (16384 - suc n))) 32768))
+rounded_negative n true is small = let above = ltb-true 16384 (suc n) is in omega arith
+rounded_negative n false is small = let below = ltb-false 16384 (suc n) is in omega arith
+
+-- both halves of the bits of a product together are the product / 2 ^ 15, rounded, clamped and wrapped
+by_product : (z : ℤ) → unsigned_abs z ≤ 2 ^ 30 → (unsigned_abs z ≤ 2 ^ 30 - 2 ^ 15) ⊎ (2 ^ 30 ≤ unsigned_abs z)
+    → of_halves (cast_unsigned w32 z) ≡ wrap w16 (clamp_signed w16 (int_shr (z +ℤ pos 16384) 15))
+by_product (pos n) small (inl below) =
+    let fits : n < 2 ^ 32 = omega arith in
+    let part : n / 65536 < 16384 = omega arith in
+    halves_rounded n fits (inl part) ∙ omega arith
+by_product (pos n) small (inr above) =
+    let most : 2 ^ 30 ≡ n = omega arith in
+    subst (λ k. of_halves k ≡ wrap w16 (clamp_signed w16 (pos ((k + 16384) / 32768)))) most refl
+by_product (negsuc n) small _ =
+    let fits : 2 ^ 32 - suc n < 2 ^ 32 = omega arith in
+    let part : 32768 ≤ (2 ^ 32 - suc n) / 65536 = omega arith in
+    halves_rounded (2 ^ 32 - suc n) fits (inr part) ∙ rounded_negative n (ltb 16384 (suc n)) refl small
+
+-- the row of a lane
+pub rounded_product : (x y : ℕ) → x < 65536 → y < 65536
+    → (doubled (extended x * extended y % 2 ^ 32 / 65536) + rounded (x * y % 65536)) % 65536
+    ≡ wrap w16 (clamp_signed w16 (q15mulr (signed w16 x) (signed w16 y)))
+rounded_product x y fits_x fits_y =
+    let in_x = signed_fits w16 x fits_x in
+    let in_y = signed_fits w16 y fits_y in
+    ap (λ l. (doubled (extended x * extended y % 2 ^ 32 / 65536) + rounded l) % 65536) (lower_half x y fits_x fits_y)
+    ∙ ap of_halves (product_in_32_bits (signed w16 x) (signed w16 y) in_x in_y)
+    ∙ by_product (signed w16 x *ℤ signed w16 y) (product_is_small (signed w16 x) (signed w16 y) in_x in_y)
+    (product_has_gap (signed w16 x) (signed w16 y) in_x in_y)
+
+-- ---- as std::simd has it
+
+-- the sign copied by flipping the highest bit and taking it off again
+flipped_is : (x : ℕ) → x < 65536 → (bit_xor x 32768 + (2 ^ 32 - 32768)) % 2 ^ 32 ≡ extended x
+flipped_is x fits =
+    ap (λ k. (k + (2 ^ 32 - 32768)) % 2 ^ 32) (xor_top 15 x 1 fits (omega arith)) ∙ read (ltb x 32768) refl
+  where
+    read : (low : Bool) → ltb x 32768 ≡ low
+        → ((x + 32768) % 65536 + (2 ^ 32 - 32768)) % 2 ^ 32
+        ≡ cast_unsigned w32 (sel low (pos x) (negsuc (65536 - suc x)))
+    read true is = let under = ltb-true x 32768 is in omega arith
+    read false is = let over = ltb-false x 32768 is in omega arith
+
+-- flipping the highest bit of each lane and taking it off again extends the lane
+pub extended_at : (xs : List ℕ) (i : ℕ) → length xs ≡ 8 → Each1 (Fits w16) xs → i < 8
+    → get_or (zip2 (λ a b. (a + (2 ^ 32 - b)) % 2 ^ 32) (zip2 bit_xor (map (λ x. x) xs) (replicate 8 32768))
+    (replicate 8 32768)) i 0 ≡ extended (get_or xs i 0)
+extended_at xs i long fits inside =
+    let wide : List ℕ = map (λ x. x) xs in
+    let many : length wide ≡ 8 = length-map xs (λ x. x) ∙ long in
+    let flips : List ℕ = zip2 bit_xor wide (replicate 8 32768) in
+    let flipped : length flips ≡ 8 = length-zip2 bit_xor wide (replicate 8 32768) many ∙ many in
+    get_or-zip2 (λ a b. (a + (2 ^ 32 - b)) % 2 ^ 32) flips (replicate 8 32768) i 0 0 0 (omega arith) inside
+    ∙ ap₂ (λ a b. (a + (2 ^ 32 - b)) % 2 ^ 32)
+    (get_or-zip2 bit_xor wide (replicate 8 32768) i 0 0 0 (omega arith) inside
+    ∙ ap₂ bit_xor (get_or-map (λ x. x) xs i 0 0 (omega arith)) (get_or-replicate 8 i 32768 0 inside))
+    (get_or-replicate 8 i 32768 0 inside)
+    ∙ flipped_is (get_or xs i 0) (Each1-get_or (λ x. x < 65536) xs i 0 (omega arith) (below_from_Fits w16 xs fits))
+
+-- the upper halves of the products of xs and ys
+abbrev uppers : List ℕ → List ℕ → List ℕ
+uppers xs ys = zip2 (λ a b. a / 2 ^ b) (zip2 (λ a b. a * b % 2 ^ 32) xs ys) (replicate 8 16)
+
+module _ (xs ys : List ℕ) (long_x : length xs ≡ 8) (long_y : length ys ≡ 8) where
+  -- there are 8 products
+  many_products : length (zip2 (λ a b. a * b % 2 ^ 32) xs ys) ≡ 8
+  many_products = length-zip2 (λ a b. a * b % 2 ^ 32) xs ys (long_x ∙ sym long_y) ∙ long_x
+
+  -- there are 8 upper halves
+  many_uppers : length (uppers xs ys) ≡ 8
+  many_uppers =
+      length-zip2 (λ a b. a / 2 ^ b) (zip2 (λ a b. a * b % 2 ^ 32) xs ys) (replicate 8 16) many_products ∙ many_products
+
+  -- each is the upper half of the product in its place
+  upper_at : (i : ℕ) → i < 8 → get_or (uppers xs ys) i 0 ≡ get_or xs i 0 * get_or ys i 0 % 2 ^ 32 / 65536
+  upper_at i inside =
+      let many = many_products in
+      get_or-zip2 (λ a b. a / 2 ^ b) (zip2 (λ a b. a * b % 2 ^ 32) xs ys) (replicate 8 16) i 0 0 0 (omega arith) inside
+      ∙ ap₂ (λ a b. a / 2 ^ b) (get_or-zip2 (λ a b. a * b % 2 ^ 32) xs ys i 0 0 0 (omega arith) (omega arith))
+      (get_or-replicate 8 i 16 0 inside)
+
+  -- the upper halves fit into 16 bits
+  pub uppers_fit : Each1 (Fits w16) (uppers xs ys)
+  uppers_fit =
+      let many = many_uppers in
+      Each1-from_get_or (Fits w16) (uppers xs ys) 0
+      (λ i inside.
+      let within : i < 8 = omega arith in
+      let is = upper_at i within in
+      record { fits = omega (arith, is, mod-lt (get_or xs i 0 * get_or ys i 0) (pow_pos 32)) })
+
+  -- so after they were cast to 16 bits
+  pub upper_halves_at : (i : ℕ) → i < 8
+      → get_or (map (λ x. x) (uppers xs ys)) i 0 ≡ get_or xs i 0 * get_or ys i 0 % 2 ^ 32 / 65536
+  upper_halves_at i inside =
+      let many = many_uppers in
+      get_or-map (λ x. x) (uppers xs ys) i 0 0 (omega arith) ∙ upper_at i inside
+
+-- halved, 2 ^ 13 added and divided by 2 ^ 14, each lower half is rounded
+pub quotients_at : (xs : List ℕ) (i : ℕ) → length xs ≡ 8 → i < 8
+    → get_or (zip2 (λ a b. a / 2 ^ b)
+    (zip2 (λ a b. (a + b) % 65536) (zip2 (λ a b. a / 2 ^ b) xs (replicate 8 1)) (replicate 8 8192))
+    (replicate 8 14)) i 0 ≡ rounded (get_or xs i 0)
+quotients_at xs i long inside =
+    let halved : List ℕ = zip2 (λ a b. a / 2 ^ b) xs (replicate 8 1) in
+    let many : length halved ≡ 8 = length-zip2 (λ a b. a / 2 ^ b) xs (replicate 8 1) long ∙ long in
+    let biased : List ℕ = zip2 (λ a b. (a + b) % 65536) halved (replicate 8 8192) in
+    let more : length biased ≡ 8 = length-zip2 (λ a b. (a + b) % 65536) halved (replicate 8 8192) many ∙ many in
+    get_or-zip2 (λ a b. a / 2 ^ b) biased (replicate 8 14) i 0 0 0 (omega arith) inside
+    ∙ ap₂ (λ a b. a / 2 ^ b)
+    (get_or-zip2 (λ a b. (a + b) % 65536) halved (replicate 8 8192) i 0 0 0 (omega arith) inside
+    ∙ ap₂ (λ a b. (a + b) % 65536)
+    (get_or-zip2 (λ a b. a / 2 ^ b) xs (replicate 8 1) i 0 0 0 (omega arith) inside
+    ∙ ap (λ b. get_or xs i 0 / 2 ^ b) (get_or-replicate 8 i 1 0 inside))
+    (get_or-replicate 8 i 8192 0 inside))
+    (get_or-replicate 8 i 14 0 inside)

@@ -1,14 +1,20 @@
--- Words and vectors whose bits are inverted, and words that are equal.
-use Rattle.std.proofs.Common.{◌≡◌, ℕ, zero, suc, ◌+◌, ◌-◌, ◌*◌, ◌/◌, ◌%◌, ◌^◌, ◌<◌, ◌≤◌, inl, inr, cond, eqb, Bool, true, false, not, refl, sym, ap, ◌∙◌, arith, mod-eq_of_lt}
+-- Lane by lane and bit by bit work on the words of a vector.
+use Rattle.std.proofs.Common.{◌≡◌, ℕ, zero, suc, ◌+◌, ◌-◌, ◌*◌, ◌/◌, ◌%◌, ◌^◌, ◌<◌, ◌≤◌, inl, inr, cond, eqb, Bool, true, false, not, refl, sym, ap, ◌∙◌, arith, mod-eq_of_lt, ap₂, bit_and, bit_or, bit_xor, ◌⊎◌, subst, pow-suc}
 use Rattle.std.proofs.Math.Nat.{mod_self, add-mod_right}
-use Rattle.std.proofs.lemmas.Nat.{pow_pos}
+use Rattle.std.proofs.lemmas.Nat.{pow_pos, div-add-mod', and_shr, and_mod, or_shr, or_mod, xor_shr, xor_mod, mod-pow-add, field_of, or_lt, and_le_l}
 use Rattle.std.proofs.lemmas.Bool.{eq-eqb, ne_eqb}
 use Rattle.std.proofs.lemmas.Bool.Decides.{eqb_tells}
 use Rattle.wasmi_lanes.specs.Words.{field, IsLane}
-use Rattle.wasmi_lanes.proofs.FieldLemmas.{field_lt, field_not, field_of_zero, same_words}
+use Rattle.wasmi_lanes.proofs.FieldLemmas.{field_lt, field_not, field_of_zero, same_words, field_or, field_xor, field_sub, lane_shr}
 use Rattle.wasmi_lanes.proofs.WordVectorLemmas.{AreWords, InnerLane, tops_each, u64x2_of}
 use Rattle.wasmi_lanewise.specs.VectorTable.{v128_not}
 use Rattle.wasmi_raw.specs.Vector.{vector_of}
+use Rattle.wasmi_types.specs.Wrapping.{w64}
+use Rattle.wasmi_lanes.specs.Lane.{lane, unsigned}
+use Rattle.wasmi_lanes.specs.Vector.{first_lanes, binary_of_lanes}
+use Rattle.std.specs.Int.Bits.{or_add_and, xor_add_and}
+use Rattle.std.proofs.lemmas.Nat.Bits.{bit_at_and, bit_at_not}
+use Rattle.std.specs.Int.{bit_at}
 
 -- a lane of the word of all ones
 ones_lane : (k w : ℕ) → k + w ≤ 64 → field k w (2 ^ 64 - 1) ≡ 2 ^ w - 1
@@ -126,3 +132,129 @@ turned_choice a b is = ap (λ n. 2 ^ 64 - 1 - n) is ∙ turned (eqb a b)
     turned : (t : Bool) → 2 ^ 64 - 1 - cond t (2 ^ 64 - 1) 0 ≡ cond (not t) (2 ^ 64 - 1) 0
     turned true = refl
     turned false = refl
+
+-- an operation on numbers that is the same operation on their high bits and on their low bits
+pub record IsBitwise (op : ℕ → ℕ → ℕ) : Type 0 where
+  pub on_high : (a b k : ℕ) → op a b / 2 ^ k ≡ op (a / 2 ^ k) (b / 2 ^ k)
+  pub on_low : (a b k : ℕ) → op a b % 2 ^ k ≡ op (a % 2 ^ k) (b % 2 ^ k)
+
+-- the vector of a bitwise operation on the words is the operation on the vectors
+pub on_words : {a b low_a high_a low_b high_b r : ℕ} (op : ℕ → ℕ → ℕ) → IsBitwise op → AreWords a low_a high_a
+    → AreWords b low_b high_b → r ≡ vector_of (op low_a low_b) (op high_a high_b) → r ≡ op a b
+on_words {a} {b} op bitwise of_a of_b is =
+    is
+    ∙ ap₂ (λ high low. high * 2 ^ 64 + low) (ap₂ op of_a.high_is of_b.high_is ∙ sym (bitwise.on_high a b 64))
+    (ap₂ op of_a.low_is of_b.low_is ∙ sym (bitwise.on_low a b 64))
+    ∙ div-add-mod' (op a b) (2 ^ 64)
+
+-- a bitwise operation on two numbers, by their upper bits and their lower 64
+by_words : (op : ℕ → ℕ → ℕ) → IsBitwise op → (a b : ℕ)
+    → op a b ≡ vector_of (op (a % 2 ^ 64) (b % 2 ^ 64)) (op (a / 2 ^ 64) (b / 2 ^ 64))
+by_words op bitwise a b = sym (on_words op bitwise (u64x2_of refl refl) (u64x2_of refl refl) refl)
+
+-- the bits that two vectors share
+pub and_by_words : (a b : ℕ)
+    → bit_and a b ≡ vector_of (bit_and (a % 2 ^ 64) (b % 2 ^ 64)) (bit_and (a / 2 ^ 64) (b / 2 ^ 64))
+and_by_words = by_words bit_and (record { on_high = and_shr; on_low = and_mod })
+
+-- the bits that either of two vectors has
+pub or_by_words : (a b : ℕ)
+    → bit_or a b ≡ vector_of (bit_or (a % 2 ^ 64) (b % 2 ^ 64)) (bit_or (a / 2 ^ 64) (b / 2 ^ 64))
+or_by_words = by_words bit_or (record { on_high = or_shr; on_low = or_mod })
+
+-- the bits in which two vectors differ
+pub xor_by_words : (a b : ℕ)
+    → bit_xor a b ≡ vector_of (bit_xor (a % 2 ^ 64) (b % 2 ^ 64)) (bit_xor (a / 2 ^ 64) (b / 2 ^ 64))
+xor_by_words = by_words bit_xor (record { on_high = xor_shr; on_low = xor_mod })
+
+-- a word that is the row of two words
+pub record IsWordOf (row : ℕ → ℕ → ℕ) (a b word : ℕ) : Type 0 where
+  pub fits : word < 2 ^ 64
+  pub is : word ≡ row a b
+
+-- lanes of 64 bits are the words
+pub lanes_are_words : (row : ℕ → ℕ → ℕ) (a b low high r : ℕ) → a < 2 ^ 128 → b < 2 ^ 128
+    → IsWordOf row (a % 2 ^ 64) (b % 2 ^ 64) low → IsWordOf row (a / 2 ^ 64) (b / 2 ^ 64) high
+    → r ≡ vector_of low high → r ≡ binary_of_lanes w64 unsigned row a b
+unfolding binary_of_lanes first_lanes
+lanes_are_words row a b low high r fits_a fits_b of_low of_high is =
+    let low_fits : low < 2 ^ 64 = of_low.fits in
+    let high_fits : high < 2 ^ 64 = of_high.fits in
+    let first : row (lane w64 a 0) (lane w64 b 0) ≡ low = ap₂ row (omega arith) (omega arith) ∙ sym of_low.is in
+    let second : row (lane w64 a 1) (lane w64 b 1) ≡ high = ap₂ row (omega arith) (omega arith) ∙ sym of_high.is in
+    omega (arith, is, first, second)
+
+-- modulo 2 ^ k, half of z without its bit k - 1 is at most z
+pub mean_low : (k z rest : ℕ) → (k ≡ 0) ⊎ (bit_at rest (k - 1) ≡ 0) → bit_and (z / 2) rest % 2 ^ k ≤ z % 2 ^ k
+mean_low zero z rest starts = omega arith
+mean_low (suc j) z rest (inl e) = absurd (omega arith)
+mean_low (suc j) z rest (inr e) =
+    let s : ℕ = bit_and (z / 2) rest in
+    let back : suc j - 1 ≡ j = omega arith in
+    let off : bit_at rest j ≡ 0 = subst (λ i. bit_at rest i ≡ 0) back e in
+    let clear : bit_at s j ≡ 0 = omega (arith, bit_at_and (z / 2) rest j) in
+    let one : 1 + j ≡ suc j = omega arith in
+    let turned : j + 1 ≡ suc j = omega arith in
+    let parts : s % 2 ^ (1 + j) ≡ 0 * 2 ^ j + s % 2 ^ j = mod-pow-add s 1 j ∙ ap (λ b. b * 2 ^ j + s % 2 ^ j) clear in
+    let low : s % 2 ^ j ≤ z / 2 % 2 ^ j =
+    subst (λ n. n ≤ z / 2 % 2 ^ j) (sym (and_mod (z / 2) rest j)) (and_le_l (z / 2 % 2 ^ j) (rest % 2 ^ j)) in
+    let half : z % 2 ^ (j + 1) / 2 ≡ z / 2 % 2 ^ j = field_of z j 1 in
+    let half' : z % 2 ^ suc j / 2 ≡ z / 2 % 2 ^ j = ap (λ n. z % 2 ^ n / 2) (sym turned) ∙ half in
+    subst (λ n. s % 2 ^ n ≤ z % 2 ^ suc j) one (omega (arith, ap (λ n. s % 2 ^ n) one))
+
+-- the larger part of a or b is not below what differs
+pub xor_le_or : (a b : ℕ) → bit_xor a b ≤ bit_or a b
+xor_le_or a b = omega (arith, xor_add_and a b, or_add_and a b)
+
+-- a lane of half of a word, masked by all bits of the lane but the highest, is half of the lane
+lane_half : (k h z rest : ℕ) → field k (suc h) rest ≡ 2 ^ h - 1
+    → field k (suc h) (bit_and (z / 2) rest) ≡ field k (suc h) z / 2
+lane_half k h z rest is =
+    let one : h + 1 ≡ suc h = omega arith in
+    lane_shr (suc h) 1 h k z rest one is
+
+-- no mean borrows from the lane below
+mean_suc_lane : (k h a b rest : ℕ) → (k ≡ 0) ⊎ (bit_at rest (k - 1) ≡ 0) → field k (suc h) rest ≡ 2 ^ h - 1 →
+    field k (suc h) (bit_or a b - bit_and (bit_xor a b / 2) rest) ≡ (field k (suc h) a + field k (suc h) b + 1) / 2
+mean_suc_lane k h a b rest starts is =
+    let w : ℕ = suc h in
+    let s : ℕ = bit_and (bit_xor a b / 2) rest in
+    let x : ℕ = field k w a in
+    let y : ℕ = field k w b in
+    let le : s ≤ bit_or a b = omega (arith, and_le_l (bit_xor a b / 2) rest, xor_le_or a b) in
+    let below : bit_xor a b % 2 ^ k ≤ bit_or a b % 2 ^ k =
+    omega (arith, xor_mod a b k, or_mod a b k, xor_le_or (a % 2 ^ k) (b % 2 ^ k)) in
+    let low : s % 2 ^ k ≤ bit_or a b % 2 ^ k = omega (arith, mean_low k (bit_xor a b) rest starts) in
+    let half : field k w s ≡ bit_xor x y / 2 =
+    lane_half k h (bit_xor a b) rest is ∙ ap (λ n. n / 2) (field_xor k w a b) in
+    let fits : bit_or x y < 2 ^ w = or_lt w x y (field_lt k w a) (field_lt k w b) in
+    let mean : bit_or x y + (2 ^ w - bit_xor x y / 2) ≡ (x + y + 1) / 2 + 2 ^ w =
+    omega (arith, xor_add_and x y, or_add_and x y) in
+    let small : (x + y + 1) / 2 < 2 ^ w = omega (arith, field_lt k w a, field_lt k w b) in
+    field_sub k w (bit_or a b) s le low ∙ ap₂ (λ m n. (m + (2 ^ w - n)) % 2 ^ w) (field_or k w a b) half
+    ∙ ap (λ n. n % 2 ^ w) mean ∙ add-mod_right ((x + y + 1) / 2) (2 ^ w) ∙ mod-eq_of_lt small
+
+-- where a word has the bit right below k, the inverted word hasn't, unless k is 0
+not_starts : (tops k : ℕ) → tops < 2 ^ 64 → k ≤ 64 → (k ≡ 0) ⊎ (bit_at tops (k - 1) ≡ 1)
+    → (k ≡ 0) ⊎ (bit_at (2 ^ 64 - 1 - tops) (k - 1) ≡ 0)
+not_starts tops zero fits le starts = inl refl
+not_starts tops (suc j) fits le (inl e) = absurd (omega arith)
+not_starts tops (suc j) fits le (inr e) =
+    let place : suc j - 1 < 64 = omega arith in
+    let off : bit_at (2 ^ 64 - 1 - tops) (suc j - 1) ≡ 1 - bit_at tops (suc j - 1) =
+    bit_at_not w64 tops (suc j - 1) fits place in
+    inr (omega (arith, off))
+
+-- a lane of the bits of either, less half of those that differ, is the mean of both lanes, rounded up
+pub mean_lane : (tops k w a b : ℕ) → tops < 2 ^ 64 → IsLane tops k w →
+    field k w (bit_or a b - bit_and (bit_xor a b / 2) (2 ^ 64 - 1 - tops)) ≡ (field k w a + field k w b + 1) / 2
+mean_lane tops k zero a b fits lane = absurd (omega (arith, lane.top, field_lt k 0 tops))
+mean_lane tops k (suc h) a b fits lane =
+    let back : suc h - 1 ≡ h = omega arith in
+    let top : field k (suc h) tops ≡ 2 ^ h = lane.top ∙ ap (λ n. 2 ^ n) back in
+    let kept : field k (suc h) (2 ^ 64 - 1 - tops) ≡ 2 ^ h - 1 =
+    field_not k (suc h) 64 tops lane.within fits ∙ omega (arith, top, pow-suc 2 h) in
+    let start : k ≤ 64 = omega (arith, lane.within) in
+    mean_suc_lane k h a b (2 ^ 64 - 1 - tops) (not_starts tops k fits start lane.starts) kept
+
+pub ruleset averages = (and_le_l, xor_le_or, mean_lane)

@@ -5,17 +5,14 @@
 //! instructions; what each gives stands in `specs/VectorTable.antt`. Upstream: `wasmi_core::simd`.
 
 mod binary;
-mod bitwise;
 mod comparison;
 mod lane_access;
 mod order;
-mod q15;
 mod saturation;
-mod shuffle;
 mod unary;
 mod words;
 
-// Arithmetic, bits and bytes.
+// Arithmetic and bits.
 pub use binary::{
     i8x16_add, i8x16_add_sat_s, i8x16_add_sat_u, i8x16_avgr_u, i8x16_max_s, i8x16_max_u,
     i8x16_min_s, i8x16_min_u, i8x16_mul, i8x16_sub, i8x16_sub_sat_s, i8x16_sub_sat_u, i16x8_add,
@@ -24,11 +21,9 @@ pub use binary::{
     i32x4_add, i32x4_max_s, i32x4_max_u, i32x4_min_s, i32x4_min_u, i32x4_mul, i32x4_sub, i64x2_add,
     i64x2_mul, i64x2_sub,
 };
-pub use bitwise::{v128_and, v128_andnot, v128_bitselect, v128_not, v128_or, v128_xor};
-pub use shuffle::{i8x16_shuffle, i8x16_swizzle};
 pub use unary::{
     i8x16_abs, i8x16_neg, i8x16_popcnt, i16x8_abs, i16x8_neg, i32x4_abs, i32x4_neg, i64x2_abs,
-    i64x2_neg,
+    i64x2_neg, v128_and, v128_andnot, v128_bitselect, v128_not, v128_or, v128_xor,
 };
 
 // Comparisons.
@@ -40,10 +35,10 @@ pub use comparison::{
     i64x2_gt_s, i64x2_le_s, i64x2_lt_s, i64x2_ne,
 };
 
-// Single lanes.
+// Lanes and bytes by their indices.
 pub use lane_access::{
-    i8x16_extract_lane_s, i8x16_extract_lane_u, i8x16_replace_lane, i8x16_splat,
-    i16x8_extract_lane_s, i16x8_extract_lane_u, i16x8_replace_lane, i16x8_splat,
+    i8x16_extract_lane_s, i8x16_extract_lane_u, i8x16_replace_lane, i8x16_shuffle, i8x16_splat,
+    i8x16_swizzle, i16x8_extract_lane_s, i16x8_extract_lane_u, i16x8_replace_lane, i16x8_splat,
     i32x4_extract_lane, i32x4_replace_lane, i32x4_splat, i64x2_extract_lane, i64x2_replace_lane,
     i64x2_splat,
 };

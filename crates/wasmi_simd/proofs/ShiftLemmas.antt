@@ -15,7 +15,7 @@ use Rattle.wasmi_lanes.specs.Lane.{lane, unsigned}
 use Rattle.wasmi_lanes.specs.Vector.{unary_of_lanes, from_lanes}
 use Rattle.wasmi_raw.specs.Vector.{vector_of}
 use Rattle.wasmi_lanes.specs.Words.{field, lanes_in_word, in_each_lane}
-use Rattle.wasmi_lanes.proofs.DigitLemmas.{number_below}
+use Rattle.wasmi_lanes.proofs.SimdLaneLemmas.{number_below}
 use Rattle.wasmi_lanes.proofs.FieldLemmas.{field_and, field_mod, first_lane, repeated_lane, lane_shr}
 use Rattle.wasmi_lanes.proofs.WordVectorLemmas.{EachLane, lane_of_each, u64x2_of, words_make_unary, some_bits}
 use Rattle.wasmi_simd.specs.WideningTable.{shl, shr_u}

@@ -4,4 +4,3 @@
 
 pub mod laws;
 pub mod simd;
-mod widening;

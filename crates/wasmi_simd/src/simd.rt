@@ -5,18 +5,22 @@
 //! specification: vector instructions; what each gives stands in `specs/WideningTable.antt`.
 //! Upstream: `wasmi_core::simd`.
 
-mod even_odd;
+mod arithmetic;
 mod extend;
-mod extmul;
-mod halves;
 mod narrow;
-mod pairwise;
 mod reductions;
 mod relaxed;
 mod shift;
-mod shift_masks;
-mod vectors;
+mod wide;
 
+pub use arithmetic::{
+    i16x8_extadd_pairwise_i8x16_s, i16x8_extadd_pairwise_i8x16_u, i16x8_extmul_high_i8x16_s,
+    i16x8_extmul_high_i8x16_u, i16x8_extmul_low_i8x16_s, i16x8_extmul_low_i8x16_u,
+    i16x8_relaxed_dot_i8x16_i7x16_s, i32x4_dot_i16x8_s, i32x4_extadd_pairwise_i16x8_s,
+    i32x4_extadd_pairwise_i16x8_u, i32x4_extmul_high_i16x8_s, i32x4_extmul_high_i16x8_u,
+    i32x4_extmul_low_i16x8_s, i32x4_extmul_low_i16x8_u, i64x2_extmul_high_i32x4_s,
+    i64x2_extmul_high_i32x4_u, i64x2_extmul_low_i32x4_s, i64x2_extmul_low_i32x4_u,
+};
 pub use extend::{
     i16x8_extend_high_i8x16_s, i16x8_extend_high_i8x16_u, i16x8_extend_low_i8x16_s,
     i16x8_extend_low_i8x16_u, i32x4_extend_high_i16x8_s, i32x4_extend_high_i16x8_u,
@@ -25,18 +29,8 @@ pub use extend::{
     v128_low64_zero, v128_widen8x8_s, v128_widen8x8_u, v128_widen16x4_s, v128_widen16x4_u,
     v128_widen32x2_s, v128_widen32x2_u,
 };
-pub use extmul::{
-    i16x8_extmul_high_i8x16_s, i16x8_extmul_high_i8x16_u, i16x8_extmul_low_i8x16_s,
-    i16x8_extmul_low_i8x16_u, i32x4_extmul_high_i16x8_s, i32x4_extmul_high_i16x8_u,
-    i32x4_extmul_low_i16x8_s, i32x4_extmul_low_i16x8_u, i64x2_extmul_high_i32x4_s,
-    i64x2_extmul_high_i32x4_u, i64x2_extmul_low_i32x4_s, i64x2_extmul_low_i32x4_u,
-};
 pub use narrow::{
     i8x16_narrow_i16x8_s, i8x16_narrow_i16x8_u, i16x8_narrow_i32x4_s, i16x8_narrow_i32x4_u,
-};
-pub use pairwise::{
-    i16x8_extadd_pairwise_i8x16_s, i16x8_extadd_pairwise_i8x16_u, i16x8_relaxed_dot_i8x16_i7x16_s,
-    i32x4_dot_i16x8_s, i32x4_extadd_pairwise_i16x8_s, i32x4_extadd_pairwise_i16x8_u,
 };
 pub use reductions::{
     i8x16_all_true, i8x16_bitmask, i16x8_all_true, i16x8_bitmask, i32x4_all_true, i32x4_bitmask,

@@ -1,34 +1,4 @@
 //! Lanes of 128-bit vectors: lane indices, lane types, and what works on a vector lane by lane.
-mod clamp {
-    //! Numbers clamped to the signed range of half of their width.
-
-    /// The number clamped to the signed range of 8 bits.
-    ///
-    /// Of a clamped sum or difference LLVM makes a saturating one, which it doesn't of `saturating_add`
-    /// and `saturating_sub`.
-    ///
-    /// # Contract
-    ///
-    /// ```text
-    /// ensures: result ≡ clamp_signed w8 number
-    /// ```
-    #[inline]
-    pub fn clamped_i8(number: i16) -> i8 {
-        number.clamp(-128, 127) as i8
-    }
-
-    /// The number clamped to the signed range of 16 bits, as `clamped_i8` does at 8.
-    ///
-    /// # Contract
-    ///
-    /// ```text
-    /// ensures: result ≡ clamp_signed w16 number
-    /// ```
-    #[inline]
-    pub fn clamped_i16(number: i32) -> i16 {
-        number.clamp(-32768, 32767) as i16
-    }
-}
 mod index {
     //! Immediate lane indices.
 
@@ -170,7 +140,7 @@ mod index {
 mod item {
     //! The integers that are lanes.
 
-    use crate::proved::lanes::vector_bytes::{bytes_to_take_out, from_bytes};
+    use crate::proved::lanes::simd_lane::{bytes_to_take_out, from_bytes};
     use crate::proved::raw::V128;
     use crate::rattle::simd::prelude::*;
 
@@ -508,9 +478,12 @@ mod item {
     }
 }
 mod lanes {
-    //! Vectors as lanes of one item.
+    //! Vectors as lanes of one item, and the lane types.
 
-    use crate::proved::lanes::index::{CountsLanes, ImmLaneIdx, LaneIndex};
+    use crate::proved::lanes::index::{
+        CountsLanes, ImmLaneIdx, ImmLaneIdx2, ImmLaneIdx4, ImmLaneIdx8, ImmLaneIdx16, IntoLaneIdx,
+        LaneIndex,
+    };
     use crate::proved::lanes::item::{LaneInteger, LaneItem};
     use crate::proved::raw::V128;
 
@@ -792,6 +765,85 @@ mod lanes {
             acc
         }
     }
+
+    /// Two signed lanes of 64 bits.
+    pub type I64x2 = LaneArray<i64, 2>;
+    /// Two unsigned lanes of 64 bits.
+    pub type U64x2 = LaneArray<u64, 2>;
+    /// Four signed lanes of 32 bits.
+    pub type I32x4 = LaneArray<i32, 4>;
+    /// Four unsigned lanes of 32 bits.
+    pub type U32x4 = LaneArray<u32, 4>;
+    /// Eight signed lanes of 16 bits.
+    pub type I16x8 = LaneArray<i16, 8>;
+    /// Eight unsigned lanes of 16 bits.
+    pub type U16x8 = LaneArray<u16, 8>;
+    /// Sixteen signed lanes of 8 bits.
+    pub type I8x16 = LaneArray<i8, 16>;
+    /// Sixteen unsigned lanes of 8 bits.
+    pub type U8x16 = LaneArray<u8, 16>;
+
+    /// An integer that is the item of lanes. Upstream: `simd::IntoLanes`.
+    pub trait IntoLanes: Sized {
+        /// The lanes of a vector that are such integers.
+        type Lanes: Lanes<Item = Self, LaneIdx = Self::LaneIdx>;
+
+        /// The index of one of these lanes.
+        type LaneIdx: LaneIndex;
+    }
+
+    // The index of a lane of an integer is that of its lanes.
+    impl<T: LaneInteger + IntoLanes> IntoLaneIdx for T {
+        type LaneIdx = <T as IntoLanes>::LaneIdx;
+    }
+
+    impl IntoLanes for i64 {
+        type Lanes = I64x2;
+
+        type LaneIdx = ImmLaneIdx2;
+    }
+
+    impl IntoLanes for u64 {
+        type Lanes = U64x2;
+
+        type LaneIdx = ImmLaneIdx2;
+    }
+
+    impl IntoLanes for i32 {
+        type Lanes = I32x4;
+
+        type LaneIdx = ImmLaneIdx4;
+    }
+
+    impl IntoLanes for u32 {
+        type Lanes = U32x4;
+
+        type LaneIdx = ImmLaneIdx4;
+    }
+
+    impl IntoLanes for i16 {
+        type Lanes = I16x8;
+
+        type LaneIdx = ImmLaneIdx8;
+    }
+
+    impl IntoLanes for u16 {
+        type Lanes = U16x8;
+
+        type LaneIdx = ImmLaneIdx8;
+    }
+
+    impl IntoLanes for i8 {
+        type Lanes = I8x16;
+
+        type LaneIdx = ImmLaneIdx16;
+    }
+
+    impl IntoLanes for u8 {
+        type Lanes = U8x16;
+
+        type LaneIdx = ImmLaneIdx16;
+    }
 }
 #[cfg(any(doc, test))]
 pub mod laws {
@@ -918,7 +970,7 @@ pub mod laws {
     }
 }
 mod narrow {
-    //! Lanes made of narrower lanes, and of wider ones.
+    //! Lanes made of narrower lanes, and of wider ones; numbers clamped to half of their width.
 
     use crate::proved::lanes::index::{CountsLanes, ImmLaneIdx};
     use crate::proved::lanes::item::LaneItem;
@@ -1128,6 +1180,33 @@ mod narrow {
             LaneArray { items }
         }
     }
+
+    /// The number clamped to the signed range of 8 bits.
+    ///
+    /// Of a clamped sum or difference LLVM makes a saturating one, which it doesn't of `saturating_add`
+    /// and `saturating_sub`.
+    ///
+    /// # Contract
+    ///
+    /// ```text
+    /// ensures: result ≡ clamp_signed w8 number
+    /// ```
+    #[inline]
+    pub fn clamped_i8(number: i16) -> i8 {
+        number.clamp(-128, 127) as i8
+    }
+
+    /// The number clamped to the signed range of 16 bits, as `clamped_i8` does at 8.
+    ///
+    /// # Contract
+    ///
+    /// ```text
+    /// ensures: result ≡ clamp_signed w16 number
+    /// ```
+    #[inline]
+    pub fn clamped_i16(number: i32) -> i16 {
+        number.clamp(-32768, 32767) as i16
+    }
 }
 pub mod on_vectors {
     //! Lane by lane work on whole vectors: each function gives the vector of whatever row its closure
@@ -1222,7 +1301,6 @@ mod simd_lane {
     //! The lanes of a vector as a vector of `core::simd`.
 
     use crate::proved::lanes::item::{LaneInteger, LaneItem};
-    use crate::proved::lanes::vector_bytes::{bytes_of, from_bytes};
     use crate::proved::raw::V128;
     use crate::rattle::simd::prelude::*;
 
@@ -1442,93 +1520,87 @@ mod simd_lane {
             a.simd_lt(b).select(chosen, other)
         }
     }
-}
-mod types {
-    //! The lane types.
 
-    use crate::proved::lanes::index::{
-        ImmLaneIdx2, ImmLaneIdx4, ImmLaneIdx8, ImmLaneIdx16, IntoLaneIdx, LaneIndex,
-    };
-    use crate::proved::lanes::item::LaneInteger;
-    use crate::proved::lanes::lanes::{LaneArray, Lanes};
-
-    /// Two signed lanes of 64 bits.
-    pub type I64x2 = LaneArray<i64, 2>;
-    /// Two unsigned lanes of 64 bits.
-    pub type U64x2 = LaneArray<u64, 2>;
-    /// Four signed lanes of 32 bits.
-    pub type I32x4 = LaneArray<i32, 4>;
-    /// Four unsigned lanes of 32 bits.
-    pub type U32x4 = LaneArray<u32, 4>;
-    /// Eight signed lanes of 16 bits.
-    pub type I16x8 = LaneArray<i16, 8>;
-    /// Eight unsigned lanes of 16 bits.
-    pub type U16x8 = LaneArray<u16, 8>;
-    /// Sixteen signed lanes of 8 bits.
-    pub type I8x16 = LaneArray<i8, 16>;
-    /// Sixteen unsigned lanes of 8 bits.
-    pub type U8x16 = LaneArray<u8, 16>;
-
-    /// An integer that is the item of lanes. Upstream: `simd::IntoLanes`.
-    pub trait IntoLanes: Sized {
-        /// The lanes of a vector that are such integers.
-        type Lanes: Lanes<Item = Self, LaneIdx = Self::LaneIdx>;
-
-        /// The index of one of these lanes.
-        type LaneIdx: LaneIndex;
+    /// The bytes of a vector, the lowest first.
+    ///
+    /// # Contract
+    ///
+    /// ```text
+    /// ensures number: number_l (2 ^ 8) result ≡ vector
+    /// ensures lanes: (i : ℕ) → i < 16 → slice_index_or result i 0 ≡ lane w8 vector i
+    /// ```
+    ///
+    /// Definitions: [`lane`](crate::specs::lanes::Lane#lane).
+    #[inline(always)]
+    pub fn bytes_of(vector: V128) -> u8x16 {
+        let (low, high) = vector.words();
+        u64x2::from_array([low, high]).to_le_bytes()
     }
 
-    // The index of a lane of an integer is that of its lanes.
-    impl<T: LaneInteger + IntoLanes> IntoLaneIdx for T {
-        type LaneIdx = <T as IntoLanes>::LaneIdx;
+    /// The bytes of a vector, the lowest first, to be taken out one by one or in lanes.
+    ///
+    /// The words come together by a shuffle. Of a vector made of them LLVM takes the lowest lane of
+    /// each word out of the word once more, and inserts it.
+    ///
+    /// # Contract
+    ///
+    /// ```text
+    /// ensures number: number_l (2 ^ 8) result ≡ vector
+    /// ensures lanes: (i : ℕ) → i < 16 → slice_index_or result i 0 ≡ lane w8 vector i
+    /// ```
+    ///
+    /// Definitions: [`lane`](crate::specs::lanes::Lane#lane).
+    #[inline(always)]
+    pub(crate) fn bytes_to_take_out(vector: V128) -> u8x16 {
+        let (low, high) = vector.words();
+        let lower = u64x2::from_array([0, low]);
+        let upper = u64x2::from_array([high, 0]);
+        lower.shuffle(upper, [1, 2]).to_le_bytes()
     }
 
-    impl IntoLanes for i64 {
-        type Lanes = I64x2;
-
-        type LaneIdx = ImmLaneIdx2;
+    /// The vector of these bytes, the lowest first.
+    ///
+    /// # Contract
+    ///
+    /// ```text
+    /// ensures number: result ≡ number_l (2 ^ 8) bytes
+    /// ensures lanes: (i : ℕ) → i < 16 → lane w8 result i ≡ slice_index_or bytes i 0
+    /// ensures in_range: result < 2 ^ 128
+    /// ```
+    ///
+    /// Definitions: [`lane`](crate::specs::lanes::Lane#lane).
+    #[inline(always)]
+    pub fn from_bytes(bytes: u8x16) -> V128 {
+        let [low, high] = u64x2::from_le_bytes(bytes).to_array();
+        V128::from_word_pair(low, high)
     }
 
-    impl IntoLanes for u64 {
-        type Lanes = U64x2;
-
-        type LaneIdx = ImmLaneIdx2;
+    /// The words of a vector, the lower one first, as one value of the processor's.
+    ///
+    /// # Contract
+    ///
+    /// ```text
+    /// ensures: result ≡ vector % 2 ^ 64 ∷ vector / 2 ^ 64 ∷ []
+    /// ```
+    #[inline(always)]
+    pub fn u64x2_of(vector: V128) -> u64x2 {
+        let (low, high) = vector.words();
+        u64x2::from_array([low, high])
     }
 
-    impl IntoLanes for i32 {
-        type Lanes = I32x4;
-
-        type LaneIdx = ImmLaneIdx4;
-    }
-
-    impl IntoLanes for u32 {
-        type Lanes = U32x4;
-
-        type LaneIdx = ImmLaneIdx4;
-    }
-
-    impl IntoLanes for i16 {
-        type Lanes = I16x8;
-
-        type LaneIdx = ImmLaneIdx8;
-    }
-
-    impl IntoLanes for u16 {
-        type Lanes = U16x8;
-
-        type LaneIdx = ImmLaneIdx8;
-    }
-
-    impl IntoLanes for i8 {
-        type Lanes = I8x16;
-
-        type LaneIdx = ImmLaneIdx16;
-    }
-
-    impl IntoLanes for u8 {
-        type Lanes = U8x16;
-
-        type LaneIdx = ImmLaneIdx16;
+    /// The vector of these words, the lower one first.
+    ///
+    /// # Contract
+    ///
+    /// ```text
+    /// ensures: (low high : ℕ) → words ≡ low ∷ high ∷ [] → result ≡ vector_of low high
+    /// ```
+    ///
+    /// Definitions: [`vector_of`](crate::specs::raw::Vector#vector_of).
+    #[inline(always)]
+    pub fn from_u64x2(words: u64x2) -> V128 {
+        let [low, high] = words.to_array();
+        V128::from_word_pair(low, high)
     }
 }
 mod variable_lane {
@@ -1542,8 +1614,7 @@ mod variable_lane {
     use crate::proved::lanes::index::{
         ImmLaneIdx2, ImmLaneIdx4, ImmLaneIdx8, ImmLaneIdx16, IntoLaneIdx,
     };
-    use crate::proved::lanes::simd_lane::SimdLane;
-    use crate::proved::lanes::vector_bytes::bytes_of;
+    use crate::proved::lanes::simd_lane::{SimdLane, bytes_of};
     use crate::proved::raw::V128;
     use crate::rattle::simd::prelude::*;
 
@@ -1730,98 +1801,72 @@ mod variable_lane {
         u16x8::from_le_bytes(u64x2::splat(IN_EACH_U16[usize::from(lane)]).to_le_bytes())
     }
 }
-mod vector_bytes {
-    //! Vectors as the SIMD vectors of std.
-
-    use crate::proved::raw::V128;
-    use crate::rattle::simd::prelude::*;
-
-    /// The bytes of a vector, the lowest first.
-    ///
-    /// # Contract
-    ///
-    /// ```text
-    /// ensures number: number_l (2 ^ 8) result ≡ vector
-    /// ensures lanes: (i : ℕ) → i < 16 → slice_index_or result i 0 ≡ lane w8 vector i
-    /// ```
-    ///
-    /// Definitions: [`lane`](crate::specs::lanes::Lane#lane).
-    #[inline(always)]
-    pub fn bytes_of(vector: V128) -> u8x16 {
-        let (low, high) = vector.words();
-        u64x2::from_array([low, high]).to_le_bytes()
-    }
-
-    /// The bytes of a vector, the lowest first, to be taken out one by one or in lanes.
-    ///
-    /// The words come together by a shuffle. Of a vector made of them LLVM takes the lowest lane of
-    /// each word out of the word once more, and inserts it.
-    ///
-    /// # Contract
-    ///
-    /// ```text
-    /// ensures number: number_l (2 ^ 8) result ≡ vector
-    /// ensures lanes: (i : ℕ) → i < 16 → slice_index_or result i 0 ≡ lane w8 vector i
-    /// ```
-    ///
-    /// Definitions: [`lane`](crate::specs::lanes::Lane#lane).
-    #[inline(always)]
-    pub(crate) fn bytes_to_take_out(vector: V128) -> u8x16 {
-        let (low, high) = vector.words();
-        let lower = u64x2::from_array([0, low]);
-        let upper = u64x2::from_array([high, 0]);
-        lower.shuffle(upper, [1, 2]).to_le_bytes()
-    }
-
-    /// The vector of these bytes, the lowest first.
-    ///
-    /// # Contract
-    ///
-    /// ```text
-    /// ensures number: result ≡ number_l (2 ^ 8) bytes
-    /// ensures lanes: (i : ℕ) → i < 16 → lane w8 result i ≡ slice_index_or bytes i 0
-    /// ensures in_range: result < 2 ^ 128
-    /// ```
-    ///
-    /// Definitions: [`lane`](crate::specs::lanes::Lane#lane).
-    #[inline(always)]
-    pub fn from_bytes(bytes: u8x16) -> V128 {
-        let [low, high] = u64x2::from_le_bytes(bytes).to_array();
-        V128::from_word_pair(low, high)
-    }
-
-    /// The words of a vector, the lower one first, as one value of the processor's.
-    ///
-    /// # Contract
-    ///
-    /// ```text
-    /// ensures: result ≡ vector % 2 ^ 64 ∷ vector / 2 ^ 64 ∷ []
-    /// ```
-    #[inline(always)]
-    pub fn u64x2_of(vector: V128) -> u64x2 {
-        let (low, high) = vector.words();
-        u64x2::from_array([low, high])
-    }
-
-    /// The vector of these words, the lower one first.
-    ///
-    /// # Contract
-    ///
-    /// ```text
-    /// ensures: (low high : ℕ) → words ≡ low ∷ high ∷ [] → result ≡ vector_of low high
-    /// ```
-    ///
-    /// Definitions: [`vector_of`](crate::specs::raw::Vector#vector_of).
-    #[inline(always)]
-    pub fn from_u64x2(words: u64x2) -> V128 {
-        let [low, high] = words.to_array();
-        V128::from_word_pair(low, high)
-    }
-}
-mod word_lane {
-    //! Words of 64 bits as lanes of one width.
+pub mod words {
+    //! Sums, differences and inequality of the lanes of a word, without taking the lanes out.
+    //!
+    //! `tops` has the highest bit of each lane, and no other; the widths may be unequal. No carry or
+    //! borrow leaves a lane: at each lane's highest bit the operands are made to leave room. A sum or a
+    //! difference needs no top at the end of the word, where a carry or borrow is dropped.
+    //!
+    //! `WordLane` has these numbers for lanes of one width.
 
     use crate::proved::lanes::item::LaneInteger;
+
+    /// The sums of the lanes of `a` and `b`, each modulo 2 to the power of its width.
+    ///
+    /// # Contract
+    ///
+    /// ```text
+    /// ensures lanes: (start width : ℕ) → IsLane tops start width
+    ///     → field start width result ≡ (field start width a + field start width b) % 2 ^ width
+    /// ensures last: (start width : ℕ) → IsLastLane tops start width
+    ///     → field start width result ≡ (field start width a + field start width b) % 2 ^ width
+    /// ```
+    ///
+    /// Definitions: [`IsLane`](crate::specs::lanes::Words#IsLane), [`field`](crate::specs::lanes::Words#field), [`IsLastLane`](crate::specs::lanes::Words#IsLastLane).
+    #[inline]
+    pub fn word_add(a: u64, b: u64, tops: u64) -> u64 {
+        let rest = !tops;
+        (a & rest).wrapping_add(b & rest) ^ ((a ^ b) & tops)
+    }
+
+    /// The differences of the lanes of `a` and `b`, each modulo 2 to the power of its width.
+    ///
+    /// # Contract
+    ///
+    /// ```text
+    /// ensures lanes: (start width : ℕ) → IsLane tops start width
+    ///     → field start width result
+    ///     ≡ (field start width a + (2 ^ width - field start width b)) % 2 ^ width
+    /// ensures last: (start width : ℕ) → IsLastLane tops start width
+    ///     → field start width result
+    ///     ≡ (field start width a + (2 ^ width - field start width b)) % 2 ^ width
+    /// ```
+    ///
+    /// Definitions: [`IsLane`](crate::specs::lanes::Words#IsLane), [`field`](crate::specs::lanes::Words#field), [`IsLastLane`](crate::specs::lanes::Words#IsLastLane).
+    #[inline]
+    pub fn word_sub(a: u64, b: u64, tops: u64) -> u64 {
+        (a | tops).wrapping_sub(b & !tops) ^ ((a ^ !b) & tops)
+    }
+
+    /// The highest bits of the lanes in which `a` and `b` differ.
+    ///
+    /// # Contract
+    ///
+    /// ```text
+    /// ensures lanes: (start width : ℕ) → IsLane tops start width
+    ///     → field start width result
+    ///     ≡ (if field start width a == field start width b then 0 else 2 ^ (width - 1))
+    /// ensures tops_alone: bit_and result tops ≡ result
+    /// ```
+    ///
+    /// Definitions: [`IsLane`](crate::specs::lanes::Words#IsLane), [`field`](crate::specs::lanes::Words#field).
+    #[inline]
+    pub fn word_differ(a: u64, b: u64, tops: u64) -> u64 {
+        let rest = !tops;
+        let different = a ^ b;
+        ((different & rest).wrapping_add(rest) | different) & tops
+    }
 
     /// An unsigned integer as which the lanes of a word are read, of which a word has a whole number.
     ///
@@ -1910,80 +1955,16 @@ mod word_lane {
         const ONES: u64 = 1;
     }
 }
-pub mod words {
-    //! Sums, differences and inequality of the lanes of a word, without taking the lanes out.
-    //!
-    //! `tops` has the highest bit of each lane, and no other; the widths may be unequal. No carry or
-    //! borrow leaves a lane: at each lane's highest bit the operands are made to leave room. A sum or a
-    //! difference needs no top at the end of the word, where a carry or borrow is dropped.
 
-    /// The sums of the lanes of `a` and `b`, each modulo 2 to the power of its width.
-    ///
-    /// # Contract
-    ///
-    /// ```text
-    /// ensures lanes: (start width : ℕ) → IsLane tops start width
-    ///     → field start width result ≡ (field start width a + field start width b) % 2 ^ width
-    /// ensures last: (start width : ℕ) → IsLastLane tops start width
-    ///     → field start width result ≡ (field start width a + field start width b) % 2 ^ width
-    /// ```
-    ///
-    /// Definitions: [`IsLane`](crate::specs::lanes::Words#IsLane), [`field`](crate::specs::lanes::Words#field), [`IsLastLane`](crate::specs::lanes::Words#IsLastLane).
-    #[inline]
-    pub fn word_add(a: u64, b: u64, tops: u64) -> u64 {
-        let rest = !tops;
-        (a & rest).wrapping_add(b & rest) ^ ((a ^ b) & tops)
-    }
-
-    /// The differences of the lanes of `a` and `b`, each modulo 2 to the power of its width.
-    ///
-    /// # Contract
-    ///
-    /// ```text
-    /// ensures lanes: (start width : ℕ) → IsLane tops start width
-    ///     → field start width result
-    ///     ≡ (field start width a + (2 ^ width - field start width b)) % 2 ^ width
-    /// ensures last: (start width : ℕ) → IsLastLane tops start width
-    ///     → field start width result
-    ///     ≡ (field start width a + (2 ^ width - field start width b)) % 2 ^ width
-    /// ```
-    ///
-    /// Definitions: [`IsLane`](crate::specs::lanes::Words#IsLane), [`field`](crate::specs::lanes::Words#field), [`IsLastLane`](crate::specs::lanes::Words#IsLastLane).
-    #[inline]
-    pub fn word_sub(a: u64, b: u64, tops: u64) -> u64 {
-        (a | tops).wrapping_sub(b & !tops) ^ ((a ^ !b) & tops)
-    }
-
-    /// The highest bits of the lanes in which `a` and `b` differ.
-    ///
-    /// # Contract
-    ///
-    /// ```text
-    /// ensures lanes: (start width : ℕ) → IsLane tops start width
-    ///     → field start width result
-    ///     ≡ (if field start width a == field start width b then 0 else 2 ^ (width - 1))
-    /// ensures tops_alone: bit_and result tops ≡ result
-    /// ```
-    ///
-    /// Definitions: [`IsLane`](crate::specs::lanes::Words#IsLane), [`field`](crate::specs::lanes::Words#field).
-    #[inline]
-    pub fn word_differ(a: u64, b: u64, tops: u64) -> u64 {
-        let rest = !tops;
-        let different = a ^ b;
-        ((different & rest).wrapping_add(rest) | different) & tops
-    }
-}
-
-pub use clamp::{clamped_i8, clamped_i16};
 pub use index::{
     ImmLaneIdx, ImmLaneIdx2, ImmLaneIdx4, ImmLaneIdx8, ImmLaneIdx16, ImmLaneIdx32, IntoLaneIdx,
     LaneIndex, OutOfBoundsLaneIdx,
 };
 pub use item::{LaneInteger, LaneItem};
-pub use lanes::{LaneArray, Lanes};
-pub use narrow::{FromNarrow, FromWide, Narrower};
-pub use simd_lane::SimdLane;
-pub use types::{I8x16, I16x8, I32x4, I64x2, IntoLanes, U8x16, U16x8, U32x4, U64x2};
+pub use lanes::{
+    I8x16, I16x8, I32x4, I64x2, IntoLanes, LaneArray, Lanes, U8x16, U16x8, U32x4, U64x2,
+};
+pub use narrow::{FromNarrow, FromWide, Narrower, clamped_i8, clamped_i16};
+pub use simd_lane::{SimdLane, bytes_of, from_bytes, from_u64x2, u64x2_of};
 pub use variable_lane::VariableLane;
-pub use vector_bytes::{bytes_of, from_bytes, from_u64x2, u64x2_of};
-pub use word_lane::WordLane;
+pub use words::WordLane;

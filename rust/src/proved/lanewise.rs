@@ -12,7 +12,7 @@ pub mod simd {
         use crate::proved::lanes::{
             I8x16, I16x8, U8x16, U16x8, U32x4, clamped_i8, clamped_i16, on_vectors,
         };
-        use crate::proved::lanewise::simd::{order, q15, saturation, words};
+        use crate::proved::lanewise::simd::{order, saturation, words};
         use crate::proved::raw::V128;
 
         /// The sums of the lanes, modulo 2 to the power 8.
@@ -323,7 +323,7 @@ pub mod simd {
         /// Definitions: [`q15mulr_sat_s`](crate::specs::lanewise::VectorTable#q15mulr_sat_s).
         #[inline]
         pub fn i16x8_q15mulr_sat_s(lhs: V128, rhs: V128) -> V128 {
-            q15::rounded_products(lhs, rhs)
+            saturation::rounded_products(lhs, rhs)
         }
 
         /// The smaller ones of the lanes, read signed.
@@ -560,104 +560,6 @@ pub mod simd {
         #[inline]
         fn difference_i16(x: i16, y: i16) -> i32 {
             i32::from(x) - i32::from(y)
-        }
-    }
-    mod bitwise {
-        //! Instructions that work bit by bit on whole vectors.
-
-        use crate::proved::lanes::{from_u64x2, u64x2_of};
-        use crate::proved::raw::V128;
-
-        /// Bitwise and.
-        ///
-        /// # Contract
-        ///
-        /// ```text
-        /// ensures: result ≡ vector.v128_and lhs rhs
-        /// ```
-        ///
-        /// Definitions: [`v128_and`](crate::specs::lanewise::VectorTable#v128_and).
-        #[inline]
-        pub fn v128_and(lhs: V128, rhs: V128) -> V128 {
-            let (a_low, a_high) = lhs.words();
-            let (b_low, b_high) = rhs.words();
-            V128::from_word_pair(a_low & b_low, a_high & b_high)
-        }
-
-        /// Bitwise or.
-        ///
-        /// # Contract
-        ///
-        /// ```text
-        /// ensures: result ≡ vector.v128_or lhs rhs
-        /// ```
-        ///
-        /// Definitions: [`v128_or`](crate::specs::lanewise::VectorTable#v128_or).
-        #[inline]
-        pub fn v128_or(lhs: V128, rhs: V128) -> V128 {
-            let (a_low, a_high) = lhs.words();
-            let (b_low, b_high) = rhs.words();
-            V128::from_word_pair(a_low | b_low, a_high | b_high)
-        }
-
-        /// Bitwise exclusive or.
-        ///
-        /// # Contract
-        ///
-        /// ```text
-        /// ensures: result ≡ vector.v128_xor lhs rhs
-        /// ```
-        ///
-        /// Definitions: [`v128_xor`](crate::specs::lanewise::VectorTable#v128_xor).
-        #[inline]
-        pub fn v128_xor(lhs: V128, rhs: V128) -> V128 {
-            let (a_low, a_high) = lhs.words();
-            let (b_low, b_high) = rhs.words();
-            V128::from_word_pair(a_low ^ b_low, a_high ^ b_high)
-        }
-
-        /// The bits of `v` inverted.
-        ///
-        /// # Contract
-        ///
-        /// ```text
-        /// ensures: result ≡ vector.v128_not v
-        /// ```
-        ///
-        /// Definitions: [`v128_not`](crate::specs::lanewise::VectorTable#v128_not).
-        #[inline]
-        pub fn v128_not(v: V128) -> V128 {
-            let (low, high) = v.words();
-            V128::from_word_pair(!low, !high)
-        }
-
-        /// The bits of `lhs` where `rhs` has zeros.
-        ///
-        /// # Contract
-        ///
-        /// ```text
-        /// ensures: result ≡ vector.v128_andnot lhs rhs
-        /// ```
-        ///
-        /// Definitions: [`v128_andnot`](crate::specs::lanewise::VectorTable#v128_andnot).
-        #[inline]
-        pub fn v128_andnot(lhs: V128, rhs: V128) -> V128 {
-            v128_and(lhs, v128_not(rhs))
-        }
-
-        /// The bits of `v1` where `c` has ones, those of `v2` where it has zeros.
-        ///
-        /// # Contract
-        ///
-        /// ```text
-        /// ensures: result ≡ vector.v128_bitselect v1 v2 c
-        /// ```
-        ///
-        /// Definitions: [`v128_bitselect`](crate::specs::lanewise::VectorTable#v128_bitselect).
-        #[inline]
-        pub fn v128_bitselect(v1: V128, v2: V128, c: V128) -> V128 {
-            let ones = u64x2_of(c);
-            from_u64x2((u64x2_of(v1) & ones) | (u64x2_of(v2) & !ones))
         }
     }
     mod comparison {
@@ -974,8 +876,7 @@ pub mod simd {
             order::at_most_u::<u32>(lhs, rhs)
         }
 
-        /// All ones where the lane of `lhs` is greater than that of `rhs`, both read signed, else all
-        /// zeros.
+        /// All ones where the lane of `lhs` is the greater one, both read signed, else all zeros.
         ///
         /// # Contract
         ///
@@ -989,8 +890,7 @@ pub mod simd {
             order::greater_s::<u8>(lhs, rhs)
         }
 
-        /// All ones where the lane of `lhs` is greater than that of `rhs`, both read signed, else all
-        /// zeros.
+        /// All ones where the lane of `lhs` is the greater one, both read signed, else all zeros.
         ///
         /// # Contract
         ///
@@ -1004,8 +904,7 @@ pub mod simd {
             order::greater_s::<u16>(lhs, rhs)
         }
 
-        /// All ones where the lane of `lhs` is greater than that of `rhs`, both read signed, else all
-        /// zeros.
+        /// All ones where the lane of `lhs` is the greater one, both read signed, else all zeros.
         ///
         /// # Contract
         ///
@@ -1019,8 +918,7 @@ pub mod simd {
             order::greater_s::<u32>(lhs, rhs)
         }
 
-        /// All ones where the lane of `lhs` is greater than that of `rhs`, both read signed, else all
-        /// zeros.
+        /// All ones where the lane of `lhs` is the greater one, both read signed, else all zeros.
         ///
         /// # Contract
         ///
@@ -1034,8 +932,7 @@ pub mod simd {
             order::greater_s::<u64>(lhs, rhs)
         }
 
-        /// All ones where the lane of `lhs` is greater than that of `rhs`, both read unsigned, else all
-        /// zeros.
+        /// All ones where the lane of `lhs` is the greater one, both read unsigned, else all zeros.
         ///
         /// # Contract
         ///
@@ -1049,8 +946,7 @@ pub mod simd {
             order::greater_u::<u8>(lhs, rhs)
         }
 
-        /// All ones where the lane of `lhs` is greater than that of `rhs`, both read unsigned, else all
-        /// zeros.
+        /// All ones where the lane of `lhs` is the greater one, both read unsigned, else all zeros.
         ///
         /// # Contract
         ///
@@ -1064,8 +960,7 @@ pub mod simd {
             order::greater_u::<u16>(lhs, rhs)
         }
 
-        /// All ones where the lane of `lhs` is greater than that of `rhs`, both read unsigned, else all
-        /// zeros.
+        /// All ones where the lane of `lhs` is the greater one, both read unsigned, else all zeros.
         ///
         /// # Contract
         ///
@@ -1178,11 +1073,12 @@ pub mod simd {
         }
     }
     mod lane_access {
-        //! Vectors of one item, and one lane of a vector: `splat`, `extract_lane` and `replace_lane`.
+        //! Vectors of one item, one lane of a vector, and bytes chosen by their indices, for which an array
+        //! is slower than `core::simd` (docs/SPEED.md).
 
         use crate::proved::lanes::{
-            I8x16, I32x4, ImmLaneIdx2, ImmLaneIdx4, ImmLaneIdx8, ImmLaneIdx16, SimdLane,
-            VariableLane, from_bytes, on_vectors,
+            I8x16, I32x4, ImmLaneIdx2, ImmLaneIdx4, ImmLaneIdx8, ImmLaneIdx16, ImmLaneIdx32,
+            SimdLane, VariableLane, bytes_of, from_bytes, on_vectors,
         };
         use crate::proved::raw::V128;
         use crate::rattle::simd::prelude::*;
@@ -1422,6 +1318,92 @@ pub mod simd {
         pub fn i64x2_replace_lane(v: V128, lane: ImmLaneIdx2, item: i64) -> V128 {
             u64::with_lane(v, lane, item.cast_unsigned())
         }
+
+        /// Lane i is lane `s[i]` of `a`, or lane `s[i] - 16` of `b` where `s[i]` is above 15.
+        ///
+        /// # Contract
+        ///
+        /// ```text
+        /// ensures: result ≡ vector.shuffle a b s
+        /// ```
+        ///
+        /// Definitions: [`shuffle`](crate::specs::lanewise::VectorTable#shuffle).
+        #[inline]
+        pub fn i8x16_shuffle(a: V128, b: V128, s: [ImmLaneIdx32; 16]) -> V128 {
+            let indices = bytes_of_indices(s);
+            let low = picked(bytes_of(a), indices);
+            let high = picked(bytes_of(b), indices);
+            from_bytes(low_or_high(indices, low, high))
+        }
+
+        /// Lane i is the lane of `a` at the index that lane i of `s` is, and 0 where that is above 15.
+        ///
+        /// # Contract
+        ///
+        /// ```text
+        /// ensures: result ≡ vector.swizzle a s
+        /// ```
+        ///
+        /// Definitions: [`swizzle`](crate::specs::lanewise::VectorTable#swizzle).
+        #[inline]
+        pub fn i8x16_swizzle(a: V128, s: V128) -> V128 {
+            from_bytes(picked_or_zero(bytes_of(a), bytes_of(s)))
+        }
+
+        // The lanes of `table` at the indices, and 0 where an index is above 15: such an index becomes 128,
+        // at which the processor's instruction gives 0. LLVM leaves the last mask out, since that
+        // instruction reads no other bits.
+        /// # Contract
+        ///
+        /// ```text
+        /// ensures lanes: (i : ℕ) → i < 16 → slice_index result i
+        ///     ≡ (if nat_lt (slice_index indices i) 16 then slice_index table
+        ///     (slice_index indices i) else 0)
+        /// ```
+        #[inline(always)]
+        fn picked_or_zero(table: u8x16, indices: u8x16) -> u8x16 {
+            let biased = indices.simd_min(u8x16::splat(16)) + u8x16::splat(0x70);
+            table.swizzle_dyn_within::<16>(biased & u8x16::splat(0x8f))
+        }
+
+        // The lanes of `table` at the low four bits of the indices.
+        /// # Contract
+        ///
+        /// ```text
+        /// ensures lanes: (i : ℕ) → i < 16
+        ///     → slice_index result i ≡ slice_index table (slice_index indices i % 16)
+        /// ```
+        #[inline(always)]
+        fn picked(table: u8x16, indices: u8x16) -> u8x16 {
+            table.swizzle_dyn_within::<16>(indices & u8x16::splat(15))
+        }
+
+        // The lanes of `low` where the index is below 16, else those of `high`.
+        /// # Contract
+        ///
+        /// ```text
+        /// ensures lanes: (i : ℕ) → i < 16 → slice_index result i
+        ///     ≡ (if nat_lt (slice_index indices i) 16 then slice_index low i else slice_index high i)
+        /// ```
+        #[inline(always)]
+        fn low_or_high(indices: u8x16, low: u8x16, high: u8x16) -> u8x16 {
+            indices.simd_lt(u8x16::splat(16)).select(low, high)
+        }
+
+        /// # Contract
+        ///
+        /// ```text
+        /// ensures lanes: (i : ℕ) → i < 16 → slice_index result i ≡ slice_index indices i
+        /// ensures inside: (i : ℕ) → i < 16 → slice_index result i < 32
+        /// ```
+        #[inline(always)]
+        fn bytes_of_indices(indices: [ImmLaneIdx32; 16]) -> u8x16 {
+            let mut bytes = [0; 16];
+            for i in 0..16 {
+                bytes[i] = u8::from(indices[i]);
+            }
+            u8x16::from_array(bytes)
+        }
     }
     mod order {
         //! Order of lanes, and what is chosen by it, on vectors of `core::simd`.
@@ -1615,7 +1597,12 @@ pub mod simd {
         /// Definitions: [`lane_count`](crate::specs::lanes::Lane#lane_count), [`lane`](crate::specs::lanes::Lane#lane).
         #[inline(always)]
         fn ones_if_less<T: SimdLane>(a: T::Vector, b: T::Vector) -> V128 {
-            T::vector_of(T::choose_if_less(a, b, ones::<T>(), zeros::<T>()))
+            T::vector_of(T::choose_if_less(
+                a,
+                b,
+                T::splat(T::ALL_ONES),
+                T::splat(T::ALL_ZEROS),
+            ))
         }
 
         /// # Contract
@@ -1630,42 +1617,100 @@ pub mod simd {
         /// Definitions: [`lane_count`](crate::specs::lanes::Lane#lane_count), [`lane`](crate::specs::lanes::Lane#lane).
         #[inline(always)]
         fn zeros_if_less<T: SimdLane>(a: T::Vector, b: T::Vector) -> V128 {
-            T::vector_of(T::choose_if_less(a, b, zeros::<T>(), ones::<T>()))
-        }
-
-        // All ones in each lane.
-        /// # Contract
-        ///
-        /// ```text
-        /// ensures lanes: (i : ℕ) → i < lane_count T.width → T.at result i ≡ 2 ^ bits T.width - 1
-        /// ```
-        ///
-        /// Definitions: [`lane_count`](crate::specs::lanes::Lane#lane_count).
-        #[inline(always)]
-        fn ones<T: SimdLane>() -> T::Vector {
-            T::splat(T::ALL_ONES)
-        }
-
-        // All zeros in each lane.
-        /// # Contract
-        ///
-        /// ```text
-        /// ensures lanes: (i : ℕ) → i < lane_count T.width → T.at result i ≡ 0
-        /// ```
-        ///
-        /// Definitions: [`lane_count`](crate::specs::lanes::Lane#lane_count).
-        #[inline(always)]
-        fn zeros<T: SimdLane>() -> T::Vector {
-            T::splat(T::ALL_ZEROS)
+            T::vector_of(T::choose_if_less(
+                a,
+                b,
+                T::splat(T::ALL_ZEROS),
+                T::splat(T::ALL_ONES),
+            ))
         }
     }
-    mod q15 {
-        //! Products of lanes of 16 bits as q15 numbers (signed, over 2 to the power 15), on vectors of
-        //! `core::simd`.
+    mod saturation {
+        //! Sums, differences and q15 products (signed, over 2 to the power 15) that are clamped, on vectors
+        //! of `core::simd`.
 
         use crate::proved::lanes::SimdLane;
         use crate::proved::raw::V128;
         use crate::rattle::simd::prelude::*;
+
+        /// A lane for whose vectors a processor has such sums and differences.
+        pub(super) trait SaturatingLane: SimdLane {
+            /// The sums, at most the greatest number of a lane.
+            ///
+            /// # Contract
+            ///
+            /// ```text
+            /// ensures lanes: (i : ℕ) → i < lane_count Self.width → Self.at result i
+            ///     ≡ min (Self.at a i + Self.at b i) (2 ^ bits Self.width - 1)
+            /// ```
+            ///
+            /// Definitions: [`lane_count`](crate::specs::lanes::Lane#lane_count).
+            fn clamped_sums(a: Self::Vector, b: Self::Vector) -> Self::Vector;
+
+            /// The differences, 0 where that of `b` is greater.
+            ///
+            /// # Contract
+            ///
+            /// ```text
+            /// ensures lanes: (i : ℕ) → i < lane_count Self.width → Self.at result i
+            ///     ≡ Self.at a i - Self.at b i
+            /// ```
+            ///
+            /// Definitions: [`lane_count`](crate::specs::lanes::Lane#lane_count).
+            fn clamped_differences(a: Self::Vector, b: Self::Vector) -> Self::Vector;
+        }
+
+        impl SaturatingLane for u8 {
+            #[inline(always)]
+            fn clamped_sums(a: u8x16, b: u8x16) -> u8x16 {
+                a.saturating_add(b)
+            }
+
+            #[inline(always)]
+            fn clamped_differences(a: u8x16, b: u8x16) -> u8x16 {
+                a.saturating_sub(b)
+            }
+        }
+
+        impl SaturatingLane for u16 {
+            #[inline(always)]
+            fn clamped_sums(a: u16x8, b: u16x8) -> u16x8 {
+                a.saturating_add(b)
+            }
+
+            #[inline(always)]
+            fn clamped_differences(a: u16x8, b: u16x8) -> u16x8 {
+                a.saturating_sub(b)
+            }
+        }
+
+        /// The sums of the lanes, clamped to the unsigned range.
+        ///
+        /// # Contract
+        ///
+        /// ```text
+        /// ensures: result ≡ vector.add_sat_u T.width lhs rhs
+        /// ```
+        ///
+        /// Definitions: [`add_sat_u`](crate::specs::lanewise::VectorTable#add_sat_u).
+        #[inline(always)]
+        pub(super) fn sums_u<T: SaturatingLane>(lhs: V128, rhs: V128) -> V128 {
+            T::vector_of(T::clamped_sums(T::lanes_of(lhs), T::lanes_of(rhs)))
+        }
+
+        /// The differences of the lanes, clamped to the unsigned range.
+        ///
+        /// # Contract
+        ///
+        /// ```text
+        /// ensures: result ≡ vector.sub_sat_u T.width lhs rhs
+        /// ```
+        ///
+        /// Definitions: [`sub_sat_u`](crate::specs::lanewise::VectorTable#sub_sat_u).
+        #[inline(always)]
+        pub(super) fn differences_u<T: SaturatingLane>(lhs: V128, rhs: V128) -> V128 {
+            T::vector_of(T::clamped_differences(T::lanes_of(lhs), T::lanes_of(rhs)))
+        }
 
         /// The products of the lanes, halves rounded up, clamped to the signed range.
         ///
@@ -1764,189 +1809,10 @@ pub mod simd {
             x + y
         }
     }
-    mod saturation {
-        //! Sums and differences of lanes read unsigned that are clamped, on vectors of `core::simd`.
-
-        use crate::proved::lanes::SimdLane;
-        use crate::proved::raw::V128;
-        use crate::rattle::simd::prelude::*;
-
-        /// A lane for whose vectors a processor has such sums and differences.
-        pub(super) trait SaturatingLane: SimdLane {
-            /// The sums, at most the greatest number of a lane.
-            ///
-            /// # Contract
-            ///
-            /// ```text
-            /// ensures lanes: (i : ℕ) → i < lane_count Self.width → Self.at result i
-            ///     ≡ min (Self.at a i + Self.at b i) (2 ^ bits Self.width - 1)
-            /// ```
-            ///
-            /// Definitions: [`lane_count`](crate::specs::lanes::Lane#lane_count).
-            fn clamped_sums(a: Self::Vector, b: Self::Vector) -> Self::Vector;
-
-            /// The differences, 0 where that of `b` is greater.
-            ///
-            /// # Contract
-            ///
-            /// ```text
-            /// ensures lanes: (i : ℕ) → i < lane_count Self.width → Self.at result i
-            ///     ≡ Self.at a i - Self.at b i
-            /// ```
-            ///
-            /// Definitions: [`lane_count`](crate::specs::lanes::Lane#lane_count).
-            fn clamped_differences(a: Self::Vector, b: Self::Vector) -> Self::Vector;
-        }
-
-        impl SaturatingLane for u8 {
-            #[inline(always)]
-            fn clamped_sums(a: u8x16, b: u8x16) -> u8x16 {
-                a.saturating_add(b)
-            }
-
-            #[inline(always)]
-            fn clamped_differences(a: u8x16, b: u8x16) -> u8x16 {
-                a.saturating_sub(b)
-            }
-        }
-
-        impl SaturatingLane for u16 {
-            #[inline(always)]
-            fn clamped_sums(a: u16x8, b: u16x8) -> u16x8 {
-                a.saturating_add(b)
-            }
-
-            #[inline(always)]
-            fn clamped_differences(a: u16x8, b: u16x8) -> u16x8 {
-                a.saturating_sub(b)
-            }
-        }
-
-        /// The sums of the lanes, clamped to the unsigned range.
-        ///
-        /// # Contract
-        ///
-        /// ```text
-        /// ensures: result ≡ vector.add_sat_u T.width lhs rhs
-        /// ```
-        ///
-        /// Definitions: [`add_sat_u`](crate::specs::lanewise::VectorTable#add_sat_u).
-        #[inline(always)]
-        pub(super) fn sums_u<T: SaturatingLane>(lhs: V128, rhs: V128) -> V128 {
-            T::vector_of(T::clamped_sums(T::lanes_of(lhs), T::lanes_of(rhs)))
-        }
-
-        /// The differences of the lanes, clamped to the unsigned range.
-        ///
-        /// # Contract
-        ///
-        /// ```text
-        /// ensures: result ≡ vector.sub_sat_u T.width lhs rhs
-        /// ```
-        ///
-        /// Definitions: [`sub_sat_u`](crate::specs::lanewise::VectorTable#sub_sat_u).
-        #[inline(always)]
-        pub(super) fn differences_u<T: SaturatingLane>(lhs: V128, rhs: V128) -> V128 {
-            T::vector_of(T::clamped_differences(T::lanes_of(lhs), T::lanes_of(rhs)))
-        }
-    }
-    mod shuffle {
-        //! Bytes chosen by their indices, by `core::simd`: an array of the bytes is slower (docs/SPEED.md).
-
-        use crate::proved::lanes::{ImmLaneIdx32, bytes_of, from_bytes};
-        use crate::proved::raw::V128;
-        use crate::rattle::simd::prelude::*;
-
-        /// Lane i is lane `s[i]` of `a`, or lane `s[i] - 16` of `b` where `s[i]` is above 15.
-        ///
-        /// # Contract
-        ///
-        /// ```text
-        /// ensures: result ≡ vector.shuffle a b s
-        /// ```
-        ///
-        /// Definitions: [`shuffle`](crate::specs::lanewise::VectorTable#shuffle).
-        #[inline]
-        pub fn i8x16_shuffle(a: V128, b: V128, s: [ImmLaneIdx32; 16]) -> V128 {
-            let indices = bytes_of_indices(s);
-            let low = picked(bytes_of(a), indices);
-            let high = picked(bytes_of(b), indices);
-            from_bytes(low_or_high(indices, low, high))
-        }
-
-        /// Lane i is the lane of `a` at the index that lane i of `s` is, and 0 where that is above 15.
-        ///
-        /// # Contract
-        ///
-        /// ```text
-        /// ensures: result ≡ vector.swizzle a s
-        /// ```
-        ///
-        /// Definitions: [`swizzle`](crate::specs::lanewise::VectorTable#swizzle).
-        #[inline]
-        pub fn i8x16_swizzle(a: V128, s: V128) -> V128 {
-            from_bytes(picked_or_zero(bytes_of(a), bytes_of(s)))
-        }
-
-        // The lanes of `table` at the indices, and 0 where an index is above 15: such an index becomes 128,
-        // at which the processor's instruction gives 0. LLVM leaves the last mask out, since that
-        // instruction reads no other bits.
-        /// # Contract
-        ///
-        /// ```text
-        /// ensures lanes: (i : ℕ) → i < 16 → slice_index result i
-        ///     ≡ (if nat_lt (slice_index indices i) 16 then slice_index table
-        ///     (slice_index indices i) else 0)
-        /// ```
-        #[inline(always)]
-        fn picked_or_zero(table: u8x16, indices: u8x16) -> u8x16 {
-            let biased = indices.simd_min(u8x16::splat(16)) + u8x16::splat(0x70);
-            table.swizzle_dyn_within::<16>(biased & u8x16::splat(0x8f))
-        }
-
-        // The lanes of `table` at the low four bits of the indices.
-        /// # Contract
-        ///
-        /// ```text
-        /// ensures lanes: (i : ℕ) → i < 16
-        ///     → slice_index result i ≡ slice_index table (slice_index indices i % 16)
-        /// ```
-        #[inline(always)]
-        fn picked(table: u8x16, indices: u8x16) -> u8x16 {
-            table.swizzle_dyn_within::<16>(indices & u8x16::splat(15))
-        }
-
-        // The lanes of `low` where the index is below 16, else those of `high`.
-        /// # Contract
-        ///
-        /// ```text
-        /// ensures lanes: (i : ℕ) → i < 16 → slice_index result i
-        ///     ≡ (if nat_lt (slice_index indices i) 16 then slice_index low i else slice_index high i)
-        /// ```
-        #[inline(always)]
-        fn low_or_high(indices: u8x16, low: u8x16, high: u8x16) -> u8x16 {
-            indices.simd_lt(u8x16::splat(16)).select(low, high)
-        }
-
-        /// # Contract
-        ///
-        /// ```text
-        /// ensures lanes: (i : ℕ) → i < 16 → slice_index result i ≡ slice_index indices i
-        /// ensures inside: (i : ℕ) → i < 16 → slice_index result i < 32
-        /// ```
-        #[inline(always)]
-        fn bytes_of_indices(indices: [ImmLaneIdx32; 16]) -> u8x16 {
-            let mut bytes = [0; 16];
-            for i in 0..16 {
-                bytes[i] = u8::from(indices[i]);
-            }
-            u8x16::from_array(bytes)
-        }
-    }
     mod unary {
-        //! Unary instructions.
+        //! Unary instructions, and those that work bit by bit on whole vectors.
 
-        use crate::proved::lanes::{I8x16, I16x8, I32x4, I64x2, on_vectors};
+        use crate::proved::lanes::{I8x16, I16x8, I32x4, I64x2, from_u64x2, on_vectors, u64x2_of};
         use crate::proved::lanewise::simd::words;
         use crate::proved::raw::V128;
 
@@ -2006,8 +1872,7 @@ pub mod simd {
             words::negations::<u64>(v)
         }
 
-        /// The absolute values of the lanes, read signed; the least number is its own, modulo 2 to the
-        /// power 8.
+        /// The absolute values of the lanes, read signed; that of the least number is itself.
         ///
         /// # Contract
         ///
@@ -2021,8 +1886,7 @@ pub mod simd {
             on_vectors::unary::<I8x16, _>(v, |x| x.wrapping_abs())
         }
 
-        /// The absolute values of the lanes, read signed; the least number is its own, modulo 2 to the
-        /// power 16.
+        /// The absolute values of the lanes, read signed; that of the least number is itself.
         ///
         /// # Contract
         ///
@@ -2036,8 +1900,7 @@ pub mod simd {
             on_vectors::unary::<I16x8, _>(v, |x| x.wrapping_abs())
         }
 
-        /// The absolute values of the lanes, read signed; the least number is its own, modulo 2 to the
-        /// power 32.
+        /// The absolute values of the lanes, read signed; that of the least number is itself.
         ///
         /// # Contract
         ///
@@ -2051,8 +1914,7 @@ pub mod simd {
             on_vectors::unary::<I32x4, _>(v, |x| x.wrapping_abs())
         }
 
-        /// The absolute values of the lanes, read signed; the least number is its own, modulo 2 to the
-        /// power 64.
+        /// The absolute values of the lanes, read signed; that of the least number is itself.
         ///
         /// # Contract
         ///
@@ -2078,6 +1940,98 @@ pub mod simd {
         #[inline]
         pub fn i8x16_popcnt(v: V128) -> V128 {
             words::counts_of_ones(v)
+        }
+
+        /// Bitwise and.
+        ///
+        /// # Contract
+        ///
+        /// ```text
+        /// ensures: result ≡ vector.v128_and lhs rhs
+        /// ```
+        ///
+        /// Definitions: [`v128_and`](crate::specs::lanewise::VectorTable#v128_and).
+        #[inline]
+        pub fn v128_and(lhs: V128, rhs: V128) -> V128 {
+            let (a_low, a_high) = lhs.words();
+            let (b_low, b_high) = rhs.words();
+            V128::from_word_pair(a_low & b_low, a_high & b_high)
+        }
+
+        /// Bitwise or.
+        ///
+        /// # Contract
+        ///
+        /// ```text
+        /// ensures: result ≡ vector.v128_or lhs rhs
+        /// ```
+        ///
+        /// Definitions: [`v128_or`](crate::specs::lanewise::VectorTable#v128_or).
+        #[inline]
+        pub fn v128_or(lhs: V128, rhs: V128) -> V128 {
+            let (a_low, a_high) = lhs.words();
+            let (b_low, b_high) = rhs.words();
+            V128::from_word_pair(a_low | b_low, a_high | b_high)
+        }
+
+        /// Bitwise exclusive or.
+        ///
+        /// # Contract
+        ///
+        /// ```text
+        /// ensures: result ≡ vector.v128_xor lhs rhs
+        /// ```
+        ///
+        /// Definitions: [`v128_xor`](crate::specs::lanewise::VectorTable#v128_xor).
+        #[inline]
+        pub fn v128_xor(lhs: V128, rhs: V128) -> V128 {
+            let (a_low, a_high) = lhs.words();
+            let (b_low, b_high) = rhs.words();
+            V128::from_word_pair(a_low ^ b_low, a_high ^ b_high)
+        }
+
+        /// The bits of `v` inverted.
+        ///
+        /// # Contract
+        ///
+        /// ```text
+        /// ensures: result ≡ vector.v128_not v
+        /// ```
+        ///
+        /// Definitions: [`v128_not`](crate::specs::lanewise::VectorTable#v128_not).
+        #[inline]
+        pub fn v128_not(v: V128) -> V128 {
+            let (low, high) = v.words();
+            V128::from_word_pair(!low, !high)
+        }
+
+        /// The bits of `lhs` where `rhs` has zeros.
+        ///
+        /// # Contract
+        ///
+        /// ```text
+        /// ensures: result ≡ vector.v128_andnot lhs rhs
+        /// ```
+        ///
+        /// Definitions: [`v128_andnot`](crate::specs::lanewise::VectorTable#v128_andnot).
+        #[inline]
+        pub fn v128_andnot(lhs: V128, rhs: V128) -> V128 {
+            v128_and(lhs, v128_not(rhs))
+        }
+
+        /// The bits of `v1` where `c` has ones, those of `v2` where it has zeros.
+        ///
+        /// # Contract
+        ///
+        /// ```text
+        /// ensures: result ≡ vector.v128_bitselect v1 v2 c
+        /// ```
+        ///
+        /// Definitions: [`v128_bitselect`](crate::specs::lanewise::VectorTable#v128_bitselect).
+        #[inline]
+        pub fn v128_bitselect(v1: V128, v2: V128, c: V128) -> V128 {
+            let ones = u64x2_of(c);
+            from_u64x2((u64x2_of(v1) & ones) | (u64x2_of(v2) & !ones))
         }
     }
     mod words {
@@ -2347,7 +2301,7 @@ pub mod simd {
         }
     }
 
-    // Arithmetic, bits and bytes.
+    // Arithmetic and bits.
     pub use binary::{
         i8x16_add, i8x16_add_sat_s, i8x16_add_sat_u, i8x16_avgr_u, i8x16_max_s, i8x16_max_u,
         i8x16_min_s, i8x16_min_u, i8x16_mul, i8x16_sub, i8x16_sub_sat_s, i8x16_sub_sat_u,
@@ -2356,11 +2310,9 @@ pub mod simd {
         i16x8_sub_sat_u, i32x4_add, i32x4_max_s, i32x4_max_u, i32x4_min_s, i32x4_min_u, i32x4_mul,
         i32x4_sub, i64x2_add, i64x2_mul, i64x2_sub,
     };
-    pub use bitwise::{v128_and, v128_andnot, v128_bitselect, v128_not, v128_or, v128_xor};
-    pub use shuffle::{i8x16_shuffle, i8x16_swizzle};
     pub use unary::{
         i8x16_abs, i8x16_neg, i8x16_popcnt, i16x8_abs, i16x8_neg, i32x4_abs, i32x4_neg, i64x2_abs,
-        i64x2_neg,
+        i64x2_neg, v128_and, v128_andnot, v128_bitselect, v128_not, v128_or, v128_xor,
     };
 
     // Comparisons.
@@ -2372,10 +2324,10 @@ pub mod simd {
         i64x2_ge_s, i64x2_gt_s, i64x2_le_s, i64x2_lt_s, i64x2_ne,
     };
 
-    // Single lanes.
+    // Lanes and bytes by their indices.
     pub use lane_access::{
-        i8x16_extract_lane_s, i8x16_extract_lane_u, i8x16_replace_lane, i8x16_splat,
-        i16x8_extract_lane_s, i16x8_extract_lane_u, i16x8_replace_lane, i16x8_splat,
+        i8x16_extract_lane_s, i8x16_extract_lane_u, i8x16_replace_lane, i8x16_shuffle, i8x16_splat,
+        i8x16_swizzle, i16x8_extract_lane_s, i16x8_extract_lane_u, i16x8_replace_lane, i16x8_splat,
         i32x4_extract_lane, i32x4_replace_lane, i32x4_splat, i64x2_extract_lane,
         i64x2_replace_lane, i64x2_splat,
     };

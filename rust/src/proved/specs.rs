@@ -1371,6 +1371,35 @@ unfoldable pub <b id="lane_bits">lane_bits</b> : {A : Type 0} → Width → (ℕ
 </code></pre>
 "####]
     pub mod Widening {}
+    #[doc = r####"The widths of which one is twice another, and what follows of their lanes.
+
+<pre><code>use Rattle.std.proofs.Common.{ℕ, ◌+◌, ◌*◌, ◌^◌, ◌&lt;◌, ◌≡◌, leb, lit&lt;, refl}
+use Rattle.wasmi_types.specs.Wrapping.{Width, w8, w16, w32, w64, bits}
+use lib.Dec.{T}
+use mir.Val.{hbits}
+
+-- a lane of `wide` has twice the bits of one of `narrow`, and n lanes of `wide` make a vector
+pub record <b id="IsWidening">IsWidening</b> (narrow wide : Width) (n : ℕ) : Type 0 where
+  pub <b id="filled">filled</b> : n * bits wide ≡ 128
+  pub <b id="twice">twice</b> : bits wide ≡ bits narrow + bits narrow
+  pub <b id="half">half</b> : hbits wide ≡ hbits narrow + bits narrow
+  pub <b id="wider">wider</b> : T (leb (hbits narrow) (hbits wide))
+  pub <b id="room">room</b> : 2 ^ hbits narrow * 2 ^ hbits narrow &lt; 2 ^ hbits wide
+
+-- 8 lanes of 16 bits, each of two bytes
+pub <b id="bytes_widened">bytes_widened</b> : <a href="../../widening/WideningProofs/index.html#IsWidening">IsWidening</a> w8 w16 8
+<a href="../../widening/WideningProofs/index.html#bytes_widened">bytes_widened</a> = record { <a href="../../widening/WideningProofs/index.html#filled">filled</a> = refl; <a href="../../widening/WideningProofs/index.html#twice">twice</a> = refl; <a href="../../widening/WideningProofs/index.html#half">half</a> = refl; <a href="../../widening/WideningProofs/index.html#wider">wider</a> = tt; <a href="../../widening/WideningProofs/index.html#room">room</a> = lit&lt; tt }
+
+-- 4 lanes of 32 bits, each of two of 16
+pub <b id="u16x8_widened">u16x8_widened</b> : <a href="../../widening/WideningProofs/index.html#IsWidening">IsWidening</a> w16 w32 4
+<a href="../../widening/WideningProofs/index.html#u16x8_widened">u16x8_widened</a> = record { <a href="../../widening/WideningProofs/index.html#filled">filled</a> = refl; <a href="../../widening/WideningProofs/index.html#twice">twice</a> = refl; <a href="../../widening/WideningProofs/index.html#half">half</a> = refl; <a href="../../widening/WideningProofs/index.html#wider">wider</a> = tt; <a href="../../widening/WideningProofs/index.html#room">room</a> = lit&lt; tt }
+
+-- 2 lanes of 64 bits, each of two of 32
+pub <b id="u32x4_widened">u32x4_widened</b> : <a href="../../widening/WideningProofs/index.html#IsWidening">IsWidening</a> w32 w64 2
+<a href="../../widening/WideningProofs/index.html#u32x4_widened">u32x4_widened</a> = record { <a href="../../widening/WideningProofs/index.html#filled">filled</a> = refl; <a href="../../widening/WideningProofs/index.html#twice">twice</a> = refl; <a href="../../widening/WideningProofs/index.html#half">half</a> = refl; <a href="../../widening/WideningProofs/index.html#wider">wider</a> = tt; <a href="../../widening/WideningProofs/index.html#room">room</a> = lit&lt; tt }
+</code></pre>
+"####]
+    pub mod WideningProofs {}
     #[doc = r####"The vector instructions of the WebAssembly core specification (section "Numerics", "Vector Operations") that change the width of lanes, shift lanes or test them, and the relaxed ones with the choice made here: what each gives, over whole numbers. A vector is a number below 2 ^ 128, and each lane's number is read as it is (\`unsigned\`) or as a signed number (\`signed w\`). A lane is computed without bounds, then wrapped or clamped.
 
 <pre><code>use Rattle.std.specs.Prelude.{ℕ, ◌+◌, ◌-◌, ◌*◌, ◌/◌, ◌%◌, ◌^◌, Bool, not, nat_eq, nat_le, ◌+ℤ◌, ◌*ℤ◌}

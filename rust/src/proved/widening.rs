@@ -149,138 +149,355 @@ pub mod simd {
     //! specification: vector instructions; what each gives stands in `specs/WideningTable.antt`.
     //! Upstream: `wasmi_core::simd`.
 
-    mod even_odd {
-        //! The lanes with an even number and those with an odd one, at twice their width, as `core::simd`
-        //! vectors: a lane of twice the width is two neighbouring lanes, and shifts take each out of it.
+    mod arithmetic {
+        //! Products of lanes, of twice their width, and sums of neighbouring lanes and of their products.
 
-        use super::vectors::{i16x8_of, i32x4_of};
+        use super::wide::{ExtendedLane, PairedLane};
         use crate::proved::lanes::SimdLane;
         use crate::proved::raw::V128;
-        use crate::rattle::simd::prelude::*;
 
-        /// The lanes of 8 bits with an even number.
+        /// The products of the lanes of the lower halves, read signed.
         ///
         /// # Contract
         ///
         /// ```text
-        /// ensures lanes: (i : ℕ) → i < 8 → slice_index result i ≡ lane w8 v (2 * i)
+        /// ensures: result ≡ vector.extmul_low_s w8 w16 lhs rhs
         /// ```
         ///
-        /// Definitions: [`lane`](crate::specs::lanes::Lane#lane).
-        #[inline(always)]
-        pub(super) fn even_u8x16(v: V128) -> u16x8 {
-            u16::lanes_of(v) & u16x8::splat(0xff)
+        /// Definitions: [`extmul_low_s`](crate::specs::widening::WideningTable#extmul_low_s).
+        #[inline]
+        pub fn i16x8_extmul_low_i8x16_s(lhs: V128, rhs: V128) -> V128 {
+            products_low_s::<u8>(lhs, rhs)
         }
 
-        /// The lanes of 8 bits with an odd number.
+        /// The products of the lanes of the lower halves, read unsigned.
         ///
         /// # Contract
         ///
         /// ```text
-        /// ensures lanes: (i : ℕ) → i < 8 → slice_index result i ≡ lane w8 v (2 * i + 1)
+        /// ensures: result ≡ vector.extmul_low_u w8 w16 lhs rhs
         /// ```
         ///
-        /// Definitions: [`lane`](crate::specs::lanes::Lane#lane).
-        #[inline(always)]
-        pub(super) fn odd_u8x16(v: V128) -> u16x8 {
-            u16::lanes_of(v) >> 8
+        /// Definitions: [`extmul_low_u`](crate::specs::widening::WideningTable#extmul_low_u).
+        #[inline]
+        pub fn i16x8_extmul_low_i8x16_u(lhs: V128, rhs: V128) -> V128 {
+            products_low_u::<u8>(lhs, rhs)
         }
 
-        /// The lanes of 8 bits with an even number, the sign copied.
+        /// The products of the lanes of the upper halves, read signed.
         ///
         /// # Contract
         ///
         /// ```text
-        /// ensures lanes: (i : ℕ) → i < 8
-        ///     → slice_index result i ≡ cast_unsigned w16 (signed w8 (lane w8 v (2 * i)))
+        /// ensures: result ≡ vector.extmul_high_s w8 w16 lhs rhs
         /// ```
         ///
-        /// Definitions: [`lane`](crate::specs::lanes::Lane#lane).
-        #[inline(always)]
-        pub(super) fn even_i8x16(v: V128) -> u16x8 {
-            u16x8::from_le_bytes(((i16x8_of(v) << 8) >> 8).to_le_bytes())
+        /// Definitions: [`extmul_high_s`](crate::specs::widening::WideningTable#extmul_high_s).
+        #[inline]
+        pub fn i16x8_extmul_high_i8x16_s(lhs: V128, rhs: V128) -> V128 {
+            products_high_s::<u8>(lhs, rhs)
         }
 
-        /// The lanes of 8 bits with an odd number, the sign copied.
+        /// The products of the lanes of the upper halves, read unsigned.
         ///
         /// # Contract
         ///
         /// ```text
-        /// ensures lanes: (i : ℕ) → i < 8
-        ///     → slice_index result i ≡ cast_unsigned w16 (signed w8 (lane w8 v (2 * i + 1)))
+        /// ensures: result ≡ vector.extmul_high_u w8 w16 lhs rhs
         /// ```
         ///
-        /// Definitions: [`lane`](crate::specs::lanes::Lane#lane).
-        #[inline(always)]
-        pub(super) fn odd_i8x16(v: V128) -> u16x8 {
-            u16x8::from_le_bytes((i16x8_of(v) >> 8).to_le_bytes())
+        /// Definitions: [`extmul_high_u`](crate::specs::widening::WideningTable#extmul_high_u).
+        #[inline]
+        pub fn i16x8_extmul_high_i8x16_u(lhs: V128, rhs: V128) -> V128 {
+            products_high_u::<u8>(lhs, rhs)
         }
 
-        /// The lanes of 16 bits with an even number.
+        /// The products of the lanes of the lower halves, read signed.
         ///
         /// # Contract
         ///
         /// ```text
-        /// ensures lanes: (i : ℕ) → i < 4 → slice_index result i ≡ lane w16 v (2 * i)
+        /// ensures: result ≡ vector.extmul_low_s w16 w32 lhs rhs
         /// ```
         ///
-        /// Definitions: [`lane`](crate::specs::lanes::Lane#lane).
-        #[inline(always)]
-        pub(super) fn even_u16x8(v: V128) -> u32x4 {
-            u32::lanes_of(v) & u32x4::splat(0xffff)
+        /// Definitions: [`extmul_low_s`](crate::specs::widening::WideningTable#extmul_low_s).
+        #[inline]
+        pub fn i32x4_extmul_low_i16x8_s(lhs: V128, rhs: V128) -> V128 {
+            products_low_s::<u16>(lhs, rhs)
         }
 
-        /// The lanes of 16 bits with an odd number.
+        /// The products of the lanes of the lower halves, read unsigned.
         ///
         /// # Contract
         ///
         /// ```text
-        /// ensures lanes: (i : ℕ) → i < 4 → slice_index result i ≡ lane w16 v (2 * i + 1)
+        /// ensures: result ≡ vector.extmul_low_u w16 w32 lhs rhs
         /// ```
         ///
-        /// Definitions: [`lane`](crate::specs::lanes::Lane#lane).
-        #[inline(always)]
-        pub(super) fn odd_u16x8(v: V128) -> u32x4 {
-            u32::lanes_of(v) >> 16
+        /// Definitions: [`extmul_low_u`](crate::specs::widening::WideningTable#extmul_low_u).
+        #[inline]
+        pub fn i32x4_extmul_low_i16x8_u(lhs: V128, rhs: V128) -> V128 {
+            products_low_u::<u16>(lhs, rhs)
         }
 
-        /// The lanes of 16 bits with an even number, the sign copied.
+        /// The products of the lanes of the upper halves, read signed.
         ///
         /// # Contract
         ///
         /// ```text
-        /// ensures lanes: (i : ℕ) → i < 4
-        ///     → slice_index result i ≡ cast_unsigned w32 (signed w16 (lane w16 v (2 * i)))
+        /// ensures: result ≡ vector.extmul_high_s w16 w32 lhs rhs
         /// ```
         ///
-        /// Definitions: [`lane`](crate::specs::lanes::Lane#lane).
-        #[inline(always)]
-        pub(super) fn even_i16x8(v: V128) -> u32x4 {
-            u32x4::from_le_bytes(((i32x4_of(v) << 16) >> 16).to_le_bytes())
+        /// Definitions: [`extmul_high_s`](crate::specs::widening::WideningTable#extmul_high_s).
+        #[inline]
+        pub fn i32x4_extmul_high_i16x8_s(lhs: V128, rhs: V128) -> V128 {
+            products_high_s::<u16>(lhs, rhs)
         }
 
-        /// The lanes of 16 bits with an odd number, the sign copied.
+        /// The products of the lanes of the upper halves, read unsigned.
         ///
         /// # Contract
         ///
         /// ```text
-        /// ensures lanes: (i : ℕ) → i < 4
-        ///     → slice_index result i ≡ cast_unsigned w32 (signed w16 (lane w16 v (2 * i + 1)))
+        /// ensures: result ≡ vector.extmul_high_u w16 w32 lhs rhs
         /// ```
         ///
-        /// Definitions: [`lane`](crate::specs::lanes::Lane#lane).
+        /// Definitions: [`extmul_high_u`](crate::specs::widening::WideningTable#extmul_high_u).
+        #[inline]
+        pub fn i32x4_extmul_high_i16x8_u(lhs: V128, rhs: V128) -> V128 {
+            products_high_u::<u16>(lhs, rhs)
+        }
+
+        /// The products of the lanes of the lower halves, read signed.
+        ///
+        /// # Contract
+        ///
+        /// ```text
+        /// ensures: result ≡ vector.extmul_low_s w32 w64 lhs rhs
+        /// ```
+        ///
+        /// Definitions: [`extmul_low_s`](crate::specs::widening::WideningTable#extmul_low_s).
+        #[inline]
+        pub fn i64x2_extmul_low_i32x4_s(lhs: V128, rhs: V128) -> V128 {
+            products_low_s::<u32>(lhs, rhs)
+        }
+
+        /// The products of the lanes of the lower halves, read unsigned.
+        ///
+        /// # Contract
+        ///
+        /// ```text
+        /// ensures: result ≡ vector.extmul_low_u w32 w64 lhs rhs
+        /// ```
+        ///
+        /// Definitions: [`extmul_low_u`](crate::specs::widening::WideningTable#extmul_low_u).
+        #[inline]
+        pub fn i64x2_extmul_low_i32x4_u(lhs: V128, rhs: V128) -> V128 {
+            products_low_u::<u32>(lhs, rhs)
+        }
+
+        /// The products of the lanes of the upper halves, read signed.
+        ///
+        /// # Contract
+        ///
+        /// ```text
+        /// ensures: result ≡ vector.extmul_high_s w32 w64 lhs rhs
+        /// ```
+        ///
+        /// Definitions: [`extmul_high_s`](crate::specs::widening::WideningTable#extmul_high_s).
+        #[inline]
+        pub fn i64x2_extmul_high_i32x4_s(lhs: V128, rhs: V128) -> V128 {
+            products_high_s::<u32>(lhs, rhs)
+        }
+
+        /// The products of the lanes of the upper halves, read unsigned.
+        ///
+        /// # Contract
+        ///
+        /// ```text
+        /// ensures: result ≡ vector.extmul_high_u w32 w64 lhs rhs
+        /// ```
+        ///
+        /// Definitions: [`extmul_high_u`](crate::specs::widening::WideningTable#extmul_high_u).
+        #[inline]
+        pub fn i64x2_extmul_high_i32x4_u(lhs: V128, rhs: V128) -> V128 {
+            products_high_u::<u32>(lhs, rhs)
+        }
+
+        /// The sums of neighbouring lanes, read signed.
+        ///
+        /// # Contract
+        ///
+        /// ```text
+        /// ensures: result ≡ vector.extadd_pairwise_s w8 w16 v
+        /// ```
+        ///
+        /// Definitions: [`extadd_pairwise_s`](crate::specs::widening::WideningTable#extadd_pairwise_s).
+        #[inline]
+        pub fn i16x8_extadd_pairwise_i8x16_s(v: V128) -> V128 {
+            neighbours_s::<u8>(v)
+        }
+
+        /// The sums of neighbouring lanes, read unsigned.
+        ///
+        /// # Contract
+        ///
+        /// ```text
+        /// ensures: result ≡ vector.extadd_pairwise_u w8 w16 v
+        /// ```
+        ///
+        /// Definitions: [`extadd_pairwise_u`](crate::specs::widening::WideningTable#extadd_pairwise_u).
+        #[inline]
+        pub fn i16x8_extadd_pairwise_i8x16_u(v: V128) -> V128 {
+            neighbours_u::<u8>(v)
+        }
+
+        /// The sums of neighbouring lanes, read signed.
+        ///
+        /// # Contract
+        ///
+        /// ```text
+        /// ensures: result ≡ vector.extadd_pairwise_s w16 w32 v
+        /// ```
+        ///
+        /// Definitions: [`extadd_pairwise_s`](crate::specs::widening::WideningTable#extadd_pairwise_s).
+        #[inline]
+        pub fn i32x4_extadd_pairwise_i16x8_s(v: V128) -> V128 {
+            neighbours_s::<u16>(v)
+        }
+
+        /// The sums of neighbouring lanes, read unsigned.
+        ///
+        /// # Contract
+        ///
+        /// ```text
+        /// ensures: result ≡ vector.extadd_pairwise_u w16 w32 v
+        /// ```
+        ///
+        /// Definitions: [`extadd_pairwise_u`](crate::specs::widening::WideningTable#extadd_pairwise_u).
+        #[inline]
+        pub fn i32x4_extadd_pairwise_i16x8_u(v: V128) -> V128 {
+            neighbours_u::<u16>(v)
+        }
+
+        /// The sums of the products of neighbouring lanes, read signed, modulo 2 to the power 32.
+        ///
+        /// # Contract
+        ///
+        /// ```text
+        /// ensures: result ≡ vector.dot_s w16 w32 lhs rhs
+        /// ```
+        ///
+        /// Definitions: [`dot_s`](crate::specs::widening::WideningTable#dot_s).
+        #[inline]
+        pub fn i32x4_dot_i16x8_s(lhs: V128, rhs: V128) -> V128 {
+            dots::<u16>(lhs, rhs)
+        }
+
+        /// The sums of the products of neighbouring lanes, both read signed, modulo 2 to the power 16.
+        ///
+        /// # Contract
+        ///
+        /// ```text
+        /// ensures: result ≡ vector.relaxed_dot_s lhs rhs
+        /// ```
+        ///
+        /// Definitions: [`relaxed_dot_s`](crate::specs::widening::WideningTable#relaxed_dot_s).
+        #[inline]
+        pub fn i16x8_relaxed_dot_i8x16_i7x16_s(lhs: V128, rhs: V128) -> V128 {
+            dots::<u8>(lhs, rhs)
+        }
+
+        /// # Contract
+        ///
+        /// ```text
+        /// ensures: result ≡ vector.extmul_low_s T.width T.Wide.width lhs rhs
+        /// ```
+        ///
+        /// Definitions: [`extmul_low_s`](crate::specs::widening::WideningTable#extmul_low_s).
         #[inline(always)]
-        pub(super) fn odd_i16x8(v: V128) -> u32x4 {
-            u32x4::from_le_bytes((i32x4_of(v) >> 16).to_le_bytes())
+        fn products_low_s<T: ExtendedLane>(lhs: V128, rhs: V128) -> V128 {
+            T::Wide::vector_of(T::products(T::low_signed(lhs), T::low_signed(rhs)))
+        }
+
+        /// # Contract
+        ///
+        /// ```text
+        /// ensures: result ≡ vector.extmul_low_u T.width T.Wide.width lhs rhs
+        /// ```
+        ///
+        /// Definitions: [`extmul_low_u`](crate::specs::widening::WideningTable#extmul_low_u).
+        #[inline(always)]
+        fn products_low_u<T: ExtendedLane>(lhs: V128, rhs: V128) -> V128 {
+            T::Wide::vector_of(T::products(T::low(lhs), T::low(rhs)))
+        }
+
+        /// # Contract
+        ///
+        /// ```text
+        /// ensures: result ≡ vector.extmul_high_s T.width T.Wide.width lhs rhs
+        /// ```
+        ///
+        /// Definitions: [`extmul_high_s`](crate::specs::widening::WideningTable#extmul_high_s).
+        #[inline(always)]
+        fn products_high_s<T: ExtendedLane>(lhs: V128, rhs: V128) -> V128 {
+            T::Wide::vector_of(T::products(T::high_signed(lhs), T::high_signed(rhs)))
+        }
+
+        /// # Contract
+        ///
+        /// ```text
+        /// ensures: result ≡ vector.extmul_high_u T.width T.Wide.width lhs rhs
+        /// ```
+        ///
+        /// Definitions: [`extmul_high_u`](crate::specs::widening::WideningTable#extmul_high_u).
+        #[inline(always)]
+        fn products_high_u<T: ExtendedLane>(lhs: V128, rhs: V128) -> V128 {
+            T::Wide::vector_of(T::products(T::high(lhs), T::high(rhs)))
+        }
+
+        /// # Contract
+        ///
+        /// ```text
+        /// ensures: result ≡ vector.extadd_pairwise_s T.width T.Wide.width v
+        /// ```
+        ///
+        /// Definitions: [`extadd_pairwise_s`](crate::specs::widening::WideningTable#extadd_pairwise_s).
+        #[inline(always)]
+        fn neighbours_s<T: PairedLane>(v: V128) -> V128 {
+            T::Wide::vector_of(T::sums(T::even_signed(v), T::odd_signed(v)))
+        }
+
+        /// # Contract
+        ///
+        /// ```text
+        /// ensures: result ≡ vector.extadd_pairwise_u T.width T.Wide.width v
+        /// ```
+        ///
+        /// Definitions: [`extadd_pairwise_u`](crate::specs::widening::WideningTable#extadd_pairwise_u).
+        #[inline(always)]
+        fn neighbours_u<T: PairedLane>(v: V128) -> V128 {
+            T::Wide::vector_of(T::sums(T::even(v), T::odd(v)))
+        }
+
+        /// # Contract
+        ///
+        /// ```text
+        /// ensures: result ≡ vector.dot_s T.width T.Wide.width lhs rhs
+        /// ```
+        ///
+        /// Definitions: [`dot_s`](crate::specs::widening::WideningTable#dot_s).
+        #[inline(always)]
+        fn dots<T: PairedLane>(lhs: V128, rhs: V128) -> V128 {
+            let evens = T::products(T::even_signed(lhs), T::even_signed(rhs));
+            let odds = T::products(T::odd_signed(lhs), T::odd_signed(rhs));
+            T::Wide::vector_of(T::sums(evens, odds))
         }
     }
     mod extend {
         //! Lanes extended to twice their width.
 
-        use super::halves::{
-            high_i8x16, high_i16x8, high_i32x4, high_u8x16, high_u16x8, high_u32x4, low_i8x16,
-            low_i16x8, low_i32x4, low_u8x16, low_u16x8, low_u32x4,
-        };
+        use super::wide::ExtendedLane;
         use crate::proved::lanes::SimdLane;
         use crate::proved::raw::V128;
         use crate::rattle::simd::prelude::*;
@@ -296,7 +513,7 @@ pub mod simd {
         /// Definitions: [`extend_low_s`](crate::specs::widening::WideningTable#extend_low_s).
         #[inline]
         pub fn i16x8_extend_low_i8x16_s(v: V128) -> V128 {
-            u16::vector_of(low_i8x16(v))
+            extended_low_s::<u8>(v)
         }
 
         /// The lanes of the lower half, read unsigned.
@@ -310,7 +527,7 @@ pub mod simd {
         /// Definitions: [`extend_low_u`](crate::specs::widening::WideningTable#extend_low_u).
         #[inline]
         pub fn i16x8_extend_low_i8x16_u(v: V128) -> V128 {
-            u16::vector_of(low_u8x16(v))
+            extended_low_u::<u8>(v)
         }
 
         /// The lanes of the upper half, read signed.
@@ -324,7 +541,7 @@ pub mod simd {
         /// Definitions: [`extend_high_s`](crate::specs::widening::WideningTable#extend_high_s).
         #[inline]
         pub fn i16x8_extend_high_i8x16_s(v: V128) -> V128 {
-            u16::vector_of(high_i8x16(v))
+            extended_high_s::<u8>(v)
         }
 
         /// The lanes of the upper half, read unsigned.
@@ -338,7 +555,7 @@ pub mod simd {
         /// Definitions: [`extend_high_u`](crate::specs::widening::WideningTable#extend_high_u).
         #[inline]
         pub fn i16x8_extend_high_i8x16_u(v: V128) -> V128 {
-            u16::vector_of(high_u8x16(v))
+            extended_high_u::<u8>(v)
         }
 
         /// The lanes of the lower half, read signed.
@@ -352,7 +569,7 @@ pub mod simd {
         /// Definitions: [`extend_low_s`](crate::specs::widening::WideningTable#extend_low_s).
         #[inline]
         pub fn i32x4_extend_low_i16x8_s(v: V128) -> V128 {
-            u32::vector_of(low_i16x8(v))
+            extended_low_s::<u16>(v)
         }
 
         /// The lanes of the lower half, read unsigned.
@@ -366,7 +583,7 @@ pub mod simd {
         /// Definitions: [`extend_low_u`](crate::specs::widening::WideningTable#extend_low_u).
         #[inline]
         pub fn i32x4_extend_low_i16x8_u(v: V128) -> V128 {
-            u32::vector_of(low_u16x8(v))
+            extended_low_u::<u16>(v)
         }
 
         /// The lanes of the upper half, read signed.
@@ -380,7 +597,7 @@ pub mod simd {
         /// Definitions: [`extend_high_s`](crate::specs::widening::WideningTable#extend_high_s).
         #[inline]
         pub fn i32x4_extend_high_i16x8_s(v: V128) -> V128 {
-            u32::vector_of(high_i16x8(v))
+            extended_high_s::<u16>(v)
         }
 
         /// The lanes of the upper half, read unsigned.
@@ -394,7 +611,7 @@ pub mod simd {
         /// Definitions: [`extend_high_u`](crate::specs::widening::WideningTable#extend_high_u).
         #[inline]
         pub fn i32x4_extend_high_i16x8_u(v: V128) -> V128 {
-            u32::vector_of(high_u16x8(v))
+            extended_high_u::<u16>(v)
         }
 
         /// The lanes of the lower half, read signed.
@@ -408,7 +625,7 @@ pub mod simd {
         /// Definitions: [`extend_low_s`](crate::specs::widening::WideningTable#extend_low_s).
         #[inline]
         pub fn i64x2_extend_low_i32x4_s(v: V128) -> V128 {
-            u64::vector_of(low_i32x4(v))
+            extended_low_s::<u32>(v)
         }
 
         /// The lanes of the lower half, read unsigned.
@@ -422,7 +639,7 @@ pub mod simd {
         /// Definitions: [`extend_low_u`](crate::specs::widening::WideningTable#extend_low_u).
         #[inline]
         pub fn i64x2_extend_low_i32x4_u(v: V128) -> V128 {
-            u64::vector_of(low_u32x4(v))
+            extended_low_u::<u32>(v)
         }
 
         /// The lanes of the upper half, read signed.
@@ -436,7 +653,7 @@ pub mod simd {
         /// Definitions: [`extend_high_s`](crate::specs::widening::WideningTable#extend_high_s).
         #[inline]
         pub fn i64x2_extend_high_i32x4_s(v: V128) -> V128 {
-            u64::vector_of(high_i32x4(v))
+            extended_high_s::<u32>(v)
         }
 
         /// The lanes of the upper half, read unsigned.
@@ -450,7 +667,7 @@ pub mod simd {
         /// Definitions: [`extend_high_u`](crate::specs::widening::WideningTable#extend_high_u).
         #[inline]
         pub fn i64x2_extend_high_i32x4_u(v: V128) -> V128 {
-            u64::vector_of(high_u32x4(v))
+            extended_high_u::<u32>(v)
         }
 
         /// The 8 lanes of 8 bits of a number, read signed, lane 0 the lowest.
@@ -581,6 +798,54 @@ pub mod simd {
             u32::vector_of(lower_half_alone(V128::from_word_pair(number, 0)))
         }
 
+        /// # Contract
+        ///
+        /// ```text
+        /// ensures: result ≡ vector.extend_low_s T.width T.Wide.width v
+        /// ```
+        ///
+        /// Definitions: [`extend_low_s`](crate::specs::widening::WideningTable#extend_low_s).
+        #[inline(always)]
+        fn extended_low_s<T: ExtendedLane>(v: V128) -> V128 {
+            T::Wide::vector_of(T::low_signed(v))
+        }
+
+        /// # Contract
+        ///
+        /// ```text
+        /// ensures: result ≡ vector.extend_low_u T.width T.Wide.width v
+        /// ```
+        ///
+        /// Definitions: [`extend_low_u`](crate::specs::widening::WideningTable#extend_low_u).
+        #[inline(always)]
+        fn extended_low_u<T: ExtendedLane>(v: V128) -> V128 {
+            T::Wide::vector_of(T::low(v))
+        }
+
+        /// # Contract
+        ///
+        /// ```text
+        /// ensures: result ≡ vector.extend_high_s T.width T.Wide.width v
+        /// ```
+        ///
+        /// Definitions: [`extend_high_s`](crate::specs::widening::WideningTable#extend_high_s).
+        #[inline(always)]
+        fn extended_high_s<T: ExtendedLane>(v: V128) -> V128 {
+            T::Wide::vector_of(T::high_signed(v))
+        }
+
+        /// # Contract
+        ///
+        /// ```text
+        /// ensures: result ≡ vector.extend_high_u T.width T.Wide.width v
+        /// ```
+        ///
+        /// Definitions: [`extend_high_u`](crate::specs::widening::WideningTable#extend_high_u).
+        #[inline(always)]
+        fn extended_high_u<T: ExtendedLane>(v: V128) -> V128 {
+            T::Wide::vector_of(T::high(v))
+        }
+
         // The lanes of 32 bits of the lower half, and zeros behind them: of two words LLVM makes two
         // stores.
         /// # Contract
@@ -595,395 +860,11 @@ pub mod simd {
             u32::lanes_of(v).shuffle(u32x4::splat(0), [0, 1, 4, 5])
         }
     }
-    mod extmul {
-        //! Products of lanes, of twice their width.
-
-        use super::halves::{
-            high_i8x16, high_i16x8, high_i32x4, high_u8x16, high_u16x8, high_u32x4, low_i8x16,
-            low_i16x8, low_i32x4, low_u8x16, low_u16x8, low_u32x4,
-        };
-        use super::vectors::{product_of_u16x8, product_of_u32x4, product_of_u64x2};
-        use crate::proved::lanes::SimdLane;
-        use crate::proved::raw::V128;
-
-        /// The products of the lanes of the lower halves, read signed.
-        ///
-        /// # Contract
-        ///
-        /// ```text
-        /// ensures: result ≡ vector.extmul_low_s w8 w16 lhs rhs
-        /// ```
-        ///
-        /// Definitions: [`extmul_low_s`](crate::specs::widening::WideningTable#extmul_low_s).
-        #[inline]
-        pub fn i16x8_extmul_low_i8x16_s(lhs: V128, rhs: V128) -> V128 {
-            u16::vector_of(product_of_u16x8(low_i8x16(lhs), low_i8x16(rhs)))
-        }
-
-        /// The products of the lanes of the lower halves, read unsigned.
-        ///
-        /// # Contract
-        ///
-        /// ```text
-        /// ensures: result ≡ vector.extmul_low_u w8 w16 lhs rhs
-        /// ```
-        ///
-        /// Definitions: [`extmul_low_u`](crate::specs::widening::WideningTable#extmul_low_u).
-        #[inline]
-        pub fn i16x8_extmul_low_i8x16_u(lhs: V128, rhs: V128) -> V128 {
-            u16::vector_of(product_of_u16x8(low_u8x16(lhs), low_u8x16(rhs)))
-        }
-
-        /// The products of the lanes of the upper halves, read signed.
-        ///
-        /// # Contract
-        ///
-        /// ```text
-        /// ensures: result ≡ vector.extmul_high_s w8 w16 lhs rhs
-        /// ```
-        ///
-        /// Definitions: [`extmul_high_s`](crate::specs::widening::WideningTable#extmul_high_s).
-        #[inline]
-        pub fn i16x8_extmul_high_i8x16_s(lhs: V128, rhs: V128) -> V128 {
-            u16::vector_of(product_of_u16x8(high_i8x16(lhs), high_i8x16(rhs)))
-        }
-
-        /// The products of the lanes of the upper halves, read unsigned.
-        ///
-        /// # Contract
-        ///
-        /// ```text
-        /// ensures: result ≡ vector.extmul_high_u w8 w16 lhs rhs
-        /// ```
-        ///
-        /// Definitions: [`extmul_high_u`](crate::specs::widening::WideningTable#extmul_high_u).
-        #[inline]
-        pub fn i16x8_extmul_high_i8x16_u(lhs: V128, rhs: V128) -> V128 {
-            u16::vector_of(product_of_u16x8(high_u8x16(lhs), high_u8x16(rhs)))
-        }
-
-        /// The products of the lanes of the lower halves, read signed.
-        ///
-        /// # Contract
-        ///
-        /// ```text
-        /// ensures: result ≡ vector.extmul_low_s w16 w32 lhs rhs
-        /// ```
-        ///
-        /// Definitions: [`extmul_low_s`](crate::specs::widening::WideningTable#extmul_low_s).
-        #[inline]
-        pub fn i32x4_extmul_low_i16x8_s(lhs: V128, rhs: V128) -> V128 {
-            u32::vector_of(product_of_u32x4(low_i16x8(lhs), low_i16x8(rhs)))
-        }
-
-        /// The products of the lanes of the lower halves, read unsigned.
-        ///
-        /// # Contract
-        ///
-        /// ```text
-        /// ensures: result ≡ vector.extmul_low_u w16 w32 lhs rhs
-        /// ```
-        ///
-        /// Definitions: [`extmul_low_u`](crate::specs::widening::WideningTable#extmul_low_u).
-        #[inline]
-        pub fn i32x4_extmul_low_i16x8_u(lhs: V128, rhs: V128) -> V128 {
-            u32::vector_of(product_of_u32x4(low_u16x8(lhs), low_u16x8(rhs)))
-        }
-
-        /// The products of the lanes of the upper halves, read signed.
-        ///
-        /// # Contract
-        ///
-        /// ```text
-        /// ensures: result ≡ vector.extmul_high_s w16 w32 lhs rhs
-        /// ```
-        ///
-        /// Definitions: [`extmul_high_s`](crate::specs::widening::WideningTable#extmul_high_s).
-        #[inline]
-        pub fn i32x4_extmul_high_i16x8_s(lhs: V128, rhs: V128) -> V128 {
-            u32::vector_of(product_of_u32x4(high_i16x8(lhs), high_i16x8(rhs)))
-        }
-
-        /// The products of the lanes of the upper halves, read unsigned.
-        ///
-        /// # Contract
-        ///
-        /// ```text
-        /// ensures: result ≡ vector.extmul_high_u w16 w32 lhs rhs
-        /// ```
-        ///
-        /// Definitions: [`extmul_high_u`](crate::specs::widening::WideningTable#extmul_high_u).
-        #[inline]
-        pub fn i32x4_extmul_high_i16x8_u(lhs: V128, rhs: V128) -> V128 {
-            u32::vector_of(product_of_u32x4(high_u16x8(lhs), high_u16x8(rhs)))
-        }
-
-        /// The products of the lanes of the lower halves, read signed.
-        ///
-        /// # Contract
-        ///
-        /// ```text
-        /// ensures: result ≡ vector.extmul_low_s w32 w64 lhs rhs
-        /// ```
-        ///
-        /// Definitions: [`extmul_low_s`](crate::specs::widening::WideningTable#extmul_low_s).
-        #[inline]
-        pub fn i64x2_extmul_low_i32x4_s(lhs: V128, rhs: V128) -> V128 {
-            u64::vector_of(product_of_u64x2(low_i32x4(lhs), low_i32x4(rhs)))
-        }
-
-        /// The products of the lanes of the lower halves, read unsigned.
-        ///
-        /// # Contract
-        ///
-        /// ```text
-        /// ensures: result ≡ vector.extmul_low_u w32 w64 lhs rhs
-        /// ```
-        ///
-        /// Definitions: [`extmul_low_u`](crate::specs::widening::WideningTable#extmul_low_u).
-        #[inline]
-        pub fn i64x2_extmul_low_i32x4_u(lhs: V128, rhs: V128) -> V128 {
-            u64::vector_of(product_of_u64x2(low_u32x4(lhs), low_u32x4(rhs)))
-        }
-
-        /// The products of the lanes of the upper halves, read signed.
-        ///
-        /// # Contract
-        ///
-        /// ```text
-        /// ensures: result ≡ vector.extmul_high_s w32 w64 lhs rhs
-        /// ```
-        ///
-        /// Definitions: [`extmul_high_s`](crate::specs::widening::WideningTable#extmul_high_s).
-        #[inline]
-        pub fn i64x2_extmul_high_i32x4_s(lhs: V128, rhs: V128) -> V128 {
-            u64::vector_of(product_of_u64x2(high_i32x4(lhs), high_i32x4(rhs)))
-        }
-
-        /// The products of the lanes of the upper halves, read unsigned.
-        ///
-        /// # Contract
-        ///
-        /// ```text
-        /// ensures: result ≡ vector.extmul_high_u w32 w64 lhs rhs
-        /// ```
-        ///
-        /// Definitions: [`extmul_high_u`](crate::specs::widening::WideningTable#extmul_high_u).
-        #[inline]
-        pub fn i64x2_extmul_high_i32x4_u(lhs: V128, rhs: V128) -> V128 {
-            u64::vector_of(product_of_u64x2(high_u32x4(lhs), high_u32x4(rhs)))
-        }
-    }
-    mod halves {
-        //! The lanes of half a vector at twice their width, as `core::simd` vectors: LLVM takes plain lanes
-        //! out one by one.
-
-        use super::vectors::{i16x8_of, i32x4_of};
-        use crate::proved::lanes::{SimdLane, bytes_of};
-        use crate::proved::raw::V128;
-        use crate::rattle::simd::prelude::*;
-
-        /// The lower 8 lanes of 8 bits.
-        ///
-        /// # Contract
-        ///
-        /// ```text
-        /// ensures lanes: (i : ℕ) → i < 8 → slice_index result i ≡ lane w8 v i
-        /// ```
-        ///
-        /// Definitions: [`lane`](crate::specs::lanes::Lane#lane).
-        #[inline(always)]
-        pub(super) fn low_u8x16(v: V128) -> u16x8 {
-            bytes_of(v).extract::<0, 8>().cast::<u16>()
-        }
-
-        /// The upper 8 lanes of 8 bits.
-        ///
-        /// # Contract
-        ///
-        /// ```text
-        /// ensures lanes: (i : ℕ) → i < 8 → slice_index result i ≡ lane w8 v (8 + i)
-        /// ```
-        ///
-        /// Definitions: [`lane`](crate::specs::lanes::Lane#lane).
-        #[inline(always)]
-        pub(super) fn high_u8x16(v: V128) -> u16x8 {
-            bytes_of(v).extract::<8, 8>().cast::<u16>()
-        }
-
-        /// The lower 8 lanes of 8 bits, the sign copied.
-        ///
-        /// # Contract
-        ///
-        /// ```text
-        /// ensures lanes: (i : ℕ) → i < 8
-        ///     → slice_index result i ≡ cast_unsigned w16 (signed w8 (lane w8 v i))
-        /// ```
-        ///
-        /// Definitions: [`lane`](crate::specs::lanes::Lane#lane).
-        #[inline(always)]
-        pub(super) fn low_i8x16(v: V128) -> u16x8 {
-            sign_copied(low_u8x16(v))
-        }
-
-        /// The upper 8 lanes of 8 bits, the sign copied.
-        ///
-        /// # Contract
-        ///
-        /// ```text
-        /// ensures lanes: (i : ℕ) → i < 8
-        ///     → slice_index result i ≡ cast_unsigned w16 (signed w8 (lane w8 v (8 + i)))
-        /// ```
-        ///
-        /// Definitions: [`lane`](crate::specs::lanes::Lane#lane).
-        #[inline(always)]
-        pub(super) fn high_i8x16(v: V128) -> u16x8 {
-            sign_copied(high_u8x16(v))
-        }
-
-        // Numbers of 8 bits, the sign copied to 16: their highest bit is flipped, and taken off again.
-        /// # Contract
-        ///
-        /// ```text
-        /// ensures lanes: (i x : ℕ) → i < 8 → slice_index bytes i ≡ x → x < 2 ^ 8
-        ///     → slice_index result i ≡ cast_unsigned w16 (signed w8 x)
-        /// ```
-        #[inline(always)]
-        fn sign_copied(bytes: u16x8) -> u16x8 {
-            let tops = u16x8::splat(0x80);
-            (bytes ^ tops) - tops
-        }
-
-        /// The lower 4 lanes of 16 bits.
-        ///
-        /// # Contract
-        ///
-        /// ```text
-        /// ensures lanes: (i : ℕ) → i < 4 → slice_index result i ≡ lane w16 v i
-        /// ```
-        ///
-        /// Definitions: [`lane`](crate::specs::lanes::Lane#lane).
-        #[inline(always)]
-        pub(super) fn low_u16x8(v: V128) -> u32x4 {
-            u16::lanes_of(v).extract::<0, 4>().cast::<u32>()
-        }
-
-        /// The upper 4 lanes of 16 bits.
-        ///
-        /// # Contract
-        ///
-        /// ```text
-        /// ensures lanes: (i : ℕ) → i < 4 → slice_index result i ≡ lane w16 v (4 + i)
-        /// ```
-        ///
-        /// Definitions: [`lane`](crate::specs::lanes::Lane#lane).
-        #[inline(always)]
-        pub(super) fn high_u16x8(v: V128) -> u32x4 {
-            u16::lanes_of(v).extract::<4, 4>().cast::<u32>()
-        }
-
-        /// The lower 4 lanes of 16 bits, the sign copied.
-        ///
-        /// # Contract
-        ///
-        /// ```text
-        /// ensures lanes: (i : ℕ) → i < 4
-        ///     → slice_index result i ≡ cast_unsigned w32 (signed w16 (lane w16 v i))
-        /// ```
-        ///
-        /// Definitions: [`lane`](crate::specs::lanes::Lane#lane).
-        #[inline(always)]
-        pub(super) fn low_i16x8(v: V128) -> u32x4 {
-            let items = i16x8_of(v).extract::<0, 4>().cast::<i32>();
-            u32x4::from_le_bytes(items.to_le_bytes())
-        }
-
-        /// The upper 4 lanes of 16 bits, the sign copied.
-        ///
-        /// # Contract
-        ///
-        /// ```text
-        /// ensures lanes: (i : ℕ) → i < 4
-        ///     → slice_index result i ≡ cast_unsigned w32 (signed w16 (lane w16 v (4 + i)))
-        /// ```
-        ///
-        /// Definitions: [`lane`](crate::specs::lanes::Lane#lane).
-        #[inline(always)]
-        pub(super) fn high_i16x8(v: V128) -> u32x4 {
-            let items = i16x8_of(v).extract::<4, 4>().cast::<i32>();
-            u32x4::from_le_bytes(items.to_le_bytes())
-        }
-
-        /// The lower 2 lanes of 32 bits.
-        ///
-        /// Zeros come between them: of a cast LLVM takes the lanes out of their word.
-        ///
-        /// # Contract
-        ///
-        /// ```text
-        /// ensures lanes: (i : ℕ) → i < 2 → slice_index result i ≡ lane w32 v i
-        /// ```
-        ///
-        /// Definitions: [`lane`](crate::specs::lanes::Lane#lane).
-        #[inline(always)]
-        pub(super) fn low_u32x4(v: V128) -> u64x2 {
-            let items = u32::lanes_of(v).shuffle(u32x4::splat(0), [0, 4, 1, 5]);
-            u64x2::from_le_bytes(items.to_le_bytes())
-        }
-
-        /// The upper 2 lanes of 32 bits.
-        ///
-        /// # Contract
-        ///
-        /// ```text
-        /// ensures lanes: (i : ℕ) → i < 2 → slice_index result i ≡ lane w32 v (2 + i)
-        /// ```
-        ///
-        /// Definitions: [`lane`](crate::specs::lanes::Lane#lane).
-        #[inline(always)]
-        pub(super) fn high_u32x4(v: V128) -> u64x2 {
-            let items = u32::lanes_of(v).shuffle(u32x4::splat(0), [2, 4, 3, 5]);
-            u64x2::from_le_bytes(items.to_le_bytes())
-        }
-
-        /// The lower 2 lanes of 32 bits, the sign copied.
-        ///
-        /// # Contract
-        ///
-        /// ```text
-        /// ensures lanes: (i : ℕ) → i < 2
-        ///     → slice_index result i ≡ cast_unsigned w64 (signed w32 (lane w32 v i))
-        /// ```
-        ///
-        /// Definitions: [`lane`](crate::specs::lanes::Lane#lane).
-        #[inline(always)]
-        pub(super) fn low_i32x4(v: V128) -> u64x2 {
-            let items = i32x4_of(v).extract::<0, 2>().cast::<i64>();
-            u64x2::from_le_bytes(items.to_le_bytes())
-        }
-
-        /// The upper 2 lanes of 32 bits, the sign copied.
-        ///
-        /// # Contract
-        ///
-        /// ```text
-        /// ensures lanes: (i : ℕ) → i < 2
-        ///     → slice_index result i ≡ cast_unsigned w64 (signed w32 (lane w32 v (2 + i)))
-        /// ```
-        ///
-        /// Definitions: [`lane`](crate::specs::lanes::Lane#lane).
-        #[inline(always)]
-        pub(super) fn high_i32x4(v: V128) -> u64x2 {
-            let items = i32x4_of(v).extract::<2, 2>().cast::<i64>();
-            u64x2::from_le_bytes(items.to_le_bytes())
-        }
-    }
     mod narrow {
         //! Lanes narrowed to half of their width.
 
-        use crate::proved::lanes::{I8x16, I16x8, I32x4, clamped_i8, clamped_i16};
+        use crate::proved::lanes::{FromWide, I8x16, I16x8, I32x4, Lanes, clamped_i8, clamped_i16};
         use crate::proved::raw::V128;
-        use crate::proved::widening::widening::from_low_high;
 
         /// The lanes of `low`, then those of `high`, read signed and clamped to the signed range of 8 bits.
         ///
@@ -1065,103 +946,26 @@ pub mod simd {
         fn clamped_u16(x: i32) -> i16 {
             (x.clamp(0, 65535) as u16).cast_signed()
         }
-    }
-    mod pairwise {
-        //! Sums of neighbouring lanes and of their products, of twice the lanes' width.
 
-        use super::even_odd::{
-            even_i8x16, even_i16x8, even_u8x16, even_u16x8, odd_i8x16, odd_i16x8, odd_u8x16,
-            odd_u16x8,
-        };
-        use super::vectors::{product_of_u16x8, product_of_u32x4, sums_of_u16x8, sums_of_u32x4};
-        use crate::proved::raw::V128;
-
-        /// The sums of neighbouring lanes, read signed.
-        ///
+        // Applies `f` to the lanes of `low`, then to those of `high`.
         /// # Contract
         ///
         /// ```text
-        /// ensures: result ≡ vector.extadd_pairwise_s w8 w16 v
+        /// requires callable: F.IsAlwaysCallable f
+        /// ensures lanes: (row : W.Item → ℕ)
+        ///     → ((x : W.Item) (z : L.Item) → W.Item.Fits x → L.Item.Fits z → F.post f x z
+        ///     → L.Item.image z ≡ row x)
+        ///     → result ≡ made.from_low_high W.Item.width L.Item.width W.Item.read row low high
         /// ```
         ///
-        /// Definitions: [`extadd_pairwise_s`](crate::specs::widening::WideningTable#extadd_pairwise_s).
-        #[inline]
-        pub fn i16x8_extadd_pairwise_i8x16_s(v: V128) -> V128 {
-            sums_of_u16x8(even_i8x16(v), odd_i8x16(v))
-        }
-
-        /// The sums of neighbouring lanes, read unsigned.
-        ///
-        /// # Contract
-        ///
-        /// ```text
-        /// ensures: result ≡ vector.extadd_pairwise_u w8 w16 v
-        /// ```
-        ///
-        /// Definitions: [`extadd_pairwise_u`](crate::specs::widening::WideningTable#extadd_pairwise_u).
-        #[inline]
-        pub fn i16x8_extadd_pairwise_i8x16_u(v: V128) -> V128 {
-            sums_of_u16x8(even_u8x16(v), odd_u8x16(v))
-        }
-
-        /// The sums of neighbouring lanes, read signed.
-        ///
-        /// # Contract
-        ///
-        /// ```text
-        /// ensures: result ≡ vector.extadd_pairwise_s w16 w32 v
-        /// ```
-        ///
-        /// Definitions: [`extadd_pairwise_s`](crate::specs::widening::WideningTable#extadd_pairwise_s).
-        #[inline]
-        pub fn i32x4_extadd_pairwise_i16x8_s(v: V128) -> V128 {
-            sums_of_u32x4(even_i16x8(v), odd_i16x8(v))
-        }
-
-        /// The sums of neighbouring lanes, read unsigned.
-        ///
-        /// # Contract
-        ///
-        /// ```text
-        /// ensures: result ≡ vector.extadd_pairwise_u w16 w32 v
-        /// ```
-        ///
-        /// Definitions: [`extadd_pairwise_u`](crate::specs::widening::WideningTable#extadd_pairwise_u).
-        #[inline]
-        pub fn i32x4_extadd_pairwise_i16x8_u(v: V128) -> V128 {
-            sums_of_u32x4(even_u16x8(v), odd_u16x8(v))
-        }
-
-        /// The sums of the products of neighbouring lanes, read signed, modulo 2 to the power 32.
-        ///
-        /// # Contract
-        ///
-        /// ```text
-        /// ensures: result ≡ vector.dot_s w16 w32 lhs rhs
-        /// ```
-        ///
-        /// Definitions: [`dot_s`](crate::specs::widening::WideningTable#dot_s).
-        #[inline]
-        pub fn i32x4_dot_i16x8_s(lhs: V128, rhs: V128) -> V128 {
-            let evens = product_of_u32x4(even_i16x8(lhs), even_i16x8(rhs));
-            let odds = product_of_u32x4(odd_i16x8(lhs), odd_i16x8(rhs));
-            sums_of_u32x4(evens, odds)
-        }
-
-        /// The sums of the products of neighbouring lanes, both read signed, modulo 2 to the power 16.
-        ///
-        /// # Contract
-        ///
-        /// ```text
-        /// ensures: result ≡ vector.relaxed_dot_s lhs rhs
-        /// ```
-        ///
-        /// Definitions: [`relaxed_dot_s`](crate::specs::widening::WideningTable#relaxed_dot_s).
-        #[inline]
-        pub fn i16x8_relaxed_dot_i8x16_i7x16_s(lhs: V128, rhs: V128) -> V128 {
-            let evens = product_of_u16x8(even_i8x16(lhs), even_i8x16(rhs));
-            let odds = product_of_u16x8(odd_i8x16(lhs), odd_i8x16(rhs));
-            sums_of_u16x8(evens, odds)
+        /// Definitions: [`from_low_high`](crate::specs::widening::Widening#from_low_high).
+        #[inline(always)]
+        fn from_low_high<W: Lanes, L: FromWide<W>, F: Fn(W::Item) -> L::Item>(
+            low: V128,
+            high: V128,
+            f: F,
+        ) -> V128 {
+            L::from_low_high(W::from_v128(low), W::from_v128(high), f).into_v128()
         }
     }
     mod reductions {
@@ -1363,8 +1167,8 @@ pub mod simd {
         //! The relaxed instructions. Where the standard leaves a choice, each gives what another
         //! instruction gives.
 
-        use super::pairwise::{i16x8_relaxed_dot_i8x16_i7x16_s, i32x4_extadd_pairwise_i16x8_s};
-        use super::vectors::sums_of_u32x4;
+        use super::arithmetic::{i16x8_relaxed_dot_i8x16_i7x16_s, i32x4_extadd_pairwise_i16x8_s};
+        use super::wide::PairedLane;
         use crate::proved::lanes::SimdLane;
         use crate::proved::lanewise::simd::{i8x16_swizzle, i16x8_q15mulr_sat_s, v128_bitselect};
         use crate::proved::raw::V128;
@@ -1467,7 +1271,7 @@ pub mod simd {
         pub fn i32x4_relaxed_dot_i8x16_i7x16_add_s(lhs: V128, rhs: V128, c: V128) -> V128 {
             let dot = i16x8_relaxed_dot_i8x16_i7x16_s(lhs, rhs);
             let pairs = i32x4_extadd_pairwise_i16x8_s(dot);
-            sums_of_u32x4(u32::lanes_of(pairs), u32::lanes_of(c))
+            u32::vector_of(u16::sums(u32::lanes_of(pairs), u32::lanes_of(c)))
         }
     }
     mod shift {
@@ -1477,9 +1281,9 @@ pub mod simd {
         //! lane; with the sign it is done lane by lane, or for lanes of 8 bits by a shift without sign of
         //! lanes moved by half of their range.
 
-        use super::shift_masks::NarrowLane;
         use crate::proved::lanes::{
-            I16x8, I32x4, I64x2, SimdLane, bytes_of, from_bytes, from_u64x2, on_vectors, u64x2_of,
+            I16x8, I32x4, I64x2, SimdLane, WordLane, bytes_of, from_bytes, from_u64x2, on_vectors,
+            u64x2_of,
         };
         use crate::proved::raw::V128;
         use crate::rattle::simd::prelude::*;
@@ -1724,19 +1528,12 @@ pub mod simd {
             0x0202_0202_0202_0202_0202_0202_0202_0202,
             0x0101_0101_0101_0101_0101_0101_0101_0101,
         ];
-    }
-    mod shift_masks {
-        //! The low bits of each lane of the two words of a vector, from tables: a shift of the highest bits
-        //! would be made in a general register, and go from there to a vector register.
-
-        use crate::proved::lanes::{WordLane, u64x2_of};
-        use crate::proved::raw::V128;
-        use crate::rattle::simd::prelude::*;
 
         /// A lane of which a word has more than one, so that a shifted word needs a mask.
-        pub(super) trait NarrowLane: WordLane {
+        trait NarrowLane: WordLane {
             /// The low bits of each lane of two words, all but its highest ones, of which there are
-            /// `dropped`.
+            /// `dropped`. They come from a table: a shift of the highest bits would be made in a general
+            /// register, and go from there to a vector register.
             ///
             /// # Contract
             ///
@@ -1836,16 +1633,323 @@ pub mod simd {
             0x0000_0001_0000_0001_0000_0001_0000_0001,
         ];
     }
-    mod vectors {
-        //! The lanes of a vector read signed, as a vector of `core::simd`; sums and products of the lanes of
-        //! such vectors.
+    mod wide {
+        //! Lanes at twice their width, as `core::simd` vectors: those of half a vector, and every second one
+        //! of a vector. LLVM takes plain lanes out one by one.
 
         use crate::proved::lanes::{SimdLane, bytes_of};
         use crate::proved::raw::V128;
         use crate::rattle::simd::prelude::*;
 
-        /// The lanes of 16 bits, read signed.
+        /// A lane that is extended to twice its width.
         ///
+        /// # Contract
+        ///
+        /// ```text
+        /// -- `Wide` has twice the width.
+        /// widens: IsWidening Self.LaneInteger.width Self.Wide.LaneInteger.width
+        ///     (lane_count Self.Wide.LaneInteger.width)
+        /// ```
+        ///
+        /// Definitions: [`IsWidening`](crate::specs::widening::WideningProofs#IsWidening), [`lane_count`](crate::specs::lanes::Lane#lane_count).
+        pub(super) trait ExtendedLane: SimdLane {
+            /// The lane of twice the width.
+            type Wide: SimdLane;
+
+            /// The lanes of the lower half.
+            ///
+            /// # Contract
+            ///
+            /// ```text
+            /// ensures lanes: (i : ℕ) → i < lane_count Self.Wide.width
+            ///     → Self.Wide.at result i ≡ lane Self.width v i
+            /// ```
+            ///
+            /// Definitions: [`lane_count`](crate::specs::lanes::Lane#lane_count), [`lane`](crate::specs::lanes::Lane#lane).
+            fn low(v: V128) -> <Self::Wide as SimdLane>::Vector;
+
+            /// The lanes of the upper half.
+            ///
+            /// # Contract
+            ///
+            /// ```text
+            /// ensures lanes: (i : ℕ) → i < lane_count Self.Wide.width
+            ///     → Self.Wide.at result i ≡ lane Self.width v (lane_count Self.Wide.width + i)
+            /// ```
+            ///
+            /// Definitions: [`lane_count`](crate::specs::lanes::Lane#lane_count), [`lane`](crate::specs::lanes::Lane#lane).
+            fn high(v: V128) -> <Self::Wide as SimdLane>::Vector;
+
+            /// The lanes of the lower half, the sign copied.
+            ///
+            /// # Contract
+            ///
+            /// ```text
+            /// ensures lanes: (i : ℕ) → i < lane_count Self.Wide.width → Self.Wide.at result i
+            ///     ≡ cast_unsigned Self.Wide.width (signed Self.width (lane Self.width v i))
+            /// ```
+            ///
+            /// Definitions: [`lane_count`](crate::specs::lanes::Lane#lane_count), [`lane`](crate::specs::lanes::Lane#lane).
+            fn low_signed(v: V128) -> <Self::Wide as SimdLane>::Vector;
+
+            /// The lanes of the upper half, the sign copied.
+            ///
+            /// # Contract
+            ///
+            /// ```text
+            /// ensures lanes: (i : ℕ) → i < lane_count Self.Wide.width → Self.Wide.at result i
+            ///     ≡ cast_unsigned Self.Wide.width
+            ///     (signed Self.width (lane Self.width v (lane_count Self.Wide.width + i)))
+            /// ```
+            ///
+            /// Definitions: [`lane_count`](crate::specs::lanes::Lane#lane_count), [`lane`](crate::specs::lanes::Lane#lane).
+            fn high_signed(v: V128) -> <Self::Wide as SimdLane>::Vector;
+
+            /// The products of wide lanes, modulo 2 to the power of their width.
+            ///
+            /// # Contract
+            ///
+            /// ```text
+            /// ensures lanes: (i : ℕ) → i < lane_count Self.Wide.width → Self.Wide.at result i
+            ///     ≡ Self.Wide.at a i * Self.Wide.at b i % 2 ^ bits Self.Wide.width
+            /// ```
+            ///
+            /// Definitions: [`lane_count`](crate::specs::lanes::Lane#lane_count).
+            fn products(
+                a: <Self::Wide as SimdLane>::Vector,
+                b: <Self::Wide as SimdLane>::Vector,
+            ) -> <Self::Wide as SimdLane>::Vector;
+        }
+
+        /// A lane of which neighbouring ones are put together at twice their width: a lane of twice the
+        /// width is two neighbours, and shifts take each out of it.
+        pub(super) trait PairedLane: ExtendedLane {
+            /// The lanes with an even number.
+            ///
+            /// # Contract
+            ///
+            /// ```text
+            /// ensures lanes: (i : ℕ) → i < lane_count Self.Wide.width
+            ///     → Self.Wide.at result i ≡ lane Self.width v (2 * i)
+            /// ```
+            ///
+            /// Definitions: [`lane_count`](crate::specs::lanes::Lane#lane_count), [`lane`](crate::specs::lanes::Lane#lane).
+            fn even(v: V128) -> <Self::Wide as SimdLane>::Vector;
+
+            /// The lanes with an odd number.
+            ///
+            /// # Contract
+            ///
+            /// ```text
+            /// ensures lanes: (i : ℕ) → i < lane_count Self.Wide.width
+            ///     → Self.Wide.at result i ≡ lane Self.width v (2 * i + 1)
+            /// ```
+            ///
+            /// Definitions: [`lane_count`](crate::specs::lanes::Lane#lane_count), [`lane`](crate::specs::lanes::Lane#lane).
+            fn odd(v: V128) -> <Self::Wide as SimdLane>::Vector;
+
+            /// The lanes with an even number, the sign copied.
+            ///
+            /// # Contract
+            ///
+            /// ```text
+            /// ensures lanes: (i : ℕ) → i < lane_count Self.Wide.width → Self.Wide.at result i
+            ///     ≡ cast_unsigned Self.Wide.width (signed Self.width (lane Self.width v (2 * i)))
+            /// ```
+            ///
+            /// Definitions: [`lane_count`](crate::specs::lanes::Lane#lane_count), [`lane`](crate::specs::lanes::Lane#lane).
+            fn even_signed(v: V128) -> <Self::Wide as SimdLane>::Vector;
+
+            /// The lanes with an odd number, the sign copied.
+            ///
+            /// # Contract
+            ///
+            /// ```text
+            /// ensures lanes: (i : ℕ) → i < lane_count Self.Wide.width → Self.Wide.at result i
+            ///     ≡ cast_unsigned Self.Wide.width (signed Self.width (lane Self.width v (2 * i + 1)))
+            /// ```
+            ///
+            /// Definitions: [`lane_count`](crate::specs::lanes::Lane#lane_count), [`lane`](crate::specs::lanes::Lane#lane).
+            fn odd_signed(v: V128) -> <Self::Wide as SimdLane>::Vector;
+
+            /// The sums of wide lanes, modulo 2 to the power of their width.
+            ///
+            /// # Contract
+            ///
+            /// ```text
+            /// ensures lanes: (i : ℕ) → i < lane_count Self.Wide.width → Self.Wide.at result i
+            ///     ≡ (Self.Wide.at a i + Self.Wide.at b i) % 2 ^ bits Self.Wide.width
+            /// ```
+            ///
+            /// Definitions: [`lane_count`](crate::specs::lanes::Lane#lane_count).
+            fn sums(
+                a: <Self::Wide as SimdLane>::Vector,
+                b: <Self::Wide as SimdLane>::Vector,
+            ) -> <Self::Wide as SimdLane>::Vector;
+        }
+
+        impl ExtendedLane for u8 {
+            type Wide = u16;
+
+            #[inline(always)]
+            fn low(v: V128) -> u16x8 {
+                bytes_of(v).extract::<0, 8>().cast::<u16>()
+            }
+
+            #[inline(always)]
+            fn high(v: V128) -> u16x8 {
+                bytes_of(v).extract::<8, 8>().cast::<u16>()
+            }
+
+            #[inline(always)]
+            fn low_signed(v: V128) -> u16x8 {
+                sign_copied(u8::low(v))
+            }
+
+            #[inline(always)]
+            fn high_signed(v: V128) -> u16x8 {
+                sign_copied(u8::high(v))
+            }
+
+            #[inline(always)]
+            fn products(a: u16x8, b: u16x8) -> u16x8 {
+                a * b
+            }
+        }
+
+        impl PairedLane for u8 {
+            #[inline(always)]
+            fn even(v: V128) -> u16x8 {
+                u16::lanes_of(v) & u16x8::splat(0xff)
+            }
+
+            #[inline(always)]
+            fn odd(v: V128) -> u16x8 {
+                u16::lanes_of(v) >> 8
+            }
+
+            #[inline(always)]
+            fn even_signed(v: V128) -> u16x8 {
+                u16x8::from_le_bytes(((i16x8_of(v) << 8) >> 8).to_le_bytes())
+            }
+
+            #[inline(always)]
+            fn odd_signed(v: V128) -> u16x8 {
+                u16x8::from_le_bytes((i16x8_of(v) >> 8).to_le_bytes())
+            }
+
+            #[inline(always)]
+            fn sums(a: u16x8, b: u16x8) -> u16x8 {
+                a + b
+            }
+        }
+
+        impl ExtendedLane for u16 {
+            type Wide = u32;
+
+            #[inline(always)]
+            fn low(v: V128) -> u32x4 {
+                u16::lanes_of(v).extract::<0, 4>().cast::<u32>()
+            }
+
+            #[inline(always)]
+            fn high(v: V128) -> u32x4 {
+                u16::lanes_of(v).extract::<4, 4>().cast::<u32>()
+            }
+
+            #[inline(always)]
+            fn low_signed(v: V128) -> u32x4 {
+                let items = i16x8_of(v).extract::<0, 4>().cast::<i32>();
+                u32x4::from_le_bytes(items.to_le_bytes())
+            }
+
+            #[inline(always)]
+            fn high_signed(v: V128) -> u32x4 {
+                let items = i16x8_of(v).extract::<4, 4>().cast::<i32>();
+                u32x4::from_le_bytes(items.to_le_bytes())
+            }
+
+            #[inline(always)]
+            fn products(a: u32x4, b: u32x4) -> u32x4 {
+                a * b
+            }
+        }
+
+        impl PairedLane for u16 {
+            #[inline(always)]
+            fn even(v: V128) -> u32x4 {
+                u32::lanes_of(v) & u32x4::splat(0xffff)
+            }
+
+            #[inline(always)]
+            fn odd(v: V128) -> u32x4 {
+                u32::lanes_of(v) >> 16
+            }
+
+            #[inline(always)]
+            fn even_signed(v: V128) -> u32x4 {
+                u32x4::from_le_bytes(((i32x4_of(v) << 16) >> 16).to_le_bytes())
+            }
+
+            #[inline(always)]
+            fn odd_signed(v: V128) -> u32x4 {
+                u32x4::from_le_bytes((i32x4_of(v) >> 16).to_le_bytes())
+            }
+
+            #[inline(always)]
+            fn sums(a: u32x4, b: u32x4) -> u32x4 {
+                a + b
+            }
+        }
+
+        // Zeros come between the lanes of a half: of a cast LLVM takes the lanes out of their word.
+        impl ExtendedLane for u32 {
+            type Wide = u64;
+
+            #[inline(always)]
+            fn low(v: V128) -> u64x2 {
+                let items = u32::lanes_of(v).shuffle(u32x4::splat(0), [0, 4, 1, 5]);
+                u64x2::from_le_bytes(items.to_le_bytes())
+            }
+
+            #[inline(always)]
+            fn high(v: V128) -> u64x2 {
+                let items = u32::lanes_of(v).shuffle(u32x4::splat(0), [2, 4, 3, 5]);
+                u64x2::from_le_bytes(items.to_le_bytes())
+            }
+
+            #[inline(always)]
+            fn low_signed(v: V128) -> u64x2 {
+                let items = i32x4_of(v).extract::<0, 2>().cast::<i64>();
+                u64x2::from_le_bytes(items.to_le_bytes())
+            }
+
+            #[inline(always)]
+            fn high_signed(v: V128) -> u64x2 {
+                let items = i32x4_of(v).extract::<2, 2>().cast::<i64>();
+                u64x2::from_le_bytes(items.to_le_bytes())
+            }
+
+            #[inline(always)]
+            fn products(a: u64x2, b: u64x2) -> u64x2 {
+                a * b
+            }
+        }
+
+        // Numbers of 8 bits, the sign copied to 16: their highest bit is flipped, and taken off again.
+        /// # Contract
+        ///
+        /// ```text
+        /// ensures lanes: (i x : ℕ) → i < 8 → slice_index bytes i ≡ x → x < 2 ^ 8
+        ///     → slice_index result i ≡ cast_unsigned w16 (signed w8 x)
+        /// ```
+        #[inline(always)]
+        fn sign_copied(bytes: u16x8) -> u16x8 {
+            let tops = u16x8::splat(0x80);
+            (bytes ^ tops) - tops
+        }
+
+        // The lanes of 16 bits, read signed.
         /// # Contract
         ///
         /// ```text
@@ -1854,12 +1958,11 @@ pub mod simd {
         ///
         /// Definitions: [`lane`](crate::specs::lanes::Lane#lane).
         #[inline(always)]
-        pub(super) fn i16x8_of(v: V128) -> i16x8 {
+        fn i16x8_of(v: V128) -> i16x8 {
             i16x8::from_le_bytes(bytes_of(v))
         }
 
-        /// The lanes of 32 bits, read signed.
-        ///
+        // The lanes of 32 bits, read signed.
         /// # Contract
         ///
         /// ```text
@@ -1868,82 +1971,19 @@ pub mod simd {
         ///
         /// Definitions: [`lane`](crate::specs::lanes::Lane#lane).
         #[inline(always)]
-        pub(super) fn i32x4_of(v: V128) -> i32x4 {
+        fn i32x4_of(v: V128) -> i32x4 {
             i32x4::from_le_bytes(bytes_of(v))
-        }
-
-        /// The vector of the sums of lanes of 16 bits, modulo 2 to the power 16.
-        ///
-        /// # Contract
-        ///
-        /// ```text
-        /// ensures lanes: (i : ℕ) → i < 8
-        ///     → lane w16 result i ≡ (slice_index a i + slice_index b i) % 2 ^ 16
-        /// ensures in_range: result < 2 ^ 128
-        /// ```
-        ///
-        /// Definitions: [`lane`](crate::specs::lanes::Lane#lane).
-        #[inline(always)]
-        pub(super) fn sums_of_u16x8(a: u16x8, b: u16x8) -> V128 {
-            u16::vector_of(a + b)
-        }
-
-        /// The vector of the sums of lanes of 32 bits, modulo 2 to the power 32.
-        ///
-        /// # Contract
-        ///
-        /// ```text
-        /// ensures lanes: (i : ℕ) → i < 4
-        ///     → lane w32 result i ≡ (slice_index a i + slice_index b i) % 2 ^ 32
-        /// ensures in_range: result < 2 ^ 128
-        /// ```
-        ///
-        /// Definitions: [`lane`](crate::specs::lanes::Lane#lane).
-        #[inline(always)]
-        pub(super) fn sums_of_u32x4(a: u32x4, b: u32x4) -> V128 {
-            u32::vector_of(a + b)
-        }
-
-        /// The products of lanes of 16 bits, modulo 2 to the power 16.
-        ///
-        /// # Contract
-        ///
-        /// ```text
-        /// ensures lanes: (i : ℕ) → i < 8
-        ///     → slice_index result i ≡ slice_index a i * slice_index b i % 2 ^ 16
-        /// ```
-        #[inline(always)]
-        pub(super) fn product_of_u16x8(a: u16x8, b: u16x8) -> u16x8 {
-            a * b
-        }
-
-        /// The products of lanes of 32 bits, modulo 2 to the power 32.
-        ///
-        /// # Contract
-        ///
-        /// ```text
-        /// ensures lanes: (i : ℕ) → i < 4
-        ///     → slice_index result i ≡ slice_index a i * slice_index b i % 2 ^ 32
-        /// ```
-        #[inline(always)]
-        pub(super) fn product_of_u32x4(a: u32x4, b: u32x4) -> u32x4 {
-            a * b
-        }
-
-        /// The products of lanes of 64 bits, modulo 2 to the power 64.
-        ///
-        /// # Contract
-        ///
-        /// ```text
-        /// ensures lanes: (i : ℕ) → i < 2
-        ///     → slice_index result i ≡ slice_index a i * slice_index b i % 2 ^ 64
-        /// ```
-        #[inline(always)]
-        pub(super) fn product_of_u64x2(a: u64x2, b: u64x2) -> u64x2 {
-            a * b
         }
     }
 
+    pub use arithmetic::{
+        i16x8_extadd_pairwise_i8x16_s, i16x8_extadd_pairwise_i8x16_u, i16x8_extmul_high_i8x16_s,
+        i16x8_extmul_high_i8x16_u, i16x8_extmul_low_i8x16_s, i16x8_extmul_low_i8x16_u,
+        i16x8_relaxed_dot_i8x16_i7x16_s, i32x4_dot_i16x8_s, i32x4_extadd_pairwise_i16x8_s,
+        i32x4_extadd_pairwise_i16x8_u, i32x4_extmul_high_i16x8_s, i32x4_extmul_high_i16x8_u,
+        i32x4_extmul_low_i16x8_s, i32x4_extmul_low_i16x8_u, i64x2_extmul_high_i32x4_s,
+        i64x2_extmul_high_i32x4_u, i64x2_extmul_low_i32x4_s, i64x2_extmul_low_i32x4_u,
+    };
     pub use extend::{
         i16x8_extend_high_i8x16_s, i16x8_extend_high_i8x16_u, i16x8_extend_low_i8x16_s,
         i16x8_extend_low_i8x16_u, i32x4_extend_high_i16x8_s, i32x4_extend_high_i16x8_u,
@@ -1952,19 +1992,8 @@ pub mod simd {
         v128_low32_zero, v128_low64_zero, v128_widen8x8_s, v128_widen8x8_u, v128_widen16x4_s,
         v128_widen16x4_u, v128_widen32x2_s, v128_widen32x2_u,
     };
-    pub use extmul::{
-        i16x8_extmul_high_i8x16_s, i16x8_extmul_high_i8x16_u, i16x8_extmul_low_i8x16_s,
-        i16x8_extmul_low_i8x16_u, i32x4_extmul_high_i16x8_s, i32x4_extmul_high_i16x8_u,
-        i32x4_extmul_low_i16x8_s, i32x4_extmul_low_i16x8_u, i64x2_extmul_high_i32x4_s,
-        i64x2_extmul_high_i32x4_u, i64x2_extmul_low_i32x4_s, i64x2_extmul_low_i32x4_u,
-    };
     pub use narrow::{
         i8x16_narrow_i16x8_s, i8x16_narrow_i16x8_u, i16x8_narrow_i32x4_s, i16x8_narrow_i32x4_u,
-    };
-    pub use pairwise::{
-        i16x8_extadd_pairwise_i8x16_s, i16x8_extadd_pairwise_i8x16_u,
-        i16x8_relaxed_dot_i8x16_i7x16_s, i32x4_dot_i16x8_s, i32x4_extadd_pairwise_i16x8_s,
-        i32x4_extadd_pairwise_i16x8_u,
     };
     pub use reductions::{
         i8x16_all_true, i8x16_bitmask, i16x8_all_true, i16x8_bitmask, i32x4_all_true,
@@ -1979,33 +2008,4 @@ pub mod simd {
         i8x16_shl, i8x16_shr_s, i8x16_shr_u, i16x8_shl, i16x8_shr_s, i16x8_shr_u, i32x4_shl,
         i32x4_shr_s, i32x4_shr_u, i64x2_shl, i64x2_shr_s, i64x2_shr_u,
     };
-}
-mod widening {
-    //! Whole vectors whose lanes are made of wider ones: the vector of whatever row the closure
-    //! computes.
-
-    use crate::proved::lanes::{FromWide, Lanes};
-    use crate::proved::raw::V128;
-
-    /// Applies `f` to the lanes of `low`, then to those of `high`.
-    ///
-    /// # Contract
-    ///
-    /// ```text
-    /// requires callable: F.IsAlwaysCallable f
-    /// ensures lanes: (row : W.Item → ℕ)
-    ///     → ((x : W.Item) (z : L.Item) → W.Item.Fits x → L.Item.Fits z → F.post f x z
-    ///     → L.Item.image z ≡ row x)
-    ///     → result ≡ made.from_low_high W.Item.width L.Item.width W.Item.read row low high
-    /// ```
-    ///
-    /// Definitions: [`from_low_high`](crate::specs::widening::Widening#from_low_high).
-    #[inline(always)]
-    pub(crate) fn from_low_high<W: Lanes, L: FromWide<W>, F: Fn(W::Item) -> L::Item>(
-        low: V128,
-        high: V128,
-        f: F,
-    ) -> V128 {
-        L::from_low_high(W::from_v128(low), W::from_v128(high), f).into_v128()
-    }
 }

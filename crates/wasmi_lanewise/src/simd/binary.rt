@@ -4,7 +4,7 @@ ghost use Rattle.std.specs.Prelude.{◌≡◌, ◌*◌, ◌%◌, ◌^◌, ◌+�
 ghost use Rattle.wasmi_types.specs.Wrapping.{w8, w16, w32, w64};
 ghost use Rattle.wasmi_lanewise.specs.VectorTable as vector;
 
-use crate::simd::{order, q15, saturation, words};
+use crate::simd::{order, saturation, words};
 use wasmi_lanes::{I8x16, I16x8, U8x16, U16x8, U32x4, clamped_i8, clamped_i16, on_vectors};
 use wasmi_raw::V128;
 
@@ -166,7 +166,7 @@ pub fn i16x8_sub_sat_u(lhs: V128, rhs: V128) -> V128
 pub fn i16x8_q15mulr_sat_s(lhs: V128, rhs: V128) -> V128
     ensures { result ≡ vector.q15mulr_sat_s lhs rhs }
 {
-    q15::rounded_products(lhs, rhs)
+    saturation::rounded_products(lhs, rhs)
 }
 
 /// The smaller ones of the lanes, read signed.

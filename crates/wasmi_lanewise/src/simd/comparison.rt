@@ -161,56 +161,49 @@ pub fn i32x4_le_u(lhs: V128, rhs: V128) -> V128
     order::at_most_u::<u32>(lhs, rhs)
 }
 
-/// All ones where the lane of `lhs` is greater than that of `rhs`, both read signed, else all
-/// zeros.
+/// All ones where the lane of `lhs` is the greater one, both read signed, else all zeros.
 pub fn i8x16_gt_s(lhs: V128, rhs: V128) -> V128
     ensures { result ≡ vector.gt_s w8 lhs rhs }
 {
     order::greater_s::<u8>(lhs, rhs)
 }
 
-/// All ones where the lane of `lhs` is greater than that of `rhs`, both read signed, else all
-/// zeros.
+/// All ones where the lane of `lhs` is the greater one, both read signed, else all zeros.
 pub fn i16x8_gt_s(lhs: V128, rhs: V128) -> V128
     ensures { result ≡ vector.gt_s w16 lhs rhs }
 {
     order::greater_s::<u16>(lhs, rhs)
 }
 
-/// All ones where the lane of `lhs` is greater than that of `rhs`, both read signed, else all
-/// zeros.
+/// All ones where the lane of `lhs` is the greater one, both read signed, else all zeros.
 pub fn i32x4_gt_s(lhs: V128, rhs: V128) -> V128
     ensures { result ≡ vector.gt_s w32 lhs rhs }
 {
     order::greater_s::<u32>(lhs, rhs)
 }
 
-/// All ones where the lane of `lhs` is greater than that of `rhs`, both read signed, else all
-/// zeros.
+/// All ones where the lane of `lhs` is the greater one, both read signed, else all zeros.
 pub fn i64x2_gt_s(lhs: V128, rhs: V128) -> V128
     ensures { result ≡ vector.gt_s w64 lhs rhs }
 {
     order::greater_s::<u64>(lhs, rhs)
 }
 
-/// All ones where the lane of `lhs` is greater than that of `rhs`, both read unsigned, else all
-/// zeros.
+/// All ones where the lane of `lhs` is the greater one, both read unsigned, else all zeros.
 pub fn i8x16_gt_u(lhs: V128, rhs: V128) -> V128
     ensures { result ≡ vector.gt_u w8 lhs rhs }
 {
     order::greater_u::<u8>(lhs, rhs)
 }
 
-/// All ones where the lane of `lhs` is greater than that of `rhs`, both read unsigned, else all
-/// zeros.
+/// All ones where the lane of `lhs` is the greater one, both read unsigned, else all zeros.
 pub fn i16x8_gt_u(lhs: V128, rhs: V128) -> V128
     ensures { result ≡ vector.gt_u w16 lhs rhs }
 {
     order::greater_u::<u16>(lhs, rhs)
 }
 
-/// All ones where the lane of `lhs` is greater than that of `rhs`, both read unsigned, else all
-/// zeros.
+/// All ones where the lane of `lhs` is the greater one, both read unsigned, else all zeros.
 pub fn i32x4_gt_u(lhs: V128, rhs: V128) -> V128
     ensures { result ≡ vector.gt_u w32 lhs rhs }
 {

@@ -117,7 +117,7 @@ fn ones_if_less<T: SimdLane>(a: T::Vector, b: T::Vector) -> V128
         ≡ (if nat_lt (T.at a i) (T.at b i) then 2 ^ bits T.width - 1 else 0) }
     ensures in_range { result < 2 ^ 128 }
 {
-    T::vector_of(T::choose_if_less(a, b, ones::<T>(), zeros::<T>()))
+    T::vector_of(T::choose_if_less(a, b, T::splat(T::ALL_ONES), T::splat(T::ALL_ZEROS)))
 }
 
 #[inline(always)]
@@ -127,21 +127,5 @@ fn zeros_if_less<T: SimdLane>(a: T::Vector, b: T::Vector) -> V128
         ≡ (if nat_lt (T.at a i) (T.at b i) then 0 else 2 ^ bits T.width - 1) }
     ensures in_range { result < 2 ^ 128 }
 {
-    T::vector_of(T::choose_if_less(a, b, zeros::<T>(), ones::<T>()))
-}
-
-// All ones in each lane.
-#[inline(always)]
-fn ones<T: SimdLane>() -> T::Vector
-    ensures lanes { (i : ℕ) → i < lane_count T.width → T.at result i ≡ 2 ^ bits T.width - 1 }
-{
-    T::splat(T::ALL_ONES)
-}
-
-// All zeros in each lane.
-#[inline(always)]
-fn zeros<T: SimdLane>() -> T::Vector
-    ensures lanes { (i : ℕ) → i < lane_count T.width → T.at result i ≡ 0 }
-{
-    T::splat(T::ALL_ZEROS)
+    T::vector_of(T::choose_if_less(a, b, T::splat(T::ALL_ZEROS), T::splat(T::ALL_ONES)))
 }

@@ -1,11 +1,11 @@
-//! Unary instructions.
+//! Unary instructions, and those that work bit by bit on whole vectors.
 
 ghost use Rattle.std.specs.Prelude.{◌≡◌};
 ghost use Rattle.wasmi_types.specs.Wrapping.{w8, w16, w32, w64};
 ghost use Rattle.wasmi_lanewise.specs.VectorTable as vector;
 
 use crate::simd::words;
-use wasmi_lanes::{I8x16, I16x8, I32x4, I64x2, on_vectors};
+use wasmi_lanes::{I8x16, I16x8, I32x4, I64x2, from_u64x2, on_vectors, u64x2_of};
 use wasmi_raw::V128;
 
 /// The lanes negated, modulo 2 to the power 8.
@@ -36,32 +36,28 @@ pub fn i64x2_neg(v: V128) -> V128
     words::negations::<u64>(v)
 }
 
-/// The absolute values of the lanes, read signed; the least number is its own, modulo 2 to the
-/// power 8.
+/// The absolute values of the lanes, read signed; that of the least number is itself.
 pub fn i8x16_abs(v: V128) -> V128
     ensures { result ≡ vector.abs w8 v }
 {
     on_vectors::unary::<I8x16, _>(v, |x| x.wrapping_abs())
 }
 
-/// The absolute values of the lanes, read signed; the least number is its own, modulo 2 to the
-/// power 16.
+/// The absolute values of the lanes, read signed; that of the least number is itself.
 pub fn i16x8_abs(v: V128) -> V128
     ensures { result ≡ vector.abs w16 v }
 {
     on_vectors::unary::<I16x8, _>(v, |x| x.wrapping_abs())
 }
 
-/// The absolute values of the lanes, read signed; the least number is its own, modulo 2 to the
-/// power 32.
+/// The absolute values of the lanes, read signed; that of the least number is itself.
 pub fn i32x4_abs(v: V128) -> V128
     ensures { result ≡ vector.abs w32 v }
 {
     on_vectors::unary::<I32x4, _>(v, |x| x.wrapping_abs())
 }
 
-/// The absolute values of the lanes, read signed; the least number is its own, modulo 2 to the
-/// power 64.
+/// The absolute values of the lanes, read signed; that of the least number is itself.
 pub fn i64x2_abs(v: V128) -> V128
     ensures { result ≡ vector.abs w64 v }
 {
@@ -73,4 +69,57 @@ pub fn i8x16_popcnt(v: V128) -> V128
     ensures { result ≡ vector.popcnt w8 v }
 {
     words::counts_of_ones(v)
+}
+
+/// Bitwise and.
+#[tactic(auto, using(crate::proofs::WordLemmas::and_by_words))]
+pub fn v128_and(lhs: V128, rhs: V128) -> V128
+    ensures { result ≡ vector.v128_and lhs rhs }
+{
+    let (a_low, a_high) = lhs.words();
+    let (b_low, b_high) = rhs.words();
+    V128::from_word_pair(a_low & b_low, a_high & b_high)
+}
+
+/// Bitwise or.
+#[tactic(auto, using(crate::proofs::WordLemmas::or_by_words))]
+pub fn v128_or(lhs: V128, rhs: V128) -> V128
+    ensures { result ≡ vector.v128_or lhs rhs }
+{
+    let (a_low, a_high) = lhs.words();
+    let (b_low, b_high) = rhs.words();
+    V128::from_word_pair(a_low | b_low, a_high | b_high)
+}
+
+/// Bitwise exclusive or.
+#[tactic(auto, using(crate::proofs::WordLemmas::xor_by_words))]
+pub fn v128_xor(lhs: V128, rhs: V128) -> V128
+    ensures { result ≡ vector.v128_xor lhs rhs }
+{
+    let (a_low, a_high) = lhs.words();
+    let (b_low, b_high) = rhs.words();
+    V128::from_word_pair(a_low ^ b_low, a_high ^ b_high)
+}
+
+/// The bits of `v` inverted.
+pub fn v128_not(v: V128) -> V128
+    ensures { result ≡ vector.v128_not v }
+{
+    let (low, high) = v.words();
+    V128::from_word_pair(!low, !high)
+}
+
+/// The bits of `lhs` where `rhs` has zeros.
+pub fn v128_andnot(lhs: V128, rhs: V128) -> V128
+    ensures { result ≡ vector.v128_andnot lhs rhs }
+{
+    v128_and(lhs, v128_not(rhs))
+}
+
+/// The bits of `v1` where `c` has ones, those of `v2` where it has zeros.
+pub fn v128_bitselect(v1: V128, v2: V128, c: V128) -> V128
+    ensures { result ≡ vector.v128_bitselect v1 v2 c }
+{
+    let ones = u64x2_of(c);
+    from_u64x2((u64x2_of(v1) & ones) | (u64x2_of(v2) & !ones))
 }

@@ -166,6 +166,7 @@ pub(super) fn averages<T: WordLane>(lhs: V128, rhs: V128) -> V128
 }
 
 // Common bits and half of the others, which never borrow from the lane below.
+#[tactic(auto, using(crate::proofs::WordLemmas::averages))]
 #[inline(always)]
 fn word_averages(a: u64, b: u64, tops: u64) -> u64
     ensures { (start width : ℕ) → IsLane tops start width

@@ -5,10 +5,7 @@ ghost use Rattle.wasmi_types.specs.Wrapping.{w8, w16, w32, w64};
 ghost use Rattle.wasmi_lanes.specs.Lane.{lane};
 ghost use Rattle.wasmi_simd.specs.WideningTable as vector;
 
-use super::halves::{
-    high_i8x16, high_i16x8, high_i32x4, high_u8x16, high_u16x8, high_u32x4, low_i8x16, low_i16x8,
-    low_i32x4, low_u8x16, low_u16x8, low_u32x4,
-};
+use super::wide::ExtendedLane;
 use std::simd::prelude::*;
 use wasmi_lanes::SimdLane;
 use wasmi_raw::V128;
@@ -17,84 +14,84 @@ use wasmi_raw::V128;
 pub fn i16x8_extend_low_i8x16_s(v: V128) -> V128
     ensures { result ≡ vector.extend_low_s w8 w16 v }
 {
-    u16::vector_of(low_i8x16(v))
+    extended_low_s::<u8>(v)
 }
 
 /// The lanes of the lower half, read unsigned.
 pub fn i16x8_extend_low_i8x16_u(v: V128) -> V128
     ensures { result ≡ vector.extend_low_u w8 w16 v }
 {
-    u16::vector_of(low_u8x16(v))
+    extended_low_u::<u8>(v)
 }
 
 /// The lanes of the upper half, read signed.
 pub fn i16x8_extend_high_i8x16_s(v: V128) -> V128
     ensures { result ≡ vector.extend_high_s w8 w16 v }
 {
-    u16::vector_of(high_i8x16(v))
+    extended_high_s::<u8>(v)
 }
 
 /// The lanes of the upper half, read unsigned.
 pub fn i16x8_extend_high_i8x16_u(v: V128) -> V128
     ensures { result ≡ vector.extend_high_u w8 w16 v }
 {
-    u16::vector_of(high_u8x16(v))
+    extended_high_u::<u8>(v)
 }
 
 /// The lanes of the lower half, read signed.
 pub fn i32x4_extend_low_i16x8_s(v: V128) -> V128
     ensures { result ≡ vector.extend_low_s w16 w32 v }
 {
-    u32::vector_of(low_i16x8(v))
+    extended_low_s::<u16>(v)
 }
 
 /// The lanes of the lower half, read unsigned.
 pub fn i32x4_extend_low_i16x8_u(v: V128) -> V128
     ensures { result ≡ vector.extend_low_u w16 w32 v }
 {
-    u32::vector_of(low_u16x8(v))
+    extended_low_u::<u16>(v)
 }
 
 /// The lanes of the upper half, read signed.
 pub fn i32x4_extend_high_i16x8_s(v: V128) -> V128
     ensures { result ≡ vector.extend_high_s w16 w32 v }
 {
-    u32::vector_of(high_i16x8(v))
+    extended_high_s::<u16>(v)
 }
 
 /// The lanes of the upper half, read unsigned.
 pub fn i32x4_extend_high_i16x8_u(v: V128) -> V128
     ensures { result ≡ vector.extend_high_u w16 w32 v }
 {
-    u32::vector_of(high_u16x8(v))
+    extended_high_u::<u16>(v)
 }
 
 /// The lanes of the lower half, read signed.
 pub fn i64x2_extend_low_i32x4_s(v: V128) -> V128
     ensures { result ≡ vector.extend_low_s w32 w64 v }
 {
-    u64::vector_of(low_i32x4(v))
+    extended_low_s::<u32>(v)
 }
 
 /// The lanes of the lower half, read unsigned.
 pub fn i64x2_extend_low_i32x4_u(v: V128) -> V128
     ensures { result ≡ vector.extend_low_u w32 w64 v }
 {
-    u64::vector_of(low_u32x4(v))
+    extended_low_u::<u32>(v)
 }
 
 /// The lanes of the upper half, read signed.
 pub fn i64x2_extend_high_i32x4_s(v: V128) -> V128
     ensures { result ≡ vector.extend_high_s w32 w64 v }
 {
-    u64::vector_of(high_i32x4(v))
+    extended_high_s::<u32>(v)
 }
 
 /// The lanes of the upper half, read unsigned.
 pub fn i64x2_extend_high_i32x4_u(v: V128) -> V128
     ensures { result ≡ vector.extend_high_u w32 w64 v }
 {
-    u64::vector_of(high_u32x4(v))
+    extended_high_u::<u32>(v)
 }
 
 /// The 8 lanes of 8 bits of a number, read signed, lane 0 the lowest.
@@ -167,6 +164,34 @@ pub fn v128_low64_zero(number: u64) -> V128
     ensures { result ≡ vector.low_zero w64 number }
 {
     u32::vector_of(lower_half_alone(V128::from_word_pair(number, 0)))
+}
+
+#[inline(always)]
+fn extended_low_s<T: ExtendedLane>(v: V128) -> V128
+    ensures { result ≡ vector.extend_low_s T.width T.Wide.width v }
+{
+    T::Wide::vector_of(T::low_signed(v))
+}
+
+#[inline(always)]
+fn extended_low_u<T: ExtendedLane>(v: V128) -> V128
+    ensures { result ≡ vector.extend_low_u T.width T.Wide.width v }
+{
+    T::Wide::vector_of(T::low(v))
+}
+
+#[inline(always)]
+fn extended_high_s<T: ExtendedLane>(v: V128) -> V128
+    ensures { result ≡ vector.extend_high_s T.width T.Wide.width v }
+{
+    T::Wide::vector_of(T::high_signed(v))
+}
+
+#[inline(always)]
+fn extended_high_u<T: ExtendedLane>(v: V128) -> V128
+    ensures { result ≡ vector.extend_high_u T.width T.Wide.width v }
+{
+    T::Wide::vector_of(T::high(v))
 }
 
 // The lanes of 32 bits of the lower half, and zeros behind them: of two words LLVM makes two

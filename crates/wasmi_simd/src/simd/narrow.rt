@@ -1,12 +1,12 @@
 //! Lanes narrowed to half of their width.
 
-ghost use Rattle.std.specs.Prelude.{◌≡◌};
+ghost use Rattle.std.specs.Prelude.{◌≡◌, ℕ};
 ghost use Rattle.std.specs.Int.{cast_unsigned};
 ghost use Rattle.wasmi_types.specs.Wrapping.{w8, w16, w32, clamp_unsigned};
+ghost use Rattle.wasmi_simd.specs.Widening as made;
 ghost use Rattle.wasmi_simd.specs.WideningTable as vector;
 
-use crate::widening::from_low_high;
-use wasmi_lanes::{I8x16, I16x8, I32x4, clamped_i8, clamped_i16};
+use wasmi_lanes::{FromWide, I8x16, I16x8, I32x4, Lanes, clamped_i8, clamped_i16};
 use wasmi_raw::V128;
 
 /// The lanes of `low`, then those of `high`, read signed and clamped to the signed range of 8 bits.
@@ -52,4 +52,20 @@ fn clamped_u16(x: i32) -> i16
     ensures { cast_unsigned w16 result ≡ clamp_unsigned w16 x }
 {
     (x.clamp(0, 65535) as u16).cast_signed()
+}
+
+// Applies `f` to the lanes of `low`, then to those of `high`.
+#[inline(always)]
+fn from_low_high<W: Lanes, L: FromWide<W>, F: Fn(W::Item) -> L::Item>(
+    low: V128,
+    high: V128,
+    f: F,
+) -> V128
+    requires callable { F.IsAlwaysCallable f }
+    ensures lanes { (row : W.Item → ℕ)
+        → ((x : W.Item) (z : L.Item) → W.Item.Fits x → L.Item.Fits z → F.post f x z
+        → L.Item.image z ≡ row x)
+        → result ≡ made.from_low_high W.Item.width L.Item.width W.Item.read row low high }
+{
+    L::from_low_high(W::from_v128(low), W::from_v128(high), f).into_v128()
 }

@@ -4,8 +4,8 @@
 ghost use Rattle.std.specs.Prelude.{◌≡◌};
 ghost use Rattle.wasmi_simd.specs.WideningTable as vector;
 
-use super::pairwise::{i16x8_relaxed_dot_i8x16_i7x16_s, i32x4_extadd_pairwise_i16x8_s};
-use super::vectors::sums_of_u32x4;
+use super::arithmetic::{i16x8_relaxed_dot_i8x16_i7x16_s, i32x4_extadd_pairwise_i16x8_s};
+use super::wide::PairedLane;
 use wasmi_lanes::SimdLane;
 use wasmi_lanewise::simd::{i8x16_swizzle, i16x8_q15mulr_sat_s, v128_bitselect};
 use wasmi_raw::V128;
@@ -59,5 +59,5 @@ pub fn i32x4_relaxed_dot_i8x16_i7x16_add_s(lhs: V128, rhs: V128, c: V128) -> V12
 {
     let dot = i16x8_relaxed_dot_i8x16_i7x16_s(lhs, rhs);
     let pairs = i32x4_extadd_pairwise_i16x8_s(dot);
-    sums_of_u32x4(u32::lanes_of(pairs), u32::lanes_of(c))
+    u32::vector_of(u16::sums(u32::lanes_of(pairs), u32::lanes_of(c)))
 }

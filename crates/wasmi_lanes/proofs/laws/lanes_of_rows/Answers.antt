@@ -1,6 +1,5 @@
 use Rattle.std.proofs.Common.{◌<◌, sym, subst}
-use Rattle.wasmi_lanes.proofs.LaneVectorLemmas.{lanes_of_width}
-use Rattle.wasmi_lanes.proofs.VectorLemmas.{lane_of_unary, lane_of_binary, lane_of_comparison}
+use Rattle.wasmi_lanes.proofs.VectorLemmas.{lanes_of_width, lane_of_unary, lane_of_binary, lane_of_comparison}
 use Rattle.wasmi_lanes.proofs.laws.lanes_of_rows.Goals as goal
 
 pub returns-clause-unary : goal.returns-clause-unary

@@ -1,4 +1,4 @@
-use Rattle.wasmi_lanes.proofs.DivisionLemmas.{lanes_make_word}
+use Rattle.wasmi_lanes.proofs.WordLemmas.{lanes_make_word}
 use Rattle.wasmi_lanes.proofs.laws.tops_of_different_lanes.Goals as goal
 
 pub returns : goal.returns

@@ -1,4 +1,4 @@
-use Rattle.wasmi_lanes.proofs.DivisionLemmas.{word_from_lanes}
+use Rattle.wasmi_lanes.proofs.WordLemmas.{word_from_lanes}
 use Rattle.wasmi_lanes.proofs.laws.word_is_made_of_lanes.Goals as goal
 
 pub returns : goal.returns

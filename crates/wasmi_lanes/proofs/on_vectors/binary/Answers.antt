@@ -1,5 +1,5 @@
 use Rattle.wasmi_lanes.specs.Vector.{binary_of_lanes}
-use Rattle.wasmi_lanes.proofs.LaneVectorLemmas.{related_lanes}
+use Rattle.wasmi_lanes.proofs.VectorLemmas.{related_lanes}
 use Rattle.wasmi_lanes.proofs.on_vectors.binary.Goals as goal
 
 pub returns : goal.returns

@@ -1,6 +1,6 @@
 use Rattle.std.proofs.Common.{◌∙◌, ap, subst}
 use Rattle.wasmi_lanes.specs.Vector.{splat_of}
-use Rattle.wasmi_lanes.proofs.LaneVectorLemmas.{items_make_vector}
+use Rattle.wasmi_lanes.proofs.VectorLemmas.{items_make_vector}
 use Rattle.wasmi_lanes.proofs.on_vectors.splat.Goals as goal
 
 pub returns : goal.returns

@@ -1,4 +1,4 @@
-use Rattle.wasmi_lanes.proofs.DigitLemmas.{read_at}
+use Rattle.wasmi_lanes.proofs.SimdLaneLemmas.{read_at}
 use Rattle.wasmi_lanes.proofs.item.U16LaneItem8.read_into.Goals as goal
 
 pub returns : goal.returns

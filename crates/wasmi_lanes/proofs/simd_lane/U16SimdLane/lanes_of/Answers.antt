@@ -1,4 +1,4 @@
-use Rattle.wasmi_lanes.proofs.DigitLemmas.{read_at}
+use Rattle.wasmi_lanes.proofs.SimdLaneLemmas.{read_at}
 use Rattle.wasmi_lanes.proofs.simd_lane.U16SimdLane.lanes_of.Goals as goal
 
 pub returns : goal.returns

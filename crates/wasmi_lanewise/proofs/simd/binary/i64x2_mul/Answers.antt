@@ -1,5 +1,5 @@
 use Rattle.std.proofs.Common.{ℕ, ◌*◌, ◌%◌, ◌^◌, ◌∙◌, ap₂, arith}
-use Rattle.wasmi_lanewise.proofs.LaneWordLemmas.{lanes_are_words}
+use Rattle.wasmi_lanewise.proofs.WordLemmas.{lanes_are_words}
 use Rattle.wasmi_lanewise.proofs.simd.binary.i64x2_mul.Goals as goal
 
 pub returns : goal.returns

@@ -3,8 +3,8 @@ use Rattle.std.specs.Simd.Lanes.{number_l}
 use Rattle.wasmi_types.specs.Wrapping.{w32, w64}
 use Rattle.wasmi_lanes.specs.Lane.{lane}
 use Rattle.wasmi_lanes.specs.Vector.{splat_of}
-use Rattle.wasmi_lanes.proofs.DigitLemmas.{number_of_digits}
-use Rattle.wasmi_lanes.proofs.LaneVectorLemmas.{lanes_make_vector}
+use Rattle.wasmi_lanes.proofs.SimdLaneLemmas.{number_of_digits}
+use Rattle.wasmi_lanes.proofs.VectorLemmas.{lanes_make_vector}
 use Rattle.wasmi_lanewise.proofs.simd.lane_access.same_words.Goals as goal
 
 -- both words of a vector with n in each

@@ -1,0 +1,148 @@
+-- Lanes as std::simd computes them: the digits of a number, lanes that a comparison chooses, and sums.
+use Rattle.std.proofs.Common.{ℕ, ◌+◌, ◌-◌, ◌%◌, ◌<◌, ◌≡◌, List, [], ◌∷◌, length, get_or, map, replicate, refl, sym, ap, ◌∙◌, arith, Bool, false, cond, ltb, nat_lt, if◌then◌else◌, zero, suc, ◌*◌, ◌/◌, ◌^◌, ◌≤◌, subst, mul_comm, mul-suc, mul-zero, zero-mul, suc-mul, div-one}
+use Rattle.std.specs.Simd.Lanes.{zip2, sel_l, digits_l, number_l, Each1}
+use Rattle.std.proofs.lemmas.Simd.{length-zip2, get_or-zip2, get_or-sel_l, get_or-replicate, length-replicate, Each1-from_get_or, tops_compared}
+use lib.Lanes.{top}
+use mir.Val.{hbits}
+use Rattle.std.proofs.Math.Nat.{mod-one, mul-add, mul-one, mod-eq_of_lt}
+use Rattle.std.proofs.lemmas.Nat.{mod-pow-add, div-mul-add, mod-mul-add, shr-shr, pow-add, mul-le}
+use Rattle.wasmi_types.specs.Wrapping.{Width, w8, w16, w32, w64, bits}
+use Rattle.wasmi_lanes.specs.Lane.{lane}
+
+module _ (w : Width) (n : ℕ) (a b chosen other : List ℕ) (long_a : length a ≡ n) (long_b : length b ≡ n)
+    (long_chosen : length chosen ≡ n) (long_other : length other ≡ n) where
+  -- lane i of the chosen lanes is that of `chosen` where lane i of a is less than that of b, else that of `other`
+  pub chosen_where_less : (i : ℕ) → i < n
+      → get_or (sel_l (map (top (hbits w)) (zip2 (λ x y. cond (ltb x y) (2 ^ bits w - 1) 0) a b)) chosen other) i 0
+      ≡ (if nat_lt (get_or a i 0) (get_or b i 0) then get_or chosen i 0 else get_or other i 0)
+  chosen_where_less i inside =
+      let tests : List Bool = zip2 ltb a b in
+      let tested : length tests ≡ n = length-zip2 ltb a b (long_a ∙ sym long_b) ∙ long_a in
+      let within : (k : ℕ) → k ≡ n → i < k = λ k long. subst (λ m. i < m) (sym long) inside in
+      ap (λ ms. get_or (sel_l ms chosen other) i 0) (tops_compared w ltb a b)
+      ∙ get_or-sel_l tests chosen other i 0 (within (length tests) tested) (within (length chosen) long_chosen)
+      (within (length other) long_other)
+      ∙ ap (λ t. cond t (get_or chosen i 0) (get_or other i 0))
+      (get_or-zip2 ltb a b i 0 0 false (within (length a) long_a) (within (length b) long_b))
+
+-- a lane of lanes to each of which x was added
+pub added_at : (w : Width) (n x : ℕ) (xs : List ℕ) (i : ℕ) → length xs ≡ n → i < n
+    → get_or (zip2 (λ a b. (a + b) % 2 ^ bits w) xs (replicate n x)) i 0 ≡ (get_or xs i 0 + x) % 2 ^ bits w
+added_at w n x xs i long inside =
+    get_or-zip2 (λ a b. (a + b) % 2 ^ bits w) xs (replicate n x) i 0 0 0 (subst (λ k. i < k) (sym long) inside)
+    (subst (λ k. i < k) (sym (length-replicate n x)) inside)
+    ∙ ap (λ b. (get_or xs i 0 + b) % 2 ^ bits w) (get_or-replicate n i x 0 inside)
+
+-- a lane of 8 bits moved by half of its range
+pub biased_8 : (xs : List ℕ) (i : ℕ) → length xs ≡ 16 → i < 16
+    → get_or (zip2 (λ a b. (a + b) % 256) xs (replicate 16 128)) i 0 ≡ (get_or xs i 0 + 128) % 256
+biased_8 = added_at w8 16 128
+
+-- the digit of v at i
+abbrev digit : ℕ → ℕ → ℕ → ℕ
+digit b v i = v / 2 ^ (b * i) % 2 ^ b
+
+-- the digit of v at 0 is its lowest b bits
+digit_first : (b v : ℕ) → digit b v 0 ≡ v % 2 ^ b
+digit_first b v = ap (λ k. v / 2 ^ k % 2 ^ b) (mul-zero b) ∙ ap (λ n. n % 2 ^ b) (div-one v)
+
+-- the digit of v at i + 1 is that of v / 2 ^ b at i
+digit_next : (b i v : ℕ) → digit b v (suc i) ≡ digit b (v / 2 ^ b) i
+digit_next b i v =
+    let next : b * suc i ≡ b + b * i = omega (arith, mul-suc b i) in
+    ap (λ k. v / 2 ^ k % 2 ^ b) next ∙ ap (λ n. n % 2 ^ b) (sym (shr-shr v b (b * i)))
+
+-- the list of digits has them in their places
+pub digit_at : (b n v i d : ℕ) → i < n → get_or (digits_l (2 ^ b) n v) i d ≡ v / 2 ^ (b * i) % 2 ^ b
+digit_at b zero v i d below = absurd (omega arith)
+digit_at b (suc n) v zero d below = sym (digit_first b v)
+digit_at b (suc n) v (suc i) d below = digit_at b n (v / 2 ^ b) i d (omega arith) ∙ sym (digit_next b i v)
+
+-- the list of n digits of a number has n items
+length_digits : (p n v : ℕ) → length (digits_l p n v) ≡ n
+length_digits p zero v = refl
+length_digits p (suc n) v = ap suc (length_digits p n (v / p))
+
+-- x + p * n, with its factors and its summands swapped
+turned : (p x n : ℕ) → x + p * n ≡ n * p + x
+turned p x n = omega (arith, mul_comm p n)
+
+-- the number of a list of digits has them in their places
+pub number_at : (b : ℕ) (xs : List ℕ) (i d : ℕ) → Each1 (λ x. x < 2 ^ b) xs → i < length xs
+    → number_l (2 ^ b) xs / 2 ^ (b * i) % 2 ^ b ≡ get_or xs i d
+number_at b [] i d fits below = absurd (omega arith)
+number_at b (x ∷ xs) zero d fits below =
+    let n = number_l (2 ^ b) xs in
+    digit_first b (x + 2 ^ b * n) ∙ ap (λ k. k % 2 ^ b) (turned (2 ^ b) x n) ∙ mod-mul-add n (2 ^ b) x fits.0
+number_at b (x ∷ xs) (suc i) d fits below =
+    let n = number_l (2 ^ b) xs in
+    digit_next b i (x + 2 ^ b * n)
+    ∙ ap (λ k. digit b k i) (ap (λ k. k / 2 ^ b) (turned (2 ^ b) x n) ∙ div-mul-add n (2 ^ b) x fits.0)
+    ∙ number_at b xs i d fits.1 (omega arith)
+
+-- and is below the power that has one digit more
+pub number_below : (b : ℕ) (xs : List ℕ) → Each1 (λ x. x < 2 ^ b) xs → number_l (2 ^ b) xs < 2 ^ (length xs * b)
+number_below b [] fits = let none : 2 ^ (0 * b) ≡ 1 = ap (λ k. 2 ^ k) (zero-mul b) in omega arith
+number_below b (x ∷ xs) fits =
+    let n = number_l (2 ^ b) xs in
+    let q = 2 ^ (length xs * b) in
+    let below : n < q = number_below b xs fits.1 in
+    let first : x < 2 ^ b = fits.0 in
+    let rows : 2 ^ b * (n + 1) ≤ 2 ^ b * q = mul-le (2 ^ b) (n + 1) (2 ^ b) q (le_self (2 ^ b)) (omega arith) in
+    let whole : 2 ^ (suc (length xs) * b) ≡ q * 2 ^ b =
+    ap (λ k. 2 ^ k) (suc-mul (length xs) b) ∙ pow-add 2 (length xs * b) b in
+    omega (arith, rows, whole, mul_comm (2 ^ b) q, mul-add (2 ^ b) n 1, mul-one (2 ^ b))
+  where
+    le_self : (n : ℕ) → n ≤ n
+    le_self n = omega arith
+
+-- the number of the digits of v
+pub number_of_digits : (b n v : ℕ) → number_l (2 ^ b) (digits_l (2 ^ b) n v) ≡ v % 2 ^ (n * b)
+number_of_digits b zero v = sym (mod-one v) ∙ ap (λ k. v % 2 ^ k) (sym (zero-mul b))
+number_of_digits b (suc n) v =
+    let high : number_l (2 ^ b) (digits_l (2 ^ b) n (v / 2 ^ b)) ≡ v / 2 ^ b % 2 ^ (n * b) =
+    number_of_digits b n (v / 2 ^ b) in
+    let whole : v % 2 ^ (suc n * b) ≡ (v / 2 ^ b % 2 ^ (n * b)) * 2 ^ b + v % 2 ^ b =
+    ap (λ k. v % 2 ^ k) (suc-mul n b) ∙ mod-pow-add v (n * b) b in
+    omega (arith, ap (λ k. 2 ^ b * k) high, mul_comm (2 ^ b) (v / 2 ^ b % 2 ^ (n * b)), whole)
+
+-- a lane of a vector, as it is read from its bytes
+pub read_at : (b n v : ℕ) (bytes : List ℕ) (i d : ℕ) → i < n → number_l 256 bytes ≡ v
+    → get_or (digits_l (2 ^ b) n (number_l 256 bytes)) i d ≡ v / 2 ^ (b * i) % 2 ^ b
+read_at b n v bytes i d below is = digit_at b n (number_l 256 bytes) i d below ∙ ap (λ k. k / 2 ^ (b * i) % 2 ^ b) is
+
+-- a lane of the vector whose number is that of xs
+pub lane_of_number : (w : Width) (n : ℕ) (xs : List ℕ) (r i : ℕ) → length xs ≡ n
+    → ((k : ℕ) → get_or xs k 0 < 2 ^ bits w) → i < n → r ≡ number_l (2 ^ bits w) xs → get_or xs i 0 ≡ lane w r i
+lane_of_number w n xs r i long fits below is =
+    let each = Each1-from_get_or (λ x. x < 2 ^ bits w) xs 0 (λ k inside. fits k) in
+    sym (ap (λ k. lane w k i) is ∙ number_at (bits w) xs i 0 each (subst (λ k. i < k) (sym long) below))
+
+-- a lane of a vector, as it is written by its bytes
+pub written_at : (w : Width) (n : ℕ) (xs : List ℕ) (r i : ℕ) → n * bits w ≡ 128 → length xs ≡ n
+    → ((k : ℕ) → get_or xs k 0 < 2 ^ bits w) → i < n
+    → r ≡ number_l 256 (digits_l 256 16 (number_l (2 ^ bits w) xs)) → get_or xs i 0 ≡ lane w r i
+written_at w n xs r i filled long fits below is =
+    let number = number_l (2 ^ bits w) xs in
+    let small : number < 2 ^ (length xs * bits w) =
+    number_below (bits w) xs (Each1-from_get_or (λ x. x < 2 ^ bits w) xs 0 (λ k inside. fits k)) in
+    let exponent : length xs * bits w ≡ 128 = ap (λ k. k * bits w) long ∙ filled in
+    let whole : number % 2 ^ 128 ≡ number = mod-eq_of_lt (subst (λ k. number < 2 ^ k) exponent small) in
+    lane_of_number w n xs r i long fits below (is ∙ number_of_digits 8 16 number ∙ whole)
+
+-- a lane of 16 bits of a vector, as it is written by its bytes
+pub written_16 : (xs : List ℕ) (i : ℕ) → i < 8 → length xs ≡ 8 → ((k : ℕ) → get_or xs k 0 < 65536)
+    → get_or xs i 0 ≡ number_l 256 (digits_l 256 16 (number_l 65536 xs)) / 2 ^ (16 * i) % 65536
+written_16 xs i below long fits = written_at w16 8 xs _ i refl long fits below refl
+
+-- a lane of 32 bits
+pub written_32 : (xs : List ℕ) (i : ℕ) → i < 4 → length xs ≡ 4 → ((k : ℕ) → get_or xs k 0 < 2 ^ 32)
+    → get_or xs i 0 ≡ number_l 256 (digits_l 256 16 (number_l (2 ^ 32) xs)) / 2 ^ (32 * i) % 2 ^ 32
+written_32 xs i below long fits = written_at w32 4 xs _ i refl long fits below refl
+
+-- a lane of 64 bits
+pub written_64 : (xs : List ℕ) (i : ℕ) → i < 2 → length xs ≡ 2 → ((k : ℕ) → get_or xs k 0 < 2 ^ 64)
+    → get_or xs i 0 ≡ number_l 256 (digits_l 256 16 (number_l (2 ^ 64) xs)) / 2 ^ (64 * i) % 2 ^ 64
+written_64 xs i below long fits = written_at w64 2 xs _ i refl long fits below refl
+
+pub ruleset written = (written_16, written_32, written_64)

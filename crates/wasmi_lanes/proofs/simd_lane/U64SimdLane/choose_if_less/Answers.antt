@@ -1,9 +1,0 @@
-use Rattle.wasmi_types.specs.Wrapping.{w64}
-use Rattle.wasmi_lanes.proofs.ChoiceLemmas.{chosen_where_less}
-use Rattle.wasmi_lanes.proofs.simd_lane.U64SimdLane.choose_if_less.Goals as goal
-
-pub returns : goal.returns
-returns c = record {
-  lanes = chosen_where_less w64 2 c.args.a c.args.b c.args.chosen c.args.other c.fits-a.0 c.fits-b.0 c.fits-chosen.0
-      c.fits-other.0;
-}

@@ -1,6 +1,0 @@
-use Rattle.wasmi_types.specs.Wrapping.{w8}
-use Rattle.wasmi_lanes.proofs.DigitLemmas.{added_at}
-use Rattle.wasmi_lanes.proofs.simd_lane.U8SimdLane.biased.Goals as goal
-
-pub returns : goal.returns
-returns c = record { lanes = λ i inside. added_at w8 16 128 c.args.items i c.fits-items.0 inside }

@@ -1,8 +1,0 @@
-use Rattle.std.proofs.Common.{rules}
-use Rattle.wasmi_simd.proofs.WideningLemmas.{u16x8_widened}
-use Rattle.wasmi_simd.proofs.EvenOddLemmas.{even_at}
-use Rattle.wasmi_simd.proofs.simd.even_odd.even_u16x8.Goals as goal
-
-pub returns : goal.returns
-returns c = record
-    { lanes = even_at u16x8_widened c.args.v c.lanes_of.result (search rules) c.lanes_of.ensures.lanes }

@@ -1,9 +1,0 @@
-use Rattle.std.proofs.Common.{◌∙◌}
-use Rattle.wasmi_simd.proofs.WideningLemmas.{bytes_widened}
-use Rattle.wasmi_simd.proofs.HalfLemmas.{upper, half_makes_vector}
-use Rattle.wasmi_simd.proofs.simd.extend.i16x8_extend_high_i8x16_u.Goals as goal
-
-pub returns : goal.returns
-returns c =
-    half_makes_vector bytes_widened (upper 8) c.vector_of.ensures.in_range c.args.v
-    (λ i inside. c.vector_of.ensures.lanes i inside ∙ c.high_u8x16.ensures.lanes i inside)

@@ -1,8 +1,0 @@
-use Rattle.wasmi_simd.proofs.WideningLemmas.{bytes_widened}
-use Rattle.wasmi_simd.proofs.PairwiseLemmas.{sums_make_vector}
-use Rattle.wasmi_simd.proofs.simd.pairwise.i16x8_extadd_pairwise_i8x16_u.Goals as goal
-
-pub returns : goal.returns
-returns c =
-    sums_make_vector bytes_widened c.sums_of_u16x8.ensures.in_range c.args.v c.sums_of_u16x8.ensures.lanes
-    c.even_u8x16.ensures.lanes c.odd_u8x16.ensures.lanes

@@ -1,7 +1,0 @@
-use Rattle.std.proofs.Common.{refl}
-use Rattle.wasmi_types.specs.Wrapping.{w32}
-use Rattle.wasmi_simd.proofs.HalfLemmas.{signed_read_at}
-use Rattle.wasmi_simd.proofs.simd.vectors.i32x4_of.Goals as goal
-
-pub returns : goal.returns
-returns c = record { lanes = signed_read_at w32 4 c.args.v c.bytes_of.result refl c.bytes_of.ensures.number }

@@ -1,0 +1,10 @@
+use Rattle.std.proofs.Common.{arith, rules}
+use Rattle.wasmi_simd.specs.WideningProofs.{u32x4_widened}
+use Rattle.wasmi_simd.proofs.HalfLemmas.{upper, extended_at}
+use Rattle.wasmi_simd.proofs.simd.wide.U32ExtendedLane.high_signed.Goals as goal
+
+pub returns : goal.returns
+returns c = record {
+  lanes = extended_at u32x4_widened (upper 2) 4 tt (omega arith) c.args.v c.i32x4_of.result
+      (record { long = search rules; lanes = c.i32x4_of.ensures.lanes });
+}

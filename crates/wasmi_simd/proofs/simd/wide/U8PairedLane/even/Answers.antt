@@ -1,0 +1,8 @@
+use Rattle.std.proofs.Common.{rules}
+use Rattle.wasmi_simd.specs.WideningProofs.{bytes_widened}
+use Rattle.wasmi_simd.proofs.EvenOddLemmas.{even_at}
+use Rattle.wasmi_simd.proofs.simd.wide.U8PairedLane.even.Goals as goal
+
+pub returns : goal.returns
+returns c = record
+    { lanes = even_at bytes_widened c.args.v c.lanes_of.result (search rules) c.lanes_of.ensures.lanes }
