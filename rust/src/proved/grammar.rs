@@ -6,9 +6,8 @@ mod command {
         //! Commands that load from a memory or store to it.
 
         use crate::proved::machine::{Call, RawVal};
-        use crate::proved::operands::LineError;
         use crate::proved::operands::names::lane::{load_lane_op, store_lane_op};
-        use crate::proved::operands::operand::{self, Operand};
+        use crate::proved::operands::{LineError, number, operand};
 
         /// `load NAME K PTR OFFSET`.
         ///
@@ -16,7 +15,7 @@ mod command {
         ///
         /// <span></span><pre><code>ensures: [Accepts] result ([NamesAfter] ([codes] \"load\") operands.now)</code></pre>
         ///
-        /// [Accepts]: crate::specs::operands::Acceptance#Accepts "what is accepted is meant, and what is refused is a bad command: nothing is meant"
+        /// [Accepts]: crate::specs::operands::LineWords#Accepts "what is accepted is meant, and what is refused is a bad command: nothing is meant"
         /// [NamesAfter]: crate::specs::grammar::Commands#NamesAfter "the word that a command begins with, and the words after it, name this call"
         /// [codes]: crate::specs::library#codes "the characters of a text, by their numbers"
         #[inline]
@@ -36,7 +35,7 @@ mod command {
         ///
         /// <span></span><pre><code>ensures: [Accepts] result ([NamesAfter] ([codes] \"store\") operands.now)</code></pre>
         ///
-        /// [Accepts]: crate::specs::operands::Acceptance#Accepts "what is accepted is meant, and what is refused is a bad command: nothing is meant"
+        /// [Accepts]: crate::specs::operands::LineWords#Accepts "what is accepted is meant, and what is refused is a bad command: nothing is meant"
         /// [NamesAfter]: crate::specs::grammar::Commands#NamesAfter "the word that a command begins with, and the words after it, name this call"
         /// [codes]: crate::specs::library#codes "the characters of a text, by their numbers"
         #[inline]
@@ -57,7 +56,7 @@ mod command {
         ///
         /// <span></span><pre><code>ensures: [Accepts] result ([NamesAfter] ([codes] \"vload\") operands.now)</code></pre>
         ///
-        /// [Accepts]: crate::specs::operands::Acceptance#Accepts "what is accepted is meant, and what is refused is a bad command: nothing is meant"
+        /// [Accepts]: crate::specs::operands::LineWords#Accepts "what is accepted is meant, and what is refused is a bad command: nothing is meant"
         /// [NamesAfter]: crate::specs::grammar::Commands#NamesAfter "the word that a command begins with, and the words after it, name this call"
         /// [codes]: crate::specs::library#codes "the characters of a text, by their numbers"
         #[inline]
@@ -78,22 +77,21 @@ mod command {
         ///
         /// <span></span><pre><code>ensures: [Accepts] result ([NamesAfter] ([codes] \"vloadlane\") operands.now)</code></pre>
         ///
-        /// [Accepts]: crate::specs::operands::Acceptance#Accepts "what is accepted is meant, and what is refused is a bad command: nothing is meant"
+        /// [Accepts]: crate::specs::operands::LineWords#Accepts "what is accepted is meant, and what is refused is a bad command: nothing is meant"
         /// [NamesAfter]: crate::specs::grammar::Commands#NamesAfter "the word that a command begins with, and the words after it, name this call"
         /// [codes]: crate::specs::library#codes "the characters of a text, by their numbers"
         #[inline]
         pub fn load_lane(operands: &[&str]) -> Result<Call, LineError> {
-            let [name, dst, a, lane, place @ ..] = operands else {
+            let [name, dst, a, lane, memory, ptr, offset] = operands else {
                 return Err(LineError::BadCommand);
             };
-            let (memory, ptr, offset) = operand::three(place)?;
             Ok(Call::LoadLane {
                 op: load_lane_op(name, lane)?,
-                dst: Operand::from_word(dst)?,
-                a: Operand::from_word(a)?,
-                memory,
-                ptr,
-                offset,
+                dst: number(dst)?,
+                a: number(a)?,
+                memory: number(memory)?,
+                ptr: number(ptr)?,
+                offset: number(offset)?,
             })
         }
 
@@ -103,7 +101,7 @@ mod command {
         ///
         /// <span></span><pre><code>ensures: [Accepts] result ([NamesAfter] ([codes] \"vstore\") operands.now)</code></pre>
         ///
-        /// [Accepts]: crate::specs::operands::Acceptance#Accepts "what is accepted is meant, and what is refused is a bad command: nothing is meant"
+        /// [Accepts]: crate::specs::operands::LineWords#Accepts "what is accepted is meant, and what is refused is a bad command: nothing is meant"
         /// [NamesAfter]: crate::specs::grammar::Commands#NamesAfter "the word that a command begins with, and the words after it, name this call"
         /// [codes]: crate::specs::library#codes "the characters of a text, by their numbers"
         #[inline]
@@ -123,21 +121,20 @@ mod command {
         ///
         /// <span></span><pre><code>ensures: [Accepts] result ([NamesAfter] ([codes] \"vstorelane\") operands.now)</code></pre>
         ///
-        /// [Accepts]: crate::specs::operands::Acceptance#Accepts "what is accepted is meant, and what is refused is a bad command: nothing is meant"
+        /// [Accepts]: crate::specs::operands::LineWords#Accepts "what is accepted is meant, and what is refused is a bad command: nothing is meant"
         /// [NamesAfter]: crate::specs::grammar::Commands#NamesAfter "the word that a command begins with, and the words after it, name this call"
         /// [codes]: crate::specs::library#codes "the characters of a text, by their numbers"
         #[inline]
         pub fn store_lane(operands: &[&str]) -> Result<Call, LineError> {
-            let [name, a, lane, place @ ..] = operands else {
+            let [name, a, lane, memory, ptr, offset] = operands else {
                 return Err(LineError::BadCommand);
             };
-            let (memory, ptr, offset) = operand::three(place)?;
             Ok(Call::StoreLane {
                 op: store_lane_op(name, lane)?,
-                a: Operand::from_word(a)?,
-                memory,
-                ptr,
-                offset,
+                a: number(a)?,
+                memory: number(memory)?,
+                ptr: number(ptr)?,
+                offset: number(offset)?,
             })
         }
     }
@@ -154,7 +151,7 @@ mod command {
         ///
         /// <span></span><pre><code>ensures: [Accepts] result ([NamesAfter] ([codes] \"memory\") operands.now)</code></pre>
         ///
-        /// [Accepts]: crate::specs::operands::Acceptance#Accepts "what is accepted is meant, and what is refused is a bad command: nothing is meant"
+        /// [Accepts]: crate::specs::operands::LineWords#Accepts "what is accepted is meant, and what is refused is a bad command: nothing is meant"
         /// [NamesAfter]: crate::specs::grammar::Commands#NamesAfter "the word that a command begins with, and the words after it, name this call"
         /// [codes]: crate::specs::library#codes "the characters of a text, by their numbers"
         #[inline]
@@ -171,7 +168,7 @@ mod command {
         ///
         /// <span></span><pre><code>ensures: [Accepts] result ([NamesAfter] ([codes] \"lent\") operands.now)</code></pre>
         ///
-        /// [Accepts]: crate::specs::operands::Acceptance#Accepts "what is accepted is meant, and what is refused is a bad command: nothing is meant"
+        /// [Accepts]: crate::specs::operands::LineWords#Accepts "what is accepted is meant, and what is refused is a bad command: nothing is meant"
         /// [NamesAfter]: crate::specs::grammar::Commands#NamesAfter "the word that a command begins with, and the words after it, name this call"
         /// [codes]: crate::specs::library#codes "the characters of a text, by their numbers"
         #[inline]
@@ -188,7 +185,7 @@ mod command {
         ///
         /// <span></span><pre><code>ensures: [Accepts] result ([NamesAfter] ([codes] \"grow\") operands.now)</code></pre>
         ///
-        /// [Accepts]: crate::specs::operands::Acceptance#Accepts "what is accepted is meant, and what is refused is a bad command: nothing is meant"
+        /// [Accepts]: crate::specs::operands::LineWords#Accepts "what is accepted is meant, and what is refused is a bad command: nothing is meant"
         /// [NamesAfter]: crate::specs::grammar::Commands#NamesAfter "the word that a command begins with, and the words after it, name this call"
         /// [codes]: crate::specs::library#codes "the characters of a text, by their numbers"
         #[inline]
@@ -203,7 +200,7 @@ mod command {
         ///
         /// <span></span><pre><code>ensures: [Accepts] result ([NamesAfter] ([codes] \"read\") operands.now)</code></pre>
         ///
-        /// [Accepts]: crate::specs::operands::Acceptance#Accepts "what is accepted is meant, and what is refused is a bad command: nothing is meant"
+        /// [Accepts]: crate::specs::operands::LineWords#Accepts "what is accepted is meant, and what is refused is a bad command: nothing is meant"
         /// [NamesAfter]: crate::specs::grammar::Commands#NamesAfter "the word that a command begins with, and the words after it, name this call"
         /// [codes]: crate::specs::library#codes "the characters of a text, by their numbers"
         #[inline]
@@ -222,7 +219,7 @@ mod command {
         ///
         /// <span></span><pre><code>ensures: [AcceptsWithMemory] result ([NamesAfter] ([codes] \"write\") operands.now)</code></pre>
         ///
-        /// [AcceptsWithMemory]: crate::specs::operands::Acceptance#AcceptsWithMemory "the words are read as a value that means this, or they mean nothing of the kind, or memory was refused"
+        /// [AcceptsWithMemory]: crate::specs::operands::LineWords#AcceptsWithMemory "the words are read as a value that means this, or they mean nothing of the kind, or memory was refused"
         /// [NamesAfter]: crate::specs::grammar::Commands#NamesAfter "the word that a command begins with, and the words after it, name this call"
         /// [codes]: crate::specs::library#codes "the characters of a text, by their numbers"
         #[inline]
@@ -243,7 +240,7 @@ mod command {
         ///
         /// <span></span><pre><code>ensures: [Accepts] result ([NamesAfter] ([codes] \"drop\") operands.now)</code></pre>
         ///
-        /// [Accepts]: crate::specs::operands::Acceptance#Accepts "what is accepted is meant, and what is refused is a bad command: nothing is meant"
+        /// [Accepts]: crate::specs::operands::LineWords#Accepts "what is accepted is meant, and what is refused is a bad command: nothing is meant"
         /// [NamesAfter]: crate::specs::grammar::Commands#NamesAfter "the word that a command begins with, and the words after it, name this call"
         /// [codes]: crate::specs::library#codes "the characters of a text, by their numbers"
         #[inline]
@@ -265,8 +262,8 @@ mod command {
         ///
         /// <span></span><pre><code>ensures: [Accepts] result ([NamesType] min.now max.now log2.now width.now)</code></pre>
         ///
-        /// [Accepts]: crate::specs::operands::Acceptance#Accepts "what is accepted is meant, and what is refused is a bad command: nothing is meant"
-        /// [NamesType]: crate::specs::grammar::MemoryWords#NamesType "four words name this memory type, which there is: its minimum, its maximum, its page size and the width of its addresses"
+        /// [Accepts]: crate::specs::operands::LineWords#Accepts "what is accepted is meant, and what is refused is a bad command: nothing is meant"
+        /// [NamesType]: crate::specs::grammar::Commands#NamesType "four words name this memory type, which there is: its minimum, its maximum, its page size and the width of its addresses"
         #[inline]
         fn memory_type(
             min: &str,
@@ -288,8 +285,8 @@ mod command {
         /// <span></span><pre><code>ensures: [Accepts] result ([HasSettings]
         /// &#32;&#32;&#32;&#32;(record { index = index; minimum = minimum; maximum = maximum }) page_size_log2)</code></pre>
         ///
-        /// [Accepts]: crate::specs::operands::Acceptance#Accepts "what is accepted is meant, and what is refused is a bad command: nothing is meant"
-        /// [HasSettings]: crate::specs::grammar::MemoryWords#HasSettings "a memory type, which there is, of these limits and this page size"
+        /// [Accepts]: crate::specs::operands::LineWords#Accepts "what is accepted is meant, and what is refused is a bad command: nothing is meant"
+        /// [HasSettings]: crate::specs::grammar::Commands#HasSettings "a memory type, which there is, of these limits and this page size"
         #[inline]
         fn type_of(
             index: IndexType,
@@ -324,7 +321,7 @@ mod command {
         ///
         /// <span></span><pre><code>ensures: [Accepts] result ([NamesAfter] ([codes] \"table\") operands.now)</code></pre>
         ///
-        /// [Accepts]: crate::specs::operands::Acceptance#Accepts "what is accepted is meant, and what is refused is a bad command: nothing is meant"
+        /// [Accepts]: crate::specs::operands::LineWords#Accepts "what is accepted is meant, and what is refused is a bad command: nothing is meant"
         /// [NamesAfter]: crate::specs::grammar::Commands#NamesAfter "the word that a command begins with, and the words after it, name this call"
         /// [codes]: crate::specs::library#codes "the characters of a text, by their numbers"
         #[inline]
@@ -344,7 +341,7 @@ mod command {
         ///
         /// <span></span><pre><code>ensures: [Accepts] result ([NamesAfter] ([codes] \"tgrow\") operands.now)</code></pre>
         ///
-        /// [Accepts]: crate::specs::operands::Acceptance#Accepts "what is accepted is meant, and what is refused is a bad command: nothing is meant"
+        /// [Accepts]: crate::specs::operands::LineWords#Accepts "what is accepted is meant, and what is refused is a bad command: nothing is meant"
         /// [NamesAfter]: crate::specs::grammar::Commands#NamesAfter "the word that a command begins with, and the words after it, name this call"
         /// [codes]: crate::specs::library#codes "the characters of a text, by their numbers"
         #[inline]
@@ -363,7 +360,7 @@ mod command {
         ///
         /// <span></span><pre><code>ensures: [Accepts] result ([NamesAfter] ([codes] \"get\") operands.now)</code></pre>
         ///
-        /// [Accepts]: crate::specs::operands::Acceptance#Accepts "what is accepted is meant, and what is refused is a bad command: nothing is meant"
+        /// [Accepts]: crate::specs::operands::LineWords#Accepts "what is accepted is meant, and what is refused is a bad command: nothing is meant"
         /// [NamesAfter]: crate::specs::grammar::Commands#NamesAfter "the word that a command begins with, and the words after it, name this call"
         /// [codes]: crate::specs::library#codes "the characters of a text, by their numbers"
         #[inline]
@@ -378,7 +375,7 @@ mod command {
         ///
         /// <span></span><pre><code>ensures: [Accepts] result ([NamesAfter] ([codes] \"tset\") operands.now)</code></pre>
         ///
-        /// [Accepts]: crate::specs::operands::Acceptance#Accepts "what is accepted is meant, and what is refused is a bad command: nothing is meant"
+        /// [Accepts]: crate::specs::operands::LineWords#Accepts "what is accepted is meant, and what is refused is a bad command: nothing is meant"
         /// [NamesAfter]: crate::specs::grammar::Commands#NamesAfter "the word that a command begins with, and the words after it, name this call"
         /// [codes]: crate::specs::library#codes "the characters of a text, by their numbers"
         #[inline]
@@ -397,7 +394,7 @@ mod command {
         ///
         /// <span></span><pre><code>ensures: [Accepts] result ([NamesAfter] ([codes] \"init\") operands.now)</code></pre>
         ///
-        /// [Accepts]: crate::specs::operands::Acceptance#Accepts "what is accepted is meant, and what is refused is a bad command: nothing is meant"
+        /// [Accepts]: crate::specs::operands::LineWords#Accepts "what is accepted is meant, and what is refused is a bad command: nothing is meant"
         /// [NamesAfter]: crate::specs::grammar::Commands#NamesAfter "the word that a command begins with, and the words after it, name this call"
         /// [codes]: crate::specs::library#codes "the characters of a text, by their numbers"
         #[inline]
@@ -418,7 +415,7 @@ mod command {
         ///
         /// <span></span><pre><code>ensures: [Accepts] result ([NamesAfter] ([codes] \"copy\") operands.now)</code></pre>
         ///
-        /// [Accepts]: crate::specs::operands::Acceptance#Accepts "what is accepted is meant, and what is refused is a bad command: nothing is meant"
+        /// [Accepts]: crate::specs::operands::LineWords#Accepts "what is accepted is meant, and what is refused is a bad command: nothing is meant"
         /// [NamesAfter]: crate::specs::grammar::Commands#NamesAfter "the word that a command begins with, and the words after it, name this call"
         /// [codes]: crate::specs::library#codes "the characters of a text, by their numbers"
         #[inline]
@@ -439,7 +436,7 @@ mod command {
         ///
         /// <span></span><pre><code>ensures: [Accepts] result ([NamesAfter] ([codes] \"fill\") operands.now)</code></pre>
         ///
-        /// [Accepts]: crate::specs::operands::Acceptance#Accepts "what is accepted is meant, and what is refused is a bad command: nothing is meant"
+        /// [Accepts]: crate::specs::operands::LineWords#Accepts "what is accepted is meant, and what is refused is a bad command: nothing is meant"
         /// [NamesAfter]: crate::specs::grammar::Commands#NamesAfter "the word that a command begins with, and the words after it, name this call"
         /// [codes]: crate::specs::library#codes "the characters of a text, by their numbers"
         #[inline]
@@ -459,7 +456,7 @@ mod command {
         ///
         /// <span></span><pre><code>ensures: [AcceptsWithMemory] result ([NamesAfter] ([codes] \"segment\") operands.now)</code></pre>
         ///
-        /// [AcceptsWithMemory]: crate::specs::operands::Acceptance#AcceptsWithMemory "the words are read as a value that means this, or they mean nothing of the kind, or memory was refused"
+        /// [AcceptsWithMemory]: crate::specs::operands::LineWords#AcceptsWithMemory "the words are read as a value that means this, or they mean nothing of the kind, or memory was refused"
         /// [NamesAfter]: crate::specs::grammar::Commands#NamesAfter "the word that a command begins with, and the words after it, name this call"
         /// [codes]: crate::specs::library#codes "the characters of a text, by their numbers"
         #[inline]
@@ -479,7 +476,7 @@ mod command {
         ///
         /// <span></span><pre><code>ensures: [Accepts] result ([NamesAfter] ([codes] \"empty\") operands.now)</code></pre>
         ///
-        /// [Accepts]: crate::specs::operands::Acceptance#Accepts "what is accepted is meant, and what is refused is a bad command: nothing is meant"
+        /// [Accepts]: crate::specs::operands::LineWords#Accepts "what is accepted is meant, and what is refused is a bad command: nothing is meant"
         /// [NamesAfter]: crate::specs::grammar::Commands#NamesAfter "the word that a command begins with, and the words after it, name this call"
         /// [codes]: crate::specs::library#codes "the characters of a text, by their numbers"
         #[inline]
@@ -496,8 +493,8 @@ mod command {
         ///
         /// <span></span><pre><code>ensures: [Accepts] result ([NamesTableType] element.now min.now max.now width.now)</code></pre>
         ///
-        /// [Accepts]: crate::specs::operands::Acceptance#Accepts "what is accepted is meant, and what is refused is a bad command: nothing is meant"
-        /// [NamesTableType]: crate::specs::grammar::TableWords#NamesTableType "four words name this table type, which there is: the type of its elements, its minimum, its maximum and the width of its indices"
+        /// [Accepts]: crate::specs::operands::LineWords#Accepts "what is accepted is meant, and what is refused is a bad command: nothing is meant"
+        /// [NamesTableType]: crate::specs::grammar::Commands#NamesTableType "four words name this table type, which there is: the type of its elements, its minimum, its maximum and the width of its indices"
         #[inline]
         fn table_type(
             element: &str,
@@ -519,8 +516,8 @@ mod command {
         /// <span></span><pre><code>ensures: [Accepts] result ([HasLimits]
         /// &#32;&#32;&#32;&#32;(record { index = index; minimum = minimum; maximum = maximum }) element)</code></pre>
         ///
-        /// [Accepts]: crate::specs::operands::Acceptance#Accepts "what is accepted is meant, and what is refused is a bad command: nothing is meant"
-        /// [HasLimits]: crate::specs::grammar::TableWords#HasLimits "a table type, which there is, of these limits and this type of elements"
+        /// [Accepts]: crate::specs::operands::LineWords#Accepts "what is accepted is meant, and what is refused is a bad command: nothing is meant"
+        /// [HasLimits]: crate::specs::grammar::Commands#HasLimits "a table type, which there is, of these limits and this type of elements"
         #[inline]
         fn type_of(
             index: IndexType,
@@ -576,7 +573,7 @@ mod command {
         ///
         /// <span></span><pre><code>ensures: [Accepts] result ([NamesAfter] ([codes] \"fuel\") operands.now)</code></pre>
         ///
-        /// [Accepts]: crate::specs::operands::Acceptance#Accepts "what is accepted is meant, and what is refused is a bad command: nothing is meant"
+        /// [Accepts]: crate::specs::operands::LineWords#Accepts "what is accepted is meant, and what is refused is a bad command: nothing is meant"
         /// [NamesAfter]: crate::specs::grammar::Commands#NamesAfter "the word that a command begins with, and the words after it, name this call"
         /// [codes]: crate::specs::library#codes "the characters of a text, by their numbers"
         #[inline]
@@ -593,7 +590,7 @@ mod command {
         ///
         /// <span></span><pre><code>ensures: [Accepts] result ([NamesAfter] ([codes] \"left\") operands.now)</code></pre>
         ///
-        /// [Accepts]: crate::specs::operands::Acceptance#Accepts "what is accepted is meant, and what is refused is a bad command: nothing is meant"
+        /// [Accepts]: crate::specs::operands::LineWords#Accepts "what is accepted is meant, and what is refused is a bad command: nothing is meant"
         /// [NamesAfter]: crate::specs::grammar::Commands#NamesAfter "the word that a command begins with, and the words after it, name this call"
         /// [codes]: crate::specs::library#codes "the characters of a text, by their numbers"
         #[inline]
@@ -611,7 +608,7 @@ mod command {
         ///
         /// <span></span><pre><code>ensures: [Accepts] result ([NamesAfter] ([codes] \"global\") operands.now)</code></pre>
         ///
-        /// [Accepts]: crate::specs::operands::Acceptance#Accepts "what is accepted is meant, and what is refused is a bad command: nothing is meant"
+        /// [Accepts]: crate::specs::operands::LineWords#Accepts "what is accepted is meant, and what is refused is a bad command: nothing is meant"
         /// [NamesAfter]: crate::specs::grammar::Commands#NamesAfter "the word that a command begins with, and the words after it, name this call"
         /// [codes]: crate::specs::library#codes "the characters of a text, by their numbers"
         #[inline]
@@ -629,7 +626,7 @@ mod command {
         ///
         /// <span></span><pre><code>ensures: [Accepts] result ([NamesAfter] ([codes] \"gset\") operands.now)</code></pre>
         ///
-        /// [Accepts]: crate::specs::operands::Acceptance#Accepts "what is accepted is meant, and what is refused is a bad command: nothing is meant"
+        /// [Accepts]: crate::specs::operands::LineWords#Accepts "what is accepted is meant, and what is refused is a bad command: nothing is meant"
         /// [NamesAfter]: crate::specs::grammar::Commands#NamesAfter "the word that a command begins with, and the words after it, name this call"
         /// [codes]: crate::specs::library#codes "the characters of a text, by their numbers"
         #[inline]
@@ -647,7 +644,7 @@ mod command {
         ///
         /// <span></span><pre><code>ensures: [Accepts] result ([NamesAfter] ([codes] \"gget\") operands.now)</code></pre>
         ///
-        /// [Accepts]: crate::specs::operands::Acceptance#Accepts "what is accepted is meant, and what is refused is a bad command: nothing is meant"
+        /// [Accepts]: crate::specs::operands::LineWords#Accepts "what is accepted is meant, and what is refused is a bad command: nothing is meant"
         /// [NamesAfter]: crate::specs::grammar::Commands#NamesAfter "the word that a command begins with, and the words after it, name this call"
         /// [codes]: crate::specs::library#codes "the characters of a text, by their numbers"
         #[inline]
@@ -664,7 +661,7 @@ mod command {
         ///
         /// <span></span><pre><code>ensures: [Accepts] result ([NamesAfter] ([codes] \"set\") operands.now)</code></pre>
         ///
-        /// [Accepts]: crate::specs::operands::Acceptance#Accepts "what is accepted is meant, and what is refused is a bad command: nothing is meant"
+        /// [Accepts]: crate::specs::operands::LineWords#Accepts "what is accepted is meant, and what is refused is a bad command: nothing is meant"
         /// [NamesAfter]: crate::specs::grammar::Commands#NamesAfter "the word that a command begins with, and the words after it, name this call"
         /// [codes]: crate::specs::library#codes "the characters of a text, by their numbers"
         #[inline]
@@ -682,7 +679,7 @@ mod command {
         ///
         /// <span></span><pre><code>ensures: [Accepts] result ([NamesAfter] ([codes] \"show\") operands.now)</code></pre>
         ///
-        /// [Accepts]: crate::specs::operands::Acceptance#Accepts "what is accepted is meant, and what is refused is a bad command: nothing is meant"
+        /// [Accepts]: crate::specs::operands::LineWords#Accepts "what is accepted is meant, and what is refused is a bad command: nothing is meant"
         /// [NamesAfter]: crate::specs::grammar::Commands#NamesAfter "the word that a command begins with, and the words after it, name this call"
         /// [codes]: crate::specs::library#codes "the characters of a text, by their numbers"
         #[inline]
@@ -698,9 +695,8 @@ mod command {
 
         use crate::proved::machine::Call;
         use crate::proved::machine::simd::ImmLaneIdx32;
-        use crate::proved::operands::LineError;
         use crate::proved::operands::names::lane::{extract_op, index, replace_op};
-        use crate::proved::operands::operand::{self, Operand};
+        use crate::proved::operands::{LineError, number, operand};
         use crate::rattle::ArrayExt;
 
         /// `make NAME D A`.
@@ -709,7 +705,7 @@ mod command {
         ///
         /// <span></span><pre><code>ensures: [Accepts] result ([NamesAfter] ([codes] \"make\") operands.now)</code></pre>
         ///
-        /// [Accepts]: crate::specs::operands::Acceptance#Accepts "what is accepted is meant, and what is refused is a bad command: nothing is meant"
+        /// [Accepts]: crate::specs::operands::LineWords#Accepts "what is accepted is meant, and what is refused is a bad command: nothing is meant"
         /// [NamesAfter]: crate::specs::grammar::Commands#NamesAfter "the word that a command begins with, and the words after it, name this call"
         /// [codes]: crate::specs::library#codes "the characters of a text, by their numbers"
         #[inline]
@@ -724,7 +720,7 @@ mod command {
         ///
         /// <span></span><pre><code>ensures: [Accepts] result ([NamesAfter] ([codes] \"unary\") operands.now)</code></pre>
         ///
-        /// [Accepts]: crate::specs::operands::Acceptance#Accepts "what is accepted is meant, and what is refused is a bad command: nothing is meant"
+        /// [Accepts]: crate::specs::operands::LineWords#Accepts "what is accepted is meant, and what is refused is a bad command: nothing is meant"
         /// [NamesAfter]: crate::specs::grammar::Commands#NamesAfter "the word that a command begins with, and the words after it, name this call"
         /// [codes]: crate::specs::library#codes "the characters of a text, by their numbers"
         #[inline]
@@ -739,7 +735,7 @@ mod command {
         ///
         /// <span></span><pre><code>ensures: [Accepts] result ([NamesAfter] ([codes] \"binary\") operands.now)</code></pre>
         ///
-        /// [Accepts]: crate::specs::operands::Acceptance#Accepts "what is accepted is meant, and what is refused is a bad command: nothing is meant"
+        /// [Accepts]: crate::specs::operands::LineWords#Accepts "what is accepted is meant, and what is refused is a bad command: nothing is meant"
         /// [NamesAfter]: crate::specs::grammar::Commands#NamesAfter "the word that a command begins with, and the words after it, name this call"
         /// [codes]: crate::specs::library#codes "the characters of a text, by their numbers"
         #[inline]
@@ -754,7 +750,7 @@ mod command {
         ///
         /// <span></span><pre><code>ensures: [Accepts] result ([NamesAfter] ([codes] \"ternary\") operands.now)</code></pre>
         ///
-        /// [Accepts]: crate::specs::operands::Acceptance#Accepts "what is accepted is meant, and what is refused is a bad command: nothing is meant"
+        /// [Accepts]: crate::specs::operands::LineWords#Accepts "what is accepted is meant, and what is refused is a bad command: nothing is meant"
         /// [NamesAfter]: crate::specs::grammar::Commands#NamesAfter "the word that a command begins with, and the words after it, name this call"
         /// [codes]: crate::specs::library#codes "the characters of a text, by their numbers"
         #[inline]
@@ -769,7 +765,7 @@ mod command {
         ///
         /// <span></span><pre><code>ensures: [Accepts] result ([NamesAfter] ([codes] \"shift\") operands.now)</code></pre>
         ///
-        /// [Accepts]: crate::specs::operands::Acceptance#Accepts "what is accepted is meant, and what is refused is a bad command: nothing is meant"
+        /// [Accepts]: crate::specs::operands::LineWords#Accepts "what is accepted is meant, and what is refused is a bad command: nothing is meant"
         /// [NamesAfter]: crate::specs::grammar::Commands#NamesAfter "the word that a command begins with, and the words after it, name this call"
         /// [codes]: crate::specs::library#codes "the characters of a text, by their numbers"
         #[inline]
@@ -784,7 +780,7 @@ mod command {
         ///
         /// <span></span><pre><code>ensures: [Accepts] result ([NamesAfter] ([codes] \"test\") operands.now)</code></pre>
         ///
-        /// [Accepts]: crate::specs::operands::Acceptance#Accepts "what is accepted is meant, and what is refused is a bad command: nothing is meant"
+        /// [Accepts]: crate::specs::operands::LineWords#Accepts "what is accepted is meant, and what is refused is a bad command: nothing is meant"
         /// [NamesAfter]: crate::specs::grammar::Commands#NamesAfter "the word that a command begins with, and the words after it, name this call"
         /// [codes]: crate::specs::library#codes "the characters of a text, by their numbers"
         #[inline]
@@ -799,7 +795,7 @@ mod command {
         ///
         /// <span></span><pre><code>ensures: [Accepts] result ([NamesAfter] ([codes] \"extract\") operands.now)</code></pre>
         ///
-        /// [Accepts]: crate::specs::operands::Acceptance#Accepts "what is accepted is meant, and what is refused is a bad command: nothing is meant"
+        /// [Accepts]: crate::specs::operands::LineWords#Accepts "what is accepted is meant, and what is refused is a bad command: nothing is meant"
         /// [NamesAfter]: crate::specs::grammar::Commands#NamesAfter "the word that a command begins with, and the words after it, name this call"
         /// [codes]: crate::specs::library#codes "the characters of a text, by their numbers"
         #[inline]
@@ -809,7 +805,7 @@ mod command {
             };
             Ok(Call::Extract {
                 op: extract_op(name, lane)?,
-                a: Operand::from_word(a)?,
+                a: number(a)?,
             })
         }
 
@@ -819,7 +815,7 @@ mod command {
         ///
         /// <span></span><pre><code>ensures: [Accepts] result ([NamesAfter] ([codes] \"replace\") operands.now)</code></pre>
         ///
-        /// [Accepts]: crate::specs::operands::Acceptance#Accepts "what is accepted is meant, and what is refused is a bad command: nothing is meant"
+        /// [Accepts]: crate::specs::operands::LineWords#Accepts "what is accepted is meant, and what is refused is a bad command: nothing is meant"
         /// [NamesAfter]: crate::specs::grammar::Commands#NamesAfter "the word that a command begins with, and the words after it, name this call"
         /// [codes]: crate::specs::library#codes "the characters of a text, by their numbers"
         #[inline]
@@ -829,9 +825,9 @@ mod command {
             };
             Ok(Call::Replace {
                 op: replace_op(name, lane)?,
-                dst: Operand::from_word(dst)?,
-                a: Operand::from_word(a)?,
-                item: Operand::from_word(item)?,
+                dst: number(dst)?,
+                a: number(a)?,
+                item: number(item)?,
             })
         }
 
@@ -841,7 +837,7 @@ mod command {
         ///
         /// <span></span><pre><code>ensures: [Accepts] result ([NamesAfter] ([codes] \"shuffle\") operands.now)</code></pre>
         ///
-        /// [Accepts]: crate::specs::operands::Acceptance#Accepts "what is accepted is meant, and what is refused is a bad command: nothing is meant"
+        /// [Accepts]: crate::specs::operands::LineWords#Accepts "what is accepted is meant, and what is refused is a bad command: nothing is meant"
         /// [NamesAfter]: crate::specs::grammar::Commands#NamesAfter "the word that a command begins with, and the words after it, name this call"
         /// [codes]: crate::specs::library#codes "the characters of a text, by their numbers"
         #[inline]
@@ -850,9 +846,9 @@ mod command {
                 return Err(LineError::BadCommand);
             };
             Ok(Call::Shuffle {
-                dst: Operand::from_word(dst)?,
-                a: Operand::from_word(a)?,
-                b: Operand::from_word(b)?,
+                dst: number(dst)?,
+                a: number(a)?,
+                b: number(b)?,
                 lanes: lanes_of(lanes)?,
             })
         }
@@ -863,8 +859,8 @@ mod command {
         ///
         /// <span></span><pre><code>ensures: [Accepts] result ([WritesLanes] words.now)</code></pre>
         ///
-        /// [Accepts]: crate::specs::operands::Acceptance#Accepts "what is accepted is meant, and what is refused is a bad command: nothing is meant"
-        /// [WritesLanes]: crate::specs::operands::LaneNames#WritesLanes "sixteen words write the lanes of a shuffle, of which there are 32 to choose from"
+        /// [Accepts]: crate::specs::operands::LineWords#Accepts "what is accepted is meant, and what is refused is a bad command: nothing is meant"
+        /// [WritesLanes]: crate::specs::operands::Names#WritesLanes "sixteen words write the lanes of a shuffle, of which there are 32 to choose from"
         #[inline]
         fn lanes_of(words: &[&str]) -> Result<[ImmLaneIdx32; 16], LineError> {
             let Ok(words) = <&[&str; 16]>::try_from(words) else {
@@ -986,7 +982,7 @@ mod header {
     ///
     /// <span></span><pre><code>ensures: [Accepts] result ([WritesMeter] operands.now)</code></pre>
     ///
-    /// [Accepts]: crate::specs::operands::Acceptance#Accepts "what is accepted is meant, and what is refused is a bad command: nothing is meant"
+    /// [Accepts]: crate::specs::operands::LineWords#Accepts "what is accepted is meant, and what is refused is a bad command: nothing is meant"
     /// [WritesMeter]: crate::specs::grammar::Headers#WritesMeter "the words after the first write what the meter line says"
     #[inline]
     pub(crate) fn meter_line(operands: &[&str]) -> Result<MeterLine, LineError> {
@@ -1003,7 +999,7 @@ mod header {
     ///
     /// <span></span><pre><code>ensures: [Accepts] result ([WritesRegion] operands.now)</code></pre>
     ///
-    /// [Accepts]: crate::specs::operands::Acceptance#Accepts "what is accepted is meant, and what is refused is a bad command: nothing is meant"
+    /// [Accepts]: crate::specs::operands::LineWords#Accepts "what is accepted is meant, and what is refused is a bad command: nothing is meant"
     /// [WritesRegion]: crate::specs::grammar::Headers#WritesRegion "the words after the first write what the region line says"
     #[inline]
     pub(crate) fn region_line(operands: &[&str]) -> Result<RegionLine, LineError> {
@@ -1017,7 +1013,7 @@ mod header {
     ///
     /// <span></span><pre><code>ensures: [Accepts] result ([NamesLimiterAfter] ([codes] \"quota\") operands.now)</code></pre>
     ///
-    /// [Accepts]: crate::specs::operands::Acceptance#Accepts "what is accepted is meant, and what is refused is a bad command: nothing is meant"
+    /// [Accepts]: crate::specs::operands::LineWords#Accepts "what is accepted is meant, and what is refused is a bad command: nothing is meant"
     /// [NamesLimiterAfter]: crate::specs::grammar::Headers#NamesLimiterAfter "the word that a limiter line begins with, and the words after it, name this line"
     /// [codes]: crate::specs::library#codes "the characters of a text, by their numbers"
     #[inline]
@@ -1032,7 +1028,7 @@ mod header {
     ///
     /// <span></span><pre><code>ensures: [Accepts] result ([NamesLimiterAfter] ([codes] \"tenants\") operands.now)</code></pre>
     ///
-    /// [Accepts]: crate::specs::operands::Acceptance#Accepts "what is accepted is meant, and what is refused is a bad command: nothing is meant"
+    /// [Accepts]: crate::specs::operands::LineWords#Accepts "what is accepted is meant, and what is refused is a bad command: nothing is meant"
     /// [NamesLimiterAfter]: crate::specs::grammar::Headers#NamesLimiterAfter "the word that a limiter line begins with, and the words after it, name this line"
     /// [codes]: crate::specs::library#codes "the characters of a text, by their numbers"
     #[inline]
@@ -1053,7 +1049,7 @@ mod header {
     ///
     /// <span></span><pre><code>ensures: [AcceptsWithMemory] result ([NamesLimiterAfter] ([codes] \"answers\") operands.now)</code></pre>
     ///
-    /// [AcceptsWithMemory]: crate::specs::operands::Acceptance#AcceptsWithMemory "the words are read as a value that means this, or they mean nothing of the kind, or memory was refused"
+    /// [AcceptsWithMemory]: crate::specs::operands::LineWords#AcceptsWithMemory "the words are read as a value that means this, or they mean nothing of the kind, or memory was refused"
     /// [NamesLimiterAfter]: crate::specs::grammar::Headers#NamesLimiterAfter "the word that a limiter line begins with, and the words after it, name this line"
     /// [codes]: crate::specs::library#codes "the characters of a text, by their numbers"
     #[inline]
@@ -1507,7 +1503,7 @@ mod script {
     ///
     /// <span></span><pre><code>ensures: [AcceptsWithMemory] result ([NamesLine] name.now operands.now)</code></pre>
     ///
-    /// [AcceptsWithMemory]: crate::specs::operands::Acceptance#AcceptsWithMemory "the words are read as a value that means this, or they mean nothing of the kind, or memory was refused"
+    /// [AcceptsWithMemory]: crate::specs::operands::LineWords#AcceptsWithMemory "the words are read as a value that means this, or they mean nothing of the kind, or memory was refused"
     /// [NamesLine]: crate::specs::grammar::Lines#NamesLine "the first word of a line and the words after it say this"
     #[inline]
     fn line_of(name: &str, operands: &[&str]) -> Result<Line, LineError> {
@@ -1528,7 +1524,7 @@ mod script {
     ///
     /// <span></span><pre><code>ensures: [Accepts] result ([WritesTenant] operands.now)</code></pre>
     ///
-    /// [Accepts]: crate::specs::operands::Acceptance#Accepts "what is accepted is meant, and what is refused is a bad command: nothing is meant"
+    /// [Accepts]: crate::specs::operands::LineWords#Accepts "what is accepted is meant, and what is refused is a bad command: nothing is meant"
     /// [WritesTenant]: crate::specs::grammar::Headers#WritesTenant "the words after the first write which tenant the \`as\` line means"
     #[inline]
     fn tenant_named(operands: &[&str]) -> Result<usize, LineError> {
@@ -1544,10 +1540,30 @@ mod script {
     ///
     /// <span></span><pre><code>ensures: [AcceptsWithMemory] result ([NamesAfter] name.now operands.now)</code></pre>
     ///
-    /// [AcceptsWithMemory]: crate::specs::operands::Acceptance#AcceptsWithMemory "the words are read as a value that means this, or they mean nothing of the kind, or memory was refused"
+    /// [AcceptsWithMemory]: crate::specs::operands::LineWords#AcceptsWithMemory "the words are read as a value that means this, or they mean nothing of the kind, or memory was refused"
     /// [NamesAfter]: crate::specs::grammar::Commands#NamesAfter "the word that a command begins with, and the words after it, name this call"
     #[inline]
     fn command(name: &str, operands: &[&str]) -> Result<Call, LineError> {
+        match name {
+            "write" => memory::write(operands),
+            "segment" => table::new_segment(operands),
+            _ => command_in_place(name, operands),
+        }
+    }
+
+    /// The call of a command that takes no memory to read.
+    ///
+    /// # Contract
+    ///
+    /// <span></span><pre><code>requires no_bytes: name.now ≢ [codes] \"write\"
+    /// requires no_items: name.now ≢ [codes] \"segment\"
+    /// ensures call: [Accepts] result ([NamesAfter] name.now operands.now)</code></pre>
+    ///
+    /// [codes]: crate::specs::library#codes "the characters of a text, by their numbers"
+    /// [Accepts]: crate::specs::operands::LineWords#Accepts "what is accepted is meant, and what is refused is a bad command: nothing is meant"
+    /// [NamesAfter]: crate::specs::grammar::Commands#NamesAfter "the word that a command begins with, and the words after it, name this call"
+    #[inline]
+    fn command_in_place(name: &str, operands: &[&str]) -> Result<Call, LineError> {
         match name {
             "fuel" => values::set_fuel(operands),
             "left" => values::get_fuel(operands),
@@ -1556,7 +1572,6 @@ mod script {
             "grow" => memory::grow(operands),
             "drop" => memory::drop_live(operands),
             "read" => memory::read(operands),
-            "write" => memory::write(operands),
             "load" => access::load(operands),
             "store" => access::store(operands),
             "table" => table::new_table(operands),
@@ -1566,7 +1581,6 @@ mod script {
             "init" => table::init(operands),
             "copy" => table::copy(operands),
             "fill" => table::fill(operands),
-            "segment" => table::new_segment(operands),
             "empty" => table::empty(operands),
             "global" => values::new_global(operands),
             "gset" => values::set_global(operands),

@@ -16,9 +16,9 @@ mod decimal {
     /// &#32;&#32;&#32;&#32;→ (error : T.Error) × [T.try_from_gives] ([decimal_value] word.now) ([Err] error))</code></pre>
     ///
     /// [IfOk]: crate::specs::library#IfOk "P of the value, if r is a value"
-    /// [IsDecimal]: crate::specs::operands::Decimal#IsDecimal "a word of one decimal digit or more, and nothing else"
+    /// [IsDecimal]: crate::specs::operands::LineWords#IsDecimal "a word of one decimal digit or more, and nothing else"
     /// [T.try_from_gives]: crate::specs::library#try_from_gives "what \`TryFrom\` gives for x may be r"
-    /// [decimal_value]: crate::specs::operands::Decimal#decimal_value "the number that the digits of a word write"
+    /// [decimal_value]: crate::specs::operands::LineWords#decimal_value "the number that the digits of a word write"
     /// [Ok]: crate::specs::library#Ok "the value x, of a \`Result\`"
     /// [IfErr]: crate::specs::library#IfErr "P of the error, if r is an error"
     /// [LineError.BadCommand]: crate::proved::operands::LineError::BadCommand
@@ -36,8 +36,8 @@ where
     ///
     /// <span></span><pre><code>ensures: [Accepts] result ([WritesLimit] word.now)</code></pre>
     ///
-    /// [Accepts]: crate::specs::operands::Acceptance#Accepts "what is accepted is meant, and what is refused is a bad command: nothing is meant"
-    /// [WritesLimit]: crate::specs::operands::Decimal#WritesLimit "the word \`none\`, or a word that writes the number"
+    /// [Accepts]: crate::specs::operands::LineWords#Accepts "what is accepted is meant, and what is refused is a bad command: nothing is meant"
+    /// [WritesLimit]: crate::specs::operands::LineWords#WritesLimit "the word \`none\`, or a word that writes the number"
     #[inline]
     pub fn number_or_none(word: &str) -> Result<Option<u64>, LineError> {
         match word {
@@ -55,8 +55,8 @@ where
     /// ensures refused: [IfErr] result (λ error. error ≡ [LineError.BadCommand])</code></pre>
     ///
     /// [OkIff]: crate::specs::library#OkIff "if P, r is the value x; else it is an error"
-    /// [IsDecimal]: crate::specs::operands::Decimal#IsDecimal "a word of one decimal digit or more, and nothing else"
-    /// [decimal_value]: crate::specs::operands::Decimal#decimal_value "the number that the digits of a word write"
+    /// [IsDecimal]: crate::specs::operands::LineWords#IsDecimal "a word of one decimal digit or more, and nothing else"
+    /// [decimal_value]: crate::specs::operands::LineWords#decimal_value "the number that the digits of a word write"
     /// [IfErr]: crate::specs::library#IfErr "P of the error, if r is an error"
     /// [LineError.BadCommand]: crate::proved::operands::LineError::BadCommand
     #[inline]
@@ -152,8 +152,8 @@ pub mod names {
         ///
         /// <span></span><pre><code>ensures: [Accepts] result ([NamesExtract] name.now lane.now)</code></pre>
         ///
-        /// [Accepts]: crate::specs::operands::Acceptance#Accepts "what is accepted is meant, and what is refused is a bad command: nothing is meant"
-        /// [NamesExtract]: crate::specs::operands::LaneNames#NamesExtract "two words name the extraction of a lane"
+        /// [Accepts]: crate::specs::operands::LineWords#Accepts "what is accepted is meant, and what is refused is a bad command: nothing is meant"
+        /// [NamesExtract]: crate::specs::operands::Names#NamesExtract "two words name the extraction of a lane"
         #[inline]
         pub fn extract_op(name: &str, lane: &str) -> Result<ExtractOp, LineError> {
             let kind = ExtractKind::from_word(name)?;
@@ -167,8 +167,8 @@ pub mod names {
         ///
         /// <span></span><pre><code>ensures: [Accepts] result ([NamesReplace] name.now lane.now)</code></pre>
         ///
-        /// [Accepts]: crate::specs::operands::Acceptance#Accepts "what is accepted is meant, and what is refused is a bad command: nothing is meant"
-        /// [NamesReplace]: crate::specs::operands::LaneNames#NamesReplace "two words name the replacement of a lane"
+        /// [Accepts]: crate::specs::operands::LineWords#Accepts "what is accepted is meant, and what is refused is a bad command: nothing is meant"
+        /// [NamesReplace]: crate::specs::operands::Names#NamesReplace "two words name the replacement of a lane"
         #[inline]
         pub fn replace_op(name: &str, lane: &str) -> Result<ReplaceOp, LineError> {
             let kind = ReplaceKind::from_word(name)?;
@@ -182,8 +182,8 @@ pub mod names {
         ///
         /// <span></span><pre><code>ensures: [Accepts] result ([NamesLoadLane] name.now lane.now)</code></pre>
         ///
-        /// [Accepts]: crate::specs::operands::Acceptance#Accepts "what is accepted is meant, and what is refused is a bad command: nothing is meant"
-        /// [NamesLoadLane]: crate::specs::operands::LaneNames#NamesLoadLane "two words name the load of a lane"
+        /// [Accepts]: crate::specs::operands::LineWords#Accepts "what is accepted is meant, and what is refused is a bad command: nothing is meant"
+        /// [NamesLoadLane]: crate::specs::operands::Names#NamesLoadLane "two words name the load of a lane"
         #[inline]
         pub fn load_lane_op(name: &str, lane: &str) -> Result<LoadLaneOp, LineError> {
             let kind = LoadLaneKind::from_word(name)?;
@@ -197,8 +197,8 @@ pub mod names {
         ///
         /// <span></span><pre><code>ensures: [Accepts] result ([NamesStoreLane] name.now lane.now)</code></pre>
         ///
-        /// [Accepts]: crate::specs::operands::Acceptance#Accepts "what is accepted is meant, and what is refused is a bad command: nothing is meant"
-        /// [NamesStoreLane]: crate::specs::operands::LaneNames#NamesStoreLane "two words name the store of a lane"
+        /// [Accepts]: crate::specs::operands::LineWords#Accepts "what is accepted is meant, and what is refused is a bad command: nothing is meant"
+        /// [NamesStoreLane]: crate::specs::operands::Names#NamesStoreLane "two words name the store of a lane"
         #[inline]
         pub fn store_lane_op(name: &str, lane: &str) -> Result<StoreLaneOp, LineError> {
             let kind = StoreLaneKind::from_word(name)?;
@@ -217,9 +217,9 @@ pub mod names {
         /// &#32;&#32;&#32;&#32;→ (error : L.Error) × [L.try_from_gives] ([decimal_value] word.now) ([Err] error))</code></pre>
         ///
         /// [IfOk]: crate::specs::library#IfOk "P of the value, if r is a value"
-        /// [IsDecimal]: crate::specs::operands::Decimal#IsDecimal "a word of one decimal digit or more, and nothing else"
+        /// [IsDecimal]: crate::specs::operands::LineWords#IsDecimal "a word of one decimal digit or more, and nothing else"
         /// [L.try_from_gives]: crate::specs::library#try_from_gives "what \`TryFrom\` gives for x may be r"
-        /// [decimal_value]: crate::specs::operands::Decimal#decimal_value "the number that the digits of a word write"
+        /// [decimal_value]: crate::specs::operands::LineWords#decimal_value "the number that the digits of a word write"
         /// [Ok]: crate::specs::library#Ok "the value x, of a \`Result\`"
         /// [IfErr]: crate::specs::library#IfErr "P of the error, if r is an error"
         /// [LineError.BadCommand]: crate::proved::operands::LineError::BadCommand
@@ -241,7 +241,7 @@ where
     ///
     /// <span></span><pre><code>ensures: [Accepts] result ([IsNamed] ([map] (λ entry. (entry.0.now, entry.1)) names.now) name.now)</code></pre>
     ///
-    /// [Accepts]: crate::specs::operands::Acceptance#Accepts "what is accepted is meant, and what is refused is a bad command: nothing is meant"
+    /// [Accepts]: crate::specs::operands::LineWords#Accepts "what is accepted is meant, and what is refused is a bad command: nothing is meant"
     /// [IsNamed]: crate::specs::operands::Names#IsNamed "a list gives a name this op"
     /// [map]: crate::specs::library#map "f of each element"
     #[inline]
@@ -257,7 +257,6 @@ pub mod operand {
     use crate::proved::operands::decimal::number;
     use crate::proved::operands::error::LineError;
     use crate::proved::operands::names::op_named;
-    use crate::proved::operands::types::ref_type;
     use crate::proved::ops::{
         BINARIES, BinaryOp, EXTRACTIONS, ExtractKind, LANE_LOADS, LANE_STORES, LOADS, LoadLaneKind,
         LoadOp, MAKES, MakeOp, REPLACEMENTS, ReplaceKind, SCALAR_BINARIES, SCALAR_UNARIES, SHIFTS,
@@ -265,8 +264,8 @@ pub mod operand {
         TernaryOp, TestOp, UNARIES, UnaryOp, VECTOR_LOADS, VectorLoadOp,
     };
     use crate::proved::raw::RawRef;
-    use crate::proved::typed::Mutability;
-    use crate::proved::types::{RefType, ValType};
+    use crate::proved::typed::{Mutability, TypedRawRef};
+    use crate::proved::types::{IndexType, RefType, ValType};
     use crate::rattle::Vec;
 
     /// What one word of a command can write.
@@ -285,7 +284,7 @@ pub mod operand {
         ///
         /// <span></span><pre><code>ensures: [Accepts] result (writes word.now)</code></pre>
         ///
-        /// [Accepts]: crate::specs::operands::Acceptance#Accepts "what is accepted is meant, and what is refused is a bad command: nothing is meant"
+        /// [Accepts]: crate::specs::operands::LineWords#Accepts "what is accepted is meant, and what is refused is a bad command: nothing is meant"
         fn from_word(word: &str) -> Result<Self, LineError>;
     }
 
@@ -293,7 +292,7 @@ pub mod operand {
     ///
     /// <span></span><pre><code>writes = [WritesNumber] 64</code></pre>
     ///
-    /// [WritesNumber]: crate::specs::operands::Decimal#WritesNumber "the word writes this number, which fits so many bits"
+    /// [WritesNumber]: crate::specs::operands::LineWords#WritesNumber "the word writes this number, which fits so many bits"
     impl Operand for u64 {
         #[inline]
         fn from_word(word: &str) -> Result<Self, LineError> {
@@ -305,7 +304,7 @@ pub mod operand {
     ///
     /// <span></span><pre><code>writes = [WritesNumber] 64</code></pre>
     ///
-    /// [WritesNumber]: crate::specs::operands::Decimal#WritesNumber "the word writes this number, which fits so many bits"
+    /// [WritesNumber]: crate::specs::operands::LineWords#WritesNumber "the word writes this number, which fits so many bits"
     impl Operand for usize {
         #[inline]
         fn from_word(word: &str) -> Result<Self, LineError> {
@@ -317,7 +316,7 @@ pub mod operand {
     ///
     /// <span></span><pre><code>writes = [WritesNumber] 32</code></pre>
     ///
-    /// [WritesNumber]: crate::specs::operands::Decimal#WritesNumber "the word writes this number, which fits so many bits"
+    /// [WritesNumber]: crate::specs::operands::LineWords#WritesNumber "the word writes this number, which fits so many bits"
     impl Operand for u32 {
         #[inline]
         fn from_word(word: &str) -> Result<Self, LineError> {
@@ -329,7 +328,7 @@ pub mod operand {
     ///
     /// <span></span><pre><code>writes = [WritesNumber] 8</code></pre>
     ///
-    /// [WritesNumber]: crate::specs::operands::Decimal#WritesNumber "the word writes this number, which fits so many bits"
+    /// [WritesNumber]: crate::specs::operands::LineWords#WritesNumber "the word writes this number, which fits so many bits"
     impl Operand for u8 {
         #[inline]
         fn from_word(word: &str) -> Result<Self, LineError> {
@@ -341,7 +340,7 @@ pub mod operand {
     ///
     /// <span></span><pre><code>writes = [WritesNumber] 32</code></pre>
     ///
-    /// [WritesNumber]: crate::specs::operands::Decimal#WritesNumber "the word writes this number, which fits so many bits"
+    /// [WritesNumber]: crate::specs::operands::LineWords#WritesNumber "the word writes this number, which fits so many bits"
     impl Operand for RawRef {
         #[inline]
         fn from_word(word: &str) -> Result<Self, LineError> {
@@ -354,7 +353,7 @@ pub mod operand {
     ///
     /// <span></span><pre><code>writes = λ word ty. word ≡ [reference_word] ty</code></pre>
     ///
-    /// [reference_word]: crate::specs::operands::TypeWords#reference_word "the word of a reference type"
+    /// [reference_word]: crate::specs::operands::Names#reference_word "the word of a reference type"
     impl Operand for RefType {
         #[inline]
         fn from_word(word: &str) -> Result<Self, LineError> {
@@ -366,7 +365,7 @@ pub mod operand {
     ///
     /// <span></span><pre><code>writes = λ word ty. word ≡ [value_word] ty</code></pre>
     ///
-    /// [value_word]: crate::specs::operands::TypeWords#value_word "the word of a value type"
+    /// [value_word]: crate::specs::operands::Names#value_word "the word of a value type"
     impl Operand for ValType {
         #[inline]
         fn from_word(word: &str) -> Result<Self, LineError> {
@@ -387,7 +386,7 @@ pub mod operand {
     ///
     /// <span></span><pre><code>writes = λ word mutability. word ≡ [mutability_word] mutability</code></pre>
     ///
-    /// [mutability_word]: crate::specs::operands::TypeWords#mutability_word "whether a global can be written"
+    /// [mutability_word]: crate::specs::operands::Names#mutability_word "whether a global can be written"
     impl Operand for Mutability {
         #[inline]
         fn from_word(word: &str) -> Result<Self, LineError> {
@@ -403,7 +402,7 @@ pub mod operand {
     ///
     /// <span></span><pre><code>writes = [WritesAnswer]</code></pre>
     ///
-    /// [WritesAnswer]: crate::specs::operands::Answers#WritesAnswer "the word stands for this answer"
+    /// [WritesAnswer]: crate::specs::operands::Names#WritesAnswer "the word stands for this answer"
     impl Operand for LimiterAnswer {
         #[inline]
         fn from_word(word: &str) -> Result<Self, LineError> {
@@ -612,6 +611,54 @@ pub mod operand {
         }
     }
 
+    /// The address type of a width word, `32` or `64`.
+    ///
+    /// # Contract
+    ///
+    /// <span></span><pre><code>ensures: [Accepts] result (λ index. width.now ≡ [width_word] index)</code></pre>
+    ///
+    /// [Accepts]: crate::specs::operands::LineWords#Accepts "what is accepted is meant, and what is refused is a bad command: nothing is meant"
+    /// [width_word]: crate::specs::operands::Names#width_word "the bits of an address or of an index"
+    #[inline]
+    pub fn index_ty(width: &str) -> Result<IndexType, LineError> {
+        match width {
+            "32" => Ok(IndexType::I32),
+            "64" => Ok(IndexType::I64),
+            _ => Err(LineError::BadCommand),
+        }
+    }
+
+    /// The reference type of a word, `func` or `extern`.
+    ///
+    /// # Contract
+    ///
+    /// <span></span><pre><code>ensures: [Accepts] result (λ ty. word.now ≡ [reference_word] ty)</code></pre>
+    ///
+    /// [Accepts]: crate::specs::operands::LineWords#Accepts "what is accepted is meant, and what is refused is a bad command: nothing is meant"
+    /// [reference_word]: crate::specs::operands::Names#reference_word "the word of a reference type"
+    #[inline]
+    pub fn ref_type(word: &str) -> Result<RefType, LineError> {
+        match word {
+            "func" => Ok(RefType::Func),
+            "extern" => Ok(RefType::Extern),
+            _ => Err(LineError::BadCommand),
+        }
+    }
+
+    /// The reference of a type's word and a number below 2^32.
+    ///
+    /// # Contract
+    ///
+    /// <span></span><pre><code>ensures: [Accepts] result ([WritesReference] ty.now raw.now)</code></pre>
+    ///
+    /// [Accepts]: crate::specs::operands::LineWords#Accepts "what is accepted is meant, and what is refused is a bad command: nothing is meant"
+    /// [WritesReference]: crate::specs::operands::Names#WritesReference "two words write a reference: its type, and a number of 32 bits"
+    #[inline]
+    pub fn reference(ty: &str, raw: &str) -> Result<TypedRawRef, LineError> {
+        let ty = ref_type(ty)?;
+        Ok(TypedRawRef::new(RawRef::from_word(raw)?, ty))
+    }
+
     /// What two words write.
     ///
     /// # Contract
@@ -619,7 +666,7 @@ pub mod operand {
     /// <span></span><pre><code>ensures: [Accepts] result (λ all. ([length] words.now ≡ 2) × [A.writes] ([word_at] words.now 0) all.0
     /// &#32;&#32;&#32;&#32;× [B.writes] ([word_at] words.now 1) all.1)</code></pre>
     ///
-    /// [Accepts]: crate::specs::operands::Acceptance#Accepts "what is accepted is meant, and what is refused is a bad command: nothing is meant"
+    /// [Accepts]: crate::specs::operands::LineWords#Accepts "what is accepted is meant, and what is refused is a bad command: nothing is meant"
     /// [length]: crate::specs::library#length "the number of elements of a list"
     /// [A.writes]: trait@Operand#contract
     /// [word_at]: crate::specs::operands::LineWords#word_at "the text of the word at this place"
@@ -639,7 +686,7 @@ pub mod operand {
     /// <span></span><pre><code>ensures: [Accepts] result (λ all. ([length] words.now ≡ 3) × [A.writes] ([word_at] words.now 0) all.0
     /// &#32;&#32;&#32;&#32;× [B.writes] ([word_at] words.now 1) all.1 × [C.writes] ([word_at] words.now 2) all.2)</code></pre>
     ///
-    /// [Accepts]: crate::specs::operands::Acceptance#Accepts "what is accepted is meant, and what is refused is a bad command: nothing is meant"
+    /// [Accepts]: crate::specs::operands::LineWords#Accepts "what is accepted is meant, and what is refused is a bad command: nothing is meant"
     /// [length]: crate::specs::library#length "the number of elements of a list"
     /// [A.writes]: trait@Operand#contract
     /// [word_at]: crate::specs::operands::LineWords#word_at "the text of the word at this place"
@@ -649,11 +696,10 @@ pub mod operand {
     pub fn three<A: Operand, B: Operand, C: Operand>(
         words: &[&str],
     ) -> Result<(A, B, C), LineError> {
-        let [front @ .., last] = words else {
+        let [a, b, c] = words else {
             return Err(LineError::BadCommand);
         };
-        let (a, b) = two(front)?;
-        Ok((a, b, C::from_word(last)?))
+        Ok((A::from_word(a)?, B::from_word(b)?, C::from_word(c)?))
     }
 
     /// What four words write.
@@ -664,7 +710,7 @@ pub mod operand {
     /// &#32;&#32;&#32;&#32;× [B.writes] ([word_at] words.now 1) all.1 × [C.writes] ([word_at] words.now 2) all.2
     /// &#32;&#32;&#32;&#32;× [D.writes] ([word_at] words.now 3) all.3)</code></pre>
     ///
-    /// [Accepts]: crate::specs::operands::Acceptance#Accepts "what is accepted is meant, and what is refused is a bad command: nothing is meant"
+    /// [Accepts]: crate::specs::operands::LineWords#Accepts "what is accepted is meant, and what is refused is a bad command: nothing is meant"
     /// [length]: crate::specs::library#length "the number of elements of a list"
     /// [A.writes]: trait@Operand#contract
     /// [word_at]: crate::specs::operands::LineWords#word_at "the text of the word at this place"
@@ -675,11 +721,15 @@ pub mod operand {
     pub fn four<A: Operand, B: Operand, C: Operand, D: Operand>(
         words: &[&str],
     ) -> Result<(A, B, C, D), LineError> {
-        let [front @ .., last] = words else {
+        let [a, b, c, d] = words else {
             return Err(LineError::BadCommand);
         };
-        let (a, b, c) = three(front)?;
-        Ok((a, b, c, D::from_word(last)?))
+        Ok((
+            A::from_word(a)?,
+            B::from_word(b)?,
+            C::from_word(c)?,
+            D::from_word(d)?,
+        ))
     }
 
     /// What five words write.
@@ -690,7 +740,7 @@ pub mod operand {
     /// &#32;&#32;&#32;&#32;× [B.writes] ([word_at] words.now 1) all.1 × [C.writes] ([word_at] words.now 2) all.2
     /// &#32;&#32;&#32;&#32;× [D.writes] ([word_at] words.now 3) all.3 × [E.writes] ([word_at] words.now 4) all.4)</code></pre>
     ///
-    /// [Accepts]: crate::specs::operands::Acceptance#Accepts "what is accepted is meant, and what is refused is a bad command: nothing is meant"
+    /// [Accepts]: crate::specs::operands::LineWords#Accepts "what is accepted is meant, and what is refused is a bad command: nothing is meant"
     /// [length]: crate::specs::library#length "the number of elements of a list"
     /// [A.writes]: trait@Operand#contract
     /// [word_at]: crate::specs::operands::LineWords#word_at "the text of the word at this place"
@@ -702,11 +752,16 @@ pub mod operand {
     pub fn five<A: Operand, B: Operand, C: Operand, D: Operand, E: Operand>(
         words: &[&str],
     ) -> Result<(A, B, C, D, E), LineError> {
-        let [front @ .., last] = words else {
+        let [a, b, c, d, e] = words else {
             return Err(LineError::BadCommand);
         };
-        let (a, b, c, d) = four(front)?;
-        Ok((a, b, c, d, E::from_word(last)?))
+        Ok((
+            A::from_word(a)?,
+            B::from_word(b)?,
+            C::from_word(c)?,
+            D::from_word(d)?,
+            E::from_word(e)?,
+        ))
     }
 
     /// What the words write, one each.
@@ -715,7 +770,7 @@ pub mod operand {
     ///
     /// <span></span><pre><code>ensures: [AcceptsWithMemory] result (λ list. [WritesEach] [T.writes] words.now list.items)</code></pre>
     ///
-    /// [AcceptsWithMemory]: crate::specs::operands::Acceptance#AcceptsWithMemory "the words are read as a value that means this, or they mean nothing of the kind, or memory was refused"
+    /// [AcceptsWithMemory]: crate::specs::operands::LineWords#AcceptsWithMemory "the words are read as a value that means this, or they mean nothing of the kind, or memory was refused"
     /// [WritesEach]: crate::specs::operands::LineWords#WritesEach "each word writes one of these, in order"
     /// [T.writes]: trait@Operand#contract
     #[inline]
@@ -725,63 +780,6 @@ pub mod operand {
             list.push(T::from_word(word)?)?;
         }
         Ok(list)
-    }
-}
-mod types {
-    //! Types and references as words.
-
-    use crate::proved::operands::error::LineError;
-    use crate::proved::operands::operand::Operand;
-    use crate::proved::raw::RawRef;
-    use crate::proved::typed::TypedRawRef;
-    use crate::proved::types::{IndexType, RefType};
-
-    /// The address type of a width word, `32` or `64`.
-    ///
-    /// # Contract
-    ///
-    /// <span></span><pre><code>ensures: [Accepts] result (λ index. width.now ≡ [width_word] index)</code></pre>
-    ///
-    /// [Accepts]: crate::specs::operands::Acceptance#Accepts "what is accepted is meant, and what is refused is a bad command: nothing is meant"
-    /// [width_word]: crate::specs::operands::TypeWords#width_word "the bits of an address or of an index"
-    #[inline]
-    pub fn index_ty(width: &str) -> Result<IndexType, LineError> {
-        match width {
-            "32" => Ok(IndexType::I32),
-            "64" => Ok(IndexType::I64),
-            _ => Err(LineError::BadCommand),
-        }
-    }
-
-    /// The reference type of a word, `func` or `extern`.
-    ///
-    /// # Contract
-    ///
-    /// <span></span><pre><code>ensures: [Accepts] result (λ ty. word.now ≡ [reference_word] ty)</code></pre>
-    ///
-    /// [Accepts]: crate::specs::operands::Acceptance#Accepts "what is accepted is meant, and what is refused is a bad command: nothing is meant"
-    /// [reference_word]: crate::specs::operands::TypeWords#reference_word "the word of a reference type"
-    #[inline]
-    pub fn ref_type(word: &str) -> Result<RefType, LineError> {
-        match word {
-            "func" => Ok(RefType::Func),
-            "extern" => Ok(RefType::Extern),
-            _ => Err(LineError::BadCommand),
-        }
-    }
-
-    /// The reference of a type's word and a number below 2^32.
-    ///
-    /// # Contract
-    ///
-    /// <span></span><pre><code>ensures: [Accepts] result ([WritesReference] ty.now raw.now)</code></pre>
-    ///
-    /// [Accepts]: crate::specs::operands::Acceptance#Accepts "what is accepted is meant, and what is refused is a bad command: nothing is meant"
-    /// [WritesReference]: crate::specs::operands::TypeWords#WritesReference "two words write a reference: its type, and a number of 32 bits"
-    #[inline]
-    pub fn reference(ty: &str, raw: &str) -> Result<TypedRawRef, LineError> {
-        let ty = ref_type(ty)?;
-        Ok(TypedRawRef::new(RawRef::from_word(raw)?, ty))
     }
 }
 mod words {
@@ -802,84 +800,16 @@ mod words {
     #[inline]
     pub fn read_words<'a>(line: &'a str, words: &mut Vec<&'a str>) -> Result<(), AllocError> {
         words.clear();
-        let mut rest = line;
-        while let Some((word, after)) = first_word(rest) {
-            words.push(word)?;
-            rest = after;
+        for word in line.split(' ') {
+            if !word.is_empty() {
+                words.push(word)?;
+            }
         }
         Ok(())
-    }
-
-    /// The first word of a line and what stands after it, or `None` where there is no word.
-    ///
-    /// # Contract
-    ///
-    /// <span></span><pre><code>ensures word: [MatchOption] result ([words_in] line.now ≡ \[\])
-    /// &#32;&#32;&#32;&#32;(λ parts. [words_in] line.now ≡ parts.0.now ∷ [words_in] parts.1.now)
-    /// ensures shorter: [IfSome] result (λ parts. [length] parts.1.now < [length] line.now)</code></pre>
-    ///
-    /// [MatchOption]: crate::specs::library#MatchOption "P where there is no value, else Q of the value"
-    /// [words_in]: crate::specs::operands::LineWords#words_in "the words of a line: what stands between its spaces"
-    /// [IfSome]: crate::specs::library#IfSome "P of the value, if there is one"
-    /// [length]: crate::specs::library#length "the number of elements of a list"
-    #[inline]
-    fn first_word(line: &str) -> Option<(&str, &str)> {
-        let line = without_spaces(line);
-        if line.is_empty() {
-            return None;
-        }
-        Some(line.split_at(word_len(line)))
-    }
-
-    /// The line without the spaces at its front.
-    ///
-    /// # Contract
-    ///
-    /// <span></span><pre><code>ensures words: [words_in] result.now ≡ [words_in] line.now
-    /// ensures word: 0 < [length] result.now → [slice_index] result.now 0 ≢ 32
-    /// ensures len: [length] result.now ≤ [length] line.now</code></pre>
-    ///
-    /// [words_in]: crate::specs::operands::LineWords#words_in "the words of a line: what stands between its spaces"
-    /// [length]: crate::specs::library#length "the number of elements of a list"
-    /// [slice_index]: crate::specs::library#slice_index "element i of a list of numbers; 0 past its end"
-    #[inline]
-    fn without_spaces(line: &str) -> &str {
-        let bytes = line.as_bytes();
-        let mut start = 0;
-        while start < bytes.len() && bytes[start] == b' ' {
-            start += 1;
-        }
-        &line[start..]
-    }
-
-    /// How many bytes stand before the first space of a line that begins with a word.
-    ///
-    /// # Contract
-    ///
-    /// <span></span><pre><code>requires some: 0 < [length] line.now
-    /// requires word: [slice_index] line.now 0 ≢ 32
-    /// ensures boundary: [IsCharBoundary] line.now result
-    /// ensures nonzero: 0 < result
-    /// ensures words: [words_in] line.now ≡ [take] result line.now ∷ [words_in] ([drop] result line.now)</code></pre>
-    ///
-    /// [length]: crate::specs::library#length "the number of elements of a list"
-    /// [slice_index]: crate::specs::library#slice_index "element i of a list of numbers; 0 past its end"
-    /// [IsCharBoundary]: crate::specs::library#IsCharBoundary "a character of the text begins at byte i, or the text ends there"
-    /// [words_in]: crate::specs::operands::LineWords#words_in "the words of a line: what stands between its spaces"
-    /// [take]: crate::specs::library#take "the first n elements"
-    /// [drop]: crate::specs::library#drop "all but the first n elements"
-    #[inline]
-    fn word_len(line: &str) -> usize {
-        let bytes = line.as_bytes();
-        let mut end = 1;
-        while end < bytes.len() && bytes[end] != b' ' {
-            end += 1;
-        }
-        end
     }
 }
 
 pub use decimal::{number, number_or_none};
 pub use error::LineError;
-pub use types::{index_ty, ref_type, reference};
+pub use operand::{index_ty, ref_type, reference};
 pub use words::read_words;

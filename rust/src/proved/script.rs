@@ -77,67 +77,6 @@ mod error {
         }
     }
 }
-mod front {
-    //! Texts that are written to the front of bytes, one after the other, as far as they fit.
-
-    /// Writes a text after those of `written` bytes in all that were written before, as much of it as
-    /// fits, and returns the length of all of them, or 2^64 - 1 if they are longer.
-    ///
-    /// # Contract
-    ///
-    /// <span></span><pre><code>ensures: [AddsToFront] text.now bytes.old written bytes.new result</code></pre>
-    ///
-    /// [AddsToFront]: crate::specs::script::Fronts#AddsToFront "One text more is written to the front of bytes: whatever text was there before and whatever the bytes were at the start, that text followed by this one is there afterwards."
-    #[inline]
-    pub fn put(bytes: &mut [u8], written: usize, text: &[u8]) -> usize {
-        let start = written.min(bytes.len());
-        let count = text.len().min(bytes.len() - start);
-        bytes[start..start + count].copy_from_slice(&text[..count]);
-        written.saturating_add(text.len())
-    }
-
-    /// Writes a number in decimal, as [`put`] does a text.
-    ///
-    /// # Contract
-    ///
-    /// <span></span><pre><code>ensures: [AddsToFront] ([decimal] number) bytes.old written bytes.new result</code></pre>
-    ///
-    /// [AddsToFront]: crate::specs::script::Fronts#AddsToFront "One text more is written to the front of bytes: whatever text was there before and whatever the bytes were at the start, that text followed by this one is there afterwards."
-    /// [decimal]: crate::specs::library#decimal "the digits of a number, as characters"
-    #[inline]
-    pub fn put_number(bytes: &mut [u8], written: usize, number: u64) -> usize {
-        let digit = [b'0' + (number % 10) as u8];
-        if number < 10 {
-            return put(bytes, written, &digit);
-        }
-        let before_last = put_number(bytes, written, number / 10);
-        put(bytes, before_last, &digit)
-    }
-
-    /// Writes a number in decimal after a text, if there is a number, as [`put`] does a text.
-    ///
-    /// # Contract
-    ///
-    /// <span></span><pre><code>ensures: [AddsToFront] ([number_text] before.now number) bytes.old written bytes.new result</code></pre>
-    ///
-    /// [AddsToFront]: crate::specs::script::Fronts#AddsToFront "One text more is written to the front of bytes: whatever text was there before and whatever the bytes were at the start, that text followed by this one is there afterwards."
-    /// [number_text]: crate::specs::script::Fronts#number_text "a number, if there is one, after what stands before it"
-    #[inline]
-    pub fn put_optional(
-        bytes: &mut [u8],
-        written: usize,
-        before: &str,
-        number: Option<u64>,
-    ) -> usize {
-        match number {
-            None => written,
-            Some(number) => {
-                let begun = put(bytes, written, before.as_bytes());
-                put_number(bytes, begun, number)
-            }
-        }
-    }
-}
 #[cfg(any(doc, test))]
 pub mod laws {
     //! What holds of all scripts and of all that run them. These functions do nothing: each states a
@@ -162,7 +101,7 @@ pub mod laws {
     ///
     /// <span></span><pre><code>ensures: [QuietListsAcceptNotices]</code></pre>
     ///
-    /// [QuietListsAcceptNotices]: crate::specs::script::QuietLists#QuietListsAcceptNotices "such a limiter accepts each notice, and stays one"
+    /// [QuietListsAcceptNotices]: crate::specs::script::Decided#QuietListsAcceptNotices "such a limiter accepts each notice, and stays one"
     #[inline]
     pub fn quiet_lists_accept_notices() {}
 
@@ -173,7 +112,7 @@ pub mod laws {
     ///
     /// <span></span><pre><code>ensures: [QuietListsDecideReplies]</code></pre>
     ///
-    /// [QuietListsDecideReplies]: crate::specs::script::QuietLists#QuietListsDecideReplies "two runs of one list of calls from one machine under such a limiter, in which no reply says out of memory, have the same replies and end in one world"
+    /// [QuietListsDecideReplies]: crate::specs::script::Decided#QuietListsDecideReplies "two runs of one list of calls from one machine under such a limiter, in which no reply says out of memory, have the same replies and end in one world"
     #[inline]
     pub fn quiet_lists_decide_replies() {}
 
@@ -192,10 +131,10 @@ pub mod laws {
     }
 }
 mod lines {
-    //! The lines that a script prints for calls and their replies, in bytes that are there already.
+    //! The lines that a script prints for calls and their replies, in bytes that are there already:
+    //! texts that are written to the front of bytes, one after the other, as far as they fit.
 
     use crate::proved::machine::{Call, Reply};
-    use crate::proved::script::front::{put, put_number};
     use crate::proved::script::printing::bytes_of;
     use crate::proved::script::wording::Wording;
 
@@ -266,6 +205,64 @@ mod lines {
             end = put_number(bytes, spaced, u64::from(*byte));
         }
         end
+    }
+
+    /// Writes a text after those of `written` bytes in all that were written before, as much of it as
+    /// fits, and returns the length of all of them, or 2^64 - 1 if they are longer.
+    ///
+    /// # Contract
+    ///
+    /// <span></span><pre><code>ensures: [AddsToFront] text.now bytes.old written bytes.new result</code></pre>
+    ///
+    /// [AddsToFront]: crate::specs::script::Fronts#AddsToFront "One text more is written to the front of bytes: whatever text was there before and whatever the bytes were at the start, that text followed by this one is there afterwards."
+    #[inline]
+    pub fn put(bytes: &mut [u8], written: usize, text: &[u8]) -> usize {
+        let start = written.min(bytes.len());
+        let count = text.len().min(bytes.len() - start);
+        bytes[start..start + count].copy_from_slice(&text[..count]);
+        written.saturating_add(text.len())
+    }
+
+    /// Writes a number in decimal, as [`put`] does a text.
+    ///
+    /// # Contract
+    ///
+    /// <span></span><pre><code>ensures: [AddsToFront] ([decimal] number) bytes.old written bytes.new result</code></pre>
+    ///
+    /// [AddsToFront]: crate::specs::script::Fronts#AddsToFront "One text more is written to the front of bytes: whatever text was there before and whatever the bytes were at the start, that text followed by this one is there afterwards."
+    /// [decimal]: crate::specs::library#decimal "the digits of a number, as characters"
+    #[inline]
+    pub fn put_number(bytes: &mut [u8], written: usize, number: u64) -> usize {
+        let digit = [b'0' + (number % 10) as u8];
+        if number < 10 {
+            return put(bytes, written, &digit);
+        }
+        let before_last = put_number(bytes, written, number / 10);
+        put(bytes, before_last, &digit)
+    }
+
+    /// Writes a number in decimal after a text, if there is a number, as [`put`] does a text.
+    ///
+    /// # Contract
+    ///
+    /// <span></span><pre><code>ensures: [AddsToFront] ([number_text] before.now number) bytes.old written bytes.new result</code></pre>
+    ///
+    /// [AddsToFront]: crate::specs::script::Fronts#AddsToFront "One text more is written to the front of bytes: whatever text was there before and whatever the bytes were at the start, that text followed by this one is there afterwards."
+    /// [number_text]: crate::specs::script::Fronts#number_text "a number, if there is one, after what stands before it"
+    #[inline]
+    pub fn put_optional(
+        bytes: &mut [u8],
+        written: usize,
+        before: &str,
+        number: Option<u64>,
+    ) -> usize {
+        match number {
+            None => written,
+            Some(number) => {
+                let begun = put(bytes, written, before.as_bytes());
+                put_number(bytes, begun, number)
+            }
+        }
     }
 }
 mod printing {
@@ -899,7 +896,7 @@ mod replaying {
         /// ensures bytes: [ReadConsumes] ([R.remaining] self.old.reader.now)
         /// &#32;&#32;&#32;&#32;([R.remaining] self.new.reader.now) result buffer.new</code></pre>
         ///
-        /// [script_limit]: crate::specs::script::Refusals#script_limit "the most bytes that a script may have"
+        /// [script_limit]: crate::specs::script::Outcomes#script_limit "the most bytes that a script may have"
         /// [ReadsAtMost]: crate::specs::library#ReadsAtMost "if r is a number, there are so many bytes"
         /// [ReadConsumes]: crate::specs::library#ReadConsumes "a reader gave the bytes that r counts, and has the rest"
         /// [R.remaining]: crate::specs::library#remaining "the bytes that a reader still has"
@@ -927,8 +924,8 @@ mod replaying {
     /// [IfSome]: crate::specs::library#IfSome "P of the value, if there is one"
     /// [R.remaining]: crate::specs::library#remaining "the bytes that a reader still has"
     /// [IfErr]: crate::specs::library#IfErr "P of the error, if r is an error"
-    /// [IsReadError]: crate::specs::script::Refusals#IsReadError "why the bytes that a reader has left aren\'t read"
-    /// [script_limit]: crate::specs::script::Refusals#script_limit "the most bytes that a script may have"
+    /// [IsReadError]: crate::specs::script::Outcomes#IsReadError "why the bytes that a reader has left aren\'t read"
+    /// [script_limit]: crate::specs::script::Outcomes#script_limit "the most bytes that a script may have"
     #[inline]
     fn read<R: io::Read>(reader: &mut CountedReader<'_, R>) -> Result<Vec<u8>, ReplayError> {
         let mut script = Vec::new();
@@ -1190,7 +1187,7 @@ mod wording {
 
     use crate::proved::machine::{Call, RefType, Reply};
     use crate::proved::meter::{FuelError, MemoryError, TableError};
-    use crate::proved::script::front::{put, put_optional};
+    use crate::proved::script::lines::{put, put_optional};
     use crate::proved::store::SegmentError;
     use crate::proved::typed::GlobalError;
 
@@ -1214,7 +1211,7 @@ mod wording {
         ///
         /// <span></span><pre><code>ensures: [wording_text] result ≡ [head_text] call.now reply.now</code></pre>
         ///
-        /// [wording_text]: crate::specs::script::Wording#wording_text "the words of a wording, and then its numbers, the second after a space"
+        /// [wording_text]: crate::specs::script::Texts#wording_text "the words of a wording, and then its numbers, the second after a space"
         /// [head_text]: crate::specs::script::Texts#head_text "the reply to a call, but for the numbers of its bytes"
         #[inline]
         pub fn of(call: &Call, reply: &Reply) -> Wording {
@@ -1250,7 +1247,7 @@ mod wording {
         ///
         /// <span></span><pre><code>ensures: [wording_text] result ≡ start.now ++ words.now</code></pre>
         ///
-        /// [wording_text]: crate::specs::script::Wording#wording_text "the words of a wording, and then its numbers, the second after a space"
+        /// [wording_text]: crate::specs::script::Texts#wording_text "the words of a wording, and then its numbers, the second after a space"
         #[inline]
         fn of_words(start: &'static str, words: &'static str) -> Wording {
             Wording {
@@ -1265,7 +1262,7 @@ mod wording {
         ///
         /// <span></span><pre><code>ensures: [wording_text] result ≡ start.now ++ (words.now ++ [decimal] number)</code></pre>
         ///
-        /// [wording_text]: crate::specs::script::Wording#wording_text "the words of a wording, and then its numbers, the second after a space"
+        /// [wording_text]: crate::specs::script::Texts#wording_text "the words of a wording, and then its numbers, the second after a space"
         /// [decimal]: crate::specs::library#decimal "the digits of a number, as characters"
         #[inline]
         fn with_number(start: &'static str, words: &'static str, number: u64) -> Wording {
@@ -1281,7 +1278,7 @@ mod wording {
         ///
         /// <span></span><pre><code>ensures: [wording_text] result ≡ [codes] \"error \" ++ [memory_error_text] error.now</code></pre>
         ///
-        /// [wording_text]: crate::specs::script::Wording#wording_text "the words of a wording, and then its numbers, the second after a space"
+        /// [wording_text]: crate::specs::script::Texts#wording_text "the words of a wording, and then its numbers, the second after a space"
         /// [codes]: crate::specs::library#codes "the characters of a text, by their numbers"
         /// [memory_error_text]: crate::specs::meter::Texts#memory_error_text "the text of an error of a memory"
         #[inline]
@@ -1318,7 +1315,7 @@ mod wording {
         ///
         /// <span></span><pre><code>ensures: [wording_text] result ≡ [codes] \"error \" ++ [table_error_text] error.now</code></pre>
         ///
-        /// [wording_text]: crate::specs::script::Wording#wording_text "the words of a wording, and then its numbers, the second after a space"
+        /// [wording_text]: crate::specs::script::Texts#wording_text "the words of a wording, and then its numbers, the second after a space"
         /// [codes]: crate::specs::library#codes "the characters of a text, by their numbers"
         /// [table_error_text]: crate::specs::meter::Texts#table_error_text "the text of an error of a table"
         #[inline]
@@ -1357,7 +1354,7 @@ mod wording {
         ///
         /// <span></span><pre><code>ensures: [wording_text] result ≡ [codes] \"error \" ++ [fuel_error_text] error.now</code></pre>
         ///
-        /// [wording_text]: crate::specs::script::Wording#wording_text "the words of a wording, and then its numbers, the second after a space"
+        /// [wording_text]: crate::specs::script::Texts#wording_text "the words of a wording, and then its numbers, the second after a space"
         /// [codes]: crate::specs::library#codes "the characters of a text, by their numbers"
         /// [fuel_error_text]: crate::specs::meter::Texts#fuel_error_text "the text of an error of the meter"
         #[inline]
@@ -1376,7 +1373,7 @@ mod wording {
         ///
         /// <span></span><pre><code>ensures: [wording_text] result ≡ [codes] \"error \" ++ [global_error_text] error.now</code></pre>
         ///
-        /// [wording_text]: crate::specs::script::Wording#wording_text "the words of a wording, and then its numbers, the second after a space"
+        /// [wording_text]: crate::specs::script::Texts#wording_text "the words of a wording, and then its numbers, the second after a space"
         /// [codes]: crate::specs::library#codes "the characters of a text, by their numbers"
         /// [global_error_text]: crate::specs::typed::Global#global_error_text "the text of an error of a global variable"
         #[inline]
@@ -1394,7 +1391,7 @@ mod wording {
         ///
         /// <span></span><pre><code>ensures: [wording_text] result ≡ [codes] \"error \" ++ [segment_error_text] error.now</code></pre>
         ///
-        /// [wording_text]: crate::specs::script::Wording#wording_text "the words of a wording, and then its numbers, the second after a space"
+        /// [wording_text]: crate::specs::script::Texts#wording_text "the words of a wording, and then its numbers, the second after a space"
         /// [codes]: crate::specs::library#codes "the characters of a text, by their numbers"
         /// [segment_error_text]: crate::specs::store::Segment#segment_error_text "the text of an error of an element segment"
         #[inline]
@@ -1413,7 +1410,7 @@ mod wording {
         /// <span></span><pre><code>ensures: [AddsToFront] ([wording_text] self) bytes.old written bytes.new result</code></pre>
         ///
         /// [AddsToFront]: crate::specs::script::Fronts#AddsToFront "One text more is written to the front of bytes: whatever text was there before and whatever the bytes were at the start, that text followed by this one is there afterwards."
-        /// [wording_text]: crate::specs::script::Wording#wording_text "the words of a wording, and then its numbers, the second after a space"
+        /// [wording_text]: crate::specs::script::Texts#wording_text "the words of a wording, and then its numbers, the second after a space"
         #[inline]
         pub fn put(self, bytes: &mut [u8], written: usize) -> usize {
             let started = put(bytes, written, self.start.as_bytes());
@@ -1448,7 +1445,7 @@ mod wording {
     ///
     /// <span></span><pre><code>ensures: result.now ≡ [reference_word] ty</code></pre>
     ///
-    /// [reference_word]: crate::specs::operands::TypeWords#reference_word "the word of a reference type"
+    /// [reference_word]: crate::specs::operands::Names#reference_word "the word of a reference type"
     #[inline]
     fn reference_word_of(ty: RefType) -> &'static str {
         match ty {

@@ -1,14 +1,15 @@
 //! Commands of vector instructions whose operands are registers and indices of lanes.
+#![tactic(auto, using(std::proofs::lemmas::Grind::common_steps))]
+
 ghost use Rattle.std.specs.Prelude.{codes};
-ghost use Rattle.wasmi_operands.specs.Acceptance.{Accepts};
+ghost use Rattle.wasmi_operands.specs.LineWords.{Accepts};
 ghost use Rattle.wasmi_grammar.specs.Commands.{NamesAfter};
-ghost use Rattle.wasmi_operands.specs.LaneNames.{WritesLanes};
+ghost use Rattle.wasmi_operands.specs.Names.{WritesLanes};
 
 use wasmi_core::Call;
 use wasmi_core::simd::ImmLaneIdx32;
-use wasmi_operands::LineError;
 use wasmi_operands::names::lane::{extract_op, index, replace_op};
-use wasmi_operands::operand::{self, Operand};
+use wasmi_operands::{LineError, number, operand};
 
 /// `make NAME D A`.
 pub fn make(operands: &[&str]) -> Result<Call, LineError>
@@ -51,6 +52,7 @@ pub fn shift(operands: &[&str]) -> Result<Call, LineError>
 }
 
 /// `test NAME A`.
+#[tactic(auto, using(crate::proofs::CommandsLemmas::refused_form))]
 pub fn test(operands: &[&str]) -> Result<Call, LineError>
     ensures { Accepts result (NamesAfter (codes "test") operands.now) }
 {
@@ -67,7 +69,7 @@ pub fn extract(operands: &[&str]) -> Result<Call, LineError>
     };
     Ok(Call::Extract {
         op: extract_op(name, lane)?,
-        a: Operand::from_word(a)?,
+        a: number(a)?,
     })
 }
 
@@ -80,9 +82,9 @@ pub fn replace(operands: &[&str]) -> Result<Call, LineError>
     };
     Ok(Call::Replace {
         op: replace_op(name, lane)?,
-        dst: Operand::from_word(dst)?,
-        a: Operand::from_word(a)?,
-        item: Operand::from_word(item)?,
+        dst: number(dst)?,
+        a: number(a)?,
+        item: number(item)?,
     })
 }
 
@@ -94,9 +96,9 @@ pub fn shuffle(operands: &[&str]) -> Result<Call, LineError>
         return Err(LineError::BadCommand);
     };
     Ok(Call::Shuffle {
-        dst: Operand::from_word(dst)?,
-        a: Operand::from_word(a)?,
-        b: Operand::from_word(b)?,
+        dst: number(dst)?,
+        a: number(a)?,
+        b: number(b)?,
         lanes: lanes_of(lanes)?,
     })
 }
