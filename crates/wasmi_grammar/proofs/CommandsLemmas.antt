@@ -1,13 +1,17 @@
 -- What the operands of a command write, by the word that it begins with.
-use Rattle.std.proofs.Common.{ℕ, ◌≡◌, List, [], ◌∷◌, Result, Err, bytes_eq, cond, codes, subst}
+use Rattle.std.proofs.Common.{ℕ, ◌≡◌, List, [], ◌∷◌, Result, Err, bytes_eq, cond, codes, get_or, refl, subst}
 use Rattle.wasmi_types.specs.declared.value.RefType.{RefType}
 use Rattle.wasmi_types.specs.declared.value.ValType.{ValType}
 use Rattle.wasmi_typed.specs.declared.global.Mutability.{Mutability}
 use Rattle.wasmi_raw.specs.declared.raw.RawVal.{RawVal}
 use Rattle.wasmi_ops.specs.declared.scalar.access.LoadOp.{LoadOp}
 use Rattle.wasmi_ops.specs.declared.scalar.access.StoreOp.{StoreOp}
+use Rattle.wasmi_ops.specs.declared.vector.access.LoadLaneOp.{LoadLaneOp}
+use Rattle.wasmi_ops.specs.declared.vector.access.StoreLaneOp.{StoreLaneOp}
 use Rattle.wasmi_ops.specs.declared.vector.access.VectorLoadOp.{VectorLoadOp}
 use Rattle.wasmi_ops.specs.declared.vector.binary.BinaryOp.{BinaryOp}
+use Rattle.wasmi_ops.specs.declared.vector.lane.ExtractOp.{ExtractOp}
+use Rattle.wasmi_ops.specs.declared.vector.lane.ReplaceOp.{ReplaceOp}
 use Rattle.wasmi_ops.specs.declared.vector.make.MakeOp.{MakeOp}
 use Rattle.wasmi_ops.specs.declared.vector.shift.ShiftOp.{ShiftOp}
 use Rattle.wasmi_ops.specs.declared.vector.ternary.TernaryOp.{TernaryOp}
@@ -16,9 +20,9 @@ use Rattle.wasmi_ops.specs.declared.vector.unary.UnaryOp.{UnaryOp}
 use Rattle.wasmi_core.specs.declared.calls.Call.{Call}
 use Rattle.wasmi_core.specs.declared.calls.Call.TheVariants as call
 use Rattle.wasmi_operands.specs.declared.error.LineError.{LineError}
-use Rattle.wasmi_operands.specs.LineWords.{Accepts, LineWords}
+use Rattle.wasmi_operands.specs.LineWords.{Accepts, LineWords, WritesNumber, word_at}
 use Rattle.wasmi_grammar.specs.Commands.{command_word, WritesOperands, NamesAfter}
-use Rattle.wasmi_operands.proofs.LineWordsLemmas.{refused_through}
+use Rattle.wasmi_operands.proofs.LineWordsLemmas.{at_place, refused_through, refused_with}
 
 -- what parsers make a call of: the values that the operands write, and the call of these
 abbrev Form : Type 1
@@ -60,8 +64,13 @@ forms =
     (codes "ternary", (TernaryOp × ℕ × ℕ × ℕ × ℕ, λ a. call.Ternary a.0 a.1 a.2 a.3 a.4)) ∷
     (codes "shift", (ShiftOp × ℕ × ℕ × ℕ, λ a. call.Shift a.0 a.1 a.2 a.3)) ∷
     (codes "test", (TestOp × ℕ, λ a. call.Test a.0 a.1)) ∷
+    (codes "extract", (ExtractOp × ℕ, λ a. call.Extract a.0 a.1)) ∷
+    (codes "replace", (ReplaceOp × ℕ × ℕ × ℕ, λ a. call.Replace a.0 a.1 a.2 a.3)) ∷
+    (codes "shuffle", (ℕ × ℕ × ℕ × List ℕ, λ a. call.Shuffle a.0 a.1 a.2 a.3)) ∷
     (codes "vload", (VectorLoadOp × ℕ × ℕ × ℕ × ℕ, λ a. call.VectorLoad a.0 a.1 a.2 a.3 a.4)) ∷
+    (codes "vloadlane", (LoadLaneOp × ℕ × ℕ × ℕ × ℕ × ℕ, λ a. call.LoadLane a.0 a.1 a.2 a.3 a.4 a.5)) ∷
     (codes "vstore", (ℕ × ℕ × ℕ × ℕ, λ a. call.VectorStore a.0 a.1 a.2 a.3)) ∷
+    (codes "vstorelane", (StoreLaneOp × ℕ × ℕ × ℕ × ℕ, λ a. call.StoreLane a.0 a.1 a.2 a.3 a.4)) ∷
     []
 
 -- a call whose operands are written is of the form of its word
@@ -98,13 +107,13 @@ form words (call.Binary op dst a b) w = ((op, dst, a, b), w)
 form words (call.Ternary op dst a b c) w = ((op, dst, a, b, c), w)
 form words (call.Shift op dst a amount) w = ((op, dst, a, amount), w)
 form words (call.Test op a) w = ((op, a), w)
-form words (call.Extract op a) w = (call.Extract op a, w)
-form words (call.Replace op dst a item) w = (call.Replace op dst a item, w)
-form words (call.Shuffle dst a b lanes) w = (call.Shuffle dst a b lanes, w)
+form words (call.Extract op a) w = ((op, a), w)
+form words (call.Replace op dst a item) w = ((op, dst, a, item), w)
+form words (call.Shuffle dst a b lanes) w = ((dst, a, b, lanes), w)
 form words (call.VectorLoad op dst memory ptr offset) w = ((op, dst, memory, ptr, offset), w)
-form words (call.LoadLane op dst a memory ptr offset) w = (call.LoadLane op dst a memory ptr offset, w)
+form words (call.LoadLane op dst a memory ptr offset) w = ((op, dst, a, memory, ptr, offset), w)
 form words (call.VectorStore a memory ptr offset) w = ((a, memory, ptr, offset), w)
-form words (call.StoreLane op a memory ptr offset) w = (call.StoreLane op a memory ptr offset, w)
+form words (call.StoreLane op a memory ptr offset) w = ((op, a, memory, ptr, offset), w)
 
 -- a command is refused since the values of its form are
 pub refused_form : (word : List ℕ) (words : LineWords) (error : LineError) (result : Result Call LineError)
@@ -115,3 +124,16 @@ refused_form word words error result is =
     refused_through error result is
     (λ call names. subst (λ name. (a : (form_in forms name).0) × WritesOperands words ((form_in forms name).1 a))
     names.0 (form words call names.1))
+
+-- a command is refused since the word at a place writes no number of so many bits
+pub refused_number : (bits k : ℕ) (word : List ℕ) (words : LineWords) (error : LineError)
+    (result : Result Call LineError) → result ≡ Err error
+    → Accepts {A = ℕ} (Err error) (WritesNumber bits (get_or words k (record { ref_ptr = (0, 0); now = [] })).now)
+    → ((a : (form_in forms word).0) → WritesOperands words ((form_in forms word).1 a)
+    → (n : ℕ) × WritesNumber bits (word_at words k) n)
+    → Accepts result (NamesAfter word words)
+refused_number bits k word words error result is refused part =
+    refused_form word words error result is (refused_with error
+    (WritesNumber bits (get_or words k (record { ref_ptr = (0, 0); now = [] })).now)
+    (λ a. WritesOperands words ((form_in forms word).1 a))
+    (λ a w. let n = part a w in (n.0, at_place (λ text. WritesNumber bits text n.0) words k k refl n.1)) refused)

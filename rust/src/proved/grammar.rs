@@ -6,8 +6,9 @@ mod command {
         //! Commands that load from a memory or store to it.
 
         use crate::proved::machine::{Call, RawVal};
+        use crate::proved::operands::LineError;
         use crate::proved::operands::names::lane::{load_lane_op, store_lane_op};
-        use crate::proved::operands::{LineError, number, operand};
+        use crate::proved::operands::operand::{self, Operand};
 
         /// `load NAME K PTR OFFSET`.
         ///
@@ -82,16 +83,17 @@ mod command {
         /// [codes]: crate::specs::library#codes "the characters of a text, by their numbers"
         #[inline]
         pub fn load_lane(operands: &[&str]) -> Result<Call, LineError> {
-            let [name, dst, a, lane, memory, ptr, offset] = operands else {
+            let [name, dst, a, lane, place @ ..] = operands else {
                 return Err(LineError::BadCommand);
             };
+            let (memory, ptr, offset) = operand::three(place)?;
             Ok(Call::LoadLane {
                 op: load_lane_op(name, lane)?,
-                dst: number(dst)?,
-                a: number(a)?,
-                memory: number(memory)?,
-                ptr: number(ptr)?,
-                offset: number(offset)?,
+                dst: Operand::from_word(dst)?,
+                a: Operand::from_word(a)?,
+                memory,
+                ptr,
+                offset,
             })
         }
 
@@ -126,15 +128,16 @@ mod command {
         /// [codes]: crate::specs::library#codes "the characters of a text, by their numbers"
         #[inline]
         pub fn store_lane(operands: &[&str]) -> Result<Call, LineError> {
-            let [name, a, lane, memory, ptr, offset] = operands else {
+            let [name, a, lane, place @ ..] = operands else {
                 return Err(LineError::BadCommand);
             };
+            let (memory, ptr, offset) = operand::three(place)?;
             Ok(Call::StoreLane {
                 op: store_lane_op(name, lane)?,
-                a: number(a)?,
-                memory: number(memory)?,
-                ptr: number(ptr)?,
-                offset: number(offset)?,
+                a: Operand::from_word(a)?,
+                memory,
+                ptr,
+                offset,
             })
         }
     }
@@ -695,8 +698,9 @@ mod command {
 
         use crate::proved::machine::Call;
         use crate::proved::machine::simd::ImmLaneIdx32;
+        use crate::proved::operands::LineError;
         use crate::proved::operands::names::lane::{extract_op, index, replace_op};
-        use crate::proved::operands::{LineError, number, operand};
+        use crate::proved::operands::operand::{self, Operand};
         use crate::rattle::ArrayExt;
 
         /// `make NAME D A`.
@@ -805,7 +809,7 @@ mod command {
             };
             Ok(Call::Extract {
                 op: extract_op(name, lane)?,
-                a: number(a)?,
+                a: Operand::from_word(a)?,
             })
         }
 
@@ -825,9 +829,9 @@ mod command {
             };
             Ok(Call::Replace {
                 op: replace_op(name, lane)?,
-                dst: number(dst)?,
-                a: number(a)?,
-                item: number(item)?,
+                dst: Operand::from_word(dst)?,
+                a: Operand::from_word(a)?,
+                item: Operand::from_word(item)?,
             })
         }
 
@@ -846,9 +850,9 @@ mod command {
                 return Err(LineError::BadCommand);
             };
             Ok(Call::Shuffle {
-                dst: number(dst)?,
-                a: number(a)?,
-                b: number(b)?,
+                dst: Operand::from_word(dst)?,
+                a: Operand::from_word(a)?,
+                b: Operand::from_word(b)?,
                 lanes: lanes_of(lanes)?,
             })
         }

@@ -6,8 +6,9 @@ ghost use Rattle.wasmi_operands.specs.LineWords.{Accepts};
 ghost use Rattle.wasmi_grammar.specs.Commands.{NamesAfter};
 
 use wasmi_core::{Call, RawVal};
+use wasmi_operands::LineError;
 use wasmi_operands::names::lane::{load_lane_op, store_lane_op};
-use wasmi_operands::{LineError, number, operand};
+use wasmi_operands::operand::{self, Operand};
 
 /// `load NAME K PTR OFFSET`.
 pub fn load(operands: &[&str]) -> Result<Call, LineError>
@@ -54,16 +55,17 @@ pub fn vector_load(operands: &[&str]) -> Result<Call, LineError>
 pub fn load_lane(operands: &[&str]) -> Result<Call, LineError>
     ensures { Accepts result (NamesAfter (codes "vloadlane") operands.now) }
 {
-    let [name, dst, a, lane, memory, ptr, offset] = operands else {
+    let [name, dst, a, lane, place @ ..] = operands else {
         return Err(LineError::BadCommand);
     };
+    let (memory, ptr, offset) = operand::three(place)?;
     Ok(Call::LoadLane {
         op: load_lane_op(name, lane)?,
-        dst: number(dst)?,
-        a: number(a)?,
-        memory: number(memory)?,
-        ptr: number(ptr)?,
-        offset: number(offset)?,
+        dst: Operand::from_word(dst)?,
+        a: Operand::from_word(a)?,
+        memory,
+        ptr,
+        offset,
     })
 }
 
@@ -84,14 +86,15 @@ pub fn vector_store(operands: &[&str]) -> Result<Call, LineError>
 pub fn store_lane(operands: &[&str]) -> Result<Call, LineError>
     ensures { Accepts result (NamesAfter (codes "vstorelane") operands.now) }
 {
-    let [name, a, lane, memory, ptr, offset] = operands else {
+    let [name, a, lane, place @ ..] = operands else {
         return Err(LineError::BadCommand);
     };
+    let (memory, ptr, offset) = operand::three(place)?;
     Ok(Call::StoreLane {
         op: store_lane_op(name, lane)?,
-        a: number(a)?,
-        memory: number(memory)?,
-        ptr: number(ptr)?,
-        offset: number(offset)?,
+        a: Operand::from_word(a)?,
+        memory,
+        ptr,
+        offset,
     })
 }

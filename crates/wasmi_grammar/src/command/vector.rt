@@ -8,8 +8,9 @@ ghost use Rattle.wasmi_operands.specs.Names.{WritesLanes};
 
 use wasmi_core::Call;
 use wasmi_core::simd::ImmLaneIdx32;
+use wasmi_operands::LineError;
 use wasmi_operands::names::lane::{extract_op, index, replace_op};
-use wasmi_operands::{LineError, number, operand};
+use wasmi_operands::operand::{self, Operand};
 
 /// `make NAME D A`.
 pub fn make(operands: &[&str]) -> Result<Call, LineError>
@@ -69,7 +70,7 @@ pub fn extract(operands: &[&str]) -> Result<Call, LineError>
     };
     Ok(Call::Extract {
         op: extract_op(name, lane)?,
-        a: number(a)?,
+        a: Operand::from_word(a)?,
     })
 }
 
@@ -82,9 +83,9 @@ pub fn replace(operands: &[&str]) -> Result<Call, LineError>
     };
     Ok(Call::Replace {
         op: replace_op(name, lane)?,
-        dst: number(dst)?,
-        a: number(a)?,
-        item: number(item)?,
+        dst: Operand::from_word(dst)?,
+        a: Operand::from_word(a)?,
+        item: Operand::from_word(item)?,
     })
 }
 
@@ -96,9 +97,9 @@ pub fn shuffle(operands: &[&str]) -> Result<Call, LineError>
         return Err(LineError::BadCommand);
     };
     Ok(Call::Shuffle {
-        dst: number(dst)?,
-        a: number(a)?,
-        b: number(b)?,
+        dst: Operand::from_word(dst)?,
+        a: Operand::from_word(a)?,
+        b: Operand::from_word(b)?,
         lanes: lanes_of(lanes)?,
     })
 }
