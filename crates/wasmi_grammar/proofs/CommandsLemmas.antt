@@ -1,11 +1,11 @@
 -- What the operands of a command write, by the word that it begins with.
 use Rattle.std.proofs.Common.{ℕ, ◌≡◌, List, [], ◌∷◌, Result, Err, bytes_eq, cond, codes, get_or, refl, subst}
+use Rattle.wasmi_types.specs.declared.value.RefType.{RefType}
+use Rattle.wasmi_types.specs.declared.value.ValType.{ValType}
+use Rattle.wasmi_typed.specs.declared.global.Mutability.{Mutability}
+use Rattle.wasmi_raw.specs.declared.raw.RawVal.{RawVal}
 use Rattle.wasmi_ops.specs.declared.scalar.access.LoadOp.{LoadOp}
 use Rattle.wasmi_ops.specs.declared.scalar.access.StoreOp.{StoreOp}
-use Rattle.wasmi_raw.specs.declared.raw.RawVal.{RawVal}
-use Rattle.wasmi_typed.specs.declared.global.GlobalType.{GlobalType}
-use Rattle.wasmi_typed.specs.declared.typed.TypedRawVal.{TypedRawVal}
-use Rattle.wasmi_typed.specs.declared.typed_ref.TypedRawRef.{TypedRawRef}
 use Rattle.wasmi_ops.specs.declared.vector.access.LoadLaneOp.{LoadLaneOp}
 use Rattle.wasmi_ops.specs.declared.vector.access.StoreLaneOp.{StoreLaneOp}
 use Rattle.wasmi_ops.specs.declared.vector.access.VectorLoadOp.{VectorLoadOp}
@@ -20,141 +20,120 @@ use Rattle.wasmi_ops.specs.declared.vector.unary.UnaryOp.{UnaryOp}
 use Rattle.wasmi_core.specs.declared.calls.Call.{Call}
 use Rattle.wasmi_core.specs.declared.calls.Call.TheVariants as call
 use Rattle.wasmi_operands.specs.declared.error.LineError.{LineError}
-use Rattle.wasmi_operands.specs.Acceptance.{Accepts}
-use Rattle.wasmi_operands.specs.Decimal.{WritesNumber}
-use Rattle.wasmi_operands.specs.LineWords.{LineWords, word_at}
+use Rattle.wasmi_operands.specs.LineWords.{Accepts, LineWords, WritesNumber, word_at}
 use Rattle.wasmi_grammar.specs.Commands.{command_word, WritesOperands, NamesAfter}
-use Rattle.wasmi_operands.proofs.AcceptanceLemmas.{refused_through}
-use Rattle.wasmi_operands.proofs.WordsLemmas.{at_place}
+use Rattle.wasmi_operands.proofs.LineWordsLemmas.{at_place, refused_through, refused_with}
 
--- what is said beside a word, if anything is
-abbrev pub said : List (List ℕ × Type 0) → List ℕ → Type 0
-said [] word = Unit {0}
-said (entry ∷ entries) word = cond (bytes_eq entry.0 word) entry.1 (said entries word)
+-- what parsers make a call of: the values that the operands write, and the call of these
+abbrev Form : Type 1
+Form = (A : Type 0) × (A → Call)
 
--- what the operands of these commands write, as they write a call
-abbrev forms : (Call → Type 0) → List (List ℕ × Type 0)
-forms Writes =
-    (codes "grow", (memory : ℕ) × (pages : ℕ) × Writes (call.GrowMemory memory pages)) ∷
-    (codes "read", (memory : ℕ) × (offset : ℕ) × (len : ℕ) × Writes (call.Read memory offset len)) ∷ (
-      codes "load",
-      (op : LoadOp) × (memory : ℕ) × (ptr : ℕ) × (offset : ℕ) × Writes (call.Load op memory ptr offset),
-    ) ∷ (
-      codes "store",
-      (op : StoreOp) × (memory : ℕ) × (ptr : ℕ) × (offset : ℕ) × (value : RawVal)
-          × Writes (call.Store op memory ptr offset value),
-    ) ∷
-    (codes "tgrow", (table : ℕ) × (delta : ℕ) × (init : TypedRawRef) × Writes (call.GrowTable table delta init)) ∷
-    (codes "get", (table : ℕ) × (index : ℕ) × Writes (call.GetElement table index)) ∷
-    (codes "tset", (table : ℕ) × (index : ℕ) × (value : TypedRawRef) × Writes (call.SetElement table index value)) ∷ (
-      codes "init",
-      (table : ℕ) × (segment : ℕ) × (dst : ℕ) × (src : ℕ) × (len : ℕ)
-          × Writes (call.InitTable table segment dst src len),
-    ) ∷ (
-      codes "copy",
-      (dst_table : ℕ) × (dst : ℕ) × (src_table : ℕ) × (src : ℕ) × (len : ℕ)
-          × Writes (call.CopyTable dst_table dst src_table src len),
-    ) ∷ (
+-- the form beside a word; beside others a call is made of itself
+abbrev form_in : List (List ℕ × Form) → List ℕ → Form
+form_in [] word = (Call, λ call. call)
+form_in (entry ∷ entries) word = cond (bytes_eq entry.0 word) entry.1 (form_in entries word)
+
+-- the forms of commands whose operands are read at once
+abbrev forms : List (List ℕ × Form)
+forms =
+    (codes "grow", (ℕ × ℕ, λ a. call.GrowMemory a.0 a.1)) ∷
+    (codes "read", (ℕ × ℕ × ℕ, λ a. call.Read a.0 a.1 a.2)) ∷
+    (codes "load", (LoadOp × ℕ × ℕ × ℕ, λ a. call.Load a.0 a.1 a.2 a.3)) ∷
+    (codes "store", (StoreOp × ℕ × ℕ × ℕ × RawVal, λ a. call.Store a.0 a.1 a.2 a.3 a.4)) ∷
+    (codes "tgrow", (ℕ × ℕ × RefType × ℕ, λ a. call.GrowTable a.0 a.1 (record { ty = a.2; raw = a.3 }))) ∷
+    (codes "get", (ℕ × ℕ, λ a. call.GetElement a.0 a.1)) ∷
+    (codes "tset", (ℕ × ℕ × RefType × ℕ, λ a. call.SetElement a.0 a.1 (record { ty = a.2; raw = a.3 }))) ∷
+    (codes "init", (ℕ × ℕ × ℕ × ℕ × ℕ, λ a. call.InitTable a.0 a.1 a.2 a.3 a.4)) ∷
+    (codes "copy", (ℕ × ℕ × ℕ × ℕ × ℕ, λ a. call.CopyTable a.0 a.1 a.2 a.3 a.4)) ∷ (
       codes "fill",
-      (table : ℕ) × (dst : ℕ) × (value : TypedRawRef) × (len : ℕ) × Writes (call.FillTable table dst value len),
+      (ℕ × ℕ × RefType × ℕ × ℕ, λ a. call.FillTable a.0 a.1 (record { ty = a.2; raw = a.3 }) a.4),
+    ) ∷ (
+      codes "global",
+      (
+        ValType × Mutability × ℕ × ℕ,
+        λ a. call.NewGlobal (record { lo = a.2; hi = a.3 }) (record { content = a.0; mutability = a.1 }),
+      ),
+    ) ∷ (
+      codes "gset",
+      (ℕ × ValType × ℕ × ℕ, λ a. call.SetGlobal a.0 (record { ty = a.1; raw = record { lo = a.2; hi = a.3 } })),
     ) ∷
-    (codes "global", (value : RawVal) × (ty : GlobalType) × Writes (call.NewGlobal value ty)) ∷
-    (codes "gset", (global : ℕ) × (value : TypedRawVal) × Writes (call.SetGlobal global value)) ∷
-    (codes "set", (dst : ℕ) × (value : RawVal) × Writes (call.SetRegister dst value)) ∷
-    (codes "make", (op : MakeOp) × (dst : ℕ) × (a : ℕ) × Writes (call.Make op dst a)) ∷
-    (codes "unary", (op : UnaryOp) × (dst : ℕ) × (a : ℕ) × Writes (call.Unary op dst a)) ∷
-    (codes "binary", (op : BinaryOp) × (dst : ℕ) × (a : ℕ) × (b : ℕ) × Writes (call.Binary op dst a b)) ∷
-    (codes "ternary", (op : TernaryOp) × (dst : ℕ) × (a : ℕ) × (b : ℕ) × (c : ℕ) × Writes (call.Ternary op dst a b c)) ∷
-    (codes "shift", (op : ShiftOp) × (dst : ℕ) × (a : ℕ) × (amount : ℕ) × Writes (call.Shift op dst a amount)) ∷
-    (codes "test", (op : TestOp) × (a : ℕ) × Writes (call.Test op a)) ∷
-    (codes "extract", (op : ExtractOp) × (a : ℕ) × Writes (call.Extract op a)) ∷
-    (codes "replace", (op : ReplaceOp) × (dst : ℕ) × (a : ℕ) × (item : ℕ) × Writes (call.Replace op dst a item)) ∷ (
-      codes "shuffle",
-      (dst : ℕ) × (a : ℕ) × (b : ℕ) × (lanes : List ℕ) × Writes (call.Shuffle dst a b lanes),
-    ) ∷ (
-      codes "vload",
-      (op : VectorLoadOp) × (dst : ℕ) × (memory : ℕ) × (ptr : ℕ) × (offset : ℕ)
-          × Writes (call.VectorLoad op dst memory ptr offset),
-    ) ∷ (
-      codes "vloadlane",
-      (op : LoadLaneOp) × (dst : ℕ) × (a : ℕ) × (memory : ℕ) × (ptr : ℕ) × (offset : ℕ)
-          × Writes (call.LoadLane op dst a memory ptr offset),
-    ) ∷ (
-      codes "vstore",
-      (a : ℕ) × (memory : ℕ) × (ptr : ℕ) × (offset : ℕ) × Writes (call.VectorStore a memory ptr offset),
-    ) ∷ (
-      codes "vstorelane",
-      (op : StoreLaneOp) × (a : ℕ) × (memory : ℕ) × (ptr : ℕ) × (offset : ℕ)
-          × Writes (call.StoreLane op a memory ptr offset),
-    ) ∷
+    (codes "set", (ℕ × ℕ × ℕ, λ a. call.SetRegister a.0 (record { lo = a.1; hi = a.2 }))) ∷
+    (codes "make", (MakeOp × ℕ × ℕ, λ a. call.Make a.0 a.1 a.2)) ∷
+    (codes "unary", (UnaryOp × ℕ × ℕ, λ a. call.Unary a.0 a.1 a.2)) ∷
+    (codes "binary", (BinaryOp × ℕ × ℕ × ℕ, λ a. call.Binary a.0 a.1 a.2 a.3)) ∷
+    (codes "ternary", (TernaryOp × ℕ × ℕ × ℕ × ℕ, λ a. call.Ternary a.0 a.1 a.2 a.3 a.4)) ∷
+    (codes "shift", (ShiftOp × ℕ × ℕ × ℕ, λ a. call.Shift a.0 a.1 a.2 a.3)) ∷
+    (codes "test", (TestOp × ℕ, λ a. call.Test a.0 a.1)) ∷
+    (codes "extract", (ExtractOp × ℕ, λ a. call.Extract a.0 a.1)) ∷
+    (codes "replace", (ReplaceOp × ℕ × ℕ × ℕ, λ a. call.Replace a.0 a.1 a.2 a.3)) ∷
+    (codes "shuffle", (ℕ × ℕ × ℕ × List ℕ, λ a. call.Shuffle a.0 a.1 a.2 a.3)) ∷
+    (codes "vload", (VectorLoadOp × ℕ × ℕ × ℕ × ℕ, λ a. call.VectorLoad a.0 a.1 a.2 a.3 a.4)) ∷
+    (codes "vloadlane", (LoadLaneOp × ℕ × ℕ × ℕ × ℕ × ℕ, λ a. call.LoadLane a.0 a.1 a.2 a.3 a.4 a.5)) ∷
+    (codes "vstore", (ℕ × ℕ × ℕ × ℕ, λ a. call.VectorStore a.0 a.1 a.2 a.3)) ∷
+    (codes "vstorelane", (StoreLaneOp × ℕ × ℕ × ℕ × ℕ, λ a. call.StoreLane a.0 a.1 a.2 a.3 a.4)) ∷
     []
 
--- a call's operands are written in the form of its word
+-- a call whose operands are written is of the form of its word
 form : (words : LineWords) (call : Call) → WritesOperands words call
-    → said (forms (WritesOperands words)) (command_word call)
-form words (call.SetFuel fuel) w = tt
-form words call.GetFuel w = tt
-form words (call.NewMemory ty) w = tt
-form words (call.NewLentMemory ty) w = tt
-form words (call.GrowMemory memory pages) w = (memory, pages, w)
-form words (call.DropMemory memory) w = tt
-form words (call.Read memory offset len) w = (memory, offset, len, w)
-form words (call.Write memory offset bytes) w = tt
-form words (call.Load op memory ptr offset) w = (op, memory, ptr, offset, w)
-form words (call.Store op memory ptr offset value) w = (op, memory, ptr, offset, value, w)
-form words (call.NewTable ty init) w = tt
-form words (call.GrowTable table delta init) w = (table, delta, init, w)
-form words (call.DropTable table) w = tt
-form words (call.GetElement table index) w = (table, index, w)
-form words (call.SetElement table index value) w = (table, index, value, w)
-form words (call.InitTable table segment dst src len) w = (table, segment, dst, src, len, w)
-form words (call.CopyTable dst_table dst src_table src len) w = (dst_table, dst, src_table, src, len, w)
-form words (call.FillTable table dst value len) w = (table, dst, value, len, w)
-form words (call.NewSegment ty items) w = tt
-form words (call.DropItems segment) w = tt
-form words (call.NewGlobal value ty) w = (value, ty, w)
-form words (call.SetGlobal global value) w = (global, value, w)
-form words (call.GetGlobal global) w = tt
-form words (call.SetRegister dst value) w = (dst, value, w)
-form words (call.GetRegister a) w = tt
-form words (call.Make op dst a) w = (op, dst, a, w)
-form words (call.Unary op dst a) w = (op, dst, a, w)
-form words (call.Binary op dst a b) w = (op, dst, a, b, w)
-form words (call.Ternary op dst a b c) w = (op, dst, a, b, c, w)
-form words (call.Shift op dst a amount) w = (op, dst, a, amount, w)
-form words (call.Test op a) w = (op, a, w)
-form words (call.Extract op a) w = (op, a, w)
-form words (call.Replace op dst a item) w = (op, dst, a, item, w)
-form words (call.Shuffle dst a b lanes) w = (dst, a, b, lanes, w)
-form words (call.VectorLoad op dst memory ptr offset) w = (op, dst, memory, ptr, offset, w)
-form words (call.LoadLane op dst a memory ptr offset) w = (op, dst, a, memory, ptr, offset, w)
-form words (call.VectorStore a memory ptr offset) w = (a, memory, ptr, offset, w)
-form words (call.StoreLane op a memory ptr offset) w = (op, a, memory, ptr, offset, w)
+    → (a : (form_in forms (command_word call)).0) × WritesOperands words ((form_in forms (command_word call)).1 a)
+form words (call.SetFuel fuel) w = (call.SetFuel fuel, w)
+form words call.GetFuel w = (call.GetFuel, w)
+form words (call.NewMemory ty) w = (call.NewMemory ty, w)
+form words (call.NewLentMemory ty) w = (call.NewLentMemory ty, w)
+form words (call.GrowMemory memory pages) w = ((memory, pages), w)
+form words (call.DropMemory memory) w = (call.DropMemory memory, w)
+form words (call.Read memory offset len) w = ((memory, offset, len), w)
+form words (call.Write memory offset bytes) w = (call.Write memory offset bytes, w)
+form words (call.Load op memory ptr offset) w = ((op, memory, ptr, offset), w)
+form words (call.Store op memory ptr offset value) w = ((op, memory, ptr, offset, value), w)
+form words (call.NewTable ty init) w = (call.NewTable ty init, w)
+form words (call.GrowTable table delta init) w = ((table, delta, init.ty, init.raw), w)
+form words (call.DropTable table) w = (call.DropTable table, w)
+form words (call.GetElement table index) w = ((table, index), w)
+form words (call.SetElement table index value) w = ((table, index, value.ty, value.raw), w)
+form words (call.InitTable table segment dst src len) w = ((table, segment, dst, src, len), w)
+form words (call.CopyTable dst_table dst src_table src len) w = ((dst_table, dst, src_table, src, len), w)
+form words (call.FillTable table dst value len) w = ((table, dst, value.ty, value.raw, len), w)
+form words (call.NewSegment ty items) w = (call.NewSegment ty items, w)
+form words (call.DropItems segment) w = (call.DropItems segment, w)
+form words (call.NewGlobal value ty) w = ((ty.content, ty.mutability, value.lo, value.hi), w)
+form words (call.SetGlobal global value) w = ((global, value.ty, value.raw.lo, value.raw.hi), w)
+form words (call.GetGlobal global) w = (call.GetGlobal global, w)
+form words (call.SetRegister dst value) w = ((dst, value.lo, value.hi), w)
+form words (call.GetRegister a) w = (call.GetRegister a, w)
+form words (call.Make op dst a) w = ((op, dst, a), w)
+form words (call.Unary op dst a) w = ((op, dst, a), w)
+form words (call.Binary op dst a b) w = ((op, dst, a, b), w)
+form words (call.Ternary op dst a b c) w = ((op, dst, a, b, c), w)
+form words (call.Shift op dst a amount) w = ((op, dst, a, amount), w)
+form words (call.Test op a) w = ((op, a), w)
+form words (call.Extract op a) w = ((op, a), w)
+form words (call.Replace op dst a item) w = ((op, dst, a, item), w)
+form words (call.Shuffle dst a b lanes) w = ((dst, a, b, lanes), w)
+form words (call.VectorLoad op dst memory ptr offset) w = ((op, dst, memory, ptr, offset), w)
+form words (call.LoadLane op dst a memory ptr offset) w = ((op, dst, a, memory, ptr, offset), w)
+form words (call.VectorStore a memory ptr offset) w = ((a, memory, ptr, offset), w)
+form words (call.StoreLane op a memory ptr offset) w = ((op, a, memory, ptr, offset), w)
 
--- what a word and what follows it write is refused since a part of it is
-pub refused_beside : {A B : Type 0} (entries : List (List ℕ × Type 0)) (word_of : B → List ℕ) (Writes : B → Type 0)
-    → ((b : B) → Writes b → said entries (word_of b)) → (error : LineError) (P : A → Type 0) (word : List ℕ)
-    (result : Result B LineError)
-    → result ≡ Err error → Accepts {A = A} (Err error) P → (said entries word → (a : A) × P a)
-    → Accepts result (λ b. (word_of b ≡ word) × Writes b)
-refused_beside entries word_of Writes written error P word result is refused part =
-    refused_through error result is (λ b names. part (subst (said entries) names.0 (written b names.1))) refused
-
--- a command is refused since its operands are
-pub refused_after : {A : Type 0} (error : LineError) (P : A → Type 0) (word : List ℕ) (words : LineWords)
-    (result : Result Call LineError)
-    → result ≡ Err error → Accepts {A = A} (Err error) P → (said (forms (WritesOperands words)) word → (a : A) × P a)
+-- a command is refused since the values of its form are
+pub refused_form : (word : List ℕ) (words : LineWords) (error : LineError) (result : Result Call LineError)
+    → result ≡ Err error
+    → Accepts {A = (form_in forms word).0} (Err error) (λ a. WritesOperands words ((form_in forms word).1 a))
     → Accepts result (NamesAfter word words)
-refused_after error P word words =
-    refused_beside (forms (WritesOperands words)) command_word (WritesOperands words) (form words) error P word
+refused_form word words error result is =
+    refused_through error result is
+    (λ call names. subst (λ name. (a : (form_in forms name).0) × WritesOperands words ((form_in forms name).1 a))
+    names.0 (form words call names.1))
 
 -- a command is refused since the word at a place writes no number of so many bits
-pub refused_number : (bits k : ℕ) (error : LineError) (word : List ℕ) (words : LineWords)
-    (result : Result Call LineError)
-    → result ≡ Err error
+pub refused_number : (bits k : ℕ) (word : List ℕ) (words : LineWords) (error : LineError)
+    (result : Result Call LineError) → result ≡ Err error
     → Accepts {A = ℕ} (Err error) (WritesNumber bits (get_or words k (record { ref_ptr = (0, 0); now = [] })).now)
-    → (said (forms (WritesOperands words)) word → (n : ℕ) × WritesNumber bits (word_at words k) n)
+    → ((a : (form_in forms word).0) → WritesOperands words ((form_in forms word).1 a)
+    → (n : ℕ) × WritesNumber bits (word_at words k) n)
     → Accepts result (NamesAfter word words)
-refused_number bits k error word words result is refused part =
-    refused_after error _ word words result is refused
-    (λ w. ((part w).0, at_place (λ text. WritesNumber bits text (part w).0) words k k refl (part w).1))
+refused_number bits k word words error result is refused part =
+    refused_form word words error result is (refused_with error
+    (WritesNumber bits (get_or words k (record { ref_ptr = (0, 0); now = [] })).now)
+    (λ a. WritesOperands words ((form_in forms word).1 a))
+    (λ a w. let n = part a w in (n.0, at_place (λ text. WritesNumber bits text n.0) words k k refl n.1)) refused)

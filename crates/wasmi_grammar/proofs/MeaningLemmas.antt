@@ -1,6 +1,5 @@
 -- What a line adds is told by its words: what is said after it is a function of them and of what was said before.
-use Rattle.std.proofs.Common.{ℕ, ◌≡◌, ◌∙◌, ◌++◌, List, [], ◌∷◌, Option, Some, None, bytes_eq, cond, codes, map, drop}
-use Rattle.std.proofs.Common.{inl, inr, refl, sym, ap}
+use Rattle.std.proofs.Common.{ℕ, ◌≡◌, ◌∙◌, ◌++◌, List, [], ◌∷◌, Option, Some, None, bytes_eq, cond, codes, map, drop, inl, inr, refl, sym, ap}
 use Rattle.std.specs.Option.{option_map, option_map_or, option_and_then}
 use Rattle.std.proofs.lemmas.List.{map-append}
 use Rattle.wasmi_raw.specs.declared.raw.RawVal.{RawVal}
@@ -31,17 +30,10 @@ use Rattle.wasmi_ops.specs.TestOps.{test_name}
 use Rattle.wasmi_ops.specs.VectorAccessOps.{vector_load_name}
 use Rattle.wasmi_ops.specs.LaneKinds.{extract_name, extract_op, replace_name, replace_op, load_lane_name, load_lane_op, store_lane_name, store_lane_op}
 use Rattle.wasmi_core.specs.declared.calls.Call.{Call}
-use Rattle.wasmi_core.specs.declared.calls.Call.TheVariants.{SetFuel, GetFuel, NewMemory, NewLentMemory, GrowMemory}
-use Rattle.wasmi_core.specs.declared.calls.Call.TheVariants.{DropMemory}
-use Rattle.wasmi_core.specs.declared.calls.Call.TheVariants.{Read, Write, Load, Store, NewTable, GrowTable, DropTable}
-use Rattle.wasmi_core.specs.declared.calls.Call.TheVariants.{GetElement, SetElement, InitTable, CopyTable, FillTable}
-use Rattle.wasmi_core.specs.declared.calls.Call.TheVariants.{NewSegment, DropItems, NewGlobal, SetGlobal, GetGlobal}
-use Rattle.wasmi_core.specs.declared.calls.Call.TheVariants.{SetRegister, GetRegister, Make, Unary, Binary, Ternary}
-use Rattle.wasmi_core.specs.declared.calls.Call.TheVariants.{Shift}
-use Rattle.wasmi_core.specs.declared.calls.Call.TheVariants.{Test, Extract, Replace, Shuffle, VectorLoad, LoadLane}
-use Rattle.wasmi_core.specs.declared.calls.Call.TheVariants.{VectorStore, StoreLane}
+use Rattle.wasmi_core.specs.declared.calls.Call.TheVariants.{SetFuel, GetFuel, NewMemory, NewLentMemory, GrowMemory, DropMemory, Read, Write, Load, Store, NewTable, GrowTable, DropTable, GetElement, SetElement, InitTable, CopyTable, FillTable, NewSegment, DropItems, NewGlobal, SetGlobal, GetGlobal, SetRegister, GetRegister, Make, Unary, Binary, Ternary, Shift, Test, Extract, Replace, Shuffle, VectorLoad, LoadLane, VectorStore, StoreLane}
 use Rattle.wasmi_grammar.specs.declared.script.Line.{Line}
 use Rattle.wasmi_grammar.specs.declared.script.Line.TheVariants.{Meter, Limiter, Region, As, Call as Command}
+use Rattle.wasmi_grammar.specs.Lines.{NamesLine, AddsLine, AddsWords}
 use Rattle.wasmi_grammar.specs.Parts.{TenantRun, PartsValue}
 use Rattle.wasmi_grammar.specs.declared.script.Script.{Script}
 use Rattle.wasmi_grammar.specs.declared.header.Header.{Header}
@@ -50,23 +42,15 @@ use Rattle.wasmi_grammar.specs.declared.header.MeterLine.TheVariants.{Off, On}
 use Rattle.wasmi_grammar.specs.declared.header.LimiterLine.{LimiterLine}
 use Rattle.wasmi_grammar.specs.declared.header.LimiterLine.TheVariants.{Quota, Answers, Tenants}
 use Rattle.wasmi_grammar.specs.declared.header.RegionLine.{RegionLine}
-use Rattle.wasmi_operands.specs.LineWords.{LineWords, WritesEach, word_at}
-use Rattle.wasmi_operands.specs.Decimal.{WritesNumber, decimal_value}
-use Rattle.wasmi_operands.specs.Names.{IsName}
-use Rattle.wasmi_operands.specs.TypeWords.{reference_word, value_word, mutability_word}
+use Rattle.wasmi_operands.specs.LineWords.{LineWords, WritesEach, word_at, WritesNumber, decimal_value}
+use Rattle.wasmi_operands.specs.Names.{IsName, reference_word, value_word, mutability_word}
 use Rattle.wasmi_grammar.specs.Commands.{command_word, WritesOperands}
 use Rattle.wasmi_grammar.specs.Headers.{WritesMeter, WritesLimiter, WritesRegion, limiter_word}
-use Rattle.wasmi_grammar.specs.Lines.{NamesLine, AddsLine, AddsWords}
-use Rattle.wasmi_grammar.specs.Meanings.{CallMeaning, WriteMeaning, SegmentMeaning, OtherCall as Other, call_meaning, LimiterMeaning}
-use Rattle.wasmi_grammar.specs.Meanings.{AnswersMeaning}
-use Rattle.wasmi_grammar.specs.Meanings.{OtherLimiter, limiter_meaning, PartMeaning, part_meaning}
-use Rattle.wasmi_operands.proofs.NamesLemmas.{named, named_is}
-use Rattle.wasmi_operands.proofs.WordsLemmas.{each_named}
-use Rattle.wasmi_operands.proofs.TypeWordsLemmas.{reference_named, reference_is}
-use Rattle.wasmi_operands.proofs.LaneNamesLemmas.{lane_named, lane_is}
-use Rattle.wasmi_grammar.proofs.MemoryWordsLemmas.{memory_named, memory_is}
-use Rattle.wasmi_grammar.proofs.TableWordsLemmas.{table_named, table_is}
-use Rattle.wasmi_grammar.proofs.AnswersLemmas.{answers_named, answers_is}
+use Rattle.wasmi_grammar.specs.Meanings.{CallMeaning, WriteMeaning, SegmentMeaning, OtherCall as Other, call_meaning, LimiterMeaning, AnswersMeaning, OtherLimiter, limiter_meaning, PartMeaning, part_meaning}
+use Rattle.wasmi_operands.proofs.NamesLemmas.{named, named_is, reference_named, reference_is, lane_named, lane_is}
+use Rattle.wasmi_operands.proofs.LineWordsLemmas.{each_named}
+use Rattle.wasmi_grammar.proofs.LimitWordsLemmas.{memory_named, memory_is, table_named, table_is}
+use Rattle.wasmi_grammar.proofs.HeadersLemmas.{answers_named, answers_is}
 
 -- what a list has beside a word, or something else
 abbrev found_or : {A : Type 0} → List (List ℕ × A) → List ℕ → A → A

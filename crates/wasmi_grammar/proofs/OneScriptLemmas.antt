@@ -1,6 +1,5 @@
 -- A text writes one script, and has one first bad line at most.
-use Rattle.std.proofs.Common.{ℕ, ◌+◌, ◌≡◌, ◌∙◌, ◌++◌, List, [], ◌∷◌, Option, Some, None, length, map}
-use Rattle.std.proofs.Common.{◌≤◌, drop, inl, inr, arith, refl, suc, sym, ap, subst}
+use Rattle.std.proofs.Common.{ℕ, ◌+◌, ◌≡◌, ◌∙◌, ◌++◌, List, [], ◌∷◌, Option, Some, None, length, map, ◌≤◌, drop, inl, inr, arith, refl, suc, sym, ap, subst}
 use Rattle.std.specs.Option.{option_map}
 use Rattle.std.proofs.lemmas.List.{map-append}
 use Rattle.wasmi_grammar.specs.declared.script.Line.{Line}
@@ -11,15 +10,11 @@ use Rattle.wasmi_grammar.specs.declared.header.LimiterLine.TheVariants.{Quota, A
 use Rattle.wasmi_grammar.specs.declared.header.RegionLine.{RegionLine}
 use Rattle.wasmi_operands.specs.LineWords.{LineWords, word_at}
 use Rattle.wasmi_grammar.specs.Headers.{AreApart, tenants_of}
-use Rattle.wasmi_grammar.specs.Lines.{HasNoCommands, NamesLine, AddsLine, AddsWords, AcceptsLine, AcceptsLines}
-use Rattle.wasmi_grammar.specs.Lines.{IsNewScript, lines_in}
+use Rattle.wasmi_grammar.specs.Lines.{HasNoCommands, NamesLine, AddsLine, AddsWords, AcceptsLine, AcceptsLines, IsNewScript, lines_in}
 use Rattle.wasmi_grammar.specs.Parts.{TenantRun, parts_in}
 use Rattle.wasmi_grammar.specs.Refusals.{IsBadLine, IsFirstBadLine}
-use Rattle.wasmi_grammar.specs.Meanings.{call_meaning, limiter_meaning, LimiterMeaning, OtherLimiter, part_meaning}
-use Rattle.wasmi_grammar.specs.Meanings.{ScriptMeaning, script_meaning}
-use Rattle.wasmi_grammar.specs.Meanings.{TextsWriteOneScript, FirstBadLinesAreOne, WrittenTextsHaveNoBadLine}
-use Rattle.wasmi_grammar.proofs.MeaningLemmas.{line_meaning, line_is, LinesMeaning, meaning_of, lines_meaning}
-use Rattle.wasmi_grammar.proofs.MeaningLemmas.{LinesHaveSameMeaning, meaning_after, added}
+use Rattle.wasmi_grammar.specs.Meanings.{call_meaning, limiter_meaning, LimiterMeaning, OtherLimiter, part_meaning, ScriptMeaning, script_meaning, TextsWriteOneScript, FirstBadLinesAreOne, WrittenTextsHaveNoBadLine}
+use Rattle.wasmi_grammar.proofs.MeaningLemmas.{line_meaning, line_is, LinesMeaning, meaning_of, lines_meaning, LinesHaveSameMeaning, meaning_after, added}
 use Rattle.wasmi_grammar.proofs.TextsLemmas.{retell}
 
 -- a line leads from scripts that say the same to scripts that say the same

@@ -12,10 +12,8 @@ use Rattle.wasmi_grammar.specs.declared.header.MeterLine.TheVariants.{Off, On}
 use Rattle.wasmi_grammar.specs.declared.header.LimiterLine.{LimiterLine}
 use Rattle.wasmi_grammar.specs.declared.header.LimiterLine.TheVariants.{Quota, Answers, Tenants}
 use Rattle.wasmi_grammar.specs.declared.header.RegionLine.{RegionLine}
-use Rattle.wasmi_operands.specs.LineWords.{LineWords, WritesEach, word_at}
-use Rattle.wasmi_operands.specs.Decimal.{IsDecimal, WritesNumber, decimal_value}
-use Rattle.wasmi_operands.specs.LaneNames.{WritesLanes}
-use Rattle.wasmi_operands.specs.Answers.{WritesAnswer}
+use Rattle.wasmi_operands.specs.LineWords.{LineWords, WritesEach, word_at, IsDecimal, WritesNumber, decimal_value}
+use Rattle.wasmi_operands.specs.Names.{WritesLanes, WritesAnswer}
 use Rattle.wasmi_grammar.specs.Commands.{OperandsWrite, WritesOperands}
 use Rattle.wasmi_grammar.specs.Headers.{WritesMeter, WritesLimiter, WritesRegion, WritesTenant}
 use Rattle.wasmi_grammar.specs.Lines.{NamesLine, AddsWords}

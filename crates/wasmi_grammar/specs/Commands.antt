@@ -1,5 +1,11 @@
--- What the words of a command mean.
-use Rattle.std.specs.Prelude.{◌≡◌, ℕ, ◌≤◌, List, length, codes, drop}
+-- What the words of a command mean, and those of a memory type or a table type.
+use Rattle.std.specs.Prelude.{◌≡◌, ℕ, List, Option, ◌≤◌, length, codes, drop}
+use Rattle.wasmi_types.specs.declared.index_ty.IndexType.{IndexType}
+use Rattle.wasmi_operands.specs.LineWords.{WritesNumber, WritesLimit, LineWords, WritesEach, word_at}
+use Rattle.wasmi_operands.specs.Names.{width_word, reference_word, value_word, mutability_word, WritesReference, IsName, NamesExtract, NamesReplace, NamesLoadLane, NamesStoreLane, WritesLanes}
+use Rattle.wasmi_store.specs.MemoryType.{MemoryTypeValue, page_log2}
+use Rattle.wasmi_types.specs.declared.value.RefType.{RefType}
+use Rattle.wasmi_store.specs.TableType.{TableTypeValue}
 use Rattle.wasmi_raw.specs.RawVal.{raw_of}
 use Rattle.wasmi_ops.specs.ScalarAccessOps.{load_name, store_name}
 use Rattle.wasmi_ops.specs.MakeOps.{make_name}
@@ -10,14 +16,55 @@ use Rattle.wasmi_ops.specs.ShiftOps.{shift_name}
 use Rattle.wasmi_ops.specs.TestOps.{test_name}
 use Rattle.wasmi_ops.specs.VectorAccessOps.{vector_load_name}
 use Rattle.wasmi_core.specs.declared.calls.Call.{Call}
+use Rattle.wasmi_store.specs.MemoryType as memory_type
+use Rattle.wasmi_store.specs.TableType as table_type
 use Rattle.wasmi_core.specs.declared.calls.Call.TheVariants as call
-use Rattle.wasmi_operands.specs.LineWords.{LineWords, WritesEach, word_at}
-use Rattle.wasmi_operands.specs.Decimal.{WritesNumber}
-use Rattle.wasmi_grammar.specs.MemoryWords.{NamesType}
-use Rattle.wasmi_grammar.specs.TableWords.{NamesTableType}
-use Rattle.wasmi_operands.specs.TypeWords.{reference_word, value_word, mutability_word, WritesReference}
-use Rattle.wasmi_operands.specs.Names.{IsName}
-use Rattle.wasmi_operands.specs.LaneNames.{NamesExtract, NamesReplace, NamesLoadLane, NamesStoreLane, WritesLanes}
+
+-- the limits of a memory or of a table: the type of its indices, its minimum and its maximum, if it has one
+pub record Limits : Type 0 where
+  pub index : IndexType
+  pub minimum : ℕ
+  pub maximum : Option ℕ
+
+-- three words write these limits: the minimum, the maximum and the width of the indices
+pub record WritesLimits (minimum maximum width : List ℕ) (limits : Limits) : Type 0 where
+  pub minimum_word : WritesNumber 64 minimum limits.minimum
+  pub maximum_word : WritesLimit maximum limits.maximum
+  pub width_text : width ≡ width_word limits.index
+
+-- the limits of a memory type
+abbrev pub memory_limits : MemoryTypeValue → Limits
+memory_limits ty = record { index = ty.index; minimum = ty.minimum; maximum = ty.maximum }
+
+-- a memory type, which there is, of these limits and this page size
+pub record HasSettings (limits : Limits) (log2 : ℕ) (ty : MemoryTypeValue) : Type 0 where
+  pub same_limits : memory_limits ty ≡ limits
+  pub same_log2 : page_log2 ty.page ≡ log2
+  pub valid : memory_type.IsValid ty
+
+-- four words name this memory type, which there is: its minimum, its maximum, its page size and the width of its
+-- addresses
+pub record NamesType (minimum maximum log2 width : List ℕ) (ty : MemoryTypeValue) : Type 0 where
+  pub limits_words : WritesLimits minimum maximum width (memory_limits ty)
+  pub log2_word : WritesNumber 8 log2 (page_log2 ty.page)
+  pub valid : memory_type.IsValid ty
+
+-- the limits of a table type
+abbrev pub table_limits : TableTypeValue → Limits
+table_limits ty = record { index = ty.index; minimum = ty.minimum; maximum = ty.maximum }
+
+-- a table type, which there is, of these limits and this type of elements
+pub record HasLimits (limits : Limits) (element : RefType) (ty : TableTypeValue) : Type 0 where
+  pub same_limits : table_limits ty ≡ limits
+  pub same_element : ty.element ≡ element
+  pub valid : table_type.IsValid ty
+
+-- four words name this table type, which there is: the type of its elements, its minimum, its maximum and the width of
+-- its indices
+pub record NamesTableType (element minimum maximum width : List ℕ) (ty : TableTypeValue) : Type 0 where
+  pub element_text : element ≡ reference_word ty.element
+  pub limits_words : WritesLimits minimum maximum width (table_limits ty)
+  pub valid : table_type.IsValid ty
 
 -- the word that a command begins with
 abbrev pub command_word : Call → List ℕ

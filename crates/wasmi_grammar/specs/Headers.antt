@@ -10,9 +10,8 @@ use Rattle.wasmi_grammar.specs.declared.header.MeterLine.TheVariants.{Off, On}
 use Rattle.wasmi_grammar.specs.declared.header.LimiterLine.{LimiterLine}
 use Rattle.wasmi_grammar.specs.declared.header.LimiterLine.TheVariants.{Quota, Answers, Tenants}
 use Rattle.wasmi_grammar.specs.declared.header.RegionLine.{RegionLine}
-use Rattle.wasmi_operands.specs.LineWords.{LineWords, WritesEach, word_at}
-use Rattle.wasmi_operands.specs.Decimal.{WritesNumber}
-use Rattle.wasmi_operands.specs.Answers.{WritesAnswer}
+use Rattle.wasmi_operands.specs.LineWords.{LineWords, WritesEach, word_at, WritesNumber}
+use Rattle.wasmi_operands.specs.Names.{WritesAnswer}
 
 -- the words after the first write what the meter line says
 abbrev pub WritesMeter : LineWords → MeterLine → Type 0

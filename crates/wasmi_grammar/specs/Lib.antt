@@ -1,9 +1,6 @@
-pub mod LimitWords
-pub mod MemoryWords
-pub mod TableWords
+pub mod Parts
 pub mod Commands
 pub mod Headers
-pub mod Parts
 pub mod Lines
 pub mod Refusals
 pub mod Meanings

@@ -1,6 +1,6 @@
 //! The header lines of a script.
 ghost use Rattle.std.specs.Prelude.{◌≡◌, codes};
-ghost use Rattle.wasmi_operands.specs.Acceptance.{Accepts, AcceptsWithMemory};
+ghost use Rattle.wasmi_operands.specs.LineWords.{Accepts, AcceptsWithMemory};
 ghost use Rattle.wasmi_grammar.specs.Headers.{WritesMeter, NamesLimiterAfter, WritesRegion, tenants_of};
 
 use std::alloc::Global;

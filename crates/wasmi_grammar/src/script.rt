@@ -1,6 +1,6 @@
 //! The script's lines: header lines, and then commands.
-ghost use Rattle.std.specs.Prelude.{◌≡◌, [], ℕ, ◌+◌, ◌-◌, ◌<◌, ◌≤◌, length, take, drop, vec_len, IfOk, IfErr, OnOk, OnErr, ◌≢◌};
-ghost use Rattle.wasmi_operands.specs.Acceptance.{Accepts, AcceptsWithMemory};
+ghost use Rattle.std.specs.Prelude.{◌≡◌, [], ℕ, ◌+◌, ◌-◌, ◌<◌, ◌≤◌, length, take, drop, codes, vec_len, IfOk, IfErr, OnOk, OnErr, ◌≢◌};
+ghost use Rattle.wasmi_operands.specs.LineWords.{Accepts, AcceptsWithMemory};
 ghost use Rattle.wasmi_grammar.specs.Commands.{NamesAfter};
 ghost use Rattle.wasmi_grammar.specs.Headers.{WritesTenant};
 ghost use Rattle.wasmi_grammar.specs.Lines.{WritesScript, NamesLine, calls_of};
@@ -324,9 +324,22 @@ fn tenant_named(operands: &[&str]) -> Result<usize, LineError>
 }
 
 /// The call of a command with this name and these operands.
-#[tactic(auto, using(wasmi_operands::proofs::AcceptanceLemmas::with_memory))]
+#[tactic(auto, using(wasmi_operands::proofs::LineWordsLemmas::with_memory))]
 fn command(alloc: Global, name: &str, operands: &[&str]) -> Result<Call, LineError>
     ensures { AcceptsWithMemory result (NamesAfter name.now operands.now) }
+{
+    match name {
+        "write" => memory::write(alloc, operands),
+        "segment" => table::new_segment(alloc, operands),
+        _ => command_in_place(name, operands),
+    }
+}
+
+/// The call of a command that takes no memory to read.
+fn command_in_place(name: &str, operands: &[&str]) -> Result<Call, LineError>
+    requires no_bytes { name.now ≢ codes "write" }
+    requires no_items { name.now ≢ codes "segment" }
+    ensures call { Accepts result (NamesAfter name.now operands.now) }
 {
     match name {
         "fuel" => values::set_fuel(operands),
@@ -336,7 +349,6 @@ fn command(alloc: Global, name: &str, operands: &[&str]) -> Result<Call, LineErr
         "grow" => memory::grow(operands),
         "drop" => memory::drop_live(operands),
         "read" => memory::read(operands),
-        "write" => memory::write(alloc, operands),
         "load" => access::load(operands),
         "store" => access::store(operands),
         "table" => table::new_table(operands),
@@ -346,7 +358,6 @@ fn command(alloc: Global, name: &str, operands: &[&str]) -> Result<Call, LineErr
         "init" => table::init(operands),
         "copy" => table::copy(operands),
         "fill" => table::fill(operands),
-        "segment" => table::new_segment(alloc, operands),
         "empty" => table::empty(operands),
         "global" => values::new_global(operands),
         "gset" => values::set_global(operands),

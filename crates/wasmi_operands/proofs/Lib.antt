@@ -1,6 +1,3 @@
-pub mod AcceptanceLemmas
+pub mod LineWordsLemmas
 pub mod NamesLemmas
-pub mod DecimalLemmas
-pub mod TypeWordsLemmas
-pub mod WordsLemmas
-pub mod LaneNamesLemmas
+pub mod OpNamesLemmas

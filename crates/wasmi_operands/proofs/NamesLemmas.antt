@@ -1,19 +1,28 @@
--- Names of what has one each: a word names one variant of an enum, and a list has each under its name.
-use Rattle.std.proofs.Common.{ℕ, ◌≡◌, ◌∙◌, List, [], ◌∷◌, inl, inr, Option, None, Some, Bool, true, false, bytes_eq, cond, refl, sym, ap, subst, rules, tests}
-use Rattle.std.specs.Prelude.{Result}
+-- Names of what has one each: a word names one variant of an enum, a list has each under its name, and two words name
+-- one reference or one instruction on a lane at most.
+use Rattle.std.proofs.Common.{ℕ, ◌≡◌, ◌∙◌, List, [], ◌∷◌, inl, inr, Option, None, Some, Result, Err, Bool, true, false, bytes_eq, cond, ok_or, refl, sym, ap, subst, rules, tests}
+use Rattle.std.specs.Option.{option_and_then, option_map}
 use denote.Struct.Field.{Field}
 use denote.Enum.Bare.{Bare, sameb, same_true}
 use denote.Enum.Declared.{Record, Choice, declared}
+use Rattle.wasmi_types.specs.contracts.value.RefType.{enum}
+use Rattle.wasmi_typed.specs.declared.typed_ref.TypedRawRef.{TypedRawRef}
 use Rattle.wasmi_operands.specs.declared.error.LineError.{LineError}
-use Rattle.wasmi_operands.specs.Acceptance.{Accepts}
-use Rattle.wasmi_operands.specs.Names.{NameEntry, entry_of, IsNamed}
-use Rattle.wasmi_operands.proofs.AcceptanceLemmas.{accepts_same}
+use Rattle.wasmi_operands.specs.declared.error.LineError.TheVariants.{BadCommand}
+use Rattle.wasmi_operands.specs.LineWords.{Accepts, WritesNumber, decimal_value}
+use Rattle.wasmi_operands.specs.Names.{NameEntry, entry_of, IsNamed, IsName, NamesLane, WritesReference, reference_word}
+use Rattle.wasmi_operands.proofs.LineWordsLemmas.{accepts_same, refused_through}
 
 -- whether each variant of an enum without fields passes a test
 abbrev all_pass : (parts : List (List Field)) → Bare parts → (Choice parts → Bool) → Bool
 all_pass [] bare test = true
 all_pass ([] ∷ parts) bare test = cond (test (inl tt)) (all_pass parts bare (λ c. test (inr c))) false
 all_pass ((field ∷ fields) ∷ parts) bare test = absurd bare
+
+-- a list of names, each with its op, tells what its names mean: what it accepts by a name is the op of this name
+abbrev pub TellsNames : {A : Type 0} → List (NameEntry A) → (A → List ℕ) → Type 0
+TellsNames {A} names name_of = (name : List ℕ) (result : Result A LineError)
+    → Accepts result (IsNamed names name) → Accepts result (IsName name_of name)
 
 -- an entry for each variant, with its name
 abbrev entries_of : {A : Type 0} (parts : List (List Field)) → Bare parts → (Choice parts → A) → (A → List ℕ)
@@ -102,10 +111,71 @@ module _ (N : Record) (bare : Bare N.parts) (name_of : N.D → List ℕ) where
       let right = named_is whole (name_of a) b is in
       cc
 
-  -- what a list accepts by a name, it accepts by the name's meaning, where it has each op under its name
-  pub accepts_named : (names : List (NameEntry N.D)) → entries_named name_of names ≡ true → has_each names ≡ true
-      → (name : List ℕ) (result : Result N.D LineError) → Accepts result (IsNamed names name)
-      → Accepts result (λ op. name ≡ name_of op)
-  accepts_named names right whole name result = accepts_same result (IsNamed names name) (λ op. name ≡ name_of op)
+  -- a list that has each op under its name tells what names mean
+  pub tells_names : (names : List (NameEntry N.D)) → entries_named name_of names ≡ true → has_each names ≡ true
+      → TellsNames names name_of
+  unfolding IsName
+  tells_names names right whole name result = accepts_same result (IsNamed names name) (λ op. name ≡ name_of op)
       (λ op. found_named name_of names name op right)
       (λ op is. subst (λ text. IsNamed names text op) (sym is) (entry_found names whole op))
+
+-- the reference that two words write
+pub reference_named : List ℕ → List ℕ → Option TypedRawRef
+reference_named ty raw =
+    option_map (λ t. record { ty = t; raw = decimal_value raw }) (named enum tt reference_word ty)
+
+-- two words that write a reference give that reference
+pub reference_is : (ty raw : List ℕ) (reference : TypedRawRef) → WritesReference ty raw reference
+    → reference_named ty raw ≡ Some reference
+unfolding reference_named
+reference_is ty raw reference w = λ i.
+    option_map (λ t. record { ty = t; raw = sym w.1.1 i }) (named_is enum tt reference_word refl ty reference.ty w.0 i)
+
+-- kinds of instructions on a lane with their names, and the instruction of a kind on the lane of an index
+module _ {Kind Op : Type 0} (name_of : Kind → List ℕ) (op_on : Kind → ℕ → Option Op) where
+  -- a word that is no name names no instruction
+  pub no_name : (name lane : List ℕ) (error : LineError) (result : Result Op LineError) → result ≡ Err error
+      → Accepts {A = Kind} (Err error) (IsName name_of name) → Accepts result (NamesLane name_of op_on name lane)
+  unfolding NamesLane
+  no_name name lane error result is = refused_through error result is (λ op w. (w.0, w.2))
+
+  -- a word that is no index names no instruction
+  pub no_index : (name lane : List ℕ) (error : LineError) (result : Result Op LineError) → result ≡ Err error
+      → Accepts {A = ℕ} (Err error) (WritesNumber 8 lane) → Accepts result (NamesLane name_of op_on name lane)
+  unfolding NamesLane
+  no_index name lane error result is = refused_through error result is (λ op w. (w.1, w.3))
+
+-- a name and an index name what is on the lane of the index, if there is such a lane
+abbrev pub NamesOnLane : {Kind Op : Type 0} → (Kind → List ℕ) → (Kind → ℕ → Option Op) → Type 0
+NamesOnLane {Kind} {Op} name_of op_on = (name lane : List ℕ) (kind : Kind) (index : ℕ) (result : Result Op LineError)
+    → IsName name_of name kind → WritesNumber 8 lane index → result ≡ ok_or (op_on kind index) BadCommand
+    → Accepts result (NamesLane name_of op_on name lane)
+
+module _ (N : Record) (bare : Bare N.parts) (name_of : N.D → List ℕ) {Op : Type 0} (op_on : N.D → ℕ → Option Op) where
+  -- the instruction that two words name, the second of which is a lane's index
+  pub lane_named : List ℕ → List ℕ → Option Op
+  lane_named name lane = option_and_then (λ kind. op_on kind (decimal_value lane)) (named N bare name_of name)
+
+  -- two words that name an instruction on a lane give that instruction
+  pub lane_is : (name lane : List ℕ) → has_each N bare name_of (entries N bare name_of) ≡ true → (op : Op)
+      → NamesLane name_of op_on name lane op → lane_named name lane ≡ Some op
+  unfolding NamesLane lane_named IsName
+  lane_is name lane whole op w =
+      ap (option_and_then (λ kind. op_on kind (decimal_value lane))) (named_is N bare name_of whole name w.0 w.2)
+      ∙ ap (op_on w.0) (sym w.3.1) ∙ w.4
+
+  -- where each kind has a name of its own, a name and an index name what is on the lane
+  pub names_on : has_each N bare name_of (entries N bare name_of) ≡ true → NamesOnLane name_of op_on
+  unfolding NamesLane IsName
+  names_on whole name lane kind index result is_name is_index given =
+      subst (λ r. Accepts r (NamesLane name_of op_on name lane)) (sym given) (
+      elim (op_on kind index) as (λ found. op_on kind index ≡ found
+      → Accepts (ok_or found BadCommand) (NamesLane name_of op_on name lane)) [
+        | None ↦ λ none. λ op w.
+            let same = one_named N bare name_of whole w.0 kind (sym w.2 ∙ is_name) in
+            let at : w.1 ≡ index = w.3.1 ∙ sym is_index.1 in
+            let absent : None ≡ Some op = sym none ∙ sym (λ i. op_on (same i) (at i)) ∙ w.4 in
+            absurd cc
+        | Some op ↦ λ found. (kind, index, is_name, is_index, found)
+      ] refl
+      )

@@ -4,8 +4,7 @@ ghost use Rattle.std.specs.Int.{IsInRange};
 ghost use Rattle.std.specs.Prelude.{◌≡◌, ◌+◌, ◌*◌, ◌<◌, ◌^◌, IfErr, IfOk, Err, Ok};
 ghost use Rattle.std.specs.Option.{SomeIff};
 ghost use Rattle.std.specs.Result.{OkIff};
-ghost use Rattle.wasmi_operands.specs.Acceptance.{Accepts};
-ghost use Rattle.wasmi_operands.specs.Decimal.{IsDecimal, WritesLimit, decimal_value};
+ghost use Rattle.wasmi_operands.specs.LineWords.{Accepts, IsDecimal, WritesLimit, decimal_value};
 
 use crate::error::LineError;
 

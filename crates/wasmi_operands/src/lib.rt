@@ -5,10 +5,9 @@ mod decimal;
 mod error;
 pub mod names;
 pub mod operand;
-mod types;
 mod words;
 
 pub use decimal::{number, number_or_none};
 pub use error::LineError;
-pub use types::{index_ty, ref_type, reference};
+pub use operand::{index_ty, ref_type, reference};
 pub use words::read_words;

@@ -1,6 +1,6 @@
 //! An instruction by its name: of a list of names, and on a lane in `lane`.
 ghost use Rattle.std.specs.Prelude.{map};
-ghost use Rattle.wasmi_operands.specs.Acceptance.{Accepts};
+ghost use Rattle.wasmi_operands.specs.LineWords.{Accepts};
 ghost use Rattle.wasmi_operands.specs.Names.{IsNamed};
 
 pub mod lane;

@@ -1,11 +1,9 @@
 //! What words write as the operands of a command: one word, two to five words, or a list.
+#![tactic(auto, using(crate::proofs::OpNamesLemmas::op_names))]
+
 ghost use Rattle.std.specs.Prelude.{◌≡◌, ℕ, List, length};
-ghost use Rattle.wasmi_operands.specs.Answers.{WritesAnswer};
-ghost use Rattle.wasmi_operands.specs.Acceptance.{Accepts, AcceptsWithMemory};
-ghost use Rattle.wasmi_operands.specs.Decimal.{WritesNumber};
-ghost use Rattle.wasmi_operands.specs.Names.{IsName};
-ghost use Rattle.wasmi_operands.specs.TypeWords.{reference_word, value_word, mutability_word};
-ghost use Rattle.wasmi_operands.specs.LineWords.{WritesEach, word_at};
+ghost use Rattle.wasmi_operands.specs.Names.{WritesAnswer, IsName, WritesReference, mutability_word, reference_word, value_word, width_word};
+ghost use Rattle.wasmi_operands.specs.LineWords.{Accepts, AcceptsWithMemory, WritesNumber, WritesEach, word_at};
 ghost use Rattle.wasmi_ops.specs.ScalarAccessOps.{load_name, store_name};
 ghost use Rattle.wasmi_ops.specs.ScalarBinaryOps.{scalar_binary_name};
 ghost use Rattle.wasmi_ops.specs.ScalarUnaryOps.{scalar_unary_name};
@@ -21,7 +19,6 @@ ghost use Rattle.wasmi_ops.specs.UnaryOps.{unary_name};
 use crate::decimal::number;
 use crate::error::LineError;
 use crate::names::op_named;
-use crate::types::ref_type;
 use std::alloc::Global;
 use wasmi_meter::LimiterAnswer;
 use wasmi_ops::{
@@ -31,8 +28,8 @@ use wasmi_ops::{
     TernaryOp, TestOp, UNARIES, UnaryOp, VECTOR_LOADS, VectorLoadOp,
 };
 use wasmi_raw::RawRef;
-use wasmi_typed::Mutability;
-use wasmi_types::{RefType, ValType};
+use wasmi_typed::{Mutability, TypedRawRef};
+use wasmi_types::{IndexType, RefType, ValType};
 
 /// What one word of a command can write.
 pub trait Operand: Copy {
@@ -256,6 +253,36 @@ impl Operand for StoreLaneKind {
     }
 }
 
+/// The address type of a width word, `32` or `64`.
+pub fn index_ty(width: &str) -> Result<IndexType, LineError>
+    ensures { Accepts result (λ index. width.now ≡ width_word index) }
+{
+    match width {
+        "32" => Ok(IndexType::I32),
+        "64" => Ok(IndexType::I64),
+        _ => Err(LineError::BadCommand),
+    }
+}
+
+/// The reference type of a word, `func` or `extern`.
+pub fn ref_type(word: &str) -> Result<RefType, LineError>
+    ensures { Accepts result (λ ty. word.now ≡ reference_word ty) }
+{
+    match word {
+        "func" => Ok(RefType::Func),
+        "extern" => Ok(RefType::Extern),
+        _ => Err(LineError::BadCommand),
+    }
+}
+
+/// The reference of a type's word and a number below 2^32.
+pub fn reference(ty: &str, raw: &str) -> Result<TypedRawRef, LineError>
+    ensures { Accepts result (WritesReference ty.now raw.now) }
+{
+    let ty = ref_type(ty)?;
+    Ok(TypedRawRef::new(RawRef::from_word(raw)?, ty))
+}
+
 /// What two words write.
 pub fn two<A: Operand, B: Operand>(words: &[&str]) -> Result<(A, B), LineError>
     ensures { Accepts result (λ all. (length words.now ≡ 2) × A.writes (word_at words.now 0) all.0
@@ -272,11 +299,10 @@ pub fn three<A: Operand, B: Operand, C: Operand>(words: &[&str]) -> Result<(A, B
     ensures { Accepts result (λ all. (length words.now ≡ 3) × A.writes (word_at words.now 0) all.0
         × B.writes (word_at words.now 1) all.1 × C.writes (word_at words.now 2) all.2) }
 {
-    let [front @ .., last] = words else {
+    let [a, b, c] = words else {
         return Err(LineError::BadCommand);
     };
-    let (a, b) = two(front)?;
-    Ok((a, b, C::from_word(last)?))
+    Ok((A::from_word(a)?, B::from_word(b)?, C::from_word(c)?))
 }
 
 /// What four words write.
@@ -287,11 +313,15 @@ pub fn four<A: Operand, B: Operand, C: Operand, D: Operand>(
         × B.writes (word_at words.now 1) all.1 × C.writes (word_at words.now 2) all.2
         × D.writes (word_at words.now 3) all.3) }
 {
-    let [front @ .., last] = words else {
+    let [a, b, c, d] = words else {
         return Err(LineError::BadCommand);
     };
-    let (a, b, c) = three(front)?;
-    Ok((a, b, c, D::from_word(last)?))
+    Ok((
+        A::from_word(a)?,
+        B::from_word(b)?,
+        C::from_word(c)?,
+        D::from_word(d)?,
+    ))
 }
 
 /// What five words write.
@@ -302,11 +332,16 @@ pub fn five<A: Operand, B: Operand, C: Operand, D: Operand, E: Operand>(
         × B.writes (word_at words.now 1) all.1 × C.writes (word_at words.now 2) all.2
         × D.writes (word_at words.now 3) all.3 × E.writes (word_at words.now 4) all.4) }
 {
-    let [front @ .., last] = words else {
+    let [a, b, c, d, e] = words else {
         return Err(LineError::BadCommand);
     };
-    let (a, b, c, d) = four(front)?;
-    Ok((a, b, c, d, E::from_word(last)?))
+    Ok((
+        A::from_word(a)?,
+        B::from_word(b)?,
+        C::from_word(c)?,
+        D::from_word(d)?,
+        E::from_word(e)?,
+    ))
 }
 
 /// What the words write, one each.

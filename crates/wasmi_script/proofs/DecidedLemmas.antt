@@ -1,7 +1,6 @@
 -- Where memory isn't wanting the bytes decide what is printed.
-use Rattle.std.proofs.Common.{ℕ, ◌≡◌, ◌∙◌, ◌++◌, List, [], ◌∷◌, Vec, All, Option, Some, None, Ok, Err, map}
+use Rattle.std.proofs.Common.{ℕ, ◌≡◌, ◌∙◌, ◌++◌, List, [], ◌∷◌, Vec, All, Option, Some, None, Ok, Err, map, codes, slice_set, refl, sym, ap, subst, arith}
 use Rattle.std.specs.Fmt.{decimal}
-use Rattle.std.proofs.Common.{codes, slice_set, refl, sym, ap, subst, arith}
 use Rattle.std.specs.Option.{option_map, option_map_or}
 use Rattle.std.specs.List.{flat_map}
 use Rattle.std.proofs.lemmas.List.{map-append}
@@ -17,9 +16,7 @@ use Rattle.wasmi_core.specs.declared.calls.Reply.TheVariants.{Made}
 use Rattle.wasmi_core.specs.State.{State, new_state}
 use Rattle.wasmi_core.specs.World.{World, Turn}
 use Rattle.wasmi_core.specs.Effects.{ActsMetered}
-use Rattle.wasmi_core.specs.Steps.{Effect, Told, BytesRead, FuelSet, Changed, MemoryMade, LentMemoryMade, MemoryGrown}
-use Rattle.wasmi_core.specs.Steps.{TableMade}
-use Rattle.wasmi_core.specs.Steps.{TableGrown, RangeWritten, effect_of, HasEffect, Step}
+use Rattle.wasmi_core.specs.Steps.{Effect, Told, BytesRead, FuelSet, Changed, MemoryMade, LentMemoryMade, MemoryGrown, TableMade, TableGrown, RangeWritten, effect_of, HasEffect, Step}
 use Rattle.wasmi_core.specs.Runs.{Run, IsRunOf}
 use Rattle.wasmi_core.specs.Determinism.{IsDeterministic, AcceptsNotices, IsNotOutOfMemory}
 use Rattle.wasmi_core.proofs.DeterminismLemmas.{unlimited_unique, quota_unique}
@@ -40,17 +37,14 @@ use Rattle.wasmi_grammar.specs.Headers.{meter_meaning, meter_off, meter_of, regi
 use Rattle.wasmi_script.specs.Printing.{line}
 use Rattle.wasmi_script.specs.Texts.{kind_text, reply_text, error_text}
 use Rattle.wasmi_meter.specs.declared.answer_list.LimiterAnswer.{LimiterAnswer}
-use Rattle.wasmi_script.specs.ScriptRuns.{IsNewQuota, IsListedReplay, IsReplayUnder, IsReplayOnOne}
-use Rattle.wasmi_script.specs.ScriptRuns.{IsReplayBy, IsReplayOf, AnswersParts, new_pool}
-use Rattle.wasmi_grammar.specs.Parts.{TenantRun, parts_in, calls_in}
+use Rattle.wasmi_script.specs.ScriptRuns.{IsNewQuota, IsListedReplay, IsReplayUnder, IsReplayOnOne, IsReplayBy, IsReplayOf, AnswersParts, new_pool}
 use Rattle.wasmi_grammar.specs.Lines.{calls_of}
+use Rattle.wasmi_grammar.specs.Parts.{TenantRun, parts_in, calls_in}
 use Rattle.wasmi_script.specs.Outcomes.{replies_text, held_text}
-use Rattle.wasmi_grammar.specs.Meanings.{CallMeaning, WriteMeaning, SegmentMeaning, OtherCall, call_meaning, limiter_meaning, PartMeaning}
-use Rattle.wasmi_grammar.specs.Meanings.{part_meaning}
-use Rattle.wasmi_grammar.specs.Meanings.{ScriptMeaning, HaveSameMeaning}
+use Rattle.wasmi_grammar.specs.Meanings.{CallMeaning, WriteMeaning, SegmentMeaning, OtherCall, call_meaning, limiter_meaning, PartMeaning, part_meaning, ScriptMeaning, HaveSameMeaning}
 use Rattle.wasmi_meter.specs.AnswerList.{answer_list_rules, new_answers, notice_answer_by}
 use Rattle.wasmi_script.specs.Decided.{HasNoComplain, OutcomesAreOne}
-use Rattle.wasmi_script.proofs.QuietListsLemmas.{quiet_lists_decide}
+use Rattle.wasmi_script.proofs.ScriptRunsLemmas.{quiet_lists_decide}
 use Rattle.wasmi_grammar.proofs.OneScriptLemmas.{texts_unique, bad_lines_once, no_bad_line}
 
 -- a call by what it says

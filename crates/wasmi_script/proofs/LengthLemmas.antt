@@ -16,7 +16,7 @@ use Rattle.wasmi_core.specs.declared.calls.Reply.TheVariants as reply
 use Rattle.wasmi_script.specs.declared.error.ReplayError.{ReplayError}
 use Rattle.wasmi_script.specs.declared.error.ReplayError.TheVariants.{Parse, TooLong, ReadFault}
 use Rattle.wasmi_grammar.specs.declared.error.ParseError.TheVariants.{BadCommand, OutOfMemory}
-use Rattle.wasmi_operands.specs.TypeWords.{reference_word}
+use Rattle.wasmi_operands.specs.Names.{reference_word}
 use Rattle.wasmi_script.specs.Texts.{kind_text, head_text, error_text}
 
 -- the digits of a number are at most 64

@@ -1,9 +1,6 @@
 pub mod PrintingLemmas
 pub mod FrontsLemmas
 pub mod OutcomesLemmas
-pub mod ReadersLemmas
-pub mod RunningLemmas
-pub mod PoolLemmas
-pub mod QuietListsLemmas
 pub mod LengthLemmas
 pub mod DecidedLemmas
+pub mod ScriptRunsLemmas

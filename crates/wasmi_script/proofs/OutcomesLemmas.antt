@@ -1,10 +1,9 @@
--- Lines that are printed one after the other.
-use Rattle.std.proofs.Common.{ℕ, ◌+◌, ◌<◌, ◌≡◌, ◌∙◌, ◌++◌, ◌∷◌, List, [], length, take, drop, get_or, ◌≤◌, refl, sym, ap, arith, append_assoc, append-nil, take-append-drop, length-take-le, codes}
+-- Lines that are printed one after the other, and outcomes of what a reader gave.
+use Rattle.std.proofs.Common.{ℕ, ◌+◌, ◌<◌, ◌≡◌, ◌∙◌, ◌++◌, ◌∷◌, List, [], length, take, drop, get_or, ◌≤◌, refl, sym, ap, arith, append_assoc, append-nil, take-append-drop, length-take-le, codes, Option, None, Some, Err, IfSome, replicate}
 use Rattle.std.specs.List.{flat_map, enumerate_from, slice_get}
 use Rattle.std.specs.Option.{option_map}
 use Rattle.std.specs.Fmt.{decimal}
-use Rattle.std.proofs.Common.{Option, None, Some}
-use Rattle.std.proofs.lemmas.List.{take_more, take_all}
+use Rattle.std.proofs.lemmas.List.{take_more, take_all, length-replicate}
 use Rattle.std.proofs.lemmas.List.Concat.{flat_map-append}
 use Rattle.std.proofs.lemmas.Option.{slice_get_within, get_or_from_slice_get}
 use Rattle.wasmi_meter.specs.declared.limiter.Kind.TheVariants.{Bytes, Elements}
@@ -15,7 +14,12 @@ use Rattle.wasmi_core.specs.Totals.{total}
 use Rattle.wasmi_script.proofs.PrintingLemmas.{texts_more, texts_at}
 use Rattle.wasmi_script.specs.Printing.{line}
 use Rattle.wasmi_script.specs.Texts.{bytes_in, bytes_text, head_text, reply_text}
-use Rattle.wasmi_script.specs.Outcomes.{tenant_text, tenants_text}
+use Rattle.wasmi_script.specs.Outcomes.{tenant_text, tenants_text, IsReadError, script_limit, IsOutcomeOfReader}
+use Rattle.wasmi_grammar.specs.declared.error.ParseError.{ParseError}
+use Rattle.wasmi_grammar.specs.declared.error.ParseError.TheVariants.{BadCommand, OutOfMemory}
+use Rattle.wasmi_grammar.specs.Refusals.{IsParseError}
+use Rattle.wasmi_script.specs.declared.error.ReplayError.{ReplayError}
+use Rattle.wasmi_script.specs.declared.error.ReplayError.TheVariants.{Parse, TooLong, ReadFault}
 
 -- numbered items, and later ones
 enumerate_append : {X : Type 0} (n : ℕ) (xs ys : List X)
@@ -139,3 +143,35 @@ pub reply_whole : (call : Call) (reply : Reply) (bytes : List ℕ) (i : ℕ) →
     → line (reply_text call reply) ≡ reply_front call reply bytes i ++ codes "\n"
 reply_whole call reply bytes i same all =
     ap (λ bs. line (head_text call reply ++ bytes_text bs)) (sym same ∙ sym (take_all i bytes all))
+
+-- bytes that are those which a reader tells, seen from the other side
+pub told_by : (given : Option (List ℕ)) (bytes : List ℕ) → IfSome given (λ told. bytes ≡ told)
+    → IfSome given (λ told. told ≡ bytes)
+told_by None bytes known = tt
+told_by (Some told) bytes known = sym known
+
+-- want of memory is an outcome of whatever a reader gives
+pub wanting : (given : Option (List ℕ)) → IsOutcomeOfReader given (Err (Parse OutOfMemory))
+wanting None = ([], tt, tt)
+wanting (Some bytes) = (bytes, refl, tt)
+
+-- there are more bytes than any number
+longer : (n : ℕ) → (bytes : List ℕ) × (n < length bytes)
+longer n = (replicate (n + 1) 0, omega (arith, length-replicate {A = ℕ} (n + 1) 0))
+
+-- bytes that aren't read have an outcome
+pub unread : (given : Option (List ℕ)) (error : ReplayError) → IsReadError given error
+    → IsOutcomeOfReader given (Err error)
+unread given (Parse (BadCommand number)) is = absurd is
+unread given (Parse OutOfMemory) is = wanting given
+unread None TooLong is = let bytes = longer script_limit in (bytes.0, tt, bytes.1)
+unread (Some bytes) TooLong is = (bytes, refl, is)
+unread None ReadFault is = ([], tt, tt)
+unread (Some bytes) ReadFault is = (bytes, refl, tt)
+
+-- bytes that are read and not parsed have an outcome
+pub unparsed : (given : Option (List ℕ)) (bytes : List ℕ) (error : ParseError) → IfSome given (λ told. bytes ≡ told)
+    → length bytes ≤ script_limit → IsParseError bytes error → IsOutcomeOfReader given (Err (Parse error))
+unparsed given bytes OutOfMemory known short is = wanting given
+unparsed None bytes (BadCommand number) known short is = (bytes, tt, (short, is))
+unparsed (Some told) bytes (BadCommand number) known short is = (bytes, sym known, (short, is))

@@ -1,13 +1,19 @@
--- Outcomes that the bytes of a reader decide.
+-- Outcomes that the bytes of a reader decide, and runs under lists in which no answer lets a notice be refused.
 use Rattle.std.specs.Prelude.{◌≡◌, ⊤, ℕ, List, All, Option, Some, Ok, Err}
-use Rattle.wasmi_core.specs.Determinism.{IsNotOutOfMemory}
+use Rattle.wasmi_core.specs.Determinism.{IsNotOutOfMemory, StaysAccepting}
 use Rattle.wasmi_script.specs.declared.error.ReplayError.TheVariants.{Parse, ReadFault}
 use Rattle.wasmi_grammar.specs.declared.error.ParseError.TheVariants.{OutOfMemory}
 use Rattle.wasmi_grammar.specs.declared.header.LimiterLine.{LimiterLine}
 use Rattle.wasmi_grammar.specs.declared.header.LimiterLine.TheVariants.{Answers}
-use Rattle.wasmi_meter.specs.AnswerList.{notice_answer_by}
+use Rattle.wasmi_meter.specs.AnswerList.{notice_answer_by, AnswersAhead, answer_list_rules}
 use Rattle.wasmi_script.specs.Outcomes.{ReplayOutcome, IsOutcomeOf, outcome_text}
 use Rattle.wasmi_script.specs.Status.{status_after}
+use Rattle.wasmi_meter.specs.Limiter.{optional_rules}
+use Rattle.wasmi_core.specs.declared.calls.Call.{Call}
+use Rattle.wasmi_core.specs.declared.calls.Reply.{Reply}
+use Rattle.wasmi_core.specs.State.{State}
+use Rattle.wasmi_core.specs.World.{World, world}
+use Rattle.wasmi_core.specs.Runs.{IsRunOf}
 
 -- no word of an `answers` line is `complain`: each notice is accepted
 abbrev pub HasNoComplain : Option LimiterLine → Type 0
@@ -32,3 +38,22 @@ abbrev pub OutcomesAreOne : Type 0
 OutcomesAreOne =
     (bytes : List ℕ) (outcome outcome' : ReplayOutcome) → IsOutcomeOf bytes outcome → IsOutcomeOf bytes outcome'
     → IsDecided outcome → IsDecided outcome' → EndAlike outcome outcome'
+
+-- a limiter whose answers, with the last one that was given, let each notice be accepted: none of them is `Complain`
+pub record NeverComplains (list : AnswersAhead) : Type 0 where
+  pub ahead : All (λ answer. notice_answer_by answer ≡ Ok tt) list.ahead
+  pub last : notice_answer_by list.last ≡ Ok tt
+
+-- such a limiter accepts each notice, and stays one
+abbrev pub QuietListsAcceptNotices : Type 0
+QuietListsAcceptNotices = StaysAccepting answer_list_rules NeverComplains
+
+-- two runs of one list of calls from one machine under such a limiter, in which no reply says out of memory, have the
+-- same replies and end in one world
+abbrev pub QuietListsDecideReplies : Type 0
+QuietListsDecideReplies = (calls : List Call) (s : State) (list : AnswersAhead) → NeverComplains list
+    → (replies replies' : List Reply) (v v' : World (Option AnswersAhead))
+    → All IsNotOutOfMemory replies → All IsNotOutOfMemory replies'
+    → IsRunOf (optional_rules answer_list_rules) calls (world s (Some list)) replies v
+    → IsRunOf (optional_rules answer_list_rules) calls (world s (Some list)) replies' v'
+    → (replies ≡ replies') × (v ≡ v')

@@ -1,8 +1,5 @@
-pub mod QuietLists
-pub mod Refusals
 pub mod Printing
 pub mod Fronts
-pub mod Wording
 pub mod ScriptRuns
 pub mod Status
 pub mod Texts

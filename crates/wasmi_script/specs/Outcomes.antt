@@ -1,5 +1,8 @@
--- What a replay prints, and how it ends.
-use Rattle.std.specs.Prelude.{◌≡◌, ◌≤◌, ◌<◌, ◌⊎◌, ⊤, ℕ, List, [], ◌++◌, codes, flat_map, length, Option, Result, Ok, Err, IfSome}
+-- What a replay prints, why a script isn't run, and how a replay ends.
+use Rattle.std.specs.Prelude.{◌<◌, ⊤, ℕ, List, Option, IfSome, length, ◌≡◌, ◌≤◌, ◌⊎◌, [], ◌++◌, codes, flat_map, Result, Ok, Err}
+use Rattle.wasmi_grammar.specs.declared.error.ParseError.TheVariants.{BadCommand, OutOfMemory}
+use Rattle.wasmi_script.specs.declared.error.ReplayError.{ReplayError}
+use Rattle.wasmi_script.specs.declared.error.ReplayError.TheVariants.{Parse, TooLong, ReadFault}
 use Rattle.std.specs.Io.KnownBytes.{Appends}
 use Rattle.std.specs.Fmt.{decimal}
 use Rattle.std.specs.List.{zip, enumerate_from}
@@ -11,18 +14,25 @@ use Rattle.wasmi_core.specs.Totals.{total}
 use Rattle.wasmi_script.specs.declared.running.Held.{Held}
 use Rattle.wasmi_script.specs.declared.running.Held.TheVariants.{Nothing, Quota, Tenants}
 use Rattle.wasmi_script.specs.declared.printing.Replayed.{Replayed}
-use Rattle.wasmi_script.specs.declared.error.ReplayError.{ReplayError}
-use Rattle.wasmi_script.specs.declared.error.ReplayError.TheVariants.{Parse, TooLong, ReadFault}
 use Rattle.wasmi_script.specs.declared.replaying.Status.{Status}
 use Rattle.wasmi_script.specs.declared.replaying.Status.TheVariants.{Fault}
 use Rattle.wasmi_grammar.specs.Lines.{WritesScript, calls_of}
 use Rattle.wasmi_grammar.specs.Refusals.{IsFirstBadLine}
-use Rattle.wasmi_grammar.specs.declared.error.ParseError.TheVariants.{BadCommand, OutOfMemory}
 use Rattle.wasmi_script.specs.Printing.{AppendsFront, line}
-use Rattle.wasmi_script.specs.Refusals.{script_limit}
 use Rattle.wasmi_script.specs.ScriptRuns.{IsReplayOf}
 use Rattle.wasmi_script.specs.Status.{status_after}
 use Rattle.wasmi_script.specs.Texts.{reply_text, error_text}
+
+-- the most bytes that a script may have
+abbrev pub script_limit : ℕ
+script_limit = 1048576
+
+-- why the bytes that a reader has left aren't read
+abbrev pub IsReadError : Option (List ℕ) → ReplayError → Type 0
+IsReadError left (Parse (BadCommand number)) = ⊥
+IsReadError left (Parse OutOfMemory) = ⊤
+IsReadError left TooLong = IfSome left (λ bytes. script_limit < length bytes)
+IsReadError left ReadFault = ⊤
 
 -- a line for each call, with its reply
 abbrev pub replies_text : List Call → List Reply → List ℕ

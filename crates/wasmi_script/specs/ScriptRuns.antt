@@ -20,8 +20,8 @@ use Rattle.wasmi_grammar.specs.declared.script.Script.{Script}
 use Rattle.wasmi_grammar.specs.declared.header.LimiterLine.{LimiterLine}
 use Rattle.wasmi_grammar.specs.declared.header.LimiterLine.TheVariants as Lines
 use Rattle.wasmi_grammar.specs.declared.header.TenantsLine.{TenantsLine}
-use Rattle.wasmi_grammar.specs.Parts.{TenantRun, parts_in}
 use Rattle.wasmi_grammar.specs.Lines.{calls_of}
+use Rattle.wasmi_grammar.specs.Parts.{TenantRun, parts_in}
 use Rattle.wasmi_script.specs.declared.running.Held.TheVariants.{Nothing}
 use Rattle.wasmi_script.specs.declared.running.Held.TheVariants as Holding
 use Rattle.wasmi_script.specs.declared.running.Held.{Held}

@@ -1,4 +1,4 @@
--- What the program prints of a reply, and why it runs no script.
+-- What the program prints of a reply, as a wording or whole, and why it runs no script.
 use Rattle.std.specs.Prelude.{ℕ, List, [], ◌++◌, codes, flat_map, Option, None, Some}
 use Rattle.std.specs.Fmt.{decimal}
 use Rattle.wasmi_types.specs.Trap.{code_message}
@@ -9,11 +9,13 @@ use Rattle.wasmi_store.specs.Segment.{segment_error_text}
 use Rattle.wasmi_core.specs.declared.calls.Call.{Call}
 use Rattle.wasmi_core.specs.declared.calls.Call.TheVariants.{NewMemory, NewLentMemory, NewTable, NewSegment, NewGlobal}
 use Rattle.wasmi_core.specs.declared.calls.Reply.{Reply}
-use Rattle.wasmi_core.specs.declared.calls.Reply.TheVariants as reply
 use Rattle.wasmi_script.specs.declared.error.ReplayError.{ReplayError}
 use Rattle.wasmi_script.specs.declared.error.ReplayError.TheVariants.{Parse, TooLong, ReadFault}
 use Rattle.wasmi_grammar.specs.declared.error.ParseError.TheVariants.{BadCommand, OutOfMemory}
-use Rattle.wasmi_operands.specs.TypeWords.{reference_word}
+use Rattle.wasmi_operands.specs.Names.{reference_word}
+use Rattle.wasmi_script.specs.Fronts.{number_text}
+use Rattle.wasmi_script.specs.declared.wording.Wording.{Wording}
+use Rattle.wasmi_core.specs.declared.calls.Reply.TheVariants as reply
 
 -- the word for what a call makes; only creations make anything
 abbrev pub kind_text : Call → List ℕ
@@ -66,3 +68,8 @@ error_text (Parse (BadCommand line)) = codes "line " ++ (decimal line ++ codes "
 error_text (Parse OutOfMemory) = codes "out of memory"
 error_text TooLong = codes "script too long"
 error_text ReadFault = codes "read fault"
+
+-- the words of a wording, and then its numbers, the second after a space
+abbrev pub wording_text : Wording → List ℕ
+wording_text wording =
+    wording.start.now ++ (wording.words.now ++ (number_text [] wording.first ++ number_text (codes " ") wording.second))

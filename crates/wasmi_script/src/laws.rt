@@ -2,8 +2,7 @@
 //! law as its contract.
 ghost use Rattle.wasmi_core.specs.Determinism.{IsDeterministic};
 ghost use Rattle.wasmi_meter.specs.AnswerList.{answer_list_rules};
-ghost use Rattle.wasmi_script.specs.QuietLists.{QuietListsAcceptNotices, QuietListsDecideReplies};
-ghost use Rattle.wasmi_script.specs.Decided.{OutcomesAreOne};
+ghost use Rattle.wasmi_script.specs.Decided.{QuietListsAcceptNotices, QuietListsDecideReplies, OutcomesAreOne};
 
 use wasmi_budget::laws::tenants_leave_no_choice;
 pub use wasmi_grammar::laws::{

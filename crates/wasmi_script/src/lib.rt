@@ -2,7 +2,6 @@
 #![tactic(auto)]
 
 mod error;
-mod front;
 pub mod laws;
 mod lines;
 mod printing;

@@ -154,6 +154,7 @@ pub fn bytes_of(reply: &Reply) -> &[u8]
 }
 
 /// What a quota holds, or what each tenant of a pool holds.
+#[tactic(auto, using(crate::proofs::LengthLemmas::held_short))]
 fn print_held<W: io::Write>(printer: &mut Printer<'_, W>, held: &Held) -> fmt::Result
     ensures ok { OnOk result (Prints W.contents printer.old printer.new (held_text held.now)) }
     ensures front { OnErr result

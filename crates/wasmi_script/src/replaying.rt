@@ -2,9 +2,8 @@
 ghost use Rattle.std.specs.Prelude.{◌≡◌, ◌+◌, ◌≤◌, vec_len, IfOk, IfErr, IfSome};
 ghost use Rattle.std.specs.Io.KnownBytes.{ReadConsumes};
 ghost use Rattle.std.specs.Io.{ReadsAtMost};
-ghost use Rattle.wasmi_script.specs.Refusals.{IsReadError, script_limit};
+ghost use Rattle.wasmi_script.specs.Outcomes.{IsReadError, script_limit, IsOutcomeOfReader, Replays};
 ghost use Rattle.wasmi_script.specs.Status.{status_number, status_after};
-ghost use Rattle.wasmi_script.specs.Outcomes.{IsOutcomeOfReader, Replays};
 
 use crate::error::ReplayError;
 use crate::printing::{Replayed, print};

@@ -3,13 +3,12 @@ ghost use Rattle.std.specs.Prelude.{◌≡◌, ◌++◌, codes};
 ghost use Rattle.std.specs.Fmt.{decimal};
 ghost use Rattle.wasmi_meter.specs.Texts.{fuel_error_text, memory_error_text, table_error_text};
 ghost use Rattle.wasmi_script.specs.Fronts.{AddsToFront};
-ghost use Rattle.wasmi_script.specs.Texts.{head_text, kind_text};
-ghost use Rattle.wasmi_script.specs.Wording.{wording_text};
+ghost use Rattle.wasmi_script.specs.Texts.{head_text, kind_text, wording_text};
 ghost use Rattle.wasmi_store.specs.Segment.{segment_error_text};
 ghost use Rattle.wasmi_typed.specs.Global.{global_error_text};
-ghost use Rattle.wasmi_operands.specs.TypeWords.{reference_word};
+ghost use Rattle.wasmi_operands.specs.Names.{reference_word};
 
-use crate::front::{put, put_optional};
+use crate::lines::{put, put_optional};
 use wasmi_core::{Call, RefType, Reply};
 use wasmi_meter::{FuelError, MemoryError, TableError};
 use wasmi_store::SegmentError;

@@ -18,7 +18,7 @@ mod command {
         /// ensures: Accepts result (NamesAfter (codes "load") operands.now)
         /// ```
         ///
-        /// Definitions: [`Accepts`](crate::specs::operands::Acceptance#Accepts), [`NamesAfter`](crate::specs::grammar::Commands#NamesAfter).
+        /// Definitions: [`Accepts`](crate::specs::operands::LineWords#Accepts), [`NamesAfter`](crate::specs::grammar::Commands#NamesAfter).
         #[inline]
         pub fn load(operands: &[&str]) -> Result<Call, LineError> {
             let (op, memory, ptr, offset) = operand::four(operands)?;
@@ -38,7 +38,7 @@ mod command {
         /// ensures: Accepts result (NamesAfter (codes "store") operands.now)
         /// ```
         ///
-        /// Definitions: [`Accepts`](crate::specs::operands::Acceptance#Accepts), [`NamesAfter`](crate::specs::grammar::Commands#NamesAfter).
+        /// Definitions: [`Accepts`](crate::specs::operands::LineWords#Accepts), [`NamesAfter`](crate::specs::grammar::Commands#NamesAfter).
         #[inline]
         pub fn store(operands: &[&str]) -> Result<Call, LineError> {
             let (op, memory, ptr, offset, lo) = operand::five(operands)?;
@@ -59,7 +59,7 @@ mod command {
         /// ensures: Accepts result (NamesAfter (codes "vload") operands.now)
         /// ```
         ///
-        /// Definitions: [`Accepts`](crate::specs::operands::Acceptance#Accepts), [`NamesAfter`](crate::specs::grammar::Commands#NamesAfter).
+        /// Definitions: [`Accepts`](crate::specs::operands::LineWords#Accepts), [`NamesAfter`](crate::specs::grammar::Commands#NamesAfter).
         #[inline]
         pub fn vector_load(operands: &[&str]) -> Result<Call, LineError> {
             let (op, dst, memory, ptr, offset) = operand::five(operands)?;
@@ -80,7 +80,7 @@ mod command {
         /// ensures: Accepts result (NamesAfter (codes "vloadlane") operands.now)
         /// ```
         ///
-        /// Definitions: [`Accepts`](crate::specs::operands::Acceptance#Accepts), [`NamesAfter`](crate::specs::grammar::Commands#NamesAfter).
+        /// Definitions: [`Accepts`](crate::specs::operands::LineWords#Accepts), [`NamesAfter`](crate::specs::grammar::Commands#NamesAfter).
         #[inline]
         pub fn load_lane(operands: &[&str]) -> Result<Call, LineError> {
             let [name, dst, a, lane, place @ ..] = operands else {
@@ -105,7 +105,7 @@ mod command {
         /// ensures: Accepts result (NamesAfter (codes "vstore") operands.now)
         /// ```
         ///
-        /// Definitions: [`Accepts`](crate::specs::operands::Acceptance#Accepts), [`NamesAfter`](crate::specs::grammar::Commands#NamesAfter).
+        /// Definitions: [`Accepts`](crate::specs::operands::LineWords#Accepts), [`NamesAfter`](crate::specs::grammar::Commands#NamesAfter).
         #[inline]
         pub fn vector_store(operands: &[&str]) -> Result<Call, LineError> {
             let (a, memory, ptr, offset) = operand::four(operands)?;
@@ -125,7 +125,7 @@ mod command {
         /// ensures: Accepts result (NamesAfter (codes "vstorelane") operands.now)
         /// ```
         ///
-        /// Definitions: [`Accepts`](crate::specs::operands::Acceptance#Accepts), [`NamesAfter`](crate::specs::grammar::Commands#NamesAfter).
+        /// Definitions: [`Accepts`](crate::specs::operands::LineWords#Accepts), [`NamesAfter`](crate::specs::grammar::Commands#NamesAfter).
         #[inline]
         pub fn store_lane(operands: &[&str]) -> Result<Call, LineError> {
             let [name, a, lane, place @ ..] = operands else {
@@ -156,7 +156,7 @@ mod command {
         /// ensures: Accepts result (NamesAfter (codes "memory") operands.now)
         /// ```
         ///
-        /// Definitions: [`Accepts`](crate::specs::operands::Acceptance#Accepts), [`NamesAfter`](crate::specs::grammar::Commands#NamesAfter).
+        /// Definitions: [`Accepts`](crate::specs::operands::LineWords#Accepts), [`NamesAfter`](crate::specs::grammar::Commands#NamesAfter).
         #[inline]
         pub fn new_memory(operands: &[&str]) -> Result<Call, LineError> {
             let [min, max, log2, width] = operands else {
@@ -173,7 +173,7 @@ mod command {
         /// ensures: Accepts result (NamesAfter (codes "lent") operands.now)
         /// ```
         ///
-        /// Definitions: [`Accepts`](crate::specs::operands::Acceptance#Accepts), [`NamesAfter`](crate::specs::grammar::Commands#NamesAfter).
+        /// Definitions: [`Accepts`](crate::specs::operands::LineWords#Accepts), [`NamesAfter`](crate::specs::grammar::Commands#NamesAfter).
         #[inline]
         pub fn new_lent_memory(operands: &[&str]) -> Result<Call, LineError> {
             let [min, max, log2, width] = operands else {
@@ -190,7 +190,7 @@ mod command {
         /// ensures: Accepts result (NamesAfter (codes "grow") operands.now)
         /// ```
         ///
-        /// Definitions: [`Accepts`](crate::specs::operands::Acceptance#Accepts), [`NamesAfter`](crate::specs::grammar::Commands#NamesAfter).
+        /// Definitions: [`Accepts`](crate::specs::operands::LineWords#Accepts), [`NamesAfter`](crate::specs::grammar::Commands#NamesAfter).
         #[inline]
         pub fn grow(operands: &[&str]) -> Result<Call, LineError> {
             let (memory, pages) = operand::two(operands)?;
@@ -205,7 +205,7 @@ mod command {
         /// ensures: Accepts result (NamesAfter (codes "read") operands.now)
         /// ```
         ///
-        /// Definitions: [`Accepts`](crate::specs::operands::Acceptance#Accepts), [`NamesAfter`](crate::specs::grammar::Commands#NamesAfter).
+        /// Definitions: [`Accepts`](crate::specs::operands::LineWords#Accepts), [`NamesAfter`](crate::specs::grammar::Commands#NamesAfter).
         #[inline]
         pub fn read(operands: &[&str]) -> Result<Call, LineError> {
             let (memory, offset, len) = operand::three(operands)?;
@@ -224,7 +224,7 @@ mod command {
         /// ensures: AcceptsWithMemory result (NamesAfter (codes "write") operands.now)
         /// ```
         ///
-        /// Definitions: [`AcceptsWithMemory`](crate::specs::operands::Acceptance#AcceptsWithMemory), [`NamesAfter`](crate::specs::grammar::Commands#NamesAfter).
+        /// Definitions: [`AcceptsWithMemory`](crate::specs::operands::LineWords#AcceptsWithMemory), [`NamesAfter`](crate::specs::grammar::Commands#NamesAfter).
         #[inline]
         pub fn write(operands: &[&str]) -> Result<Call, LineError> {
             let [memory, offset, bytes @ ..] = operands else {
@@ -245,7 +245,7 @@ mod command {
         /// ensures: Accepts result (NamesAfter (codes "drop") operands.now)
         /// ```
         ///
-        /// Definitions: [`Accepts`](crate::specs::operands::Acceptance#Accepts), [`NamesAfter`](crate::specs::grammar::Commands#NamesAfter).
+        /// Definitions: [`Accepts`](crate::specs::operands::LineWords#Accepts), [`NamesAfter`](crate::specs::grammar::Commands#NamesAfter).
         #[inline]
         pub fn drop_live(operands: &[&str]) -> Result<Call, LineError> {
             let [kind, index] = operands else {
@@ -267,7 +267,7 @@ mod command {
         /// ensures: Accepts result (NamesType min.now max.now log2.now width.now)
         /// ```
         ///
-        /// Definitions: [`Accepts`](crate::specs::operands::Acceptance#Accepts), [`NamesType`](crate::specs::grammar::MemoryWords#NamesType).
+        /// Definitions: [`Accepts`](crate::specs::operands::LineWords#Accepts), [`NamesType`](crate::specs::grammar::Commands#NamesType).
         #[inline]
         fn memory_type(
             min: &str,
@@ -291,7 +291,7 @@ mod command {
         ///     (record { index = index; minimum = minimum; maximum = maximum }) page_size_log2)
         /// ```
         ///
-        /// Definitions: [`Accepts`](crate::specs::operands::Acceptance#Accepts), [`HasSettings`](crate::specs::grammar::MemoryWords#HasSettings).
+        /// Definitions: [`Accepts`](crate::specs::operands::LineWords#Accepts), [`HasSettings`](crate::specs::grammar::Commands#HasSettings).
         #[inline]
         fn type_of(
             index: IndexType,
@@ -328,7 +328,7 @@ mod command {
         /// ensures: Accepts result (NamesAfter (codes "table") operands.now)
         /// ```
         ///
-        /// Definitions: [`Accepts`](crate::specs::operands::Acceptance#Accepts), [`NamesAfter`](crate::specs::grammar::Commands#NamesAfter).
+        /// Definitions: [`Accepts`](crate::specs::operands::LineWords#Accepts), [`NamesAfter`](crate::specs::grammar::Commands#NamesAfter).
         #[inline]
         pub fn new_table(operands: &[&str]) -> Result<Call, LineError> {
             let [element, min, max, width, ty, raw] = operands else {
@@ -348,7 +348,7 @@ mod command {
         /// ensures: Accepts result (NamesAfter (codes "tgrow") operands.now)
         /// ```
         ///
-        /// Definitions: [`Accepts`](crate::specs::operands::Acceptance#Accepts), [`NamesAfter`](crate::specs::grammar::Commands#NamesAfter).
+        /// Definitions: [`Accepts`](crate::specs::operands::LineWords#Accepts), [`NamesAfter`](crate::specs::grammar::Commands#NamesAfter).
         #[inline]
         pub fn grow(operands: &[&str]) -> Result<Call, LineError> {
             let (table, delta, ty, raw) = operand::four(operands)?;
@@ -367,7 +367,7 @@ mod command {
         /// ensures: Accepts result (NamesAfter (codes "get") operands.now)
         /// ```
         ///
-        /// Definitions: [`Accepts`](crate::specs::operands::Acceptance#Accepts), [`NamesAfter`](crate::specs::grammar::Commands#NamesAfter).
+        /// Definitions: [`Accepts`](crate::specs::operands::LineWords#Accepts), [`NamesAfter`](crate::specs::grammar::Commands#NamesAfter).
         #[inline]
         pub fn get(operands: &[&str]) -> Result<Call, LineError> {
             let (table, index) = operand::two(operands)?;
@@ -382,7 +382,7 @@ mod command {
         /// ensures: Accepts result (NamesAfter (codes "tset") operands.now)
         /// ```
         ///
-        /// Definitions: [`Accepts`](crate::specs::operands::Acceptance#Accepts), [`NamesAfter`](crate::specs::grammar::Commands#NamesAfter).
+        /// Definitions: [`Accepts`](crate::specs::operands::LineWords#Accepts), [`NamesAfter`](crate::specs::grammar::Commands#NamesAfter).
         #[inline]
         pub fn set(operands: &[&str]) -> Result<Call, LineError> {
             let (table, index, ty, raw) = operand::four(operands)?;
@@ -401,7 +401,7 @@ mod command {
         /// ensures: Accepts result (NamesAfter (codes "init") operands.now)
         /// ```
         ///
-        /// Definitions: [`Accepts`](crate::specs::operands::Acceptance#Accepts), [`NamesAfter`](crate::specs::grammar::Commands#NamesAfter).
+        /// Definitions: [`Accepts`](crate::specs::operands::LineWords#Accepts), [`NamesAfter`](crate::specs::grammar::Commands#NamesAfter).
         #[inline]
         pub fn init(operands: &[&str]) -> Result<Call, LineError> {
             let (table, segment, dst, src, len) = operand::five(operands)?;
@@ -422,7 +422,7 @@ mod command {
         /// ensures: Accepts result (NamesAfter (codes "copy") operands.now)
         /// ```
         ///
-        /// Definitions: [`Accepts`](crate::specs::operands::Acceptance#Accepts), [`NamesAfter`](crate::specs::grammar::Commands#NamesAfter).
+        /// Definitions: [`Accepts`](crate::specs::operands::LineWords#Accepts), [`NamesAfter`](crate::specs::grammar::Commands#NamesAfter).
         #[inline]
         pub fn copy(operands: &[&str]) -> Result<Call, LineError> {
             let (dst_table, dst, src_table, src, len) = operand::five(operands)?;
@@ -443,7 +443,7 @@ mod command {
         /// ensures: Accepts result (NamesAfter (codes "fill") operands.now)
         /// ```
         ///
-        /// Definitions: [`Accepts`](crate::specs::operands::Acceptance#Accepts), [`NamesAfter`](crate::specs::grammar::Commands#NamesAfter).
+        /// Definitions: [`Accepts`](crate::specs::operands::LineWords#Accepts), [`NamesAfter`](crate::specs::grammar::Commands#NamesAfter).
         #[inline]
         pub fn fill(operands: &[&str]) -> Result<Call, LineError> {
             let (table, dst, ty, raw, len) = operand::five(operands)?;
@@ -463,7 +463,7 @@ mod command {
         /// ensures: AcceptsWithMemory result (NamesAfter (codes "segment") operands.now)
         /// ```
         ///
-        /// Definitions: [`AcceptsWithMemory`](crate::specs::operands::Acceptance#AcceptsWithMemory), [`NamesAfter`](crate::specs::grammar::Commands#NamesAfter).
+        /// Definitions: [`AcceptsWithMemory`](crate::specs::operands::LineWords#AcceptsWithMemory), [`NamesAfter`](crate::specs::grammar::Commands#NamesAfter).
         #[inline]
         pub fn new_segment(operands: &[&str]) -> Result<Call, LineError> {
             let [ty, items @ ..] = operands else {
@@ -483,7 +483,7 @@ mod command {
         /// ensures: Accepts result (NamesAfter (codes "empty") operands.now)
         /// ```
         ///
-        /// Definitions: [`Accepts`](crate::specs::operands::Acceptance#Accepts), [`NamesAfter`](crate::specs::grammar::Commands#NamesAfter).
+        /// Definitions: [`Accepts`](crate::specs::operands::LineWords#Accepts), [`NamesAfter`](crate::specs::grammar::Commands#NamesAfter).
         #[inline]
         pub fn empty(operands: &[&str]) -> Result<Call, LineError> {
             let [segment] = operands else {
@@ -500,7 +500,7 @@ mod command {
         /// ensures: Accepts result (NamesTableType element.now min.now max.now width.now)
         /// ```
         ///
-        /// Definitions: [`Accepts`](crate::specs::operands::Acceptance#Accepts), [`NamesTableType`](crate::specs::grammar::TableWords#NamesTableType).
+        /// Definitions: [`Accepts`](crate::specs::operands::LineWords#Accepts), [`NamesTableType`](crate::specs::grammar::Commands#NamesTableType).
         #[inline]
         fn table_type(
             element: &str,
@@ -524,7 +524,7 @@ mod command {
         ///     (record { index = index; minimum = minimum; maximum = maximum }) element)
         /// ```
         ///
-        /// Definitions: [`Accepts`](crate::specs::operands::Acceptance#Accepts), [`HasLimits`](crate::specs::grammar::TableWords#HasLimits).
+        /// Definitions: [`Accepts`](crate::specs::operands::LineWords#Accepts), [`HasLimits`](crate::specs::grammar::Commands#HasLimits).
         #[inline]
         fn type_of(
             index: IndexType,
@@ -580,7 +580,7 @@ mod command {
         /// ensures: Accepts result (NamesAfter (codes "fuel") operands.now)
         /// ```
         ///
-        /// Definitions: [`Accepts`](crate::specs::operands::Acceptance#Accepts), [`NamesAfter`](crate::specs::grammar::Commands#NamesAfter).
+        /// Definitions: [`Accepts`](crate::specs::operands::LineWords#Accepts), [`NamesAfter`](crate::specs::grammar::Commands#NamesAfter).
         #[inline]
         pub fn set_fuel(operands: &[&str]) -> Result<Call, LineError> {
             let [fuel] = operands else {
@@ -597,7 +597,7 @@ mod command {
         /// ensures: Accepts result (NamesAfter (codes "left") operands.now)
         /// ```
         ///
-        /// Definitions: [`Accepts`](crate::specs::operands::Acceptance#Accepts), [`NamesAfter`](crate::specs::grammar::Commands#NamesAfter).
+        /// Definitions: [`Accepts`](crate::specs::operands::LineWords#Accepts), [`NamesAfter`](crate::specs::grammar::Commands#NamesAfter).
         #[inline]
         pub fn get_fuel(operands: &[&str]) -> Result<Call, LineError> {
             if operands.is_empty() {
@@ -615,7 +615,7 @@ mod command {
         /// ensures: Accepts result (NamesAfter (codes "global") operands.now)
         /// ```
         ///
-        /// Definitions: [`Accepts`](crate::specs::operands::Acceptance#Accepts), [`NamesAfter`](crate::specs::grammar::Commands#NamesAfter).
+        /// Definitions: [`Accepts`](crate::specs::operands::LineWords#Accepts), [`NamesAfter`](crate::specs::grammar::Commands#NamesAfter).
         #[inline]
         pub fn new_global(operands: &[&str]) -> Result<Call, LineError> {
             let (content, mutability, lo, hi) = operand::four(operands)?;
@@ -633,7 +633,7 @@ mod command {
         /// ensures: Accepts result (NamesAfter (codes "gset") operands.now)
         /// ```
         ///
-        /// Definitions: [`Accepts`](crate::specs::operands::Acceptance#Accepts), [`NamesAfter`](crate::specs::grammar::Commands#NamesAfter).
+        /// Definitions: [`Accepts`](crate::specs::operands::LineWords#Accepts), [`NamesAfter`](crate::specs::grammar::Commands#NamesAfter).
         #[inline]
         pub fn set_global(operands: &[&str]) -> Result<Call, LineError> {
             let (global, ty, lo, hi) = operand::four(operands)?;
@@ -651,7 +651,7 @@ mod command {
         /// ensures: Accepts result (NamesAfter (codes "gget") operands.now)
         /// ```
         ///
-        /// Definitions: [`Accepts`](crate::specs::operands::Acceptance#Accepts), [`NamesAfter`](crate::specs::grammar::Commands#NamesAfter).
+        /// Definitions: [`Accepts`](crate::specs::operands::LineWords#Accepts), [`NamesAfter`](crate::specs::grammar::Commands#NamesAfter).
         #[inline]
         pub fn get_global(operands: &[&str]) -> Result<Call, LineError> {
             let [global] = operands else {
@@ -668,7 +668,7 @@ mod command {
         /// ensures: Accepts result (NamesAfter (codes "set") operands.now)
         /// ```
         ///
-        /// Definitions: [`Accepts`](crate::specs::operands::Acceptance#Accepts), [`NamesAfter`](crate::specs::grammar::Commands#NamesAfter).
+        /// Definitions: [`Accepts`](crate::specs::operands::LineWords#Accepts), [`NamesAfter`](crate::specs::grammar::Commands#NamesAfter).
         #[inline]
         pub fn set_register(operands: &[&str]) -> Result<Call, LineError> {
             let (dst, lo, hi) = operand::three(operands)?;
@@ -686,7 +686,7 @@ mod command {
         /// ensures: Accepts result (NamesAfter (codes "show") operands.now)
         /// ```
         ///
-        /// Definitions: [`Accepts`](crate::specs::operands::Acceptance#Accepts), [`NamesAfter`](crate::specs::grammar::Commands#NamesAfter).
+        /// Definitions: [`Accepts`](crate::specs::operands::LineWords#Accepts), [`NamesAfter`](crate::specs::grammar::Commands#NamesAfter).
         #[inline]
         pub fn get_register(operands: &[&str]) -> Result<Call, LineError> {
             let [a] = operands else {
@@ -713,7 +713,7 @@ mod command {
         /// ensures: Accepts result (NamesAfter (codes "make") operands.now)
         /// ```
         ///
-        /// Definitions: [`Accepts`](crate::specs::operands::Acceptance#Accepts), [`NamesAfter`](crate::specs::grammar::Commands#NamesAfter).
+        /// Definitions: [`Accepts`](crate::specs::operands::LineWords#Accepts), [`NamesAfter`](crate::specs::grammar::Commands#NamesAfter).
         #[inline]
         pub fn make(operands: &[&str]) -> Result<Call, LineError> {
             let (op, dst, a) = operand::three(operands)?;
@@ -728,7 +728,7 @@ mod command {
         /// ensures: Accepts result (NamesAfter (codes "unary") operands.now)
         /// ```
         ///
-        /// Definitions: [`Accepts`](crate::specs::operands::Acceptance#Accepts), [`NamesAfter`](crate::specs::grammar::Commands#NamesAfter).
+        /// Definitions: [`Accepts`](crate::specs::operands::LineWords#Accepts), [`NamesAfter`](crate::specs::grammar::Commands#NamesAfter).
         #[inline]
         pub fn unary(operands: &[&str]) -> Result<Call, LineError> {
             let (op, dst, a) = operand::three(operands)?;
@@ -743,7 +743,7 @@ mod command {
         /// ensures: Accepts result (NamesAfter (codes "binary") operands.now)
         /// ```
         ///
-        /// Definitions: [`Accepts`](crate::specs::operands::Acceptance#Accepts), [`NamesAfter`](crate::specs::grammar::Commands#NamesAfter).
+        /// Definitions: [`Accepts`](crate::specs::operands::LineWords#Accepts), [`NamesAfter`](crate::specs::grammar::Commands#NamesAfter).
         #[inline]
         pub fn binary(operands: &[&str]) -> Result<Call, LineError> {
             let (op, dst, a, b) = operand::four(operands)?;
@@ -758,7 +758,7 @@ mod command {
         /// ensures: Accepts result (NamesAfter (codes "ternary") operands.now)
         /// ```
         ///
-        /// Definitions: [`Accepts`](crate::specs::operands::Acceptance#Accepts), [`NamesAfter`](crate::specs::grammar::Commands#NamesAfter).
+        /// Definitions: [`Accepts`](crate::specs::operands::LineWords#Accepts), [`NamesAfter`](crate::specs::grammar::Commands#NamesAfter).
         #[inline]
         pub fn ternary(operands: &[&str]) -> Result<Call, LineError> {
             let (op, dst, a, b, c) = operand::five(operands)?;
@@ -773,7 +773,7 @@ mod command {
         /// ensures: Accepts result (NamesAfter (codes "shift") operands.now)
         /// ```
         ///
-        /// Definitions: [`Accepts`](crate::specs::operands::Acceptance#Accepts), [`NamesAfter`](crate::specs::grammar::Commands#NamesAfter).
+        /// Definitions: [`Accepts`](crate::specs::operands::LineWords#Accepts), [`NamesAfter`](crate::specs::grammar::Commands#NamesAfter).
         #[inline]
         pub fn shift(operands: &[&str]) -> Result<Call, LineError> {
             let (op, dst, a, amount) = operand::four(operands)?;
@@ -788,7 +788,7 @@ mod command {
         /// ensures: Accepts result (NamesAfter (codes "test") operands.now)
         /// ```
         ///
-        /// Definitions: [`Accepts`](crate::specs::operands::Acceptance#Accepts), [`NamesAfter`](crate::specs::grammar::Commands#NamesAfter).
+        /// Definitions: [`Accepts`](crate::specs::operands::LineWords#Accepts), [`NamesAfter`](crate::specs::grammar::Commands#NamesAfter).
         #[inline]
         pub fn test(operands: &[&str]) -> Result<Call, LineError> {
             let (op, a) = operand::two(operands)?;
@@ -803,7 +803,7 @@ mod command {
         /// ensures: Accepts result (NamesAfter (codes "extract") operands.now)
         /// ```
         ///
-        /// Definitions: [`Accepts`](crate::specs::operands::Acceptance#Accepts), [`NamesAfter`](crate::specs::grammar::Commands#NamesAfter).
+        /// Definitions: [`Accepts`](crate::specs::operands::LineWords#Accepts), [`NamesAfter`](crate::specs::grammar::Commands#NamesAfter).
         #[inline]
         pub fn extract(operands: &[&str]) -> Result<Call, LineError> {
             let [name, a, lane] = operands else {
@@ -823,7 +823,7 @@ mod command {
         /// ensures: Accepts result (NamesAfter (codes "replace") operands.now)
         /// ```
         ///
-        /// Definitions: [`Accepts`](crate::specs::operands::Acceptance#Accepts), [`NamesAfter`](crate::specs::grammar::Commands#NamesAfter).
+        /// Definitions: [`Accepts`](crate::specs::operands::LineWords#Accepts), [`NamesAfter`](crate::specs::grammar::Commands#NamesAfter).
         #[inline]
         pub fn replace(operands: &[&str]) -> Result<Call, LineError> {
             let [name, dst, a, lane, item] = operands else {
@@ -845,7 +845,7 @@ mod command {
         /// ensures: Accepts result (NamesAfter (codes "shuffle") operands.now)
         /// ```
         ///
-        /// Definitions: [`Accepts`](crate::specs::operands::Acceptance#Accepts), [`NamesAfter`](crate::specs::grammar::Commands#NamesAfter).
+        /// Definitions: [`Accepts`](crate::specs::operands::LineWords#Accepts), [`NamesAfter`](crate::specs::grammar::Commands#NamesAfter).
         #[inline]
         pub fn shuffle(operands: &[&str]) -> Result<Call, LineError> {
             let [dst, a, b, lanes @ ..] = operands else {
@@ -867,7 +867,7 @@ mod command {
         /// ensures: Accepts result (WritesLanes words.now)
         /// ```
         ///
-        /// Definitions: [`Accepts`](crate::specs::operands::Acceptance#Accepts), [`WritesLanes`](crate::specs::operands::LaneNames#WritesLanes).
+        /// Definitions: [`Accepts`](crate::specs::operands::LineWords#Accepts), [`WritesLanes`](crate::specs::operands::Names#WritesLanes).
         #[inline]
         fn lanes_of(words: &[&str]) -> Result<[ImmLaneIdx32; 16], LineError> {
             let Ok(words) = <&[&str; 16]>::try_from(words) else {
@@ -993,7 +993,7 @@ mod header {
     /// ensures: Accepts result (WritesMeter operands.now)
     /// ```
     ///
-    /// Definitions: [`Accepts`](crate::specs::operands::Acceptance#Accepts), [`WritesMeter`](crate::specs::grammar::Headers#WritesMeter).
+    /// Definitions: [`Accepts`](crate::specs::operands::LineWords#Accepts), [`WritesMeter`](crate::specs::grammar::Headers#WritesMeter).
     #[inline]
     pub(crate) fn meter_line(operands: &[&str]) -> Result<MeterLine, LineError> {
         match operands {
@@ -1011,7 +1011,7 @@ mod header {
     /// ensures: Accepts result (WritesRegion operands.now)
     /// ```
     ///
-    /// Definitions: [`Accepts`](crate::specs::operands::Acceptance#Accepts), [`WritesRegion`](crate::specs::grammar::Headers#WritesRegion).
+    /// Definitions: [`Accepts`](crate::specs::operands::LineWords#Accepts), [`WritesRegion`](crate::specs::grammar::Headers#WritesRegion).
     #[inline]
     pub(crate) fn region_line(operands: &[&str]) -> Result<RegionLine, LineError> {
         let (len, byte) = operand::two(operands)?;
@@ -1026,7 +1026,7 @@ mod header {
     /// ensures: Accepts result (NamesLimiterAfter (codes "quota") operands.now)
     /// ```
     ///
-    /// Definitions: [`Accepts`](crate::specs::operands::Acceptance#Accepts), [`NamesLimiterAfter`](crate::specs::grammar::Headers#NamesLimiterAfter).
+    /// Definitions: [`Accepts`](crate::specs::operands::LineWords#Accepts), [`NamesLimiterAfter`](crate::specs::grammar::Headers#NamesLimiterAfter).
     #[inline]
     pub(crate) fn quota(operands: &[&str]) -> Result<LimiterLine, LineError> {
         let (bytes, elements) = operand::two(operands)?;
@@ -1041,7 +1041,7 @@ mod header {
     /// ensures: Accepts result (NamesLimiterAfter (codes "tenants") operands.now)
     /// ```
     ///
-    /// Definitions: [`Accepts`](crate::specs::operands::Acceptance#Accepts), [`NamesLimiterAfter`](crate::specs::grammar::Headers#NamesLimiterAfter).
+    /// Definitions: [`Accepts`](crate::specs::operands::LineWords#Accepts), [`NamesLimiterAfter`](crate::specs::grammar::Headers#NamesLimiterAfter).
     #[inline]
     pub(crate) fn tenants(operands: &[&str]) -> Result<LimiterLine, LineError> {
         let (count, bytes, elements) = operand::three(operands)?;
@@ -1062,7 +1062,7 @@ mod header {
     /// ensures: AcceptsWithMemory result (NamesLimiterAfter (codes "answers") operands.now)
     /// ```
     ///
-    /// Definitions: [`AcceptsWithMemory`](crate::specs::operands::Acceptance#AcceptsWithMemory), [`NamesLimiterAfter`](crate::specs::grammar::Headers#NamesLimiterAfter).
+    /// Definitions: [`AcceptsWithMemory`](crate::specs::operands::LineWords#AcceptsWithMemory), [`NamesLimiterAfter`](crate::specs::grammar::Headers#NamesLimiterAfter).
     #[inline]
     pub(crate) fn listed(operands: &[&str]) -> Result<LimiterLine, LineError> {
         Ok(LimiterLine::Answers(list_of(operands)?))
@@ -1514,7 +1514,7 @@ mod script {
     /// ensures: AcceptsWithMemory result (NamesLine name.now operands.now)
     /// ```
     ///
-    /// Definitions: [`AcceptsWithMemory`](crate::specs::operands::Acceptance#AcceptsWithMemory), [`NamesLine`](crate::specs::grammar::Lines#NamesLine).
+    /// Definitions: [`AcceptsWithMemory`](crate::specs::operands::LineWords#AcceptsWithMemory), [`NamesLine`](crate::specs::grammar::Lines#NamesLine).
     #[inline]
     fn line_of(name: &str, operands: &[&str]) -> Result<Line, LineError> {
         match name {
@@ -1536,7 +1536,7 @@ mod script {
     /// ensures: Accepts result (WritesTenant operands.now)
     /// ```
     ///
-    /// Definitions: [`Accepts`](crate::specs::operands::Acceptance#Accepts), [`WritesTenant`](crate::specs::grammar::Headers#WritesTenant).
+    /// Definitions: [`Accepts`](crate::specs::operands::LineWords#Accepts), [`WritesTenant`](crate::specs::grammar::Headers#WritesTenant).
     #[inline]
     fn tenant_named(operands: &[&str]) -> Result<usize, LineError> {
         let [tenant] = operands else {
@@ -1553,9 +1553,29 @@ mod script {
     /// ensures: AcceptsWithMemory result (NamesAfter name.now operands.now)
     /// ```
     ///
-    /// Definitions: [`AcceptsWithMemory`](crate::specs::operands::Acceptance#AcceptsWithMemory), [`NamesAfter`](crate::specs::grammar::Commands#NamesAfter).
+    /// Definitions: [`AcceptsWithMemory`](crate::specs::operands::LineWords#AcceptsWithMemory), [`NamesAfter`](crate::specs::grammar::Commands#NamesAfter).
     #[inline]
     fn command(name: &str, operands: &[&str]) -> Result<Call, LineError> {
+        match name {
+            "write" => memory::write(operands),
+            "segment" => table::new_segment(operands),
+            _ => command_in_place(name, operands),
+        }
+    }
+
+    /// The call of a command that takes no memory to read.
+    ///
+    /// # Contract
+    ///
+    /// ```text
+    /// requires no_bytes: name.now ≢ codes "write"
+    /// requires no_items: name.now ≢ codes "segment"
+    /// ensures call: Accepts result (NamesAfter name.now operands.now)
+    /// ```
+    ///
+    /// Definitions: [`Accepts`](crate::specs::operands::LineWords#Accepts), [`NamesAfter`](crate::specs::grammar::Commands#NamesAfter).
+    #[inline]
+    fn command_in_place(name: &str, operands: &[&str]) -> Result<Call, LineError> {
         match name {
             "fuel" => values::set_fuel(operands),
             "left" => values::get_fuel(operands),
@@ -1564,7 +1584,6 @@ mod script {
             "grow" => memory::grow(operands),
             "drop" => memory::drop_live(operands),
             "read" => memory::read(operands),
-            "write" => memory::write(operands),
             "load" => access::load(operands),
             "store" => access::store(operands),
             "table" => table::new_table(operands),
@@ -1574,7 +1593,6 @@ mod script {
             "init" => table::init(operands),
             "copy" => table::copy(operands),
             "fill" => table::fill(operands),
-            "segment" => table::new_segment(operands),
             "empty" => table::empty(operands),
             "global" => values::new_global(operands),
             "gset" => values::set_global(operands),

@@ -17,7 +17,7 @@ mod decimal {
     ///     → (error : T.Error) × T.try_from_gives (decimal_value word.now) (Err error))
     /// ```
     ///
-    /// Definitions: [`IsDecimal`](crate::specs::operands::Decimal#IsDecimal), [`decimal_value`](crate::specs::operands::Decimal#decimal_value).
+    /// Definitions: [`IsDecimal`](crate::specs::operands::LineWords#IsDecimal), [`decimal_value`](crate::specs::operands::LineWords#decimal_value).
     #[inline]
     pub fn number<T: TryFrom<u64>>(word: &str) -> Result<T, LineError> {
         T::try_from(decimal(word)?).map_err(|_| LineError::BadCommand)
@@ -31,7 +31,7 @@ mod decimal {
     /// ensures: Accepts result (WritesLimit word.now)
     /// ```
     ///
-    /// Definitions: [`Accepts`](crate::specs::operands::Acceptance#Accepts), [`WritesLimit`](crate::specs::operands::Decimal#WritesLimit).
+    /// Definitions: [`Accepts`](crate::specs::operands::LineWords#Accepts), [`WritesLimit`](crate::specs::operands::LineWords#WritesLimit).
     #[inline]
     pub fn number_or_none(word: &str) -> Result<Option<u64>, LineError> {
         match word {
@@ -50,7 +50,7 @@ mod decimal {
     /// ensures refused: IfErr result (λ error. error ≡ LineError.BadCommand)
     /// ```
     ///
-    /// Definitions: [`IsDecimal`](crate::specs::operands::Decimal#IsDecimal), [`decimal_value`](crate::specs::operands::Decimal#decimal_value).
+    /// Definitions: [`IsDecimal`](crate::specs::operands::LineWords#IsDecimal), [`decimal_value`](crate::specs::operands::LineWords#decimal_value).
     #[inline]
     fn decimal(word: &str) -> Result<u64, LineError> {
         if word.is_empty() {
@@ -146,7 +146,7 @@ pub mod names {
         /// ensures: Accepts result (NamesExtract name.now lane.now)
         /// ```
         ///
-        /// Definitions: [`Accepts`](crate::specs::operands::Acceptance#Accepts), [`NamesExtract`](crate::specs::operands::LaneNames#NamesExtract).
+        /// Definitions: [`Accepts`](crate::specs::operands::LineWords#Accepts), [`NamesExtract`](crate::specs::operands::Names#NamesExtract).
         #[inline]
         pub fn extract_op(name: &str, lane: &str) -> Result<ExtractOp, LineError> {
             let kind = ExtractKind::from_word(name)?;
@@ -162,7 +162,7 @@ pub mod names {
         /// ensures: Accepts result (NamesReplace name.now lane.now)
         /// ```
         ///
-        /// Definitions: [`Accepts`](crate::specs::operands::Acceptance#Accepts), [`NamesReplace`](crate::specs::operands::LaneNames#NamesReplace).
+        /// Definitions: [`Accepts`](crate::specs::operands::LineWords#Accepts), [`NamesReplace`](crate::specs::operands::Names#NamesReplace).
         #[inline]
         pub fn replace_op(name: &str, lane: &str) -> Result<ReplaceOp, LineError> {
             let kind = ReplaceKind::from_word(name)?;
@@ -178,7 +178,7 @@ pub mod names {
         /// ensures: Accepts result (NamesLoadLane name.now lane.now)
         /// ```
         ///
-        /// Definitions: [`Accepts`](crate::specs::operands::Acceptance#Accepts), [`NamesLoadLane`](crate::specs::operands::LaneNames#NamesLoadLane).
+        /// Definitions: [`Accepts`](crate::specs::operands::LineWords#Accepts), [`NamesLoadLane`](crate::specs::operands::Names#NamesLoadLane).
         #[inline]
         pub fn load_lane_op(name: &str, lane: &str) -> Result<LoadLaneOp, LineError> {
             let kind = LoadLaneKind::from_word(name)?;
@@ -194,7 +194,7 @@ pub mod names {
         /// ensures: Accepts result (NamesStoreLane name.now lane.now)
         /// ```
         ///
-        /// Definitions: [`Accepts`](crate::specs::operands::Acceptance#Accepts), [`NamesStoreLane`](crate::specs::operands::LaneNames#NamesStoreLane).
+        /// Definitions: [`Accepts`](crate::specs::operands::LineWords#Accepts), [`NamesStoreLane`](crate::specs::operands::Names#NamesStoreLane).
         #[inline]
         pub fn store_lane_op(name: &str, lane: &str) -> Result<StoreLaneOp, LineError> {
             let kind = StoreLaneKind::from_word(name)?;
@@ -214,7 +214,7 @@ pub mod names {
         ///     → (error : L.Error) × L.try_from_gives (decimal_value word.now) (Err error))
         /// ```
         ///
-        /// Definitions: [`IsDecimal`](crate::specs::operands::Decimal#IsDecimal), [`decimal_value`](crate::specs::operands::Decimal#decimal_value).
+        /// Definitions: [`IsDecimal`](crate::specs::operands::LineWords#IsDecimal), [`decimal_value`](crate::specs::operands::LineWords#decimal_value).
         #[inline]
         pub fn index<L: TryFrom<u8>>(word: &str) -> Result<L, LineError> {
             let number: u8 = number(word)?;
@@ -232,7 +232,7 @@ pub mod names {
     /// ensures: Accepts result (IsNamed (map (λ entry. (entry.0.now, entry.1)) names.now) name.now)
     /// ```
     ///
-    /// Definitions: [`Accepts`](crate::specs::operands::Acceptance#Accepts), [`IsNamed`](crate::specs::operands::Names#IsNamed).
+    /// Definitions: [`Accepts`](crate::specs::operands::LineWords#Accepts), [`IsNamed`](crate::specs::operands::Names#IsNamed).
     #[inline]
     pub(crate) fn op_named<T: Copy>(names: &[(&str, T)], name: &str) -> Result<T, LineError> {
         let entry = names.iter().find(|(known, _)| *known == name);
@@ -246,7 +246,6 @@ pub mod operand {
     use crate::proved::operands::decimal::number;
     use crate::proved::operands::error::LineError;
     use crate::proved::operands::names::op_named;
-    use crate::proved::operands::types::ref_type;
     use crate::proved::ops::{
         BINARIES, BinaryOp, EXTRACTIONS, ExtractKind, LANE_LOADS, LANE_STORES, LOADS, LoadLaneKind,
         LoadOp, MAKES, MakeOp, REPLACEMENTS, ReplaceKind, SCALAR_BINARIES, SCALAR_UNARIES, SHIFTS,
@@ -254,8 +253,8 @@ pub mod operand {
         TernaryOp, TestOp, UNARIES, UnaryOp, VECTOR_LOADS, VectorLoadOp,
     };
     use crate::proved::raw::RawRef;
-    use crate::proved::typed::Mutability;
-    use crate::proved::types::{RefType, ValType};
+    use crate::proved::typed::{Mutability, TypedRawRef};
+    use crate::proved::types::{IndexType, RefType, ValType};
     use crate::rattle::Vec;
 
     /// What one word of a command can write.
@@ -275,7 +274,7 @@ pub mod operand {
         /// ensures: Accepts result (writes word.now)
         /// ```
         ///
-        /// Definitions: [`Accepts`](crate::specs::operands::Acceptance#Accepts).
+        /// Definitions: [`Accepts`](crate::specs::operands::LineWords#Accepts).
         fn from_word(word: &str) -> Result<Self, LineError>;
     }
 
@@ -285,7 +284,7 @@ pub mod operand {
     /// writes = WritesNumber 64
     /// ```
     ///
-    /// Definitions: [`WritesNumber`](crate::specs::operands::Decimal#WritesNumber).
+    /// Definitions: [`WritesNumber`](crate::specs::operands::LineWords#WritesNumber).
     impl Operand for u64 {
         #[inline]
         fn from_word(word: &str) -> Result<Self, LineError> {
@@ -299,7 +298,7 @@ pub mod operand {
     /// writes = WritesNumber 64
     /// ```
     ///
-    /// Definitions: [`WritesNumber`](crate::specs::operands::Decimal#WritesNumber).
+    /// Definitions: [`WritesNumber`](crate::specs::operands::LineWords#WritesNumber).
     impl Operand for usize {
         #[inline]
         fn from_word(word: &str) -> Result<Self, LineError> {
@@ -313,7 +312,7 @@ pub mod operand {
     /// writes = WritesNumber 32
     /// ```
     ///
-    /// Definitions: [`WritesNumber`](crate::specs::operands::Decimal#WritesNumber).
+    /// Definitions: [`WritesNumber`](crate::specs::operands::LineWords#WritesNumber).
     impl Operand for u32 {
         #[inline]
         fn from_word(word: &str) -> Result<Self, LineError> {
@@ -327,7 +326,7 @@ pub mod operand {
     /// writes = WritesNumber 8
     /// ```
     ///
-    /// Definitions: [`WritesNumber`](crate::specs::operands::Decimal#WritesNumber).
+    /// Definitions: [`WritesNumber`](crate::specs::operands::LineWords#WritesNumber).
     impl Operand for u8 {
         #[inline]
         fn from_word(word: &str) -> Result<Self, LineError> {
@@ -341,7 +340,7 @@ pub mod operand {
     /// writes = WritesNumber 32
     /// ```
     ///
-    /// Definitions: [`WritesNumber`](crate::specs::operands::Decimal#WritesNumber).
+    /// Definitions: [`WritesNumber`](crate::specs::operands::LineWords#WritesNumber).
     impl Operand for RawRef {
         #[inline]
         fn from_word(word: &str) -> Result<Self, LineError> {
@@ -356,7 +355,7 @@ pub mod operand {
     /// writes = λ word ty. word ≡ reference_word ty
     /// ```
     ///
-    /// Definitions: [`reference_word`](crate::specs::operands::TypeWords#reference_word).
+    /// Definitions: [`reference_word`](crate::specs::operands::Names#reference_word).
     impl Operand for RefType {
         #[inline]
         fn from_word(word: &str) -> Result<Self, LineError> {
@@ -370,7 +369,7 @@ pub mod operand {
     /// writes = λ word ty. word ≡ value_word ty
     /// ```
     ///
-    /// Definitions: [`value_word`](crate::specs::operands::TypeWords#value_word).
+    /// Definitions: [`value_word`](crate::specs::operands::Names#value_word).
     impl Operand for ValType {
         #[inline]
         fn from_word(word: &str) -> Result<Self, LineError> {
@@ -393,7 +392,7 @@ pub mod operand {
     /// writes = λ word mutability. word ≡ mutability_word mutability
     /// ```
     ///
-    /// Definitions: [`mutability_word`](crate::specs::operands::TypeWords#mutability_word).
+    /// Definitions: [`mutability_word`](crate::specs::operands::Names#mutability_word).
     impl Operand for Mutability {
         #[inline]
         fn from_word(word: &str) -> Result<Self, LineError> {
@@ -411,7 +410,7 @@ pub mod operand {
     /// writes = WritesAnswer
     /// ```
     ///
-    /// Definitions: [`WritesAnswer`](crate::specs::operands::Answers#WritesAnswer).
+    /// Definitions: [`WritesAnswer`](crate::specs::operands::Names#WritesAnswer).
     impl Operand for LimiterAnswer {
         #[inline]
         fn from_word(word: &str) -> Result<Self, LineError> {
@@ -635,116 +634,6 @@ pub mod operand {
         }
     }
 
-    /// What two words write.
-    ///
-    /// # Contract
-    ///
-    /// ```text
-    /// ensures: Accepts result (λ all. (length words.now ≡ 2) × A.writes (word_at words.now 0) all.0
-    ///     × B.writes (word_at words.now 1) all.1)
-    /// ```
-    ///
-    /// Definitions: [`Accepts`](crate::specs::operands::Acceptance#Accepts), [`word_at`](crate::specs::operands::LineWords#word_at).
-    #[inline]
-    pub fn two<A: Operand, B: Operand>(words: &[&str]) -> Result<(A, B), LineError> {
-        let [a, b] = words else {
-            return Err(LineError::BadCommand);
-        };
-        Ok((A::from_word(a)?, B::from_word(b)?))
-    }
-
-    /// What three words write.
-    ///
-    /// # Contract
-    ///
-    /// ```text
-    /// ensures: Accepts result (λ all. (length words.now ≡ 3) × A.writes (word_at words.now 0) all.0
-    ///     × B.writes (word_at words.now 1) all.1 × C.writes (word_at words.now 2) all.2)
-    /// ```
-    ///
-    /// Definitions: [`Accepts`](crate::specs::operands::Acceptance#Accepts), [`word_at`](crate::specs::operands::LineWords#word_at).
-    #[inline]
-    pub fn three<A: Operand, B: Operand, C: Operand>(
-        words: &[&str],
-    ) -> Result<(A, B, C), LineError> {
-        let [front @ .., last] = words else {
-            return Err(LineError::BadCommand);
-        };
-        let (a, b) = two(front)?;
-        Ok((a, b, C::from_word(last)?))
-    }
-
-    /// What four words write.
-    ///
-    /// # Contract
-    ///
-    /// ```text
-    /// ensures: Accepts result (λ all. (length words.now ≡ 4) × A.writes (word_at words.now 0) all.0
-    ///     × B.writes (word_at words.now 1) all.1 × C.writes (word_at words.now 2) all.2
-    ///     × D.writes (word_at words.now 3) all.3)
-    /// ```
-    ///
-    /// Definitions: [`Accepts`](crate::specs::operands::Acceptance#Accepts), [`word_at`](crate::specs::operands::LineWords#word_at).
-    #[inline]
-    pub fn four<A: Operand, B: Operand, C: Operand, D: Operand>(
-        words: &[&str],
-    ) -> Result<(A, B, C, D), LineError> {
-        let [front @ .., last] = words else {
-            return Err(LineError::BadCommand);
-        };
-        let (a, b, c) = three(front)?;
-        Ok((a, b, c, D::from_word(last)?))
-    }
-
-    /// What five words write.
-    ///
-    /// # Contract
-    ///
-    /// ```text
-    /// ensures: Accepts result (λ all. (length words.now ≡ 5) × A.writes (word_at words.now 0) all.0
-    ///     × B.writes (word_at words.now 1) all.1 × C.writes (word_at words.now 2) all.2
-    ///     × D.writes (word_at words.now 3) all.3 × E.writes (word_at words.now 4) all.4)
-    /// ```
-    ///
-    /// Definitions: [`Accepts`](crate::specs::operands::Acceptance#Accepts), [`word_at`](crate::specs::operands::LineWords#word_at).
-    #[inline]
-    pub fn five<A: Operand, B: Operand, C: Operand, D: Operand, E: Operand>(
-        words: &[&str],
-    ) -> Result<(A, B, C, D, E), LineError> {
-        let [front @ .., last] = words else {
-            return Err(LineError::BadCommand);
-        };
-        let (a, b, c, d) = four(front)?;
-        Ok((a, b, c, d, E::from_word(last)?))
-    }
-
-    /// What the words write, one each.
-    ///
-    /// # Contract
-    ///
-    /// ```text
-    /// ensures: AcceptsWithMemory result (λ list. WritesEach T.writes words.now list.items)
-    /// ```
-    ///
-    /// Definitions: [`AcceptsWithMemory`](crate::specs::operands::Acceptance#AcceptsWithMemory), [`WritesEach`](crate::specs::operands::LineWords#WritesEach).
-    #[inline]
-    pub fn list_of<T: Operand>(words: &[&str]) -> Result<Vec<T>, LineError> {
-        let mut list = Vec::with_capacity(words.len())?;
-        for word in words {
-            list.push(T::from_word(word)?)?;
-        }
-        Ok(list)
-    }
-}
-mod types {
-    //! Types and references as words.
-
-    use crate::proved::operands::error::LineError;
-    use crate::proved::operands::operand::Operand;
-    use crate::proved::raw::RawRef;
-    use crate::proved::typed::TypedRawRef;
-    use crate::proved::types::{IndexType, RefType};
-
     /// The address type of a width word, `32` or `64`.
     ///
     /// # Contract
@@ -753,7 +642,7 @@ mod types {
     /// ensures: Accepts result (λ index. width.now ≡ width_word index)
     /// ```
     ///
-    /// Definitions: [`Accepts`](crate::specs::operands::Acceptance#Accepts), [`width_word`](crate::specs::operands::TypeWords#width_word).
+    /// Definitions: [`Accepts`](crate::specs::operands::LineWords#Accepts), [`width_word`](crate::specs::operands::Names#width_word).
     #[inline]
     pub fn index_ty(width: &str) -> Result<IndexType, LineError> {
         match width {
@@ -771,7 +660,7 @@ mod types {
     /// ensures: Accepts result (λ ty. word.now ≡ reference_word ty)
     /// ```
     ///
-    /// Definitions: [`Accepts`](crate::specs::operands::Acceptance#Accepts), [`reference_word`](crate::specs::operands::TypeWords#reference_word).
+    /// Definitions: [`Accepts`](crate::specs::operands::LineWords#Accepts), [`reference_word`](crate::specs::operands::Names#reference_word).
     #[inline]
     pub fn ref_type(word: &str) -> Result<RefType, LineError> {
         match word {
@@ -789,11 +678,120 @@ mod types {
     /// ensures: Accepts result (WritesReference ty.now raw.now)
     /// ```
     ///
-    /// Definitions: [`Accepts`](crate::specs::operands::Acceptance#Accepts), [`WritesReference`](crate::specs::operands::TypeWords#WritesReference).
+    /// Definitions: [`Accepts`](crate::specs::operands::LineWords#Accepts), [`WritesReference`](crate::specs::operands::Names#WritesReference).
     #[inline]
     pub fn reference(ty: &str, raw: &str) -> Result<TypedRawRef, LineError> {
         let ty = ref_type(ty)?;
         Ok(TypedRawRef::new(RawRef::from_word(raw)?, ty))
+    }
+
+    /// What two words write.
+    ///
+    /// # Contract
+    ///
+    /// ```text
+    /// ensures: Accepts result (λ all. (length words.now ≡ 2) × A.writes (word_at words.now 0) all.0
+    ///     × B.writes (word_at words.now 1) all.1)
+    /// ```
+    ///
+    /// Definitions: [`Accepts`](crate::specs::operands::LineWords#Accepts), [`word_at`](crate::specs::operands::LineWords#word_at).
+    #[inline]
+    pub fn two<A: Operand, B: Operand>(words: &[&str]) -> Result<(A, B), LineError> {
+        let [a, b] = words else {
+            return Err(LineError::BadCommand);
+        };
+        Ok((A::from_word(a)?, B::from_word(b)?))
+    }
+
+    /// What three words write.
+    ///
+    /// # Contract
+    ///
+    /// ```text
+    /// ensures: Accepts result (λ all. (length words.now ≡ 3) × A.writes (word_at words.now 0) all.0
+    ///     × B.writes (word_at words.now 1) all.1 × C.writes (word_at words.now 2) all.2)
+    /// ```
+    ///
+    /// Definitions: [`Accepts`](crate::specs::operands::LineWords#Accepts), [`word_at`](crate::specs::operands::LineWords#word_at).
+    #[inline]
+    pub fn three<A: Operand, B: Operand, C: Operand>(
+        words: &[&str],
+    ) -> Result<(A, B, C), LineError> {
+        let [a, b, c] = words else {
+            return Err(LineError::BadCommand);
+        };
+        Ok((A::from_word(a)?, B::from_word(b)?, C::from_word(c)?))
+    }
+
+    /// What four words write.
+    ///
+    /// # Contract
+    ///
+    /// ```text
+    /// ensures: Accepts result (λ all. (length words.now ≡ 4) × A.writes (word_at words.now 0) all.0
+    ///     × B.writes (word_at words.now 1) all.1 × C.writes (word_at words.now 2) all.2
+    ///     × D.writes (word_at words.now 3) all.3)
+    /// ```
+    ///
+    /// Definitions: [`Accepts`](crate::specs::operands::LineWords#Accepts), [`word_at`](crate::specs::operands::LineWords#word_at).
+    #[inline]
+    pub fn four<A: Operand, B: Operand, C: Operand, D: Operand>(
+        words: &[&str],
+    ) -> Result<(A, B, C, D), LineError> {
+        let [a, b, c, d] = words else {
+            return Err(LineError::BadCommand);
+        };
+        Ok((
+            A::from_word(a)?,
+            B::from_word(b)?,
+            C::from_word(c)?,
+            D::from_word(d)?,
+        ))
+    }
+
+    /// What five words write.
+    ///
+    /// # Contract
+    ///
+    /// ```text
+    /// ensures: Accepts result (λ all. (length words.now ≡ 5) × A.writes (word_at words.now 0) all.0
+    ///     × B.writes (word_at words.now 1) all.1 × C.writes (word_at words.now 2) all.2
+    ///     × D.writes (word_at words.now 3) all.3 × E.writes (word_at words.now 4) all.4)
+    /// ```
+    ///
+    /// Definitions: [`Accepts`](crate::specs::operands::LineWords#Accepts), [`word_at`](crate::specs::operands::LineWords#word_at).
+    #[inline]
+    pub fn five<A: Operand, B: Operand, C: Operand, D: Operand, E: Operand>(
+        words: &[&str],
+    ) -> Result<(A, B, C, D, E), LineError> {
+        let [a, b, c, d, e] = words else {
+            return Err(LineError::BadCommand);
+        };
+        Ok((
+            A::from_word(a)?,
+            B::from_word(b)?,
+            C::from_word(c)?,
+            D::from_word(d)?,
+            E::from_word(e)?,
+        ))
+    }
+
+    /// What the words write, one each.
+    ///
+    /// # Contract
+    ///
+    /// ```text
+    /// ensures: AcceptsWithMemory result (λ list. WritesEach T.writes words.now list.items)
+    /// ```
+    ///
+    /// Definitions: [`AcceptsWithMemory`](crate::specs::operands::LineWords#AcceptsWithMemory), [`WritesEach`](crate::specs::operands::LineWords#WritesEach).
+    #[inline]
+    pub fn list_of<T: Operand>(words: &[&str]) -> Result<Vec<T>, LineError> {
+        let mut list = Vec::with_capacity(words.len())?;
+        for word in words {
+            list.push(T::from_word(word)?)?;
+        }
+        Ok(list)
     }
 }
 mod words {
@@ -814,80 +812,16 @@ mod words {
     #[inline]
     pub fn read_words<'a>(line: &'a str, words: &mut Vec<&'a str>) -> Result<(), AllocError> {
         words.clear();
-        let mut rest = line;
-        while let Some((word, after)) = first_word(rest) {
-            words.push(word)?;
-            rest = after;
+        for word in line.split(' ') {
+            if !word.is_empty() {
+                words.push(word)?;
+            }
         }
         Ok(())
-    }
-
-    /// The first word of a line and what stands after it, or `None` where there is no word.
-    ///
-    /// # Contract
-    ///
-    /// ```text
-    /// ensures word: MatchOption result (words_in line.now ≡ [])
-    ///     (λ parts. words_in line.now ≡ parts.0.now ∷ words_in parts.1.now)
-    /// ensures shorter: IfSome result (λ parts. length parts.1.now < length line.now)
-    /// ```
-    ///
-    /// Definitions: [`words_in`](crate::specs::operands::LineWords#words_in).
-    #[inline]
-    fn first_word(line: &str) -> Option<(&str, &str)> {
-        let line = without_spaces(line);
-        if line.is_empty() {
-            return None;
-        }
-        Some(line.split_at(word_len(line)))
-    }
-
-    /// The line without the spaces at its front.
-    ///
-    /// # Contract
-    ///
-    /// ```text
-    /// ensures words: words_in result.now ≡ words_in line.now
-    /// ensures word: 0 < length result.now → slice_index result.now 0 ≢ 32
-    /// ensures len: length result.now ≤ length line.now
-    /// ```
-    ///
-    /// Definitions: [`words_in`](crate::specs::operands::LineWords#words_in).
-    #[inline]
-    fn without_spaces(line: &str) -> &str {
-        let bytes = line.as_bytes();
-        let mut start = 0;
-        while start < bytes.len() && bytes[start] == b' ' {
-            start += 1;
-        }
-        &line[start..]
-    }
-
-    /// How many bytes stand before the first space of a line that begins with a word.
-    ///
-    /// # Contract
-    ///
-    /// ```text
-    /// requires some: 0 < length line.now
-    /// requires word: slice_index line.now 0 ≢ 32
-    /// ensures boundary: IsCharBoundary line.now result
-    /// ensures nonzero: 0 < result
-    /// ensures words: words_in line.now ≡ take result line.now ∷ words_in (drop result line.now)
-    /// ```
-    ///
-    /// Definitions: [`words_in`](crate::specs::operands::LineWords#words_in).
-    #[inline]
-    fn word_len(line: &str) -> usize {
-        let bytes = line.as_bytes();
-        let mut end = 1;
-        while end < bytes.len() && bytes[end] != b' ' {
-            end += 1;
-        }
-        end
     }
 }
 
 pub use decimal::{number, number_or_none};
 pub use error::LineError;
-pub use types::{index_ty, ref_type, reference};
+pub use operand::{index_ty, ref_type, reference};
 pub use words::read_words;

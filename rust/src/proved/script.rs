@@ -76,71 +76,6 @@ mod error {
         }
     }
 }
-mod front {
-    //! Texts that are written to the front of bytes, one after the other, as far as they fit.
-
-    /// Writes a text after those of `written` bytes in all that were written before, as much of it as
-    /// fits, and returns the length of all of them, or 2^64 - 1 if they are longer.
-    ///
-    /// # Contract
-    ///
-    /// ```text
-    /// ensures: AddsToFront text.now bytes.old written bytes.new result
-    /// ```
-    ///
-    /// Definitions: [`AddsToFront`](crate::specs::script::Fronts#AddsToFront).
-    #[inline]
-    pub fn put(bytes: &mut [u8], written: usize, text: &[u8]) -> usize {
-        let start = written.min(bytes.len());
-        let count = text.len().min(bytes.len() - start);
-        bytes[start..start + count].copy_from_slice(&text[..count]);
-        written.saturating_add(text.len())
-    }
-
-    /// Writes a number in decimal, as [`put`] does a text.
-    ///
-    /// # Contract
-    ///
-    /// ```text
-    /// ensures: AddsToFront (decimal number) bytes.old written bytes.new result
-    /// ```
-    ///
-    /// Definitions: [`AddsToFront`](crate::specs::script::Fronts#AddsToFront).
-    #[inline]
-    pub fn put_number(bytes: &mut [u8], written: usize, number: u64) -> usize {
-        let digit = [b'0' + (number % 10) as u8];
-        if number < 10 {
-            return put(bytes, written, &digit);
-        }
-        let before_last = put_number(bytes, written, number / 10);
-        put(bytes, before_last, &digit)
-    }
-
-    /// Writes a number in decimal after a text, if there is a number, as [`put`] does a text.
-    ///
-    /// # Contract
-    ///
-    /// ```text
-    /// ensures: AddsToFront (number_text before.now number) bytes.old written bytes.new result
-    /// ```
-    ///
-    /// Definitions: [`AddsToFront`](crate::specs::script::Fronts#AddsToFront), [`number_text`](crate::specs::script::Fronts#number_text).
-    #[inline]
-    pub fn put_optional(
-        bytes: &mut [u8],
-        written: usize,
-        before: &str,
-        number: Option<u64>,
-    ) -> usize {
-        match number {
-            None => written,
-            Some(number) => {
-                let begun = put(bytes, written, before.as_bytes());
-                put_number(bytes, begun, number)
-            }
-        }
-    }
-}
 #[cfg(any(doc, test))]
 pub mod laws {
     //! What holds of all scripts and of all that run them. These functions do nothing: each states a
@@ -171,7 +106,7 @@ pub mod laws {
     /// ensures: QuietListsAcceptNotices
     /// ```
     ///
-    /// Definitions: [`QuietListsAcceptNotices`](crate::specs::script::QuietLists#QuietListsAcceptNotices).
+    /// Definitions: [`QuietListsAcceptNotices`](crate::specs::script::Decided#QuietListsAcceptNotices).
     #[inline]
     pub fn quiet_lists_accept_notices() {}
 
@@ -184,7 +119,7 @@ pub mod laws {
     /// ensures: QuietListsDecideReplies
     /// ```
     ///
-    /// Definitions: [`QuietListsDecideReplies`](crate::specs::script::QuietLists#QuietListsDecideReplies).
+    /// Definitions: [`QuietListsDecideReplies`](crate::specs::script::Decided#QuietListsDecideReplies).
     #[inline]
     pub fn quiet_lists_decide_replies() {}
 
@@ -205,10 +140,10 @@ pub mod laws {
     }
 }
 mod lines {
-    //! The lines that a script prints for calls and their replies, in bytes that are there already.
+    //! The lines that a script prints for calls and their replies, in bytes that are there already:
+    //! texts that are written to the front of bytes, one after the other, as far as they fit.
 
     use crate::proved::machine::{Call, Reply};
-    use crate::proved::script::front::{put, put_number};
     use crate::proved::script::printing::bytes_of;
     use crate::proved::script::wording::Wording;
 
@@ -280,6 +215,68 @@ mod lines {
             end = put_number(bytes, spaced, u64::from(*byte));
         }
         end
+    }
+
+    /// Writes a text after those of `written` bytes in all that were written before, as much of it as
+    /// fits, and returns the length of all of them, or 2^64 - 1 if they are longer.
+    ///
+    /// # Contract
+    ///
+    /// ```text
+    /// ensures: AddsToFront text.now bytes.old written bytes.new result
+    /// ```
+    ///
+    /// Definitions: [`AddsToFront`](crate::specs::script::Fronts#AddsToFront).
+    #[inline]
+    pub fn put(bytes: &mut [u8], written: usize, text: &[u8]) -> usize {
+        let start = written.min(bytes.len());
+        let count = text.len().min(bytes.len() - start);
+        bytes[start..start + count].copy_from_slice(&text[..count]);
+        written.saturating_add(text.len())
+    }
+
+    /// Writes a number in decimal, as [`put`] does a text.
+    ///
+    /// # Contract
+    ///
+    /// ```text
+    /// ensures: AddsToFront (decimal number) bytes.old written bytes.new result
+    /// ```
+    ///
+    /// Definitions: [`AddsToFront`](crate::specs::script::Fronts#AddsToFront).
+    #[inline]
+    pub fn put_number(bytes: &mut [u8], written: usize, number: u64) -> usize {
+        let digit = [b'0' + (number % 10) as u8];
+        if number < 10 {
+            return put(bytes, written, &digit);
+        }
+        let before_last = put_number(bytes, written, number / 10);
+        put(bytes, before_last, &digit)
+    }
+
+    /// Writes a number in decimal after a text, if there is a number, as [`put`] does a text.
+    ///
+    /// # Contract
+    ///
+    /// ```text
+    /// ensures: AddsToFront (number_text before.now number) bytes.old written bytes.new result
+    /// ```
+    ///
+    /// Definitions: [`AddsToFront`](crate::specs::script::Fronts#AddsToFront), [`number_text`](crate::specs::script::Fronts#number_text).
+    #[inline]
+    pub fn put_optional(
+        bytes: &mut [u8],
+        written: usize,
+        before: &str,
+        number: Option<u64>,
+    ) -> usize {
+        match number {
+            None => written,
+            Some(number) => {
+                let begun = put(bytes, written, before.as_bytes());
+                put_number(bytes, begun, number)
+            }
+        }
     }
 }
 mod printing {
@@ -869,7 +866,7 @@ mod replaying {
         ///     (R.remaining self.new.reader.now) result buffer.new
         /// ```
         ///
-        /// Definitions: [`script_limit`](crate::specs::script::Refusals#script_limit).
+        /// Definitions: [`script_limit`](crate::specs::script::Outcomes#script_limit).
         #[inline]
         fn turn(&mut self, buffer: &mut [u8]) -> io::Result<usize> {
             self.taken += 1;
@@ -891,7 +888,7 @@ mod replaying {
     /// ensures turns: reader.new.taken ≤ script_limit + 1
     /// ```
     ///
-    /// Definitions: [`IsReadError`](crate::specs::script::Refusals#IsReadError), [`script_limit`](crate::specs::script::Refusals#script_limit).
+    /// Definitions: [`IsReadError`](crate::specs::script::Outcomes#IsReadError), [`script_limit`](crate::specs::script::Outcomes#script_limit).
     #[inline]
     fn read<R: io::Read>(reader: &mut CountedReader<'_, R>) -> Result<Vec<u8>, ReplayError> {
         let mut script = Vec::new();
@@ -1155,7 +1152,7 @@ mod wording {
 
     use crate::proved::machine::{Call, RefType, Reply};
     use crate::proved::meter::{FuelError, MemoryError, TableError};
-    use crate::proved::script::front::{put, put_optional};
+    use crate::proved::script::lines::{put, put_optional};
     use crate::proved::store::SegmentError;
     use crate::proved::typed::GlobalError;
 
@@ -1181,7 +1178,7 @@ mod wording {
         /// ensures: wording_text result ≡ head_text call.now reply.now
         /// ```
         ///
-        /// Definitions: [`wording_text`](crate::specs::script::Wording#wording_text), [`head_text`](crate::specs::script::Texts#head_text).
+        /// Definitions: [`wording_text`](crate::specs::script::Texts#wording_text), [`head_text`](crate::specs::script::Texts#head_text).
         #[inline]
         pub fn of(call: &Call, reply: &Reply) -> Wording {
             match reply {
@@ -1218,7 +1215,7 @@ mod wording {
         /// ensures: wording_text result ≡ start.now ++ words.now
         /// ```
         ///
-        /// Definitions: [`wording_text`](crate::specs::script::Wording#wording_text).
+        /// Definitions: [`wording_text`](crate::specs::script::Texts#wording_text).
         #[inline]
         fn of_words(start: &'static str, words: &'static str) -> Wording {
             Wording {
@@ -1235,7 +1232,7 @@ mod wording {
         /// ensures: wording_text result ≡ start.now ++ (words.now ++ decimal number)
         /// ```
         ///
-        /// Definitions: [`wording_text`](crate::specs::script::Wording#wording_text).
+        /// Definitions: [`wording_text`](crate::specs::script::Texts#wording_text).
         #[inline]
         fn with_number(start: &'static str, words: &'static str, number: u64) -> Wording {
             Wording {
@@ -1252,7 +1249,7 @@ mod wording {
         /// ensures: wording_text result ≡ codes "error " ++ memory_error_text error.now
         /// ```
         ///
-        /// Definitions: [`wording_text`](crate::specs::script::Wording#wording_text), [`memory_error_text`](crate::specs::meter::Texts#memory_error_text).
+        /// Definitions: [`wording_text`](crate::specs::script::Texts#wording_text), [`memory_error_text`](crate::specs::meter::Texts#memory_error_text).
         #[inline]
         fn of_memory(error: &MemoryError) -> Wording {
             let words = match error {
@@ -1289,7 +1286,7 @@ mod wording {
         /// ensures: wording_text result ≡ codes "error " ++ table_error_text error.now
         /// ```
         ///
-        /// Definitions: [`wording_text`](crate::specs::script::Wording#wording_text), [`table_error_text`](crate::specs::meter::Texts#table_error_text).
+        /// Definitions: [`wording_text`](crate::specs::script::Texts#wording_text), [`table_error_text`](crate::specs::meter::Texts#table_error_text).
         #[inline]
         fn of_table(error: &TableError) -> Wording {
             let words = match error {
@@ -1328,7 +1325,7 @@ mod wording {
         /// ensures: wording_text result ≡ codes "error " ++ fuel_error_text error.now
         /// ```
         ///
-        /// Definitions: [`wording_text`](crate::specs::script::Wording#wording_text), [`fuel_error_text`](crate::specs::meter::Texts#fuel_error_text).
+        /// Definitions: [`wording_text`](crate::specs::script::Texts#wording_text), [`fuel_error_text`](crate::specs::meter::Texts#fuel_error_text).
         #[inline]
         fn of_fuel(error: &FuelError) -> Wording {
             match error {
@@ -1347,7 +1344,7 @@ mod wording {
         /// ensures: wording_text result ≡ codes "error " ++ global_error_text error.now
         /// ```
         ///
-        /// Definitions: [`wording_text`](crate::specs::script::Wording#wording_text), [`global_error_text`](crate::specs::typed::Global#global_error_text).
+        /// Definitions: [`wording_text`](crate::specs::script::Texts#wording_text), [`global_error_text`](crate::specs::typed::Global#global_error_text).
         #[inline]
         fn of_global(error: &GlobalError) -> Wording {
             let words = match error {
@@ -1365,7 +1362,7 @@ mod wording {
         /// ensures: wording_text result ≡ codes "error " ++ segment_error_text error.now
         /// ```
         ///
-        /// Definitions: [`wording_text`](crate::specs::script::Wording#wording_text), [`segment_error_text`](crate::specs::store::Segment#segment_error_text).
+        /// Definitions: [`wording_text`](crate::specs::script::Texts#wording_text), [`segment_error_text`](crate::specs::store::Segment#segment_error_text).
         #[inline]
         fn of_segment(error: &SegmentError) -> Wording {
             let words = match error {
@@ -1383,7 +1380,7 @@ mod wording {
         /// ensures: AddsToFront (wording_text self) bytes.old written bytes.new result
         /// ```
         ///
-        /// Definitions: [`AddsToFront`](crate::specs::script::Fronts#AddsToFront), [`wording_text`](crate::specs::script::Wording#wording_text).
+        /// Definitions: [`AddsToFront`](crate::specs::script::Fronts#AddsToFront), [`wording_text`](crate::specs::script::Texts#wording_text).
         #[inline]
         pub fn put(self, bytes: &mut [u8], written: usize) -> usize {
             let started = put(bytes, written, self.start.as_bytes());
@@ -1422,7 +1419,7 @@ mod wording {
     /// ensures: result.now ≡ reference_word ty
     /// ```
     ///
-    /// Definitions: [`reference_word`](crate::specs::operands::TypeWords#reference_word).
+    /// Definitions: [`reference_word`](crate::specs::operands::Names#reference_word).
     #[inline]
     fn reference_word_of(ty: RefType) -> &'static str {
         match ty {

@@ -6270,115 +6270,14 @@ abbrev pub <b id="GrowsTableIn">GrowsTableIn</b> : {S : Type 0} → <a href="../
 }
 /// Definitions of `wasmi_operands`.
 pub mod operands {
-    #[doc = r####"What is taken of a line, and what is a bad command.
+    #[doc = r####"The words of a line, the numbers that they write, and what is taken of a line and what is a bad command.
 
-<pre><code>use Rattle.std.specs.Prelude.{Result, Ok, Err, ⊤}
-use Rattle.wasmi_operands.specs.declared.error.LineError.{LineError}
-use Rattle.wasmi_operands.specs.declared.error.LineError.TheVariants.{BadCommand, OutOfMemory}
-
--- what is accepted is meant, and what is refused is a bad command: nothing is meant
-abbrev pub <b id="Accepts">Accepts</b> : {A : Type 0} → Result A LineError → (A → Type 0) → Type 0
-<a href="../../operands/Acceptance/index.html#Accepts">Accepts</a> (Ok a) Means = Means a
-<a href="../../operands/Acceptance/index.html#Accepts">Accepts</a> (Err BadCommand) Means = (a : _) → ¬ (Means a)
-<a href="../../operands/Acceptance/index.html#Accepts">Accepts</a> (Err OutOfMemory) Means = ⊥
-
--- the words are read as a value that means this, or they mean nothing of the kind, or memory was refused
-abbrev pub <b id="AcceptsWithMemory">AcceptsWithMemory</b> : {A : Type 0} → Result A LineError → (A → Type 0) → Type 0
-<a href="../../operands/Acceptance/index.html#AcceptsWithMemory">AcceptsWithMemory</a> (Ok a) Means = Means a
-<a href="../../operands/Acceptance/index.html#AcceptsWithMemory">AcceptsWithMemory</a> (Err BadCommand) Means = (a : _) → ¬ (Means a)
-<a href="../../operands/Acceptance/index.html#AcceptsWithMemory">AcceptsWithMemory</a> (Err OutOfMemory) Means = ⊤
-</code></pre>
-"####]
-    pub mod Acceptance {}
-    #[doc = r####"What an \`answers\` line says.
-
-<pre><code>use Rattle.std.specs.Prelude.{◌≡◌, ℕ, List, codes}
-use Rattle.wasmi_meter.specs.declared.answer_list.LimiterAnswer.{LimiterAnswer}
-use Rattle.wasmi_meter.specs.declared.answer_list.LimiterAnswer.TheVariants.{Permit, Deny, Error, Complain}
-
--- the word that stands for an answer
-abbrev pub <b id="answer_text">answer_text</b> : LimiterAnswer → List ℕ
-<a href="../../operands/Answers/index.html#answer_text">answer_text</a> Permit = codes "permit"
-<a href="../../operands/Answers/index.html#answer_text">answer_text</a> Deny = codes "deny"
-<a href="../../operands/Answers/index.html#answer_text">answer_text</a> Error = codes "error"
-<a href="../../operands/Answers/index.html#answer_text">answer_text</a> Complain = codes "complain"
-
--- the word stands for this answer
-abbrev pub <b id="WritesAnswer">WritesAnswer</b> : List ℕ → LimiterAnswer → Type 0
-<a href="../../operands/Answers/index.html#WritesAnswer">WritesAnswer</a> word answer = word ≡ <a href="../../operands/Answers/index.html#answer_text">answer_text</a> answer
-</code></pre>
-"####]
-    pub mod Answers {}
-    #[doc = r####"Numbers in decimal digits.
-
-<pre><code>use Rattle.std.specs.Prelude.{◌≡◌, ℕ, ◌&lt;◌, ◌^◌, List, Option, None, Some, codes}
-use Rattle.std.specs.Str.Parse.{IsNumeral, digits_value}
-
--- a word of one decimal digit or more, and nothing else
-unfoldable pub <b id="IsDecimal">IsDecimal</b> : List ℕ → Type 0
-<a href="../../operands/Decimal/index.html#IsDecimal">IsDecimal</a> word = IsNumeral 10 word
-
--- the number that the digits of a word write
-unfoldable pub <b id="decimal_value">decimal_value</b> : List ℕ → ℕ
-<a href="../../operands/Decimal/index.html#decimal_value">decimal_value</a> word = digits_value 10 word
-
--- the word writes this number, which fits so many bits
-abbrev pub <b id="WritesNumber">WritesNumber</b> : ℕ → List ℕ → ℕ → Type 0
-<a href="../../operands/Decimal/index.html#WritesNumber">WritesNumber</a> bits word number = <a href="../../operands/Decimal/index.html#IsDecimal">IsDecimal</a> word × (number ≡ <a href="../../operands/Decimal/index.html#decimal_value">decimal_value</a> word) × (number &lt; 2 ^ bits)
-
--- the word `none`, or a word that writes the number
-abbrev pub <b id="WritesLimit">WritesLimit</b> : List ℕ → Option ℕ → Type 0
-<a href="../../operands/Decimal/index.html#WritesLimit">WritesLimit</a> word None = word ≡ codes "none"
-<a href="../../operands/Decimal/index.html#WritesLimit">WritesLimit</a> word (Some number) = <a href="../../operands/Decimal/index.html#WritesNumber">WritesNumber</a> 64 word number
-</code></pre>
-"####]
-    pub mod Decimal {}
-    #[doc = r####"The instructions on one lane, by their names and the word of the lane's index.
-
-<pre><code>use Rattle.std.specs.Prelude.{◌≡◌, ℕ, List, length, Option, Some}
-use Rattle.wasmi_ops.specs.LaneKinds.{<a href="../../ops/LaneKinds/index.html#extract_name">extract_name</a>, <a href="../../ops/LaneKinds/index.html#extract_op">extract_op</a>, <a href="../../ops/LaneKinds/index.html#replace_name">replace_name</a>, <a href="../../ops/LaneKinds/index.html#replace_op">replace_op</a>, <a href="../../ops/LaneKinds/index.html#load_lane_name">load_lane_name</a>, <a href="../../ops/LaneKinds/index.html#load_lane_op">load_lane_op</a>, <a href="../../ops/LaneKinds/index.html#store_lane_name">store_lane_name</a>, <a href="../../ops/LaneKinds/index.html#store_lane_op">store_lane_op</a>}
-use Rattle.wasmi_ops.specs.declared.vector.lane.ExtractOp.{ExtractOp}
-use Rattle.wasmi_ops.specs.declared.vector.lane.ReplaceOp.{ReplaceOp}
-use Rattle.wasmi_ops.specs.declared.vector.access.LoadLaneOp.{LoadLaneOp}
-use Rattle.wasmi_ops.specs.declared.vector.access.StoreLaneOp.{StoreLaneOp}
-use Rattle.wasmi_operands.specs.Names.{<a href="../../operands/Names/index.html#IsName">IsName</a>}
-use Rattle.wasmi_operands.specs.LineWords.{<a href="../../operands/LineWords/index.html#LineWords">LineWords</a>, <a href="../../operands/LineWords/index.html#WritesEach">WritesEach</a>}
-use Rattle.wasmi_operands.specs.Decimal.{<a href="../../operands/Decimal/index.html#WritesNumber">WritesNumber</a>}
-
--- two words are a name and an index, and the instruction is the one of this name on the lane of this index
-unfoldable pub <b id="NamesLane">NamesLane</b> : {Kind Op : Type 0} → (Kind → List ℕ) → (Kind → ℕ → Option Op) → List ℕ → List ℕ → Op
-    → Type 0
-<a href="../../operands/LaneNames/index.html#NamesLane">NamesLane</a> {Kind} name_of op_on name lane op =
-    (kind : Kind) × (index : ℕ) × <a href="../../operands/Names/index.html#IsName">IsName</a> name_of name kind × <a href="../../operands/Decimal/index.html#WritesNumber">WritesNumber</a> 8 lane index × (op_on kind index ≡ Some op)
-
--- two words name the extraction of a lane
-abbrev pub <b id="NamesExtract">NamesExtract</b> : List ℕ → List ℕ → ExtractOp → Type 0
-<a href="../../operands/LaneNames/index.html#NamesExtract">NamesExtract</a> = <a href="../../operands/LaneNames/index.html#NamesLane">NamesLane</a> <a href="../../ops/LaneKinds/index.html#extract_name">extract_name</a> <a href="../../ops/LaneKinds/index.html#extract_op">extract_op</a>
-
--- two words name the replacement of a lane
-abbrev pub <b id="NamesReplace">NamesReplace</b> : List ℕ → List ℕ → ReplaceOp → Type 0
-<a href="../../operands/LaneNames/index.html#NamesReplace">NamesReplace</a> = <a href="../../operands/LaneNames/index.html#NamesLane">NamesLane</a> <a href="../../ops/LaneKinds/index.html#replace_name">replace_name</a> <a href="../../ops/LaneKinds/index.html#replace_op">replace_op</a>
-
--- two words name the load of a lane
-abbrev pub <b id="NamesLoadLane">NamesLoadLane</b> : List ℕ → List ℕ → LoadLaneOp → Type 0
-<a href="../../operands/LaneNames/index.html#NamesLoadLane">NamesLoadLane</a> = <a href="../../operands/LaneNames/index.html#NamesLane">NamesLane</a> <a href="../../ops/LaneKinds/index.html#load_lane_name">load_lane_name</a> <a href="../../ops/LaneKinds/index.html#load_lane_op">load_lane_op</a>
-
--- two words name the store of a lane
-abbrev pub <b id="NamesStoreLane">NamesStoreLane</b> : List ℕ → List ℕ → StoreLaneOp → Type 0
-<a href="../../operands/LaneNames/index.html#NamesStoreLane">NamesStoreLane</a> = <a href="../../operands/LaneNames/index.html#NamesLane">NamesLane</a> <a href="../../ops/LaneKinds/index.html#store_lane_name">store_lane_name</a> <a href="../../ops/LaneKinds/index.html#store_lane_op">store_lane_op</a>
-
--- sixteen words write the lanes of a shuffle, of which there are 32 to choose from
-pub record <b id="WritesLanes">WritesLanes</b> (words : <a href="../../operands/LineWords/index.html#LineWords">LineWords</a>) (lanes : List ℕ) : Type 0 where
-  pub <b id="sixteen">sixteen</b> : length words ≡ 16
-  pub <b id="written">written</b> : <a href="../../operands/LineWords/index.html#WritesEach">WritesEach</a> (<a href="../../operands/Decimal/index.html#WritesNumber">WritesNumber</a> 5) words lanes
-</code></pre>
-"####]
-    pub mod LaneNames {}
-    #[doc = r####"The words of a line, and what words write.
-
-<pre><code>use Rattle.std.specs.Prelude.{ℕ, List, [], filter, length, map, nat_lt, slice_index_or, ◌==◌}
+<pre><code>use Rattle.std.specs.Prelude.{ℕ, List, [], filter, length, map, nat_lt, slice_index_or, ◌==◌, ◌≡◌, ◌&lt;◌, ◌^◌, Option, None, Some, codes, Result, Ok, Err, ⊤}
 use Rattle.std.specs.List.{AllZip, slice_split}
 use Rattle.std.specs.Borrow.{Bor}
+use Rattle.std.specs.Str.Parse.{IsNumeral, digits_value}
+use Rattle.wasmi_operands.specs.declared.error.LineError.{LineError}
+use Rattle.wasmi_operands.specs.declared.error.LineError.TheVariants.{BadCommand, OutOfMemory}
 
 -- words, each with its text
 abbrev pub <b id="LineWords">LineWords</b> : Type 0
@@ -6395,12 +6294,58 @@ unfoldable pub <b id="words_in">words_in</b> : List ℕ → List (List ℕ)
 -- each word writes one of these, in order
 abbrev pub <b id="WritesEach">WritesEach</b> : {A : Type 0} → (List ℕ → A → Type 0) → <a href="../../operands/LineWords/index.html#LineWords">LineWords</a> → List A → Type 0
 <a href="../../operands/LineWords/index.html#WritesEach">WritesEach</a> Writes words items = AllZip Writes (map (λ word. word.now) words) items
+
+-- a word of one decimal digit or more, and nothing else
+unfoldable pub <b id="IsDecimal">IsDecimal</b> : List ℕ → Type 0
+<a href="../../operands/LineWords/index.html#IsDecimal">IsDecimal</a> word = IsNumeral 10 word
+
+-- the number that the digits of a word write
+unfoldable pub <b id="decimal_value">decimal_value</b> : List ℕ → ℕ
+<a href="../../operands/LineWords/index.html#decimal_value">decimal_value</a> word = digits_value 10 word
+
+-- the word writes this number, which fits so many bits
+abbrev pub <b id="WritesNumber">WritesNumber</b> : ℕ → List ℕ → ℕ → Type 0
+<a href="../../operands/LineWords/index.html#WritesNumber">WritesNumber</a> bits word number = <a href="../../operands/LineWords/index.html#IsDecimal">IsDecimal</a> word × (number ≡ <a href="../../operands/LineWords/index.html#decimal_value">decimal_value</a> word) × (number &lt; 2 ^ bits)
+
+-- the word `none`, or a word that writes the number
+abbrev pub <b id="WritesLimit">WritesLimit</b> : List ℕ → Option ℕ → Type 0
+<a href="../../operands/LineWords/index.html#WritesLimit">WritesLimit</a> word None = word ≡ codes "none"
+<a href="../../operands/LineWords/index.html#WritesLimit">WritesLimit</a> word (Some number) = <a href="../../operands/LineWords/index.html#WritesNumber">WritesNumber</a> 64 word number
+
+-- what is accepted is meant, and what is refused is a bad command: nothing is meant
+abbrev pub <b id="Accepts">Accepts</b> : {A : Type 0} → Result A LineError → (A → Type 0) → Type 0
+<a href="../../operands/LineWords/index.html#Accepts">Accepts</a> (Ok a) Means = Means a
+<a href="../../operands/LineWords/index.html#Accepts">Accepts</a> (Err BadCommand) Means = (a : _) → ¬ (Means a)
+<a href="../../operands/LineWords/index.html#Accepts">Accepts</a> (Err OutOfMemory) Means = ⊥
+
+-- the words are read as a value that means this, or they mean nothing of the kind, or memory was refused
+abbrev pub <b id="AcceptsWithMemory">AcceptsWithMemory</b> : {A : Type 0} → Result A LineError → (A → Type 0) → Type 0
+<a href="../../operands/LineWords/index.html#AcceptsWithMemory">AcceptsWithMemory</a> (Ok a) Means = Means a
+<a href="../../operands/LineWords/index.html#AcceptsWithMemory">AcceptsWithMemory</a> (Err BadCommand) Means = (a : _) → ¬ (Means a)
+<a href="../../operands/LineWords/index.html#AcceptsWithMemory">AcceptsWithMemory</a> (Err OutOfMemory) Means = ⊤
 </code></pre>
 "####]
     pub mod LineWords {}
-    #[doc = r####"Names, and lists of them.
+    #[doc = r####"The words of types, references, answers and instructions.
 
-<pre><code>use Rattle.std.specs.Prelude.{◌≡◌, ℕ, List, [], ◌∷◌, Option, None, Some, cond, bytes_eq}
+<pre><code>use Rattle.std.specs.Prelude.{◌≡◌, ℕ, List, [], ◌∷◌, Option, None, Some, cond, bytes_eq, codes, length}
+use Rattle.wasmi_types.specs.declared.index_ty.IndexType.{IndexType}
+use Rattle.wasmi_types.specs.declared.value.RefType.{RefType}
+use Rattle.wasmi_types.specs.declared.value.RefType.TheVariants.{Func, Extern}
+use Rattle.wasmi_types.specs.declared.value.ValType.{ValType}
+use Rattle.wasmi_types.specs.declared.value.ValType.TheVariants.{I32, I64, F32, F64, V128, FuncRef, ExternRef}
+use Rattle.wasmi_typed.specs.declared.global.Mutability.{Mutability}
+use Rattle.wasmi_typed.specs.declared.global.Mutability.TheVariants.{Const, Var}
+use Rattle.wasmi_typed.specs.declared.typed_ref.TypedRawRef.{TypedRawRef}
+use Rattle.wasmi_operands.specs.LineWords.{<a href="../../operands/LineWords/index.html#WritesNumber">WritesNumber</a>, <a href="../../operands/LineWords/index.html#LineWords">LineWords</a>, <a href="../../operands/LineWords/index.html#WritesEach">WritesEach</a>}
+use Rattle.wasmi_meter.specs.declared.answer_list.LimiterAnswer.{LimiterAnswer}
+use Rattle.wasmi_meter.specs.declared.answer_list.LimiterAnswer.TheVariants.{Permit, Deny, Error, Complain}
+use Rattle.wasmi_ops.specs.LaneKinds.{<a href="../../ops/LaneKinds/index.html#extract_name">extract_name</a>, <a href="../../ops/LaneKinds/index.html#extract_op">extract_op</a>, <a href="../../ops/LaneKinds/index.html#replace_name">replace_name</a>, <a href="../../ops/LaneKinds/index.html#replace_op">replace_op</a>, <a href="../../ops/LaneKinds/index.html#load_lane_name">load_lane_name</a>, <a href="../../ops/LaneKinds/index.html#load_lane_op">load_lane_op</a>, <a href="../../ops/LaneKinds/index.html#store_lane_name">store_lane_name</a>, <a href="../../ops/LaneKinds/index.html#store_lane_op">store_lane_op</a>}
+use Rattle.wasmi_ops.specs.declared.vector.lane.ExtractOp.{ExtractOp}
+use Rattle.wasmi_ops.specs.declared.vector.lane.ReplaceOp.{ReplaceOp}
+use Rattle.wasmi_ops.specs.declared.vector.access.LoadLaneOp.{LoadLaneOp}
+use Rattle.wasmi_ops.specs.declared.vector.access.StoreLaneOp.{StoreLaneOp}
+use Rattle.wasmi_types.specs.declared.index_ty.IndexType.TheVariants as index
 
 -- an entry of a list: a name, and what it names
 abbrev pub <b id="NameEntry">NameEntry</b> : Type 0 → Type 0
@@ -6418,60 +6363,88 @@ abbrev pub <b id="IsNamed">IsNamed</b> : {A : Type 0} → List (<a href="../../o
 -- a word is the name of this op
 unfoldable pub <b id="IsName">IsName</b> : {A : Type 0} → (A → List ℕ) → List ℕ → A → Type 0
 <a href="../../operands/Names/index.html#IsName">IsName</a> name_of word op = word ≡ name_of op
-</code></pre>
-"####]
-    pub mod Names {}
-    #[doc = r####"The words of types, and of references.
-
-<pre><code>use Rattle.std.specs.Prelude.{◌≡◌, ℕ, List, codes}
-use Rattle.wasmi_types.specs.declared.index_ty.IndexType.{IndexType}
-use Rattle.wasmi_types.specs.declared.index_ty.IndexType.TheVariants as index
-use Rattle.wasmi_types.specs.declared.value.RefType.{RefType}
-use Rattle.wasmi_types.specs.declared.value.RefType.TheVariants.{Func, Extern}
-use Rattle.wasmi_types.specs.declared.value.ValType.{ValType}
-use Rattle.wasmi_types.specs.declared.value.ValType.TheVariants.{I32, I64, F32, F64, V128, FuncRef, ExternRef}
-use Rattle.wasmi_typed.specs.declared.global.Mutability.{Mutability}
-use Rattle.wasmi_typed.specs.declared.global.Mutability.TheVariants.{Const, Var}
-use Rattle.wasmi_typed.specs.declared.typed_ref.TypedRawRef.{TypedRawRef}
-use Rattle.wasmi_operands.specs.Decimal.{<a href="../../operands/Decimal/index.html#WritesNumber">WritesNumber</a>}
 
 -- the bits of an address or of an index
 abbrev pub <b id="width_word">width_word</b> : IndexType → List ℕ
-<a href="../../operands/TypeWords/index.html#width_word">width_word</a> index.I32 = codes "32"
-<a href="../../operands/TypeWords/index.html#width_word">width_word</a> index.I64 = codes "64"
+<a href="../../operands/Names/index.html#width_word">width_word</a> index.I32 = codes "32"
+<a href="../../operands/Names/index.html#width_word">width_word</a> index.I64 = codes "64"
 
 -- the word of a reference type
 abbrev pub <b id="reference_word">reference_word</b> : RefType → List ℕ
-<a href="../../operands/TypeWords/index.html#reference_word">reference_word</a> Func = codes "func"
-<a href="../../operands/TypeWords/index.html#reference_word">reference_word</a> Extern = codes "extern"
+<a href="../../operands/Names/index.html#reference_word">reference_word</a> Func = codes "func"
+<a href="../../operands/Names/index.html#reference_word">reference_word</a> Extern = codes "extern"
 
 -- whether a global can be written
 abbrev pub <b id="mutability_word">mutability_word</b> : Mutability → List ℕ
-<a href="../../operands/TypeWords/index.html#mutability_word">mutability_word</a> Const = codes "const"
-<a href="../../operands/TypeWords/index.html#mutability_word">mutability_word</a> Var = codes "var"
+<a href="../../operands/Names/index.html#mutability_word">mutability_word</a> Const = codes "const"
+<a href="../../operands/Names/index.html#mutability_word">mutability_word</a> Var = codes "var"
 
 -- two words write a reference: its type, and a number of 32 bits
 abbrev pub <b id="WritesReference">WritesReference</b> : List ℕ → List ℕ → TypedRawRef → Type 0
-<a href="../../operands/TypeWords/index.html#WritesReference">WritesReference</a> ty raw reference = (ty ≡ <a href="../../operands/TypeWords/index.html#reference_word">reference_word</a> reference.ty) × <a href="../../operands/Decimal/index.html#WritesNumber">WritesNumber</a> 32 raw reference.raw
+<a href="../../operands/Names/index.html#WritesReference">WritesReference</a> ty raw reference = (ty ≡ <a href="../../operands/Names/index.html#reference_word">reference_word</a> reference.ty) × <a href="../../operands/LineWords/index.html#WritesNumber">WritesNumber</a> 32 raw reference.raw
 
 -- the word of a value type
 abbrev pub <b id="value_word">value_word</b> : ValType → List ℕ
-<a href="../../operands/TypeWords/index.html#value_word">value_word</a> I32 = codes "i32"
-<a href="../../operands/TypeWords/index.html#value_word">value_word</a> I64 = codes "i64"
-<a href="../../operands/TypeWords/index.html#value_word">value_word</a> F32 = codes "f32"
-<a href="../../operands/TypeWords/index.html#value_word">value_word</a> F64 = codes "f64"
-<a href="../../operands/TypeWords/index.html#value_word">value_word</a> V128 = codes "v128"
-<a href="../../operands/TypeWords/index.html#value_word">value_word</a> FuncRef = codes "funcref"
-<a href="../../operands/TypeWords/index.html#value_word">value_word</a> ExternRef = codes "externref"
+<a href="../../operands/Names/index.html#value_word">value_word</a> I32 = codes "i32"
+<a href="../../operands/Names/index.html#value_word">value_word</a> I64 = codes "i64"
+<a href="../../operands/Names/index.html#value_word">value_word</a> F32 = codes "f32"
+<a href="../../operands/Names/index.html#value_word">value_word</a> F64 = codes "f64"
+<a href="../../operands/Names/index.html#value_word">value_word</a> V128 = codes "v128"
+<a href="../../operands/Names/index.html#value_word">value_word</a> FuncRef = codes "funcref"
+<a href="../../operands/Names/index.html#value_word">value_word</a> ExternRef = codes "externref"
+
+-- the word that stands for an answer
+abbrev pub <b id="answer_text">answer_text</b> : LimiterAnswer → List ℕ
+<a href="../../operands/Names/index.html#answer_text">answer_text</a> Permit = codes "permit"
+<a href="../../operands/Names/index.html#answer_text">answer_text</a> Deny = codes "deny"
+<a href="../../operands/Names/index.html#answer_text">answer_text</a> Error = codes "error"
+<a href="../../operands/Names/index.html#answer_text">answer_text</a> Complain = codes "complain"
+
+-- the word stands for this answer
+abbrev pub <b id="WritesAnswer">WritesAnswer</b> : List ℕ → LimiterAnswer → Type 0
+<a href="../../operands/Names/index.html#WritesAnswer">WritesAnswer</a> word answer = word ≡ <a href="../../operands/Names/index.html#answer_text">answer_text</a> answer
+
+-- two words are a name and an index, and the instruction is the one of this name on the lane of this index
+unfoldable pub <b id="NamesLane">NamesLane</b> : {Kind Op : Type 0} → (Kind → List ℕ) → (Kind → ℕ → Option Op) → List ℕ → List ℕ → Op
+    → Type 0
+<a href="../../operands/Names/index.html#NamesLane">NamesLane</a> {Kind} name_of op_on name lane op =
+    (kind : Kind) × (index : ℕ) × <a href="../../operands/Names/index.html#IsName">IsName</a> name_of name kind × <a href="../../operands/LineWords/index.html#WritesNumber">WritesNumber</a> 8 lane index × (op_on kind index ≡ Some op)
+
+-- two words name the extraction of a lane
+abbrev pub <b id="NamesExtract">NamesExtract</b> : List ℕ → List ℕ → ExtractOp → Type 0
+<a href="../../operands/Names/index.html#NamesExtract">NamesExtract</a> = <a href="../../operands/Names/index.html#NamesLane">NamesLane</a> <a href="../../ops/LaneKinds/index.html#extract_name">extract_name</a> <a href="../../ops/LaneKinds/index.html#extract_op">extract_op</a>
+
+-- two words name the replacement of a lane
+abbrev pub <b id="NamesReplace">NamesReplace</b> : List ℕ → List ℕ → ReplaceOp → Type 0
+<a href="../../operands/Names/index.html#NamesReplace">NamesReplace</a> = <a href="../../operands/Names/index.html#NamesLane">NamesLane</a> <a href="../../ops/LaneKinds/index.html#replace_name">replace_name</a> <a href="../../ops/LaneKinds/index.html#replace_op">replace_op</a>
+
+-- two words name the load of a lane
+abbrev pub <b id="NamesLoadLane">NamesLoadLane</b> : List ℕ → List ℕ → LoadLaneOp → Type 0
+<a href="../../operands/Names/index.html#NamesLoadLane">NamesLoadLane</a> = <a href="../../operands/Names/index.html#NamesLane">NamesLane</a> <a href="../../ops/LaneKinds/index.html#load_lane_name">load_lane_name</a> <a href="../../ops/LaneKinds/index.html#load_lane_op">load_lane_op</a>
+
+-- two words name the store of a lane
+abbrev pub <b id="NamesStoreLane">NamesStoreLane</b> : List ℕ → List ℕ → StoreLaneOp → Type 0
+<a href="../../operands/Names/index.html#NamesStoreLane">NamesStoreLane</a> = <a href="../../operands/Names/index.html#NamesLane">NamesLane</a> <a href="../../ops/LaneKinds/index.html#store_lane_name">store_lane_name</a> <a href="../../ops/LaneKinds/index.html#store_lane_op">store_lane_op</a>
+
+-- sixteen words write the lanes of a shuffle, of which there are 32 to choose from
+pub record <b id="WritesLanes">WritesLanes</b> (words : <a href="../../operands/LineWords/index.html#LineWords">LineWords</a>) (lanes : List ℕ) : Type 0 where
+  pub <b id="sixteen">sixteen</b> : length words ≡ 16
+  pub <b id="written">written</b> : <a href="../../operands/LineWords/index.html#WritesEach">WritesEach</a> (<a href="../../operands/LineWords/index.html#WritesNumber">WritesNumber</a> 5) words lanes
 </code></pre>
 "####]
-    pub mod TypeWords {}
+    pub mod Names {}
 }
 /// Definitions of `wasmi_grammar`.
 pub mod grammar {
-    #[doc = r####"What the words of a command mean.
+    #[doc = r####"What the words of a command mean, and those of a memory type or a table type.
 
-<pre><code>use Rattle.std.specs.Prelude.{◌≡◌, ℕ, ◌≤◌, List, length, codes, drop}
+<pre><code>use Rattle.std.specs.Prelude.{◌≡◌, ℕ, List, Option, ◌≤◌, length, codes, drop}
+use Rattle.wasmi_types.specs.declared.index_ty.IndexType.{IndexType}
+use Rattle.wasmi_operands.specs.LineWords.{<a href="../../operands/LineWords/index.html#WritesNumber">WritesNumber</a>, <a href="../../operands/LineWords/index.html#WritesLimit">WritesLimit</a>, <a href="../../operands/LineWords/index.html#LineWords">LineWords</a>, <a href="../../operands/LineWords/index.html#WritesEach">WritesEach</a>, <a href="../../operands/LineWords/index.html#word_at">word_at</a>}
+use Rattle.wasmi_operands.specs.Names.{<a href="../../operands/Names/index.html#width_word">width_word</a>, <a href="../../operands/Names/index.html#reference_word">reference_word</a>, <a href="../../operands/Names/index.html#value_word">value_word</a>, <a href="../../operands/Names/index.html#mutability_word">mutability_word</a>, <a href="../../operands/Names/index.html#WritesReference">WritesReference</a>, <a href="../../operands/Names/index.html#IsName">IsName</a>, <a href="../../operands/Names/index.html#NamesExtract">NamesExtract</a>, <a href="../../operands/Names/index.html#NamesReplace">NamesReplace</a>, <a href="../../operands/Names/index.html#NamesLoadLane">NamesLoadLane</a>, <a href="../../operands/Names/index.html#NamesStoreLane">NamesStoreLane</a>, <a href="../../operands/Names/index.html#WritesLanes">WritesLanes</a>}
+use Rattle.wasmi_store.specs.MemoryType.{<a href="../../store/MemoryType/index.html#MemoryTypeValue">MemoryTypeValue</a>, <a href="../../store/MemoryType/index.html#page_log2">page_log2</a>}
+use Rattle.wasmi_types.specs.declared.value.RefType.{RefType}
+use Rattle.wasmi_store.specs.TableType.{<a href="../../store/TableType/index.html#TableTypeValue">TableTypeValue</a>}
 use Rattle.wasmi_raw.specs.RawVal.{<a href="../../raw/RawVal/index.html#raw_of">raw_of</a>}
 use Rattle.wasmi_ops.specs.ScalarAccessOps.{<a href="../../ops/ScalarAccessOps/index.html#load_name">load_name</a>, <a href="../../ops/ScalarAccessOps/index.html#store_name">store_name</a>}
 use Rattle.wasmi_ops.specs.MakeOps.{<a href="../../ops/MakeOps/index.html#make_name">make_name</a>}
@@ -6482,14 +6455,55 @@ use Rattle.wasmi_ops.specs.ShiftOps.{<a href="../../ops/ShiftOps/index.html#shif
 use Rattle.wasmi_ops.specs.TestOps.{<a href="../../ops/TestOps/index.html#test_name">test_name</a>}
 use Rattle.wasmi_ops.specs.VectorAccessOps.{<a href="../../ops/VectorAccessOps/index.html#vector_load_name">vector_load_name</a>}
 use Rattle.wasmi_core.specs.declared.calls.Call.{Call}
+use Rattle.wasmi_store.specs.MemoryType as memory_type
+use Rattle.wasmi_store.specs.TableType as table_type
 use Rattle.wasmi_core.specs.declared.calls.Call.TheVariants as call
-use Rattle.wasmi_operands.specs.LineWords.{<a href="../../operands/LineWords/index.html#LineWords">LineWords</a>, <a href="../../operands/LineWords/index.html#WritesEach">WritesEach</a>, <a href="../../operands/LineWords/index.html#word_at">word_at</a>}
-use Rattle.wasmi_operands.specs.Decimal.{<a href="../../operands/Decimal/index.html#WritesNumber">WritesNumber</a>}
-use Rattle.wasmi_grammar.specs.MemoryWords.{<a href="../../grammar/MemoryWords/index.html#NamesType">NamesType</a>}
-use Rattle.wasmi_grammar.specs.TableWords.{<a href="../../grammar/TableWords/index.html#NamesTableType">NamesTableType</a>}
-use Rattle.wasmi_operands.specs.TypeWords.{<a href="../../operands/TypeWords/index.html#reference_word">reference_word</a>, <a href="../../operands/TypeWords/index.html#value_word">value_word</a>, <a href="../../operands/TypeWords/index.html#mutability_word">mutability_word</a>, <a href="../../operands/TypeWords/index.html#WritesReference">WritesReference</a>}
-use Rattle.wasmi_operands.specs.Names.{<a href="../../operands/Names/index.html#IsName">IsName</a>}
-use Rattle.wasmi_operands.specs.LaneNames.{<a href="../../operands/LaneNames/index.html#NamesExtract">NamesExtract</a>, <a href="../../operands/LaneNames/index.html#NamesReplace">NamesReplace</a>, <a href="../../operands/LaneNames/index.html#NamesLoadLane">NamesLoadLane</a>, <a href="../../operands/LaneNames/index.html#NamesStoreLane">NamesStoreLane</a>, <a href="../../operands/LaneNames/index.html#WritesLanes">WritesLanes</a>}
+
+-- the limits of a memory or of a table: the type of its indices, its minimum and its maximum, if it has one
+pub record <b id="Limits">Limits</b> : Type 0 where
+  pub <b id="index">index</b> : IndexType
+  pub <b id="minimum">minimum</b> : ℕ
+  pub <b id="maximum">maximum</b> : Option ℕ
+
+-- three words write these limits: the minimum, the maximum and the width of the indices
+pub record <b id="WritesLimits">WritesLimits</b> (<a href="../../grammar/Commands/index.html#minimum">minimum</a> <a href="../../grammar/Commands/index.html#maximum">maximum</a> width : List ℕ) (limits : <a href="../../grammar/Commands/index.html#Limits">Limits</a>) : Type 0 where
+  pub <b id="minimum_word">minimum_word</b> : <a href="../../operands/LineWords/index.html#WritesNumber">WritesNumber</a> 64 <a href="../../grammar/Commands/index.html#minimum">minimum</a> limits.minimum
+  pub <b id="maximum_word">maximum_word</b> : <a href="../../operands/LineWords/index.html#WritesLimit">WritesLimit</a> <a href="../../grammar/Commands/index.html#maximum">maximum</a> limits.maximum
+  pub <b id="width_text">width_text</b> : width ≡ <a href="../../operands/Names/index.html#width_word">width_word</a> limits.index
+
+-- the limits of a memory type
+abbrev pub <b id="memory_limits">memory_limits</b> : <a href="../../store/MemoryType/index.html#MemoryTypeValue">MemoryTypeValue</a> → <a href="../../grammar/Commands/index.html#Limits">Limits</a>
+<a href="../../grammar/Commands/index.html#memory_limits">memory_limits</a> ty = record { <a href="../../grammar/Commands/index.html#index">index</a> = ty.index; <a href="../../grammar/Commands/index.html#minimum">minimum</a> = ty.minimum; <a href="../../grammar/Commands/index.html#maximum">maximum</a> = ty.maximum }
+
+-- a memory type, which there is, of these limits and this page size
+pub record <b id="HasSettings">HasSettings</b> (limits : <a href="../../grammar/Commands/index.html#Limits">Limits</a>) (log2 : ℕ) (ty : <a href="../../store/MemoryType/index.html#MemoryTypeValue">MemoryTypeValue</a>) : Type 0 where
+  pub <b id="same_limits">same_limits</b> : <a href="../../grammar/Commands/index.html#memory_limits">memory_limits</a> ty ≡ limits
+  pub <b id="same_log2">same_log2</b> : <a href="../../store/MemoryType/index.html#page_log2">page_log2</a> ty.page ≡ log2
+  pub <b id="valid">valid</b> : <a href="../../store/MemoryType/index.html#IsValid">memory_type.IsValid</a> ty
+
+-- four words name this memory type, which there is: its minimum, its maximum, its page size and the width of its
+-- addresses
+pub record <b id="NamesType">NamesType</b> (<a href="../../grammar/Commands/index.html#minimum">minimum</a> <a href="../../grammar/Commands/index.html#maximum">maximum</a> log2 width : List ℕ) (ty : <a href="../../store/MemoryType/index.html#MemoryTypeValue">MemoryTypeValue</a>) : Type 0 where
+  pub <b id="limits_words">limits_words</b> : <a href="../../grammar/Commands/index.html#WritesLimits">WritesLimits</a> <a href="../../grammar/Commands/index.html#minimum">minimum</a> <a href="../../grammar/Commands/index.html#maximum">maximum</a> width (<a href="../../grammar/Commands/index.html#memory_limits">memory_limits</a> ty)
+  pub <b id="log2_word">log2_word</b> : <a href="../../operands/LineWords/index.html#WritesNumber">WritesNumber</a> 8 log2 (<a href="../../store/MemoryType/index.html#page_log2">page_log2</a> ty.page)
+  pub <b id="valid">valid</b> : <a href="../../store/MemoryType/index.html#IsValid">memory_type.IsValid</a> ty
+
+-- the limits of a table type
+abbrev pub <b id="table_limits">table_limits</b> : <a href="../../store/TableType/index.html#TableTypeValue">TableTypeValue</a> → <a href="../../grammar/Commands/index.html#Limits">Limits</a>
+<a href="../../grammar/Commands/index.html#table_limits">table_limits</a> ty = record { <a href="../../grammar/Commands/index.html#index">index</a> = ty.index; <a href="../../grammar/Commands/index.html#minimum">minimum</a> = ty.minimum; <a href="../../grammar/Commands/index.html#maximum">maximum</a> = ty.maximum }
+
+-- a table type, which there is, of these limits and this type of elements
+pub record <b id="HasLimits">HasLimits</b> (limits : <a href="../../grammar/Commands/index.html#Limits">Limits</a>) (element : RefType) (ty : <a href="../../store/TableType/index.html#TableTypeValue">TableTypeValue</a>) : Type 0 where
+  pub <b id="same_limits">same_limits</b> : <a href="../../grammar/Commands/index.html#table_limits">table_limits</a> ty ≡ limits
+  pub <b id="same_element">same_element</b> : ty.element ≡ element
+  pub <b id="valid">valid</b> : <a href="../../store/TableType/index.html#IsValid">table_type.IsValid</a> ty
+
+-- four words name this table type, which there is: the type of its elements, its minimum, its maximum and the width of
+-- its indices
+pub record <b id="NamesTableType">NamesTableType</b> (element <a href="../../grammar/Commands/index.html#minimum">minimum</a> <a href="../../grammar/Commands/index.html#maximum">maximum</a> width : List ℕ) (ty : <a href="../../store/TableType/index.html#TableTypeValue">TableTypeValue</a>) : Type 0 where
+  pub <b id="element_text">element_text</b> : element ≡ <a href="../../operands/Names/index.html#reference_word">reference_word</a> ty.element
+  pub <b id="limits_words">limits_words</b> : <a href="../../grammar/Commands/index.html#WritesLimits">WritesLimits</a> <a href="../../grammar/Commands/index.html#minimum">minimum</a> <a href="../../grammar/Commands/index.html#maximum">maximum</a> width (<a href="../../grammar/Commands/index.html#table_limits">table_limits</a> ty)
+  pub <b id="valid">valid</b> : <a href="../../store/TableType/index.html#IsValid">table_type.IsValid</a> ty
 
 -- the word that a command begins with
 abbrev pub <b id="command_word">command_word</b> : Call → List ℕ
@@ -6506,8 +6520,8 @@ abbrev pub <b id="command_word">command_word</b> : Call → List ℕ
 <a href="../../grammar/Commands/index.html#command_word">command_word</a> (call.NewTable ty init) = codes "table"
 <a href="../../grammar/Commands/index.html#command_word">command_word</a> (call.GrowTable table delta init) = codes "tgrow"
 <a href="../../grammar/Commands/index.html#command_word">command_word</a> (call.DropTable table) = codes "drop"
-<a href="../../grammar/Commands/index.html#command_word">command_word</a> (call.GetElement table index) = codes "get"
-<a href="../../grammar/Commands/index.html#command_word">command_word</a> (call.SetElement table index value) = codes "tset"
+<a href="../../grammar/Commands/index.html#command_word">command_word</a> (call.GetElement table <a href="../../grammar/Commands/index.html#index">index</a>) = codes "get"
+<a href="../../grammar/Commands/index.html#command_word">command_word</a> (call.SetElement table <a href="../../grammar/Commands/index.html#index">index</a> value) = codes "tset"
 <a href="../../grammar/Commands/index.html#command_word">command_word</a> (call.InitTable table segment dst src len) = codes "init"
 <a href="../../grammar/Commands/index.html#command_word">command_word</a> (call.CopyTable dst_table dst src_table src len) = codes "copy"
 <a href="../../grammar/Commands/index.html#command_word">command_word</a> (call.FillTable table dst value len) = codes "fill"
@@ -6534,91 +6548,91 @@ abbrev pub <b id="command_word">command_word</b> : Call → List ℕ
 
 -- so many operands, the k-th of which is the text `word k`, write what the call is given, but for a list at their end
 abbrev pub <b id="OperandsWrite">OperandsWrite</b> : ℕ → (ℕ → List ℕ) → Call → Type 0
-<a href="../../grammar/Commands/index.html#OperandsWrite">OperandsWrite</a> count word (call.SetFuel fuel) = (count ≡ 1) × <a href="../../operands/Decimal/index.html#WritesNumber">WritesNumber</a> 64 (word 0) fuel
+<a href="../../grammar/Commands/index.html#OperandsWrite">OperandsWrite</a> count word (call.SetFuel fuel) = (count ≡ 1) × <a href="../../operands/LineWords/index.html#WritesNumber">WritesNumber</a> 64 (word 0) fuel
 <a href="../../grammar/Commands/index.html#OperandsWrite">OperandsWrite</a> count word call.GetFuel = count ≡ 0
-<a href="../../grammar/Commands/index.html#OperandsWrite">OperandsWrite</a> count word (call.NewMemory ty) = (count ≡ 4) × <a href="../../grammar/MemoryWords/index.html#NamesType">NamesType</a> (word 0) (word 1) (word 2) (word 3) ty
-<a href="../../grammar/Commands/index.html#OperandsWrite">OperandsWrite</a> count word (call.NewLentMemory ty) = (count ≡ 4) × <a href="../../grammar/MemoryWords/index.html#NamesType">NamesType</a> (word 0) (word 1) (word 2) (word 3) ty
+<a href="../../grammar/Commands/index.html#OperandsWrite">OperandsWrite</a> count word (call.NewMemory ty) = (count ≡ 4) × <a href="../../grammar/Commands/index.html#NamesType">NamesType</a> (word 0) (word 1) (word 2) (word 3) ty
+<a href="../../grammar/Commands/index.html#OperandsWrite">OperandsWrite</a> count word (call.NewLentMemory ty) = (count ≡ 4) × <a href="../../grammar/Commands/index.html#NamesType">NamesType</a> (word 0) (word 1) (word 2) (word 3) ty
 <a href="../../grammar/Commands/index.html#OperandsWrite">OperandsWrite</a> count word (call.GrowMemory memory pages) =
-    (count ≡ 2) × <a href="../../operands/Decimal/index.html#WritesNumber">WritesNumber</a> 64 (word 0) memory × <a href="../../operands/Decimal/index.html#WritesNumber">WritesNumber</a> 64 (word 1) pages
+    (count ≡ 2) × <a href="../../operands/LineWords/index.html#WritesNumber">WritesNumber</a> 64 (word 0) memory × <a href="../../operands/LineWords/index.html#WritesNumber">WritesNumber</a> 64 (word 1) pages
 <a href="../../grammar/Commands/index.html#OperandsWrite">OperandsWrite</a> count word (call.DropMemory memory) =
-    (count ≡ 2) × (word 0 ≡ codes "memory") × <a href="../../operands/Decimal/index.html#WritesNumber">WritesNumber</a> 64 (word 1) memory
+    (count ≡ 2) × (word 0 ≡ codes "memory") × <a href="../../operands/LineWords/index.html#WritesNumber">WritesNumber</a> 64 (word 1) memory
 <a href="../../grammar/Commands/index.html#OperandsWrite">OperandsWrite</a> count word (call.Read memory offset len) =
-    (count ≡ 3) × <a href="../../operands/Decimal/index.html#WritesNumber">WritesNumber</a> 64 (word 0) memory × <a href="../../operands/Decimal/index.html#WritesNumber">WritesNumber</a> 64 (word 1) offset × <a href="../../operands/Decimal/index.html#WritesNumber">WritesNumber</a> 64 (word 2) len
+    (count ≡ 3) × <a href="../../operands/LineWords/index.html#WritesNumber">WritesNumber</a> 64 (word 0) memory × <a href="../../operands/LineWords/index.html#WritesNumber">WritesNumber</a> 64 (word 1) offset × <a href="../../operands/LineWords/index.html#WritesNumber">WritesNumber</a> 64 (word 2) len
 <a href="../../grammar/Commands/index.html#OperandsWrite">OperandsWrite</a> count word (call.Write memory offset bytes) =
-    (2 ≤ count) × <a href="../../operands/Decimal/index.html#WritesNumber">WritesNumber</a> 64 (word 0) memory × <a href="../../operands/Decimal/index.html#WritesNumber">WritesNumber</a> 64 (word 1) offset
+    (2 ≤ count) × <a href="../../operands/LineWords/index.html#WritesNumber">WritesNumber</a> 64 (word 0) memory × <a href="../../operands/LineWords/index.html#WritesNumber">WritesNumber</a> 64 (word 1) offset
 <a href="../../grammar/Commands/index.html#OperandsWrite">OperandsWrite</a> count word (call.Load op memory ptr offset) = (count ≡ 4) × <a href="../../operands/Names/index.html#IsName">IsName</a> <a href="../../ops/ScalarAccessOps/index.html#load_name">load_name</a> (word 0) op
-    × <a href="../../operands/Decimal/index.html#WritesNumber">WritesNumber</a> 64 (word 1) memory × <a href="../../operands/Decimal/index.html#WritesNumber">WritesNumber</a> 64 (word 2) ptr × <a href="../../operands/Decimal/index.html#WritesNumber">WritesNumber</a> 64 (word 3) offset
+    × <a href="../../operands/LineWords/index.html#WritesNumber">WritesNumber</a> 64 (word 1) memory × <a href="../../operands/LineWords/index.html#WritesNumber">WritesNumber</a> 64 (word 2) ptr × <a href="../../operands/LineWords/index.html#WritesNumber">WritesNumber</a> 64 (word 3) offset
 <a href="../../grammar/Commands/index.html#OperandsWrite">OperandsWrite</a> count word (call.Store op memory ptr offset value) = (count ≡ 5) × <a href="../../operands/Names/index.html#IsName">IsName</a> <a href="../../ops/ScalarAccessOps/index.html#store_name">store_name</a> (word 0) op
-    × <a href="../../operands/Decimal/index.html#WritesNumber">WritesNumber</a> 64 (word 1) memory × <a href="../../operands/Decimal/index.html#WritesNumber">WritesNumber</a> 64 (word 2) ptr × <a href="../../operands/Decimal/index.html#WritesNumber">WritesNumber</a> 64 (word 3) offset × (lo : ℕ)
-    × <a href="../../operands/Decimal/index.html#WritesNumber">WritesNumber</a> 64 (word 4) lo × (value ≡ <a href="../../raw/RawVal/index.html#raw_of">raw_of</a> lo)
+    × <a href="../../operands/LineWords/index.html#WritesNumber">WritesNumber</a> 64 (word 1) memory × <a href="../../operands/LineWords/index.html#WritesNumber">WritesNumber</a> 64 (word 2) ptr × <a href="../../operands/LineWords/index.html#WritesNumber">WritesNumber</a> 64 (word 3) offset × (lo : ℕ)
+    × <a href="../../operands/LineWords/index.html#WritesNumber">WritesNumber</a> 64 (word 4) lo × (value ≡ <a href="../../raw/RawVal/index.html#raw_of">raw_of</a> lo)
 <a href="../../grammar/Commands/index.html#OperandsWrite">OperandsWrite</a> count word (call.NewTable ty init) =
-    (count ≡ 6) × <a href="../../grammar/TableWords/index.html#NamesTableType">NamesTableType</a> (word 0) (word 1) (word 2) (word 3) ty × <a href="../../operands/TypeWords/index.html#WritesReference">WritesReference</a> (word 4) (word 5) init
-<a href="../../grammar/Commands/index.html#OperandsWrite">OperandsWrite</a> count word (call.GrowTable table delta init) = (count ≡ 4) × <a href="../../operands/Decimal/index.html#WritesNumber">WritesNumber</a> 64 (word 0) table
-    × <a href="../../operands/Decimal/index.html#WritesNumber">WritesNumber</a> 64 (word 1) delta × <a href="../../operands/TypeWords/index.html#WritesReference">WritesReference</a> (word 2) (word 3) init
+    (count ≡ 6) × <a href="../../grammar/Commands/index.html#NamesTableType">NamesTableType</a> (word 0) (word 1) (word 2) (word 3) ty × <a href="../../operands/Names/index.html#WritesReference">WritesReference</a> (word 4) (word 5) init
+<a href="../../grammar/Commands/index.html#OperandsWrite">OperandsWrite</a> count word (call.GrowTable table delta init) = (count ≡ 4) × <a href="../../operands/LineWords/index.html#WritesNumber">WritesNumber</a> 64 (word 0) table
+    × <a href="../../operands/LineWords/index.html#WritesNumber">WritesNumber</a> 64 (word 1) delta × <a href="../../operands/Names/index.html#WritesReference">WritesReference</a> (word 2) (word 3) init
 <a href="../../grammar/Commands/index.html#OperandsWrite">OperandsWrite</a> count word (call.DropTable table) =
-    (count ≡ 2) × (word 0 ≡ codes "table") × <a href="../../operands/Decimal/index.html#WritesNumber">WritesNumber</a> 64 (word 1) table
-<a href="../../grammar/Commands/index.html#OperandsWrite">OperandsWrite</a> count word (call.GetElement table index) =
-    (count ≡ 2) × <a href="../../operands/Decimal/index.html#WritesNumber">WritesNumber</a> 64 (word 0) table × <a href="../../operands/Decimal/index.html#WritesNumber">WritesNumber</a> 64 (word 1) index
-<a href="../../grammar/Commands/index.html#OperandsWrite">OperandsWrite</a> count word (call.SetElement table index value) = (count ≡ 4) × <a href="../../operands/Decimal/index.html#WritesNumber">WritesNumber</a> 64 (word 0) table
-    × <a href="../../operands/Decimal/index.html#WritesNumber">WritesNumber</a> 64 (word 1) index × <a href="../../operands/TypeWords/index.html#WritesReference">WritesReference</a> (word 2) (word 3) value
-<a href="../../grammar/Commands/index.html#OperandsWrite">OperandsWrite</a> count word (call.InitTable table segment dst src len) = (count ≡ 5) × <a href="../../operands/Decimal/index.html#WritesNumber">WritesNumber</a> 64 (word 0) table
-    × <a href="../../operands/Decimal/index.html#WritesNumber">WritesNumber</a> 64 (word 1) segment × <a href="../../operands/Decimal/index.html#WritesNumber">WritesNumber</a> 64 (word 2) dst × <a href="../../operands/Decimal/index.html#WritesNumber">WritesNumber</a> 32 (word 3) src
-    × <a href="../../operands/Decimal/index.html#WritesNumber">WritesNumber</a> 32 (word 4) len
+    (count ≡ 2) × (word 0 ≡ codes "table") × <a href="../../operands/LineWords/index.html#WritesNumber">WritesNumber</a> 64 (word 1) table
+<a href="../../grammar/Commands/index.html#OperandsWrite">OperandsWrite</a> count word (call.GetElement table <a href="../../grammar/Commands/index.html#index">index</a>) =
+    (count ≡ 2) × <a href="../../operands/LineWords/index.html#WritesNumber">WritesNumber</a> 64 (word 0) table × <a href="../../operands/LineWords/index.html#WritesNumber">WritesNumber</a> 64 (word 1) <a href="../../grammar/Commands/index.html#index">index</a>
+<a href="../../grammar/Commands/index.html#OperandsWrite">OperandsWrite</a> count word (call.SetElement table <a href="../../grammar/Commands/index.html#index">index</a> value) = (count ≡ 4) × <a href="../../operands/LineWords/index.html#WritesNumber">WritesNumber</a> 64 (word 0) table
+    × <a href="../../operands/LineWords/index.html#WritesNumber">WritesNumber</a> 64 (word 1) <a href="../../grammar/Commands/index.html#index">index</a> × <a href="../../operands/Names/index.html#WritesReference">WritesReference</a> (word 2) (word 3) value
+<a href="../../grammar/Commands/index.html#OperandsWrite">OperandsWrite</a> count word (call.InitTable table segment dst src len) = (count ≡ 5) × <a href="../../operands/LineWords/index.html#WritesNumber">WritesNumber</a> 64 (word 0) table
+    × <a href="../../operands/LineWords/index.html#WritesNumber">WritesNumber</a> 64 (word 1) segment × <a href="../../operands/LineWords/index.html#WritesNumber">WritesNumber</a> 64 (word 2) dst × <a href="../../operands/LineWords/index.html#WritesNumber">WritesNumber</a> 32 (word 3) src
+    × <a href="../../operands/LineWords/index.html#WritesNumber">WritesNumber</a> 32 (word 4) len
 <a href="../../grammar/Commands/index.html#OperandsWrite">OperandsWrite</a> count word (call.CopyTable dst_table dst src_table src len) =
-    (count ≡ 5) × <a href="../../operands/Decimal/index.html#WritesNumber">WritesNumber</a> 64 (word 0) dst_table
-    × <a href="../../operands/Decimal/index.html#WritesNumber">WritesNumber</a> 64 (word 1) dst × <a href="../../operands/Decimal/index.html#WritesNumber">WritesNumber</a> 64 (word 2) src_table × <a href="../../operands/Decimal/index.html#WritesNumber">WritesNumber</a> 64 (word 3) src
-    × <a href="../../operands/Decimal/index.html#WritesNumber">WritesNumber</a> 64 (word 4) len
-<a href="../../grammar/Commands/index.html#OperandsWrite">OperandsWrite</a> count word (call.FillTable table dst value len) = (count ≡ 5) × <a href="../../operands/Decimal/index.html#WritesNumber">WritesNumber</a> 64 (word 0) table
-    × <a href="../../operands/Decimal/index.html#WritesNumber">WritesNumber</a> 64 (word 1) dst × <a href="../../operands/TypeWords/index.html#WritesReference">WritesReference</a> (word 2) (word 3) value × <a href="../../operands/Decimal/index.html#WritesNumber">WritesNumber</a> 64 (word 4) len
-<a href="../../grammar/Commands/index.html#OperandsWrite">OperandsWrite</a> count word (call.NewSegment ty items) = (1 ≤ count) × (word 0 ≡ <a href="../../operands/TypeWords/index.html#reference_word">reference_word</a> ty)
-<a href="../../grammar/Commands/index.html#OperandsWrite">OperandsWrite</a> count word (call.DropItems segment) = (count ≡ 1) × <a href="../../operands/Decimal/index.html#WritesNumber">WritesNumber</a> 64 (word 0) segment
-<a href="../../grammar/Commands/index.html#OperandsWrite">OperandsWrite</a> count word (call.NewGlobal value ty) = (count ≡ 4) × (word 0 ≡ <a href="../../operands/TypeWords/index.html#value_word">value_word</a> ty.content)
-    × (word 1 ≡ <a href="../../operands/TypeWords/index.html#mutability_word">mutability_word</a> ty.mutability) × <a href="../../operands/Decimal/index.html#WritesNumber">WritesNumber</a> 64 (word 2) value.lo × <a href="../../operands/Decimal/index.html#WritesNumber">WritesNumber</a> 64 (word 3) value.hi
-<a href="../../grammar/Commands/index.html#OperandsWrite">OperandsWrite</a> count word (call.SetGlobal global value) = (count ≡ 4) × <a href="../../operands/Decimal/index.html#WritesNumber">WritesNumber</a> 64 (word 0) global
-    × (word 1 ≡ <a href="../../operands/TypeWords/index.html#value_word">value_word</a> value.ty) × <a href="../../operands/Decimal/index.html#WritesNumber">WritesNumber</a> 64 (word 2) value.raw.lo × <a href="../../operands/Decimal/index.html#WritesNumber">WritesNumber</a> 64 (word 3) value.raw.hi
-<a href="../../grammar/Commands/index.html#OperandsWrite">OperandsWrite</a> count word (call.GetGlobal global) = (count ≡ 1) × <a href="../../operands/Decimal/index.html#WritesNumber">WritesNumber</a> 64 (word 0) global
+    (count ≡ 5) × <a href="../../operands/LineWords/index.html#WritesNumber">WritesNumber</a> 64 (word 0) dst_table
+    × <a href="../../operands/LineWords/index.html#WritesNumber">WritesNumber</a> 64 (word 1) dst × <a href="../../operands/LineWords/index.html#WritesNumber">WritesNumber</a> 64 (word 2) src_table × <a href="../../operands/LineWords/index.html#WritesNumber">WritesNumber</a> 64 (word 3) src
+    × <a href="../../operands/LineWords/index.html#WritesNumber">WritesNumber</a> 64 (word 4) len
+<a href="../../grammar/Commands/index.html#OperandsWrite">OperandsWrite</a> count word (call.FillTable table dst value len) = (count ≡ 5) × <a href="../../operands/LineWords/index.html#WritesNumber">WritesNumber</a> 64 (word 0) table
+    × <a href="../../operands/LineWords/index.html#WritesNumber">WritesNumber</a> 64 (word 1) dst × <a href="../../operands/Names/index.html#WritesReference">WritesReference</a> (word 2) (word 3) value × <a href="../../operands/LineWords/index.html#WritesNumber">WritesNumber</a> 64 (word 4) len
+<a href="../../grammar/Commands/index.html#OperandsWrite">OperandsWrite</a> count word (call.NewSegment ty items) = (1 ≤ count) × (word 0 ≡ <a href="../../operands/Names/index.html#reference_word">reference_word</a> ty)
+<a href="../../grammar/Commands/index.html#OperandsWrite">OperandsWrite</a> count word (call.DropItems segment) = (count ≡ 1) × <a href="../../operands/LineWords/index.html#WritesNumber">WritesNumber</a> 64 (word 0) segment
+<a href="../../grammar/Commands/index.html#OperandsWrite">OperandsWrite</a> count word (call.NewGlobal value ty) = (count ≡ 4) × (word 0 ≡ <a href="../../operands/Names/index.html#value_word">value_word</a> ty.content)
+    × (word 1 ≡ <a href="../../operands/Names/index.html#mutability_word">mutability_word</a> ty.mutability) × <a href="../../operands/LineWords/index.html#WritesNumber">WritesNumber</a> 64 (word 2) value.lo × <a href="../../operands/LineWords/index.html#WritesNumber">WritesNumber</a> 64 (word 3) value.hi
+<a href="../../grammar/Commands/index.html#OperandsWrite">OperandsWrite</a> count word (call.SetGlobal global value) = (count ≡ 4) × <a href="../../operands/LineWords/index.html#WritesNumber">WritesNumber</a> 64 (word 0) global
+    × (word 1 ≡ <a href="../../operands/Names/index.html#value_word">value_word</a> value.ty) × <a href="../../operands/LineWords/index.html#WritesNumber">WritesNumber</a> 64 (word 2) value.raw.lo × <a href="../../operands/LineWords/index.html#WritesNumber">WritesNumber</a> 64 (word 3) value.raw.hi
+<a href="../../grammar/Commands/index.html#OperandsWrite">OperandsWrite</a> count word (call.GetGlobal global) = (count ≡ 1) × <a href="../../operands/LineWords/index.html#WritesNumber">WritesNumber</a> 64 (word 0) global
 <a href="../../grammar/Commands/index.html#OperandsWrite">OperandsWrite</a> count word (call.SetRegister dst value) =
-    (count ≡ 3) × <a href="../../operands/Decimal/index.html#WritesNumber">WritesNumber</a> 8 (word 0) dst × <a href="../../operands/Decimal/index.html#WritesNumber">WritesNumber</a> 64 (word 1) value.lo × <a href="../../operands/Decimal/index.html#WritesNumber">WritesNumber</a> 64 (word 2) value.hi
-<a href="../../grammar/Commands/index.html#OperandsWrite">OperandsWrite</a> count word (call.GetRegister a) = (count ≡ 1) × <a href="../../operands/Decimal/index.html#WritesNumber">WritesNumber</a> 8 (word 0) a
+    (count ≡ 3) × <a href="../../operands/LineWords/index.html#WritesNumber">WritesNumber</a> 8 (word 0) dst × <a href="../../operands/LineWords/index.html#WritesNumber">WritesNumber</a> 64 (word 1) value.lo × <a href="../../operands/LineWords/index.html#WritesNumber">WritesNumber</a> 64 (word 2) value.hi
+<a href="../../grammar/Commands/index.html#OperandsWrite">OperandsWrite</a> count word (call.GetRegister a) = (count ≡ 1) × <a href="../../operands/LineWords/index.html#WritesNumber">WritesNumber</a> 8 (word 0) a
 <a href="../../grammar/Commands/index.html#OperandsWrite">OperandsWrite</a> count word (call.Make op dst a) =
-    (count ≡ 3) × <a href="../../operands/Names/index.html#IsName">IsName</a> <a href="../../ops/MakeOps/index.html#make_name">make_name</a> (word 0) op × <a href="../../operands/Decimal/index.html#WritesNumber">WritesNumber</a> 8 (word 1) dst × <a href="../../operands/Decimal/index.html#WritesNumber">WritesNumber</a> 8 (word 2) a
+    (count ≡ 3) × <a href="../../operands/Names/index.html#IsName">IsName</a> <a href="../../ops/MakeOps/index.html#make_name">make_name</a> (word 0) op × <a href="../../operands/LineWords/index.html#WritesNumber">WritesNumber</a> 8 (word 1) dst × <a href="../../operands/LineWords/index.html#WritesNumber">WritesNumber</a> 8 (word 2) a
 <a href="../../grammar/Commands/index.html#OperandsWrite">OperandsWrite</a> count word (call.Unary op dst a) =
-    (count ≡ 3) × <a href="../../operands/Names/index.html#IsName">IsName</a> <a href="../../ops/UnaryOps/index.html#unary_name">unary_name</a> (word 0) op × <a href="../../operands/Decimal/index.html#WritesNumber">WritesNumber</a> 8 (word 1) dst × <a href="../../operands/Decimal/index.html#WritesNumber">WritesNumber</a> 8 (word 2) a
+    (count ≡ 3) × <a href="../../operands/Names/index.html#IsName">IsName</a> <a href="../../ops/UnaryOps/index.html#unary_name">unary_name</a> (word 0) op × <a href="../../operands/LineWords/index.html#WritesNumber">WritesNumber</a> 8 (word 1) dst × <a href="../../operands/LineWords/index.html#WritesNumber">WritesNumber</a> 8 (word 2) a
 <a href="../../grammar/Commands/index.html#OperandsWrite">OperandsWrite</a> count word (call.Binary op dst a b) = (count ≡ 4) × <a href="../../operands/Names/index.html#IsName">IsName</a> <a href="../../ops/BinaryOps/index.html#binary_name">binary_name</a> (word 0) op
-    × <a href="../../operands/Decimal/index.html#WritesNumber">WritesNumber</a> 8 (word 1) dst × <a href="../../operands/Decimal/index.html#WritesNumber">WritesNumber</a> 8 (word 2) a × <a href="../../operands/Decimal/index.html#WritesNumber">WritesNumber</a> 8 (word 3) b
+    × <a href="../../operands/LineWords/index.html#WritesNumber">WritesNumber</a> 8 (word 1) dst × <a href="../../operands/LineWords/index.html#WritesNumber">WritesNumber</a> 8 (word 2) a × <a href="../../operands/LineWords/index.html#WritesNumber">WritesNumber</a> 8 (word 3) b
 <a href="../../grammar/Commands/index.html#OperandsWrite">OperandsWrite</a> count word (call.Ternary op dst a b c) = (count ≡ 5) × <a href="../../operands/Names/index.html#IsName">IsName</a> <a href="../../ops/TernaryOps/index.html#ternary_name">ternary_name</a> (word 0) op
-    × <a href="../../operands/Decimal/index.html#WritesNumber">WritesNumber</a> 8 (word 1) dst × <a href="../../operands/Decimal/index.html#WritesNumber">WritesNumber</a> 8 (word 2) a × <a href="../../operands/Decimal/index.html#WritesNumber">WritesNumber</a> 8 (word 3) b × <a href="../../operands/Decimal/index.html#WritesNumber">WritesNumber</a> 8 (word 4) c
+    × <a href="../../operands/LineWords/index.html#WritesNumber">WritesNumber</a> 8 (word 1) dst × <a href="../../operands/LineWords/index.html#WritesNumber">WritesNumber</a> 8 (word 2) a × <a href="../../operands/LineWords/index.html#WritesNumber">WritesNumber</a> 8 (word 3) b × <a href="../../operands/LineWords/index.html#WritesNumber">WritesNumber</a> 8 (word 4) c
 <a href="../../grammar/Commands/index.html#OperandsWrite">OperandsWrite</a> count word (call.Shift op dst a amount) = (count ≡ 4) × <a href="../../operands/Names/index.html#IsName">IsName</a> <a href="../../ops/ShiftOps/index.html#shift_name">shift_name</a> (word 0) op
-    × <a href="../../operands/Decimal/index.html#WritesNumber">WritesNumber</a> 8 (word 1) dst × <a href="../../operands/Decimal/index.html#WritesNumber">WritesNumber</a> 8 (word 2) a × <a href="../../operands/Decimal/index.html#WritesNumber">WritesNumber</a> 32 (word 3) amount
-<a href="../../grammar/Commands/index.html#OperandsWrite">OperandsWrite</a> count word (call.Test op a) = (count ≡ 2) × <a href="../../operands/Names/index.html#IsName">IsName</a> <a href="../../ops/TestOps/index.html#test_name">test_name</a> (word 0) op × <a href="../../operands/Decimal/index.html#WritesNumber">WritesNumber</a> 8 (word 1) a
+    × <a href="../../operands/LineWords/index.html#WritesNumber">WritesNumber</a> 8 (word 1) dst × <a href="../../operands/LineWords/index.html#WritesNumber">WritesNumber</a> 8 (word 2) a × <a href="../../operands/LineWords/index.html#WritesNumber">WritesNumber</a> 32 (word 3) amount
+<a href="../../grammar/Commands/index.html#OperandsWrite">OperandsWrite</a> count word (call.Test op a) = (count ≡ 2) × <a href="../../operands/Names/index.html#IsName">IsName</a> <a href="../../ops/TestOps/index.html#test_name">test_name</a> (word 0) op × <a href="../../operands/LineWords/index.html#WritesNumber">WritesNumber</a> 8 (word 1) a
 <a href="../../grammar/Commands/index.html#OperandsWrite">OperandsWrite</a> count word (call.Extract op a) =
-    (count ≡ 3) × <a href="../../operands/LaneNames/index.html#NamesExtract">NamesExtract</a> (word 0) (word 2) op × <a href="../../operands/Decimal/index.html#WritesNumber">WritesNumber</a> 8 (word 1) a
-<a href="../../grammar/Commands/index.html#OperandsWrite">OperandsWrite</a> count word (call.Replace op dst a item) = (count ≡ 5) × <a href="../../operands/LaneNames/index.html#NamesReplace">NamesReplace</a> (word 0) (word 3) op
-    × <a href="../../operands/Decimal/index.html#WritesNumber">WritesNumber</a> 8 (word 1) dst × <a href="../../operands/Decimal/index.html#WritesNumber">WritesNumber</a> 8 (word 2) a × <a href="../../operands/Decimal/index.html#WritesNumber">WritesNumber</a> 8 (word 4) item
+    (count ≡ 3) × <a href="../../operands/Names/index.html#NamesExtract">NamesExtract</a> (word 0) (word 2) op × <a href="../../operands/LineWords/index.html#WritesNumber">WritesNumber</a> 8 (word 1) a
+<a href="../../grammar/Commands/index.html#OperandsWrite">OperandsWrite</a> count word (call.Replace op dst a item) = (count ≡ 5) × <a href="../../operands/Names/index.html#NamesReplace">NamesReplace</a> (word 0) (word 3) op
+    × <a href="../../operands/LineWords/index.html#WritesNumber">WritesNumber</a> 8 (word 1) dst × <a href="../../operands/LineWords/index.html#WritesNumber">WritesNumber</a> 8 (word 2) a × <a href="../../operands/LineWords/index.html#WritesNumber">WritesNumber</a> 8 (word 4) item
 <a href="../../grammar/Commands/index.html#OperandsWrite">OperandsWrite</a> count word (call.Shuffle dst a b lanes) =
-    (3 ≤ count) × <a href="../../operands/Decimal/index.html#WritesNumber">WritesNumber</a> 8 (word 0) dst × <a href="../../operands/Decimal/index.html#WritesNumber">WritesNumber</a> 8 (word 1) a × <a href="../../operands/Decimal/index.html#WritesNumber">WritesNumber</a> 8 (word 2) b
+    (3 ≤ count) × <a href="../../operands/LineWords/index.html#WritesNumber">WritesNumber</a> 8 (word 0) dst × <a href="../../operands/LineWords/index.html#WritesNumber">WritesNumber</a> 8 (word 1) a × <a href="../../operands/LineWords/index.html#WritesNumber">WritesNumber</a> 8 (word 2) b
 <a href="../../grammar/Commands/index.html#OperandsWrite">OperandsWrite</a> count word (call.VectorLoad op dst memory ptr offset) = (count ≡ 5) × <a href="../../operands/Names/index.html#IsName">IsName</a> <a href="../../ops/VectorAccessOps/index.html#vector_load_name">vector_load_name</a> (word 0) op
-    × <a href="../../operands/Decimal/index.html#WritesNumber">WritesNumber</a> 8 (word 1) dst × <a href="../../operands/Decimal/index.html#WritesNumber">WritesNumber</a> 64 (word 2) memory × <a href="../../operands/Decimal/index.html#WritesNumber">WritesNumber</a> 64 (word 3) ptr
-    × <a href="../../operands/Decimal/index.html#WritesNumber">WritesNumber</a> 64 (word 4) offset
-<a href="../../grammar/Commands/index.html#OperandsWrite">OperandsWrite</a> count word (call.LoadLane op dst a memory ptr offset) = (count ≡ 7) × <a href="../../operands/LaneNames/index.html#NamesLoadLane">NamesLoadLane</a> (word 0) (word 3) op
-    × <a href="../../operands/Decimal/index.html#WritesNumber">WritesNumber</a> 8 (word 1) dst × <a href="../../operands/Decimal/index.html#WritesNumber">WritesNumber</a> 8 (word 2) a × <a href="../../operands/Decimal/index.html#WritesNumber">WritesNumber</a> 64 (word 4) memory
-    × <a href="../../operands/Decimal/index.html#WritesNumber">WritesNumber</a> 64 (word 5) ptr × <a href="../../operands/Decimal/index.html#WritesNumber">WritesNumber</a> 64 (word 6) offset
-<a href="../../grammar/Commands/index.html#OperandsWrite">OperandsWrite</a> count word (call.VectorStore a memory ptr offset) = (count ≡ 4) × <a href="../../operands/Decimal/index.html#WritesNumber">WritesNumber</a> 8 (word 0) a
-    × <a href="../../operands/Decimal/index.html#WritesNumber">WritesNumber</a> 64 (word 1) memory × <a href="../../operands/Decimal/index.html#WritesNumber">WritesNumber</a> 64 (word 2) ptr × <a href="../../operands/Decimal/index.html#WritesNumber">WritesNumber</a> 64 (word 3) offset
-<a href="../../grammar/Commands/index.html#OperandsWrite">OperandsWrite</a> count word (call.StoreLane op a memory ptr offset) = (count ≡ 6) × <a href="../../operands/LaneNames/index.html#NamesStoreLane">NamesStoreLane</a> (word 0) (word 2) op
-    × <a href="../../operands/Decimal/index.html#WritesNumber">WritesNumber</a> 8 (word 1) a × <a href="../../operands/Decimal/index.html#WritesNumber">WritesNumber</a> 64 (word 3) memory × <a href="../../operands/Decimal/index.html#WritesNumber">WritesNumber</a> 64 (word 4) ptr
-    × <a href="../../operands/Decimal/index.html#WritesNumber">WritesNumber</a> 64 (word 5) offset
+    × <a href="../../operands/LineWords/index.html#WritesNumber">WritesNumber</a> 8 (word 1) dst × <a href="../../operands/LineWords/index.html#WritesNumber">WritesNumber</a> 64 (word 2) memory × <a href="../../operands/LineWords/index.html#WritesNumber">WritesNumber</a> 64 (word 3) ptr
+    × <a href="../../operands/LineWords/index.html#WritesNumber">WritesNumber</a> 64 (word 4) offset
+<a href="../../grammar/Commands/index.html#OperandsWrite">OperandsWrite</a> count word (call.LoadLane op dst a memory ptr offset) = (count ≡ 7) × <a href="../../operands/Names/index.html#NamesLoadLane">NamesLoadLane</a> (word 0) (word 3) op
+    × <a href="../../operands/LineWords/index.html#WritesNumber">WritesNumber</a> 8 (word 1) dst × <a href="../../operands/LineWords/index.html#WritesNumber">WritesNumber</a> 8 (word 2) a × <a href="../../operands/LineWords/index.html#WritesNumber">WritesNumber</a> 64 (word 4) memory
+    × <a href="../../operands/LineWords/index.html#WritesNumber">WritesNumber</a> 64 (word 5) ptr × <a href="../../operands/LineWords/index.html#WritesNumber">WritesNumber</a> 64 (word 6) offset
+<a href="../../grammar/Commands/index.html#OperandsWrite">OperandsWrite</a> count word (call.VectorStore a memory ptr offset) = (count ≡ 4) × <a href="../../operands/LineWords/index.html#WritesNumber">WritesNumber</a> 8 (word 0) a
+    × <a href="../../operands/LineWords/index.html#WritesNumber">WritesNumber</a> 64 (word 1) memory × <a href="../../operands/LineWords/index.html#WritesNumber">WritesNumber</a> 64 (word 2) ptr × <a href="../../operands/LineWords/index.html#WritesNumber">WritesNumber</a> 64 (word 3) offset
+<a href="../../grammar/Commands/index.html#OperandsWrite">OperandsWrite</a> count word (call.StoreLane op a memory ptr offset) = (count ≡ 6) × <a href="../../operands/Names/index.html#NamesStoreLane">NamesStoreLane</a> (word 0) (word 2) op
+    × <a href="../../operands/LineWords/index.html#WritesNumber">WritesNumber</a> 8 (word 1) a × <a href="../../operands/LineWords/index.html#WritesNumber">WritesNumber</a> 64 (word 3) memory × <a href="../../operands/LineWords/index.html#WritesNumber">WritesNumber</a> 64 (word 4) ptr
+    × <a href="../../operands/LineWords/index.html#WritesNumber">WritesNumber</a> 64 (word 5) offset
 
 -- the words after the first write what the call is given: its list, if it has one, is what the last of them write
 abbrev pub <b id="WritesOperands">WritesOperands</b> : <a href="../../operands/LineWords/index.html#LineWords">LineWords</a> → Call → Type 0
 <a href="../../grammar/Commands/index.html#WritesOperands">WritesOperands</a> words (call.Write memory offset bytes) =
     <a href="../../grammar/Commands/index.html#OperandsWrite">OperandsWrite</a> (length words) (<a href="../../operands/LineWords/index.html#word_at">word_at</a> words) (call.Write memory offset bytes)
-    × <a href="../../operands/LineWords/index.html#WritesEach">WritesEach</a> (<a href="../../operands/Decimal/index.html#WritesNumber">WritesNumber</a> 8) (drop 2 words) bytes.items
+    × <a href="../../operands/LineWords/index.html#WritesEach">WritesEach</a> (<a href="../../operands/LineWords/index.html#WritesNumber">WritesNumber</a> 8) (drop 2 words) bytes.items
 <a href="../../grammar/Commands/index.html#WritesOperands">WritesOperands</a> words (call.NewSegment ty items) =
     <a href="../../grammar/Commands/index.html#OperandsWrite">OperandsWrite</a> (length words) (<a href="../../operands/LineWords/index.html#word_at">word_at</a> words) (call.NewSegment ty items)
-    × <a href="../../operands/LineWords/index.html#WritesEach">WritesEach</a> (<a href="../../operands/Decimal/index.html#WritesNumber">WritesNumber</a> 32) (drop 1 words) items.items
+    × <a href="../../operands/LineWords/index.html#WritesEach">WritesEach</a> (<a href="../../operands/LineWords/index.html#WritesNumber">WritesNumber</a> 32) (drop 1 words) items.items
 <a href="../../grammar/Commands/index.html#WritesOperands">WritesOperands</a> words (call.Shuffle dst a b lanes) =
-    <a href="../../grammar/Commands/index.html#OperandsWrite">OperandsWrite</a> (length words) (<a href="../../operands/LineWords/index.html#word_at">word_at</a> words) (call.Shuffle dst a b lanes) × <a href="../../operands/LaneNames/index.html#WritesLanes">WritesLanes</a> (drop 3 words) lanes
+    <a href="../../grammar/Commands/index.html#OperandsWrite">OperandsWrite</a> (length words) (<a href="../../operands/LineWords/index.html#word_at">word_at</a> words) (call.Shuffle dst a b lanes) × <a href="../../operands/Names/index.html#WritesLanes">WritesLanes</a> (drop 3 words) lanes
 <a href="../../grammar/Commands/index.html#WritesOperands">WritesOperands</a> words call = <a href="../../grammar/Commands/index.html#OperandsWrite">OperandsWrite</a> (length words) (<a href="../../operands/LineWords/index.html#word_at">word_at</a> words) call
 
 -- the word that a command begins with, and the words after it, name this call
@@ -6640,15 +6654,14 @@ use Rattle.wasmi_grammar.specs.declared.header.MeterLine.TheVariants.{Off, On}
 use Rattle.wasmi_grammar.specs.declared.header.LimiterLine.{LimiterLine}
 use Rattle.wasmi_grammar.specs.declared.header.LimiterLine.TheVariants.{Quota, Answers, Tenants}
 use Rattle.wasmi_grammar.specs.declared.header.RegionLine.{RegionLine}
-use Rattle.wasmi_operands.specs.LineWords.{<a href="../../operands/LineWords/index.html#LineWords">LineWords</a>, <a href="../../operands/LineWords/index.html#WritesEach">WritesEach</a>, <a href="../../operands/LineWords/index.html#word_at">word_at</a>}
-use Rattle.wasmi_operands.specs.Decimal.{<a href="../../operands/Decimal/index.html#WritesNumber">WritesNumber</a>}
-use Rattle.wasmi_operands.specs.Answers.{<a href="../../operands/Answers/index.html#WritesAnswer">WritesAnswer</a>}
+use Rattle.wasmi_operands.specs.LineWords.{<a href="../../operands/LineWords/index.html#LineWords">LineWords</a>, <a href="../../operands/LineWords/index.html#WritesEach">WritesEach</a>, <a href="../../operands/LineWords/index.html#word_at">word_at</a>, <a href="../../operands/LineWords/index.html#WritesNumber">WritesNumber</a>}
+use Rattle.wasmi_operands.specs.Names.{<a href="../../operands/Names/index.html#WritesAnswer">WritesAnswer</a>}
 
 -- the words after the first write what the meter line says
 abbrev pub <b id="WritesMeter">WritesMeter</b> : <a href="../../operands/LineWords/index.html#LineWords">LineWords</a> → MeterLine → Type 0
 <a href="../../grammar/Headers/index.html#WritesMeter">WritesMeter</a> words Off = (length words ≡ 1) × (<a href="../../operands/LineWords/index.html#word_at">word_at</a> words 0 ≡ codes "off")
 <a href="../../grammar/Headers/index.html#WritesMeter">WritesMeter</a> words (On bytes_per_fuel) =
-    (length words ≡ 2) × (<a href="../../operands/LineWords/index.html#word_at">word_at</a> words 0 ≡ codes "on") × <a href="../../operands/Decimal/index.html#WritesNumber">WritesNumber</a> 32 (<a href="../../operands/LineWords/index.html#word_at">word_at</a> words 1) bytes_per_fuel
+    (length words ≡ 2) × (<a href="../../operands/LineWords/index.html#word_at">word_at</a> words 0 ≡ codes "on") × <a href="../../operands/LineWords/index.html#WritesNumber">WritesNumber</a> 32 (<a href="../../operands/LineWords/index.html#word_at">word_at</a> words 1) bytes_per_fuel
 
 -- the word that a limiter line begins with
 abbrev pub <b id="limiter_word">limiter_word</b> : LimiterLine → List ℕ
@@ -6659,11 +6672,11 @@ abbrev pub <b id="limiter_word">limiter_word</b> : LimiterLine → List ℕ
 -- the words after the first write what the line says
 abbrev pub <b id="WritesLimiter">WritesLimiter</b> : <a href="../../operands/LineWords/index.html#LineWords">LineWords</a> → LimiterLine → Type 0
 <a href="../../grammar/Headers/index.html#WritesLimiter">WritesLimiter</a> words (Quota caps) =
-    (length words ≡ 2) × <a href="../../operands/Decimal/index.html#WritesNumber">WritesNumber</a> 64 (<a href="../../operands/LineWords/index.html#word_at">word_at</a> words 0) caps.bytes × <a href="../../operands/Decimal/index.html#WritesNumber">WritesNumber</a> 64 (<a href="../../operands/LineWords/index.html#word_at">word_at</a> words 1) caps.elements
-<a href="../../grammar/Headers/index.html#WritesLimiter">WritesLimiter</a> words (Answers answers) = <a href="../../operands/LineWords/index.html#WritesEach">WritesEach</a> <a href="../../operands/Answers/index.html#WritesAnswer">WritesAnswer</a> words answers.items
+    (length words ≡ 2) × <a href="../../operands/LineWords/index.html#WritesNumber">WritesNumber</a> 64 (<a href="../../operands/LineWords/index.html#word_at">word_at</a> words 0) caps.bytes × <a href="../../operands/LineWords/index.html#WritesNumber">WritesNumber</a> 64 (<a href="../../operands/LineWords/index.html#word_at">word_at</a> words 1) caps.elements
+<a href="../../grammar/Headers/index.html#WritesLimiter">WritesLimiter</a> words (Answers answers) = <a href="../../operands/LineWords/index.html#WritesEach">WritesEach</a> <a href="../../operands/Names/index.html#WritesAnswer">WritesAnswer</a> words answers.items
 <a href="../../grammar/Headers/index.html#WritesLimiter">WritesLimiter</a> words (Tenants line) =
-    (length words ≡ 3) × <a href="../../operands/Decimal/index.html#WritesNumber">WritesNumber</a> 64 (<a href="../../operands/LineWords/index.html#word_at">word_at</a> words 0) line.count × (1 ≤ line.count) × (line.count ≤ 1024)
-    × <a href="../../operands/Decimal/index.html#WritesNumber">WritesNumber</a> 64 (<a href="../../operands/LineWords/index.html#word_at">word_at</a> words 1) line.caps.bytes × <a href="../../operands/Decimal/index.html#WritesNumber">WritesNumber</a> 64 (<a href="../../operands/LineWords/index.html#word_at">word_at</a> words 2) line.caps.elements
+    (length words ≡ 3) × <a href="../../operands/LineWords/index.html#WritesNumber">WritesNumber</a> 64 (<a href="../../operands/LineWords/index.html#word_at">word_at</a> words 0) line.count × (1 ≤ line.count) × (line.count ≤ 1024)
+    × <a href="../../operands/LineWords/index.html#WritesNumber">WritesNumber</a> 64 (<a href="../../operands/LineWords/index.html#word_at">word_at</a> words 1) line.caps.bytes × <a href="../../operands/LineWords/index.html#WritesNumber">WritesNumber</a> 64 (<a href="../../operands/LineWords/index.html#word_at">word_at</a> words 2) line.caps.elements
 
 -- the word that a limiter line begins with, and the words after it, name this line
 abbrev pub <b id="NamesLimiterAfter">NamesLimiterAfter</b> : List ℕ → <a href="../../operands/LineWords/index.html#LineWords">LineWords</a> → LimiterLine → Type 0
@@ -6672,11 +6685,11 @@ abbrev pub <b id="NamesLimiterAfter">NamesLimiterAfter</b> : List ℕ → <a hre
 -- the words after the first write what the region line says
 abbrev pub <b id="WritesRegion">WritesRegion</b> : <a href="../../operands/LineWords/index.html#LineWords">LineWords</a> → RegionLine → Type 0
 <a href="../../grammar/Headers/index.html#WritesRegion">WritesRegion</a> words line =
-    (length words ≡ 2) × <a href="../../operands/Decimal/index.html#WritesNumber">WritesNumber</a> 64 (<a href="../../operands/LineWords/index.html#word_at">word_at</a> words 0) line.len × <a href="../../operands/Decimal/index.html#WritesNumber">WritesNumber</a> 8 (<a href="../../operands/LineWords/index.html#word_at">word_at</a> words 1) line.byte
+    (length words ≡ 2) × <a href="../../operands/LineWords/index.html#WritesNumber">WritesNumber</a> 64 (<a href="../../operands/LineWords/index.html#word_at">word_at</a> words 0) line.len × <a href="../../operands/LineWords/index.html#WritesNumber">WritesNumber</a> 8 (<a href="../../operands/LineWords/index.html#word_at">word_at</a> words 1) line.byte
 
 -- the words after the first write which tenant the `as` line means
 abbrev pub <b id="WritesTenant">WritesTenant</b> : <a href="../../operands/LineWords/index.html#LineWords">LineWords</a> → ℕ → Type 0
-<a href="../../grammar/Headers/index.html#WritesTenant">WritesTenant</a> words tenant = (length words ≡ 1) × <a href="../../operands/Decimal/index.html#WritesNumber">WritesNumber</a> 64 (<a href="../../operands/LineWords/index.html#word_at">word_at</a> words 0) tenant
+<a href="../../grammar/Headers/index.html#WritesTenant">WritesTenant</a> words tenant = (length words ≡ 1) × <a href="../../operands/LineWords/index.html#WritesNumber">WritesNumber</a> 64 (<a href="../../operands/LineWords/index.html#word_at">word_at</a> words 0) tenant
 
 -- how many tenants a limiter line asks for
 abbrev pub <b id="tenants_of">tenants_of</b> : Option LimiterLine → ℕ
@@ -6712,27 +6725,6 @@ abbrev pub <b id="start_of">start_of</b> : Header → <a href="../../machine/Sta
 </code></pre>
 "####]
     pub mod Headers {}
-    #[doc = r####"What the words of the limits of a memory or of a table mean.
-
-<pre><code>use Rattle.std.specs.Prelude.{◌≡◌, ℕ, List, Option}
-use Rattle.wasmi_types.specs.declared.index_ty.IndexType.{IndexType}
-use Rattle.wasmi_operands.specs.Decimal.{<a href="../../operands/Decimal/index.html#WritesNumber">WritesNumber</a>, <a href="../../operands/Decimal/index.html#WritesLimit">WritesLimit</a>}
-use Rattle.wasmi_operands.specs.TypeWords.{<a href="../../operands/TypeWords/index.html#width_word">width_word</a>}
-
--- the limits of a memory or of a table: the type of its indices, its minimum and its maximum, if it has one
-pub record <b id="Limits">Limits</b> : Type 0 where
-  pub <b id="index">index</b> : IndexType
-  pub <b id="minimum">minimum</b> : ℕ
-  pub <b id="maximum">maximum</b> : Option ℕ
-
--- three words write these limits: the minimum, the maximum and the width of the indices
-pub record <b id="WritesLimits">WritesLimits</b> (<a href="../../grammar/LimitWords/index.html#minimum">minimum</a> <a href="../../grammar/LimitWords/index.html#maximum">maximum</a> width : List ℕ) (limits : <a href="../../grammar/LimitWords/index.html#Limits">Limits</a>) : Type 0 where
-  pub <b id="minimum_word">minimum_word</b> : <a href="../../operands/Decimal/index.html#WritesNumber">WritesNumber</a> 64 <a href="../../grammar/LimitWords/index.html#minimum">minimum</a> limits.minimum
-  pub <b id="maximum_word">maximum_word</b> : <a href="../../operands/Decimal/index.html#WritesLimit">WritesLimit</a> <a href="../../grammar/LimitWords/index.html#maximum">maximum</a> limits.maximum
-  pub <b id="width_text">width_text</b> : width ≡ <a href="../../operands/TypeWords/index.html#width_word">width_word</a> limits.index
-</code></pre>
-"####]
-    pub mod LimitWords {}
     #[doc = r####"What the lines of a script add to it.
 
 <pre><code>use Rattle.std.specs.Prelude.{◌≡◌, ◌&lt;◌, ℕ, ◌⊎◌, List, [], ◌∷◌, ◌++◌, Some, None, ◌==◌, codes, drop, map}
@@ -6859,8 +6851,8 @@ use Rattle.wasmi_grammar.specs.declared.header.RegionLine.{RegionLine}
 use Rattle.wasmi_grammar.specs.declared.header.LimiterLine.{LimiterLine}
 use Rattle.wasmi_grammar.specs.declared.header.LimiterLine.TheVariants.{Answers}
 use Rattle.wasmi_meter.specs.declared.answer_list.LimiterAnswer.{LimiterAnswer}
-use Rattle.wasmi_grammar.specs.Parts.{<a href="../../grammar/Parts/index.html#TenantRun">TenantRun</a>, <a href="../../grammar/Parts/index.html#parts_in">parts_in</a>}
 use Rattle.wasmi_grammar.specs.Lines.{<a href="../../grammar/Lines/index.html#WritesScript">WritesScript</a>}
+use Rattle.wasmi_grammar.specs.Parts.{<a href="../../grammar/Parts/index.html#TenantRun">TenantRun</a>, <a href="../../grammar/Parts/index.html#parts_in">parts_in</a>}
 use Rattle.wasmi_grammar.specs.Refusals.{<a href="../../grammar/Refusals/index.html#IsFirstBadLine">IsFirstBadLine</a>}
 
 -- a call, with its bytes or its items as a list
@@ -6931,32 +6923,6 @@ abbrev pub <b id="WrittenTextsHaveNoBadLine">WrittenTextsHaveNoBadLine</b> : Typ
 </code></pre>
 "####]
     pub mod Meanings {}
-    #[doc = r####"What the words of a memory type mean.
-
-<pre><code>use Rattle.std.specs.Prelude.{◌≡◌, ℕ, List}
-use Rattle.wasmi_store.specs.MemoryType.{<a href="../../store/MemoryType/index.html#MemoryTypeValue">MemoryTypeValue</a>, <a href="../../store/MemoryType/index.html#IsValid">IsValid</a>, <a href="../../store/MemoryType/index.html#page_log2">page_log2</a>}
-use Rattle.wasmi_operands.specs.Decimal.{<a href="../../operands/Decimal/index.html#WritesNumber">WritesNumber</a>}
-use Rattle.wasmi_grammar.specs.LimitWords.{<a href="../../grammar/LimitWords/index.html#Limits">Limits</a>, <a href="../../grammar/LimitWords/index.html#WritesLimits">WritesLimits</a>}
-
--- the limits of a memory type
-abbrev pub <b id="memory_limits">memory_limits</b> : <a href="../../store/MemoryType/index.html#MemoryTypeValue">MemoryTypeValue</a> → <a href="../../grammar/LimitWords/index.html#Limits">Limits</a>
-<a href="../../grammar/MemoryWords/index.html#memory_limits">memory_limits</a> ty = record { index = ty.index; minimum = ty.minimum; maximum = ty.maximum }
-
--- a memory type, which there is, of these limits and this page size
-pub record <b id="HasSettings">HasSettings</b> (limits : <a href="../../grammar/LimitWords/index.html#Limits">Limits</a>) (log2 : ℕ) (ty : <a href="../../store/MemoryType/index.html#MemoryTypeValue">MemoryTypeValue</a>) : Type 0 where
-  pub <b id="same_limits">same_limits</b> : <a href="../../grammar/MemoryWords/index.html#memory_limits">memory_limits</a> ty ≡ limits
-  pub <b id="same_log2">same_log2</b> : <a href="../../store/MemoryType/index.html#page_log2">page_log2</a> ty.page ≡ log2
-  pub <b id="valid">valid</b> : <a href="../../store/MemoryType/index.html#IsValid">IsValid</a> ty
-
--- four words name this memory type, which there is: its minimum, its maximum, its page size and the width of its
--- addresses
-pub record <b id="NamesType">NamesType</b> (minimum maximum log2 width : List ℕ) (ty : <a href="../../store/MemoryType/index.html#MemoryTypeValue">MemoryTypeValue</a>) : Type 0 where
-  pub <b id="limits_words">limits_words</b> : <a href="../../grammar/LimitWords/index.html#WritesLimits">WritesLimits</a> minimum maximum width (<a href="../../grammar/MemoryWords/index.html#memory_limits">memory_limits</a> ty)
-  pub <b id="log2_word">log2_word</b> : <a href="../../operands/Decimal/index.html#WritesNumber">WritesNumber</a> 8 log2 (<a href="../../store/MemoryType/index.html#page_log2">page_log2</a> ty.page)
-  pub <b id="valid">valid</b> : <a href="../../store/MemoryType/index.html#IsValid">IsValid</a> ty
-</code></pre>
-"####]
-    pub mod MemoryWords {}
     #[doc = r####"The calls of a script by parts.
 
 <pre><code>use Rattle.std.specs.Prelude.{◌≡◌, ◌≤◌, ◌-◌, ℕ, List, [], ◌∷◌, ◌++◌, take, drop, length, flat_map}
@@ -7028,47 +6994,26 @@ abbrev pub <b id="IsParseError">IsParseError</b> : List ℕ → ParseError → T
 </code></pre>
 "####]
     pub mod Refusals {}
-    #[doc = r####"What the words of a table type mean.
-
-<pre><code>use Rattle.std.specs.Prelude.{◌≡◌, ℕ, List}
-use Rattle.wasmi_types.specs.declared.value.RefType.{RefType}
-use Rattle.wasmi_store.specs.TableType.{<a href="../../store/TableType/index.html#TableTypeValue">TableTypeValue</a>, <a href="../../store/TableType/index.html#IsValid">IsValid</a>}
-use Rattle.wasmi_operands.specs.TypeWords.{<a href="../../operands/TypeWords/index.html#reference_word">reference_word</a>}
-use Rattle.wasmi_grammar.specs.LimitWords.{<a href="../../grammar/LimitWords/index.html#Limits">Limits</a>, <a href="../../grammar/LimitWords/index.html#WritesLimits">WritesLimits</a>}
-
--- the limits of a table type
-abbrev pub <b id="table_limits">table_limits</b> : <a href="../../store/TableType/index.html#TableTypeValue">TableTypeValue</a> → <a href="../../grammar/LimitWords/index.html#Limits">Limits</a>
-<a href="../../grammar/TableWords/index.html#table_limits">table_limits</a> ty = record { index = ty.index; minimum = ty.minimum; maximum = ty.maximum }
-
--- a table type, which there is, of these limits and this type of elements
-pub record <b id="HasLimits">HasLimits</b> (limits : <a href="../../grammar/LimitWords/index.html#Limits">Limits</a>) (element : RefType) (ty : <a href="../../store/TableType/index.html#TableTypeValue">TableTypeValue</a>) : Type 0 where
-  pub <b id="same_limits">same_limits</b> : <a href="../../grammar/TableWords/index.html#table_limits">table_limits</a> ty ≡ limits
-  pub <b id="same_element">same_element</b> : ty.element ≡ element
-  pub <b id="valid">valid</b> : <a href="../../store/TableType/index.html#IsValid">IsValid</a> ty
-
--- four words name this table type, which there is: the type of its elements, its minimum, its maximum and the width of
--- its indices
-pub record <b id="NamesTableType">NamesTableType</b> (element minimum maximum width : List ℕ) (ty : <a href="../../store/TableType/index.html#TableTypeValue">TableTypeValue</a>) : Type 0 where
-  pub <b id="element_text">element_text</b> : element ≡ <a href="../../operands/TypeWords/index.html#reference_word">reference_word</a> ty.element
-  pub <b id="limits_words">limits_words</b> : <a href="../../grammar/LimitWords/index.html#WritesLimits">WritesLimits</a> minimum maximum width (<a href="../../grammar/TableWords/index.html#table_limits">table_limits</a> ty)
-  pub <b id="valid">valid</b> : <a href="../../store/TableType/index.html#IsValid">IsValid</a> ty
-</code></pre>
-"####]
-    pub mod TableWords {}
 }
 /// Definitions of `wasmi_script`.
 pub mod script {
-    #[doc = r####"Outcomes that the bytes of a reader decide.
+    #[doc = r####"Outcomes that the bytes of a reader decide, and runs under lists in which no answer lets a notice be refused.
 
 <pre><code>use Rattle.std.specs.Prelude.{◌≡◌, ⊤, ℕ, List, All, Option, Some, Ok, Err}
-use Rattle.wasmi_core.specs.Determinism.{<a href="../../machine/Determinism/index.html#IsNotOutOfMemory">IsNotOutOfMemory</a>}
+use Rattle.wasmi_core.specs.Determinism.{<a href="../../machine/Determinism/index.html#IsNotOutOfMemory">IsNotOutOfMemory</a>, <a href="../../machine/Determinism/index.html#StaysAccepting">StaysAccepting</a>}
 use Rattle.wasmi_script.specs.declared.error.ReplayError.TheVariants.{Parse, ReadFault}
 use Rattle.wasmi_grammar.specs.declared.error.ParseError.TheVariants.{OutOfMemory}
 use Rattle.wasmi_grammar.specs.declared.header.LimiterLine.{LimiterLine}
 use Rattle.wasmi_grammar.specs.declared.header.LimiterLine.TheVariants.{Answers}
-use Rattle.wasmi_meter.specs.AnswerList.{<a href="../../meter/AnswerList/index.html#notice_answer_by">notice_answer_by</a>}
+use Rattle.wasmi_meter.specs.AnswerList.{<a href="../../meter/AnswerList/index.html#notice_answer_by">notice_answer_by</a>, <a href="../../meter/AnswerList/index.html#AnswersAhead">AnswersAhead</a>, <a href="../../meter/AnswerList/index.html#answer_list_rules">answer_list_rules</a>}
 use Rattle.wasmi_script.specs.Outcomes.{<a href="../../script/Outcomes/index.html#ReplayOutcome">ReplayOutcome</a>, <a href="../../script/Outcomes/index.html#IsOutcomeOf">IsOutcomeOf</a>, <a href="../../script/Outcomes/index.html#outcome_text">outcome_text</a>}
 use Rattle.wasmi_script.specs.Status.{<a href="../../script/Status/index.html#status_after">status_after</a>}
+use Rattle.wasmi_meter.specs.Limiter.{<a href="../../meter/Limiter/index.html#optional_rules">optional_rules</a>}
+use Rattle.wasmi_core.specs.declared.calls.Call.{Call}
+use Rattle.wasmi_core.specs.declared.calls.Reply.{Reply}
+use Rattle.wasmi_core.specs.State.{<a href="../../machine/State/index.html#State">State</a>}
+use Rattle.wasmi_core.specs.World.{<a href="../../machine/World/index.html#World">World</a>, <a href="../../machine/World/index.html#world">world</a>}
+use Rattle.wasmi_core.specs.Runs.{<a href="../../machine/Runs/index.html#IsRunOf">IsRunOf</a>}
 
 -- no word of an `answers` line is `complain`: each notice is accepted
 abbrev pub <b id="HasNoComplain">HasNoComplain</b> : Option LimiterLine → Type 0
@@ -7093,6 +7038,25 @@ abbrev pub <b id="OutcomesAreOne">OutcomesAreOne</b> : Type 0
 <a href="../../script/Decided/index.html#OutcomesAreOne">OutcomesAreOne</a> =
     (bytes : List ℕ) (outcome outcome&#x27; : <a href="../../script/Outcomes/index.html#ReplayOutcome">ReplayOutcome</a>) → <a href="../../script/Outcomes/index.html#IsOutcomeOf">IsOutcomeOf</a> bytes outcome → <a href="../../script/Outcomes/index.html#IsOutcomeOf">IsOutcomeOf</a> bytes outcome&#x27;
     → <a href="../../script/Decided/index.html#IsDecided">IsDecided</a> outcome → <a href="../../script/Decided/index.html#IsDecided">IsDecided</a> outcome&#x27; → <a href="../../script/Decided/index.html#EndAlike">EndAlike</a> outcome outcome&#x27;
+
+-- a limiter whose answers, with the last one that was given, let each notice be accepted: none of them is `Complain`
+pub record <b id="NeverComplains">NeverComplains</b> (list : <a href="../../meter/AnswerList/index.html#AnswersAhead">AnswersAhead</a>) : Type 0 where
+  pub <b id="ahead">ahead</b> : All (λ answer. <a href="../../meter/AnswerList/index.html#notice_answer_by">notice_answer_by</a> answer ≡ Ok tt) list.ahead
+  pub <b id="last">last</b> : <a href="../../meter/AnswerList/index.html#notice_answer_by">notice_answer_by</a> list.last ≡ Ok tt
+
+-- such a limiter accepts each notice, and stays one
+abbrev pub <b id="QuietListsAcceptNotices">QuietListsAcceptNotices</b> : Type 0
+<a href="../../script/Decided/index.html#QuietListsAcceptNotices">QuietListsAcceptNotices</a> = <a href="../../machine/Determinism/index.html#StaysAccepting">StaysAccepting</a> <a href="../../meter/AnswerList/index.html#answer_list_rules">answer_list_rules</a> <a href="../../script/Decided/index.html#NeverComplains">NeverComplains</a>
+
+-- two runs of one list of calls from one machine under such a limiter, in which no reply says out of memory, have the
+-- same replies and end in one world
+abbrev pub <b id="QuietListsDecideReplies">QuietListsDecideReplies</b> : Type 0
+<a href="../../script/Decided/index.html#QuietListsDecideReplies">QuietListsDecideReplies</a> = (calls : List Call) (s : <a href="../../machine/State/index.html#State">State</a>) (list : <a href="../../meter/AnswerList/index.html#AnswersAhead">AnswersAhead</a>) → <a href="../../script/Decided/index.html#NeverComplains">NeverComplains</a> list
+    → (replies replies&#x27; : List Reply) (v v&#x27; : <a href="../../machine/World/index.html#World">World</a> (Option <a href="../../meter/AnswerList/index.html#AnswersAhead">AnswersAhead</a>))
+    → All <a href="../../machine/Determinism/index.html#IsNotOutOfMemory">IsNotOutOfMemory</a> replies → All <a href="../../machine/Determinism/index.html#IsNotOutOfMemory">IsNotOutOfMemory</a> replies&#x27;
+    → <a href="../../machine/Runs/index.html#IsRunOf">IsRunOf</a> (<a href="../../meter/Limiter/index.html#optional_rules">optional_rules</a> <a href="../../meter/AnswerList/index.html#answer_list_rules">answer_list_rules</a>) calls (<a href="../../machine/World/index.html#world">world</a> s (Some list)) replies v
+    → <a href="../../machine/Runs/index.html#IsRunOf">IsRunOf</a> (<a href="../../meter/Limiter/index.html#optional_rules">optional_rules</a> <a href="../../meter/AnswerList/index.html#answer_list_rules">answer_list_rules</a>) calls (<a href="../../machine/World/index.html#world">world</a> s (Some list)) replies&#x27; v&#x27;
+    → (replies ≡ replies&#x27;) × (v ≡ v&#x27;)
 </code></pre>
 "####]
     pub mod Decided {}
@@ -7124,9 +7088,12 @@ abbrev pub <b id="number_text">number_text</b> : List ℕ → Option ℕ → Lis
 </code></pre>
 "####]
     pub mod Fronts {}
-    #[doc = r####"What a replay prints, and how it ends.
+    #[doc = r####"What a replay prints, why a script isn't run, and how a replay ends.
 
-<pre><code>use Rattle.std.specs.Prelude.{◌≡◌, ◌≤◌, ◌&lt;◌, ◌⊎◌, ⊤, ℕ, List, [], ◌++◌, codes, flat_map, length, Option, Result, Ok, Err, IfSome}
+<pre><code>use Rattle.std.specs.Prelude.{◌&lt;◌, ⊤, ℕ, List, Option, IfSome, length, ◌≡◌, ◌≤◌, ◌⊎◌, [], ◌++◌, codes, flat_map, Result, Ok, Err}
+use Rattle.wasmi_grammar.specs.declared.error.ParseError.TheVariants.{BadCommand, OutOfMemory}
+use Rattle.wasmi_script.specs.declared.error.ReplayError.{ReplayError}
+use Rattle.wasmi_script.specs.declared.error.ReplayError.TheVariants.{Parse, TooLong, ReadFault}
 use Rattle.std.specs.Io.KnownBytes.{Appends}
 use Rattle.std.specs.Fmt.{decimal}
 use Rattle.std.specs.List.{zip, enumerate_from}
@@ -7138,18 +7105,25 @@ use Rattle.wasmi_core.specs.Totals.{<a href="../../machine/Totals/index.html#tot
 use Rattle.wasmi_script.specs.declared.running.Held.{Held}
 use Rattle.wasmi_script.specs.declared.running.Held.TheVariants.{<a href="../../machine/Exchange/index.html#Nothing">Nothing</a>, Quota, Tenants}
 use Rattle.wasmi_script.specs.declared.printing.Replayed.{Replayed}
-use Rattle.wasmi_script.specs.declared.error.ReplayError.{ReplayError}
-use Rattle.wasmi_script.specs.declared.error.ReplayError.TheVariants.{Parse, TooLong, ReadFault}
 use Rattle.wasmi_script.specs.declared.replaying.Status.{Status}
 use Rattle.wasmi_script.specs.declared.replaying.Status.TheVariants.{Fault}
 use Rattle.wasmi_grammar.specs.Lines.{<a href="../../grammar/Lines/index.html#WritesScript">WritesScript</a>, <a href="../../grammar/Lines/index.html#calls_of">calls_of</a>}
 use Rattle.wasmi_grammar.specs.Refusals.{<a href="../../grammar/Refusals/index.html#IsFirstBadLine">IsFirstBadLine</a>}
-use Rattle.wasmi_grammar.specs.declared.error.ParseError.TheVariants.{BadCommand, OutOfMemory}
 use Rattle.wasmi_script.specs.Printing.{<a href="../../script/Printing/index.html#AppendsFront">AppendsFront</a>, <a href="../../script/Printing/index.html#line">line</a>}
-use Rattle.wasmi_script.specs.Refusals.{<a href="../../script/Refusals/index.html#script_limit">script_limit</a>}
 use Rattle.wasmi_script.specs.ScriptRuns.{<a href="../../script/ScriptRuns/index.html#IsReplayOf">IsReplayOf</a>}
 use Rattle.wasmi_script.specs.Status.{<a href="../../script/Status/index.html#status_after">status_after</a>}
 use Rattle.wasmi_script.specs.Texts.{<a href="../../script/Texts/index.html#reply_text">reply_text</a>, <a href="../../script/Texts/index.html#error_text">error_text</a>}
+
+-- the most bytes that a script may have
+abbrev pub <b id="script_limit">script_limit</b> : ℕ
+<a href="../../script/Outcomes/index.html#script_limit">script_limit</a> = 1048576
+
+-- why the bytes that a reader has left aren&#x27;t read
+abbrev pub <b id="IsReadError">IsReadError</b> : Option (List ℕ) → ReplayError → Type 0
+<a href="../../script/Outcomes/index.html#IsReadError">IsReadError</a> left (Parse (BadCommand number)) = ⊥
+<a href="../../script/Outcomes/index.html#IsReadError">IsReadError</a> left (Parse OutOfMemory) = ⊤
+<a href="../../script/Outcomes/index.html#IsReadError">IsReadError</a> left TooLong = IfSome left (λ bytes. <a href="../../script/Outcomes/index.html#script_limit">script_limit</a> &lt; length bytes)
+<a href="../../script/Outcomes/index.html#IsReadError">IsReadError</a> left ReadFault = ⊤
 
 -- a line for each call, with its reply
 abbrev pub <b id="replies_text">replies_text</b> : List Call → List Reply → List ℕ
@@ -7189,10 +7163,10 @@ abbrev pub <b id="outcome_text">outcome_text</b> : <a href="../../script/Outcome
 -- are too many. Memory may be refused at any script, and the reader may fail.
 abbrev pub <b id="IsOutcomeOf">IsOutcomeOf</b> : List ℕ → <a href="../../script/Outcomes/index.html#ReplayOutcome">ReplayOutcome</a> → Type 0
 <a href="../../script/Outcomes/index.html#IsOutcomeOf">IsOutcomeOf</a> bytes (Ok replayed) =
-    (length bytes ≤ <a href="../../script/Refusals/index.html#script_limit">script_limit</a>) × <a href="../../grammar/Lines/index.html#WritesScript">WritesScript</a> bytes replayed.script × <a href="../../script/ScriptRuns/index.html#IsReplayOf">IsReplayOf</a> replayed.script replayed.ran
-<a href="../../script/Outcomes/index.html#IsOutcomeOf">IsOutcomeOf</a> bytes (Err (Parse (BadCommand number))) = (length bytes ≤ <a href="../../script/Refusals/index.html#script_limit">script_limit</a>) × <a href="../../grammar/Refusals/index.html#IsFirstBadLine">IsFirstBadLine</a> bytes number
+    (length bytes ≤ <a href="../../script/Outcomes/index.html#script_limit">script_limit</a>) × <a href="../../grammar/Lines/index.html#WritesScript">WritesScript</a> bytes replayed.script × <a href="../../script/ScriptRuns/index.html#IsReplayOf">IsReplayOf</a> replayed.script replayed.ran
+<a href="../../script/Outcomes/index.html#IsOutcomeOf">IsOutcomeOf</a> bytes (Err (Parse (BadCommand number))) = (length bytes ≤ <a href="../../script/Outcomes/index.html#script_limit">script_limit</a>) × <a href="../../grammar/Refusals/index.html#IsFirstBadLine">IsFirstBadLine</a> bytes number
 <a href="../../script/Outcomes/index.html#IsOutcomeOf">IsOutcomeOf</a> bytes (Err (Parse OutOfMemory)) = ⊤
-<a href="../../script/Outcomes/index.html#IsOutcomeOf">IsOutcomeOf</a> bytes (Err TooLong) = <a href="../../script/Refusals/index.html#script_limit">script_limit</a> &lt; length bytes
+<a href="../../script/Outcomes/index.html#IsOutcomeOf">IsOutcomeOf</a> bytes (Err TooLong) = <a href="../../script/Outcomes/index.html#script_limit">script_limit</a> &lt; length bytes
 <a href="../../script/Outcomes/index.html#IsOutcomeOf">IsOutcomeOf</a> bytes (Err ReadFault) = ⊤
 
 -- the writer has got the whole text and the status is the outcome&#x27;s, or it has got a front of the text and failed
@@ -7268,59 +7242,6 @@ pub record <b id="SendsFront">SendsFront</b> {W : Type 0} (contents : W → Opti
 </code></pre>
 "####]
     pub mod Printing {}
-    #[doc = r####"Runs under limiters that answer from lists in which no answer lets a notice be refused.
-
-<pre><code>use Rattle.std.specs.Prelude.{◌≡◌, All, List, Option, Some, Ok}
-use Rattle.wasmi_meter.specs.AnswerList.{<a href="../../meter/AnswerList/index.html#AnswersAhead">AnswersAhead</a>, <a href="../../meter/AnswerList/index.html#answer_list_rules">answer_list_rules</a>, <a href="../../meter/AnswerList/index.html#notice_answer_by">notice_answer_by</a>}
-use Rattle.wasmi_meter.specs.Limiter.{<a href="../../meter/Limiter/index.html#optional_rules">optional_rules</a>}
-use Rattle.wasmi_core.specs.declared.calls.Call.{Call}
-use Rattle.wasmi_core.specs.declared.calls.Reply.{Reply}
-use Rattle.wasmi_core.specs.State.{<a href="../../machine/State/index.html#State">State</a>}
-use Rattle.wasmi_core.specs.World.{<a href="../../machine/World/index.html#World">World</a>, <a href="../../machine/World/index.html#world">world</a>}
-use Rattle.wasmi_core.specs.Runs.{<a href="../../machine/Runs/index.html#IsRunOf">IsRunOf</a>}
-use Rattle.wasmi_core.specs.Determinism.{<a href="../../machine/Determinism/index.html#IsNotOutOfMemory">IsNotOutOfMemory</a>, <a href="../../machine/Determinism/index.html#StaysAccepting">StaysAccepting</a>}
-
--- a limiter whose answers, with the last one that was given, let each notice be accepted: none of them is `Complain`
-pub record <b id="NeverComplains">NeverComplains</b> (list : <a href="../../meter/AnswerList/index.html#AnswersAhead">AnswersAhead</a>) : Type 0 where
-  pub <b id="ahead">ahead</b> : All (λ answer. <a href="../../meter/AnswerList/index.html#notice_answer_by">notice_answer_by</a> answer ≡ Ok tt) list.ahead
-  pub <b id="last">last</b> : <a href="../../meter/AnswerList/index.html#notice_answer_by">notice_answer_by</a> list.last ≡ Ok tt
-
--- such a limiter accepts each notice, and stays one
-abbrev pub <b id="QuietListsAcceptNotices">QuietListsAcceptNotices</b> : Type 0
-<a href="../../script/QuietLists/index.html#QuietListsAcceptNotices">QuietListsAcceptNotices</a> = <a href="../../machine/Determinism/index.html#StaysAccepting">StaysAccepting</a> <a href="../../meter/AnswerList/index.html#answer_list_rules">answer_list_rules</a> <a href="../../script/QuietLists/index.html#NeverComplains">NeverComplains</a>
-
--- two runs of one list of calls from one machine under such a limiter, in which no reply says out of memory, have the
--- same replies and end in one world
-abbrev pub <b id="QuietListsDecideReplies">QuietListsDecideReplies</b> : Type 0
-<a href="../../script/QuietLists/index.html#QuietListsDecideReplies">QuietListsDecideReplies</a> = (calls : List Call) (s : <a href="../../machine/State/index.html#State">State</a>) (list : <a href="../../meter/AnswerList/index.html#AnswersAhead">AnswersAhead</a>) → <a href="../../script/QuietLists/index.html#NeverComplains">NeverComplains</a> list
-    → (replies replies&#x27; : List Reply) (v v&#x27; : <a href="../../machine/World/index.html#World">World</a> (Option <a href="../../meter/AnswerList/index.html#AnswersAhead">AnswersAhead</a>))
-    → All <a href="../../machine/Determinism/index.html#IsNotOutOfMemory">IsNotOutOfMemory</a> replies → All <a href="../../machine/Determinism/index.html#IsNotOutOfMemory">IsNotOutOfMemory</a> replies&#x27;
-    → <a href="../../machine/Runs/index.html#IsRunOf">IsRunOf</a> (<a href="../../meter/Limiter/index.html#optional_rules">optional_rules</a> <a href="../../meter/AnswerList/index.html#answer_list_rules">answer_list_rules</a>) calls (<a href="../../machine/World/index.html#world">world</a> s (Some list)) replies v
-    → <a href="../../machine/Runs/index.html#IsRunOf">IsRunOf</a> (<a href="../../meter/Limiter/index.html#optional_rules">optional_rules</a> <a href="../../meter/AnswerList/index.html#answer_list_rules">answer_list_rules</a>) calls (<a href="../../machine/World/index.html#world">world</a> s (Some list)) replies&#x27; v&#x27;
-    → (replies ≡ replies&#x27;) × (v ≡ v&#x27;)
-</code></pre>
-"####]
-    pub mod QuietLists {}
-    #[doc = r####"Why a script isn't run.
-
-<pre><code>use Rattle.std.specs.Prelude.{◌&lt;◌, ⊤, ℕ, List, Option, IfSome, length}
-use Rattle.wasmi_grammar.specs.declared.error.ParseError.TheVariants.{BadCommand, OutOfMemory}
-use Rattle.wasmi_script.specs.declared.error.ReplayError.{ReplayError}
-use Rattle.wasmi_script.specs.declared.error.ReplayError.TheVariants.{Parse, TooLong, ReadFault}
-
--- the most bytes that a script may have
-abbrev pub <b id="script_limit">script_limit</b> : ℕ
-<a href="../../script/Refusals/index.html#script_limit">script_limit</a> = 1048576
-
--- why the bytes that a reader has left aren&#x27;t read
-abbrev pub <b id="IsReadError">IsReadError</b> : Option (List ℕ) → ReplayError → Type 0
-<a href="../../script/Refusals/index.html#IsReadError">IsReadError</a> left (Parse (BadCommand number)) = ⊥
-<a href="../../script/Refusals/index.html#IsReadError">IsReadError</a> left (Parse OutOfMemory) = ⊤
-<a href="../../script/Refusals/index.html#IsReadError">IsReadError</a> left TooLong = IfSome left (λ bytes. <a href="../../script/Refusals/index.html#script_limit">script_limit</a> &lt; length bytes)
-<a href="../../script/Refusals/index.html#IsReadError">IsReadError</a> left ReadFault = ⊤
-</code></pre>
-"####]
-    pub mod Refusals {}
     #[doc = r####"What the run of a script returns, as its header lines ask for it.
 
 <pre><code>use Rattle.std.specs.Prelude.{◌≡◌, List, [], ◌∷◌, ◌++◌, Option, None, Some, replicate}
@@ -7344,8 +7265,8 @@ use Rattle.wasmi_grammar.specs.declared.script.Script.{Script}
 use Rattle.wasmi_grammar.specs.declared.header.LimiterLine.{LimiterLine}
 use Rattle.wasmi_grammar.specs.declared.header.LimiterLine.TheVariants as Lines
 use Rattle.wasmi_grammar.specs.declared.header.TenantsLine.{TenantsLine}
-use Rattle.wasmi_grammar.specs.Parts.{<a href="../../grammar/Parts/index.html#TenantRun">TenantRun</a>, <a href="../../grammar/Parts/index.html#parts_in">parts_in</a>}
 use Rattle.wasmi_grammar.specs.Lines.{<a href="../../grammar/Lines/index.html#calls_of">calls_of</a>}
+use Rattle.wasmi_grammar.specs.Parts.{<a href="../../grammar/Parts/index.html#TenantRun">TenantRun</a>, <a href="../../grammar/Parts/index.html#parts_in">parts_in</a>}
 use Rattle.wasmi_script.specs.declared.running.Held.TheVariants.{<a href="../../machine/Exchange/index.html#Nothing">Nothing</a>}
 use Rattle.wasmi_script.specs.declared.running.Held.TheVariants as Holding
 use Rattle.wasmi_script.specs.declared.running.Held.{Held}
@@ -7445,7 +7366,7 @@ abbrev pub <b id="status_after">status_after</b> : {A : Type 0} → Result A Rep
 </code></pre>
 "####]
     pub mod Status {}
-    #[doc = r####"What the program prints of a reply, and why it runs no script.
+    #[doc = r####"What the program prints of a reply, as a wording or whole, and why it runs no script.
 
 <pre><code>use Rattle.std.specs.Prelude.{ℕ, List, [], ◌++◌, codes, flat_map, Option, None, Some}
 use Rattle.std.specs.Fmt.{decimal}
@@ -7457,11 +7378,13 @@ use Rattle.wasmi_store.specs.Segment.{<a href="../../store/Segment/index.html#se
 use Rattle.wasmi_core.specs.declared.calls.Call.{Call}
 use Rattle.wasmi_core.specs.declared.calls.Call.TheVariants.{NewMemory, NewLentMemory, NewTable, NewSegment, NewGlobal}
 use Rattle.wasmi_core.specs.declared.calls.Reply.{Reply}
-use Rattle.wasmi_core.specs.declared.calls.Reply.TheVariants as reply
 use Rattle.wasmi_script.specs.declared.error.ReplayError.{ReplayError}
 use Rattle.wasmi_script.specs.declared.error.ReplayError.TheVariants.{Parse, TooLong, ReadFault}
 use Rattle.wasmi_grammar.specs.declared.error.ParseError.TheVariants.{BadCommand, OutOfMemory}
-use Rattle.wasmi_operands.specs.TypeWords.{<a href="../../operands/TypeWords/index.html#reference_word">reference_word</a>}
+use Rattle.wasmi_operands.specs.Names.{<a href="../../operands/Names/index.html#reference_word">reference_word</a>}
+use Rattle.wasmi_script.specs.Fronts.{<a href="../../script/Fronts/index.html#number_text">number_text</a>}
+use Rattle.wasmi_script.specs.declared.wording.Wording.{Wording}
+use Rattle.wasmi_core.specs.declared.calls.Reply.TheVariants as reply
 
 -- the word for what a call makes; only creations make anything
 abbrev pub <b id="kind_text">kind_text</b> : Call → List ℕ
@@ -7479,7 +7402,7 @@ abbrev pub <b id="bytes_text">bytes_text</b> : List ℕ → List ℕ
 -- an element of a table, or that there is none
 abbrev pub <b id="element_text">element_text</b> : Option TypedRawRef → List ℕ
 <a href="../../script/Texts/index.html#element_text">element_text</a> None = codes "none"
-<a href="../../script/Texts/index.html#element_text">element_text</a> (Some reference) = <a href="../../operands/TypeWords/index.html#reference_word">reference_word</a> reference.ty ++ (codes " " ++ decimal reference.raw)
+<a href="../../script/Texts/index.html#element_text">element_text</a> (Some reference) = <a href="../../operands/Names/index.html#reference_word">reference_word</a> reference.ty ++ (codes " " ++ decimal reference.raw)
 
 -- the reply to a call, but for the numbers of its bytes
 abbrev pub <b id="head_text">head_text</b> : Call → Reply → List ℕ
@@ -7514,20 +7437,12 @@ abbrev pub <b id="error_text">error_text</b> : ReplayError → List ℕ
 <a href="../../script/Texts/index.html#error_text">error_text</a> (Parse OutOfMemory) = codes "out of memory"
 <a href="../../script/Texts/index.html#error_text">error_text</a> TooLong = codes "script too long"
 <a href="../../script/Texts/index.html#error_text">error_text</a> ReadFault = codes "read fault"
-</code></pre>
-"####]
-    pub mod Texts {}
-    #[doc = r####"What a wording says.
-
-<pre><code>use Rattle.std.specs.Prelude.{ℕ, List, [], ◌++◌, codes}
-use Rattle.wasmi_script.specs.Fronts.{<a href="../../script/Fronts/index.html#number_text">number_text</a>}
-use Rattle.wasmi_script.specs.declared.wording.Wording.{Wording}
 
 -- the words of a wording, and then its numbers, the second after a space
 abbrev pub <b id="wording_text">wording_text</b> : Wording → List ℕ
-<a href="../../script/Wording/index.html#wording_text">wording_text</a> wording =
+<a href="../../script/Texts/index.html#wording_text">wording_text</a> wording =
     wording.start.now ++ (wording.words.now ++ (<a href="../../script/Fronts/index.html#number_text">number_text</a> [] wording.first ++ <a href="../../script/Fronts/index.html#number_text">number_text</a> (codes " ") wording.second))
 </code></pre>
 "####]
-    pub mod Wording {}
+    pub mod Texts {}
 }

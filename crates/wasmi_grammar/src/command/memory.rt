@@ -1,8 +1,9 @@
 //! Commands of memories, and those that drop a memory or a table.
+#![tactic(auto, using(std::proofs::lemmas::Grind::common_steps))]
+
 ghost use Rattle.std.specs.Prelude.{codes};
-ghost use Rattle.wasmi_operands.specs.Acceptance.{Accepts, AcceptsWithMemory};
-ghost use Rattle.wasmi_grammar.specs.Commands.{NamesAfter};
-ghost use Rattle.wasmi_grammar.specs.MemoryWords.{HasSettings, NamesType};
+ghost use Rattle.wasmi_operands.specs.LineWords.{Accepts, AcceptsWithMemory};
+ghost use Rattle.wasmi_grammar.specs.Commands.{NamesAfter, HasSettings, NamesType};
 
 use std::alloc::Global;
 use wasmi_core::{Call, IndexType, MemoryType};
@@ -30,6 +31,7 @@ pub fn new_lent_memory(operands: &[&str]) -> Result<Call, LineError>
 }
 
 /// `grow K PAGES`.
+#[tactic(auto, using(crate::proofs::CommandsLemmas::refused_form))]
 pub fn grow(operands: &[&str]) -> Result<Call, LineError>
     ensures { Accepts result (NamesAfter (codes "grow") operands.now) }
 {
@@ -50,7 +52,6 @@ pub fn read(operands: &[&str]) -> Result<Call, LineError>
 }
 
 /// `write K OFFSET BYTE ...`, which may have no byte.
-#[tactic(auto, using(std::proofs::lemmas::Grind::common_steps))]
 pub fn write(alloc: Global, operands: &[&str]) -> Result<Call, LineError>
     ensures { AcceptsWithMemory result (NamesAfter (codes "write") operands.now) }
 {

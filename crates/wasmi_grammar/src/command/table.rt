@@ -1,9 +1,10 @@
 //! Commands of tables and element segments.
+#![tactic(auto, using(std::proofs::lemmas::Grind::common_steps))]
+
 ghost use Rattle.std.specs.Prelude.{◌≡◌, ◌<◌, ◌^◌, codes, IfErr};
 ghost use Rattle.std.specs.Result.{OkIff};
-ghost use Rattle.wasmi_operands.specs.Acceptance.{Accepts, AcceptsWithMemory};
-ghost use Rattle.wasmi_grammar.specs.Commands.{NamesAfter};
-ghost use Rattle.wasmi_grammar.specs.TableWords.{HasLimits, NamesTableType};
+ghost use Rattle.wasmi_operands.specs.LineWords.{Accepts, AcceptsWithMemory};
+ghost use Rattle.wasmi_grammar.specs.Commands.{NamesAfter, HasLimits, NamesTableType};
 
 use std::alloc::Global;
 use wasmi_core::{Call, IndexType, RefType, TableType, TypedRawRef};
@@ -36,6 +37,7 @@ pub fn grow(operands: &[&str]) -> Result<Call, LineError>
 }
 
 /// `get K I`.
+#[tactic(auto, using(crate::proofs::CommandsLemmas::refused_form))]
 pub fn get(operands: &[&str]) -> Result<Call, LineError>
     ensures { Accepts result (NamesAfter (codes "get") operands.now) }
 {

@@ -1,6 +1,8 @@
 //! Commands of the meter, of globals and of registers.
+#![tactic(auto, using(std::proofs::lemmas::Grind::common_steps))]
+
 ghost use Rattle.std.specs.Prelude.{codes};
-ghost use Rattle.wasmi_operands.specs.Acceptance.{Accepts};
+ghost use Rattle.wasmi_operands.specs.LineWords.{Accepts};
 ghost use Rattle.wasmi_grammar.specs.Commands.{NamesAfter};
 
 use wasmi_core::{Call, GlobalType, RawVal, TypedRawVal};

@@ -1,8 +1,10 @@
 //! Commands of vector instructions whose operands are registers and indices of lanes.
+#![tactic(auto, using(std::proofs::lemmas::Grind::common_steps))]
+
 ghost use Rattle.std.specs.Prelude.{codes};
-ghost use Rattle.wasmi_operands.specs.Acceptance.{Accepts};
+ghost use Rattle.wasmi_operands.specs.LineWords.{Accepts};
 ghost use Rattle.wasmi_grammar.specs.Commands.{NamesAfter};
-ghost use Rattle.wasmi_operands.specs.LaneNames.{WritesLanes};
+ghost use Rattle.wasmi_operands.specs.Names.{WritesLanes};
 
 use wasmi_core::Call;
 use wasmi_core::simd::ImmLaneIdx32;
@@ -51,6 +53,7 @@ pub fn shift(operands: &[&str]) -> Result<Call, LineError>
 }
 
 /// `test NAME A`.
+#[tactic(auto, using(crate::proofs::CommandsLemmas::refused_form))]
 pub fn test(operands: &[&str]) -> Result<Call, LineError>
     ensures { Accepts result (NamesAfter (codes "test") operands.now) }
 {

@@ -1,8 +1,9 @@
 //! The instructions on one lane, by their names and the word of the lane's index.
+#![tactic(auto, using(crate::proofs::OpNamesLemmas::lane_ops))]
+
 ghost use Rattle.std.specs.Prelude.{◌<◌, ◌^◌, IfErr, IfOk, Err, Ok, ◌≡◌};
-ghost use Rattle.wasmi_operands.specs.Acceptance.{Accepts};
-ghost use Rattle.wasmi_operands.specs.LaneNames.{NamesExtract, NamesReplace, NamesLoadLane, NamesStoreLane};
-ghost use Rattle.wasmi_operands.specs.Decimal.{IsDecimal, decimal_value};
+ghost use Rattle.wasmi_operands.specs.LineWords.{Accepts, IsDecimal, decimal_value};
+ghost use Rattle.wasmi_operands.specs.Names.{NamesExtract, NamesReplace, NamesLoadLane, NamesStoreLane};
 
 use crate::decimal::number;
 use crate::error::LineError;

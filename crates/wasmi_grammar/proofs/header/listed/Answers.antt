@@ -3,11 +3,10 @@ use Rattle.std.specs.Global.{Vec}
 use Rattle.wasmi_meter.specs.declared.answer_list.LimiterAnswer.{LimiterAnswer}
 use Rattle.wasmi_grammar.specs.declared.header.LimiterLine.{LimiterLine}
 use Rattle.wasmi_grammar.specs.declared.header.LimiterLine.TheVariants.{Quota, Answers, Tenants}
-use Rattle.wasmi_operands.specs.Acceptance.{AcceptsWithMemory}
-use Rattle.wasmi_operands.specs.Answers.{WritesAnswer}
+use Rattle.wasmi_operands.specs.LineWords.{AcceptsWithMemory, LineWords, WritesEach}
+use Rattle.wasmi_operands.specs.Names.{WritesAnswer}
 use Rattle.wasmi_grammar.specs.Headers.{NamesLimiterAfter}
-use Rattle.wasmi_operands.specs.LineWords.{LineWords, WritesEach}
-use Rattle.wasmi_operands.proofs.AcceptanceLemmas.{refused_with_memory}
+use Rattle.wasmi_operands.proofs.LineWordsLemmas.{refused_with_memory}
 use Rattle.wasmi_grammar.proofs.header.listed.Goals as goal
 
 -- a line of answers has the words of answers

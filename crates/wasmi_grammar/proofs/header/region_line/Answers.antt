@@ -1,5 +1,5 @@
 use Rattle.std.proofs.Common.{rules}
-use Rattle.wasmi_operands.proofs.AcceptanceLemmas.{refused_through}
+use Rattle.wasmi_operands.proofs.LineWordsLemmas.{refused_through}
 use Rattle.wasmi_grammar.proofs.header.region_line.Goals as goal
 
 pub returns-in_err-len : goal.returns-in_err-len

@@ -1,5 +1,5 @@
 use Rattle.std.proofs.Common.{rules}
-use Rattle.wasmi_operands.proofs.AcceptanceLemmas.{refused_through, with_memory}
+use Rattle.wasmi_operands.proofs.LineWordsLemmas.{refused_through, with_memory}
 use Rattle.wasmi_grammar.specs.Lines.{NamesLine}
 use Rattle.wasmi_grammar.proofs.LinesLemmas.{region_only}
 use Rattle.wasmi_grammar.proofs.script.line_of.Goals as goal

@@ -4,8 +4,8 @@ use Rattle.std.proofs.lemmas.Int.Digits.{digits_value_more}
 use Rattle.std.proofs.lemmas.List.{take_all}
 use Rattle.std.proofs.lemmas.Str.{digit_value_digit}
 use Rattle.std.proofs.lemmas.Str.Parse.{digit_at, digits_value-take-le}
-use Rattle.wasmi_operands.specs.Decimal.{IsDecimal, decimal_value}
-use Rattle.wasmi_operands.proofs.DecimalLemmas.{digits_more}
+use Rattle.wasmi_operands.specs.LineWords.{IsDecimal, decimal_value}
+use Rattle.wasmi_operands.proofs.LineWordsLemmas.{digits_more}
 use Rattle.wasmi_operands.proofs.decimal.decimal.Goals as goal
 
 pub returns-then-is_empty-clause-value : goal.returns-then-is_empty-clause-value

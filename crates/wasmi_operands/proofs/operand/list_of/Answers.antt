@@ -1,7 +1,6 @@
 use Rattle.std.proofs.Common.{◌≡◌, Err, rules, sym, subst}
-use Rattle.wasmi_operands.specs.Acceptance.{AcceptsWithMemory}
-use Rattle.wasmi_operands.specs.LineWords.{WritesEach}
-use Rattle.wasmi_operands.proofs.WordsLemmas.{one_word_more, refused_list}
+use Rattle.wasmi_operands.specs.LineWords.{AcceptsWithMemory, WritesEach}
+use Rattle.wasmi_operands.proofs.LineWordsLemmas.{one_word_more, refused_list}
 use Rattle.wasmi_operands.proofs.operand.list_of.Goals as goal
 
 pub loop-word-preserved : goal.loop-word-preserved

@@ -1,9 +1,8 @@
 use Rattle.std.proofs.Common.{◌≡◌, ◌≤◌, Err, IfSome, length, arith, rules, sym, ap, subst}
 use Rattle.wasmi_grammar.specs.declared.error.ParseError.TheVariants.{OutOfMemory}
 use Rattle.wasmi_script.specs.declared.error.ReplayError.TheVariants.{Parse}
-use Rattle.wasmi_script.specs.Refusals.{IsReadError, script_limit}
-use Rattle.wasmi_script.specs.Outcomes.{IsOutcomeOfReader}
-use Rattle.wasmi_script.proofs.ReadersLemmas.{told_by, wanting, unread, unparsed}
+use Rattle.wasmi_script.specs.Outcomes.{IsReadError, script_limit, IsOutcomeOfReader}
+use Rattle.wasmi_script.proofs.OutcomesLemmas.{told_by, wanting, unread, unparsed}
 use Rattle.wasmi_script.proofs.replaying.outcome_of.Goals as goal
 
 pub returns-in_err-bytes : goal.returns-in_err-bytes

@@ -1,7 +1,7 @@
 use Rattle.std.proofs.Common.{ℕ, ◌+◌, ◌<◌, ◌≤◌, ◌≡◌, ◌∙◌, ◌++◌, List, [], Some, None, IfSome, length, length-append, length-take-le, take, append-nil, rules, sym, ap, arith}
 use Rattle.std.specs.declared.option.Option.{Option}
 use Rattle.std.specs.Io.KnownBytes.{Consumes, IsAtEnd}
-use Rattle.wasmi_script.specs.Refusals.{script_limit}
+use Rattle.wasmi_script.specs.Outcomes.{script_limit}
 use Rattle.wasmi_script.proofs.replaying.read.Goals as goal
 
 -- a turn that gives nothing is the end

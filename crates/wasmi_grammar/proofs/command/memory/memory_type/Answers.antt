@@ -1,7 +1,6 @@
 use Rattle.std.proofs.Common.{rules}
-use Rattle.wasmi_operands.proofs.AcceptanceLemmas.{accepts_same}
-use Rattle.wasmi_grammar.proofs.LimitWordsLemmas.{limits_written}
-use Rattle.wasmi_grammar.proofs.MemoryWordsLemmas.{WrittenSettings, names_of, settings_of}
+use Rattle.wasmi_operands.proofs.LineWordsLemmas.{accepts_same}
+use Rattle.wasmi_grammar.proofs.LimitWordsLemmas.{limits_written, WrittenSettings, names_of, settings_of}
 use Rattle.wasmi_grammar.proofs.command.memory.memory_type.Goals as goal
 
 pub returns : goal.returns

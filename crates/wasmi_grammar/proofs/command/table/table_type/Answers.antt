@@ -1,7 +1,6 @@
 use Rattle.std.proofs.Common.{rules}
-use Rattle.wasmi_operands.proofs.AcceptanceLemmas.{accepts_same}
-use Rattle.wasmi_grammar.proofs.LimitWordsLemmas.{limits_written}
-use Rattle.wasmi_grammar.proofs.TableWordsLemmas.{WrittenTableType, names_of, limits_of}
+use Rattle.wasmi_operands.proofs.LineWordsLemmas.{accepts_same}
+use Rattle.wasmi_grammar.proofs.LimitWordsLemmas.{limits_written, WrittenTableType, names_table_of, table_settings_of}
 use Rattle.wasmi_grammar.proofs.command.table.table_type.Goals as goal
 
 pub returns : goal.returns
@@ -12,4 +11,4 @@ returns c =
       limits = limits_written c.in_ok-index.index c.in_ok-minimum.minimum c.in_ok-maximum.maximum (search rules)
           c.in_ok-maximum.ensures c.in_ok-index.ensures;
     } in
-    accepts_same c.type_of.result _ _ (names_of _ _ _ _ written) (limits_of _ _ _ _ written) c.type_of.ensures
+    accepts_same c.type_of.result _ _ (names_table_of _ _ _ _ written) (table_settings_of _ _ _ _ written) c.type_of.ensures

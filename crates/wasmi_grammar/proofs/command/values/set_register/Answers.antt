@@ -1,9 +1,8 @@
 use Rattle.std.proofs.Common.{codes, rules}
-use Rattle.wasmi_grammar.proofs.CommandsLemmas.{refused_after}
+use Rattle.wasmi_grammar.proofs.CommandsLemmas.{refused_form}
 use Rattle.wasmi_grammar.proofs.command.values.set_register.Goals as goal
 
 pub returns-in_err-dst : goal.returns-in_err-dst
 returns-in_err-dst c =
-    refused_after c.in_err-dst.field-0.0 _ (codes "set") c.args.operands.now c.from_residual.result
-    (search rules) c.in_err-dst.ensures
-    (λ w. ((w.0, w.1.lo, w.1.hi), w.2))
+    refused_form (codes "set") c.args.operands.now c.in_err-dst.field-0.0 c.from_residual.result (search rules)
+    c.in_err-dst.ensures

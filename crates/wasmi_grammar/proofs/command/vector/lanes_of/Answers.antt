@@ -3,11 +3,9 @@ use Rattle.std.proofs.lemmas.Result.{IfErr-weaker, IfOk-weaker}
 use Rattle.std.specs.List.{IsAmong}
 use Rattle.wasmi_operands.specs.declared.error.LineError.{LineError}
 use Rattle.wasmi_operands.specs.declared.error.LineError.TheVariants.{BadCommand, OutOfMemory}
-use Rattle.wasmi_operands.specs.Acceptance.{Accepts}
-use Rattle.wasmi_operands.specs.LaneNames.{WritesLanes}
-use Rattle.wasmi_operands.specs.Decimal.{WritesNumber}
-use Rattle.wasmi_operands.specs.LineWords.{LineWords, WritesEach}
-use Rattle.wasmi_operands.proofs.WordsLemmas.{each_said, not_each}
+use Rattle.wasmi_operands.specs.LineWords.{Accepts, WritesNumber, LineWords, WritesEach}
+use Rattle.wasmi_operands.specs.Names.{WritesLanes}
+use Rattle.wasmi_operands.proofs.LineWordsLemmas.{each_said, not_each}
 use Rattle.wasmi_grammar.proofs.command.vector.lanes_of.Goals as goal
 
 -- no lanes are written

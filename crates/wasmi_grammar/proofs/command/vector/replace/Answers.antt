@@ -4,18 +4,15 @@ use Rattle.wasmi_grammar.proofs.command.vector.replace.Goals as goal
 
 pub returns-in_err-from_word : goal.returns-in_err-from_word
 returns-in_err-from_word c =
-    refused_number 8 1 c.in_err-from_word.field-0.0
-    (codes "replace") c.args.operands.now c.from_residual-in_err-from_word.result
-    (search rules) c.in_err-from_word.ensures (λ w. (w.1, w.4.2))
+    refused_number 8 1 (codes "replace") c.args.operands.now c.in_err-from_word.field-0.0
+    c.from_residual-in_err-from_word.result (search rules) c.in_err-from_word.ensures (λ a w. (a.1, w.2))
 
 pub returns-in_err-from_word-2 : goal.returns-in_err-from_word-2
 returns-in_err-from_word-2 c =
-    refused_number 8 2 c.in_err-from_word-2.field-0.0
-    (codes "replace") c.args.operands.now c.from_residual-in_err-from_word-2.result
-    (search rules) c.in_err-from_word-2.ensures (λ w. (w.2, w.4.3))
+    refused_number 8 2 (codes "replace") c.args.operands.now c.in_err-from_word-2.field-0.0
+    c.from_residual-in_err-from_word-2.result (search rules) c.in_err-from_word-2.ensures (λ a w. (a.2, w.3))
 
 pub returns-in_err-from_word-3 : goal.returns-in_err-from_word-3
 returns-in_err-from_word-3 c =
-    refused_number 8 4 c.in_err-from_word-3.field-0.0
-    (codes "replace") c.args.operands.now c.from_residual-in_err-from_word-3.result
-    (search rules) c.in_err-from_word-3.ensures (λ w. (w.3, w.4.4))
+    refused_number 8 4 (codes "replace") c.args.operands.now c.in_err-from_word-3.field-0.0
+    c.from_residual-in_err-from_word-3.result (search rules) c.in_err-from_word-3.ensures (λ a w. (a.3, w.4))

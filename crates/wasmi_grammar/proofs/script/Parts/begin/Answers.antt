@@ -1,6 +1,6 @@
 use Rattle.std.proofs.Common.{arith, refl, sym, subst}
 use Rattle.wasmi_grammar.specs.Parts.{Follow}
-use Rattle.wasmi_grammar.proofs.PartsLemmas.{follow_more}
+use Rattle.wasmi_grammar.proofs.LinesLemmas.{follow_more}
 use Rattle.wasmi_grammar.proofs.script.Parts.begin.Goals as goal
 
 pub invariant_of-self-2 : goal.invariant_of-self-2

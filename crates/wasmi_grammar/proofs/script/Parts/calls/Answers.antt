@@ -1,6 +1,6 @@
 use Rattle.std.proofs.Common.{◌∙◌, ap}
 use Rattle.wasmi_grammar.specs.Parts.{calls_in, parts_in}
-use Rattle.wasmi_grammar.proofs.PartsLemmas.{all_calls}
+use Rattle.wasmi_grammar.proofs.LinesLemmas.{all_calls}
 use Rattle.wasmi_grammar.proofs.script.Parts.calls.Goals as goal
 
 pub returns : goal.returns

@@ -3,7 +3,7 @@ use Rattle.std.specs.List.{slice_get}
 use Rattle.std.proofs.lemmas.List.{take_rest}
 use Rattle.std.proofs.lemmas.Option.{slice_get_read}
 use Rattle.wasmi_grammar.specs.Parts.{parts_in}
-use Rattle.wasmi_grammar.proofs.PartsLemmas.{span_within, at_earlier, at_last, at_none}
+use Rattle.wasmi_grammar.proofs.LinesLemmas.{span_within, at_earlier, at_last, at_none}
 use Rattle.wasmi_grammar.proofs.script.Parts.get.Goals as goal
 
 pub calls_at-requires : goal.calls_at-requires

@@ -1,6 +1,6 @@
 use Rattle.std.proofs.Common.{◌∙◌, ◌++◌, ◌∷◌, [], ap}
 use Rattle.wasmi_grammar.specs.Parts.{PartsValue}
-use Rattle.wasmi_grammar.proofs.PartsLemmas.{one_call}
+use Rattle.wasmi_grammar.proofs.LinesLemmas.{one_call}
 use Rattle.wasmi_grammar.proofs.script.Parts.push.Goals as goal
 
 pub returns : goal.returns

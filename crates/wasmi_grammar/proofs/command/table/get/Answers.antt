@@ -1,9 +1,0 @@
-use Rattle.std.proofs.Common.{codes, rules}
-use Rattle.wasmi_grammar.proofs.CommandsLemmas.{refused_after}
-use Rattle.wasmi_grammar.proofs.command.table.get.Goals as goal
-
-pub returns-in_err-table : goal.returns-in_err-table
-returns-in_err-table c =
-    refused_after c.in_err-table.field-0.0 _ (codes "get") c.args.operands.now c.from_residual.result
-    (search rules) c.in_err-table.ensures
-    (λ w. ((w.0, w.1), w.2))
