@@ -1,4 +1,4 @@
-"""Measures, and prints the tables of records/speed/. usage: measure.py FOLDER [RUNS [WORD]]
+"""Measures, and prints the tables whose cells records/speed.tsv has. usage: measure.py FOLDER [RUNS [WORD]]
 
 FOLDER is what build.py made. Each link is run RUNS times (2 where it is left out), for the rows with WORD in their names, and each
 cell is the least time of all."""

@@ -3,7 +3,7 @@
 
     python3 bench/replay.py PROGRAM OTHER [RUNS]
 
-Prints a table, as in records/speed/: the least user and system time of RUNS (9) of each, and PROGRAM's share of OTHER's. Their outputs must be equal.
+Prints a table: the least user and system time of RUNS (9) of each, and PROGRAM's share of OTHER's. Their outputs must be equal.
 """
 
 import hashlib

@@ -5,14 +5,9 @@ import re
 import sys
 import textwrap
 
-import instructions
-from importlib.machinery import SourceFileLoader
-from importlib.util import module_from_spec, spec_from_loader
+from numbering import names_of
 
 TOP = pathlib.Path(__file__).resolve().parent.parent
-LOADER = SourceFileLoader("wrap", str(TOP / "tools" / "wrap"))
-WRAP = module_from_spec(spec_from_loader("wrap", LOADER))
-LOADER.exec_module(WRAP)
 CRATES = TOP / "crates"
 SOURCES = CRATES / "wasmi_c_lib" / "src"
 HEADER = TOP / "include" / "wasmi_instructions.h"
@@ -26,14 +21,14 @@ FUNCTION = re.compile(r"((?:^///[^\n]*\n)+)(?:#\[[^\n]*\n)*^pub fn (\w+)\(([^)]*
 MODULES = {
     "scalar": ("The scalar instructions by name", ("SCALAR_UNARIES", "SCALAR_BINARIES"), "wasmi_scalar/src/wasm.rt", "wasmi_scalar", "wasm"),
     "loads": ("The loads by name", ("LOADS",), "wasmi_access/src/wasm.rt", "wasmi_access", "wasm"),
-    "vector_loads": ("The loads of vectors by name", ("VECTOR_LOADS",), "wasmi_vector_access/src/simd/*.rt", "wasmi_vector_access", "simd"),
+    "vector_loads": ("The loads of vectors by name", ("VECTOR_LOADS",), "wasmi_vector_access/src/**/*.rt", "wasmi_vector_access", "simd"),
     "stores": ("The stores by name", ("STORES",), "wasmi_access/src/wasm.rt", "wasmi_access", "wasm"),
 }
 SHAPES = {"UNARY": ("SCALAR_UNARIES",), "BINARY": ("SCALAR_BINARIES",), "LOAD": ("LOADS", "VECTOR_LOADS"), "STORE": ("STORES",)}
 # The words of clauses that the functions of the library don't have, and where they stand.
 OWN = {
-    "Gives": "Rattle.wasmi_c.specs.Instruction.Calls", "StoresBytes": "Rattle.wasmi_c.specs.Instruction.Accesses", "as_raw": "Rattle.wasmi_ops.specs.RawResults",
-    "raw_of_vector": "Rattle.wasmi_raw.specs.RawVal",
+    "Gives": "Rattle.wasmi_c.specs.Instruction.Calls", "StoresBytes": "Rattle.wasmi_c.specs.Instruction.Accesses",
+    "as_raw": "Rattle.wasmi_ops.specs.RawResults", "raw_of_vector": "Rattle.wasmi_raw.specs.RawVal",
 }
 
 
@@ -102,10 +97,8 @@ class Exported:
         return f'pub extern "C" fn {self.name}(\n' + "".join(f"    {it},\n" for it in pairs) + f"){given}\n"
 
     def clause(self):
-        line = f"    ensures {{ {' '.join(self.clauses)} }}"
-        if len(line) <= WIDTH:
-            return line + "\n"
-        return "\n".join(WRAP.wrapped(line, WIDTH)) + "\n"
+        line = f"    ensures {{ {' '.join(self.clauses)}\N{NO-BREAK SPACE}}}"
+        return textwrap.fill(line, WIDTH, subsequent_indent=" " * 8, break_on_hyphens=False).replace("\N{NO-BREAK SPACE}", " ") + "\n"
 
     def source(self):
         return f"\n{self.text}#[unsafe(no_mangle)]\n{self.signature()}{self.clause()}{{\n    {self.body}\n}}\n"
@@ -124,11 +117,11 @@ class Exported:
 def exported(key):
     """The functions of a module, in the order of its lists."""
     _, lists, files, _, module = MODULES[key]
-    found, names = functions(files), instructions.lists_of_names()
-    missing = [name for it in lists for name in names[it] if name not in found]
+    found = functions(files)
+    missing = [name for it in lists for name in names_of(it) if name not in found]
     if missing:
         sys.exit(f"crates/{files} has no function {missing[0]} that tools/by_name.py reads")
-    return [Exported(name, found[name], module) for it in lists for name in names[it]]
+    return [Exported(name, found[name], module) for it in lists for name in names_of(it)]
 
 
 def source(key):
@@ -140,7 +133,8 @@ def source(key):
     uses += "use wasmi_raw::RawVal;\n" if any("RawVal" in kind for it in made for _, kind in it.parameters) else ""
     uses = "".join(sorted([*uses.splitlines(True), f"use {crate}::{module};\n"]))
     clauses = " ".join(" ".join(it.clauses) for it in made)
-    return f"//! {text}. `tools/header` writes this file.\n//!\n//! A status is 0, or the number of the trap; then nothing is written.\n{imports(files, clauses)}\n{uses}" + "".join(it.source() for it in made)
+    head = f"//! {text}. `tools/header` writes this file.\n//!\n//! A status is 0, or the number of the trap; then nothing is written.\n"
+    return f"{head}{imports(files, clauses)}\n{uses}" + "".join(it.source() for it in made)
 
 
 def prototypes():
@@ -152,10 +146,10 @@ def prototypes():
             lines += [line + "\n" for line in broken(it.prototype())]
         lines.append("\n")
     lines.append("/* These functions, by the shape in which wasmi_core.h has the numbers of their instructions. */\n")
-    names = instructions.lists_of_names()
     for shape, lists in SHAPES.items():
-        words = [f"X({name})" for it in lists for name in names[it]]
-        lines.append(f"#define WASM_{shape}_FUNCTIONS(X) \\\n" + " \\\n".join(textwrap.wrap(" ".join(words), 114, initial_indent="    ", subsequent_indent="    ")) + "\n")
+        words = " ".join(f"X({name})" for it in lists for name in names_of(it))
+        rows = textwrap.wrap(words, 114, initial_indent="    ", subsequent_indent="    ")
+        lines.append(f"#define WASM_{shape}_FUNCTIONS(X) \\\n" + " \\\n".join(rows) + "\n")
     return "".join(lines)
 
 

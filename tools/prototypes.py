@@ -1,4 +1,4 @@
-"""The calls and the structs of a header of include/, and those of the crate that has their functions, both as C writes them."""
+"""The calls, the structs and the numbers of the headers of include/, and those of the crates that have their functions, as C writes them."""
 import re
 
 CRATE_TYPES = {
@@ -18,25 +18,11 @@ OTHER_NAMES = {
 }
 # Lengths that aren't named after their array.
 LENGTHS = {"source_elements": "source_len", "source_region": "source_len"}
+OPAQUE = ("wasmi_machine", "wasmi_pool", "wasmi_words")     # C reads no field of a handle, and the words are in another crate
 
 
 class Unread(Exception):
     """Something that is written in another way than this file knows."""
-
-
-def without_comments(text):
-    return re.sub(r"/\*.*?\*/", "", text, flags=re.S)
-
-
-def spaced(text):
-    """A declaration with one space between words, and stars beside the name."""
-    return re.sub(r"\* ", "*", re.sub(r" ?\* ?", " *", " ".join(text.split())))
-
-
-def prototypes(header):
-    """The calls of a header: by name, what they return and their parameters."""
-    found = re.findall(r"^([\w ]+?) (wasmi?_\w+)\(([^)]*)\);", without_comments(header), re.M)
-    return {name: [given, *(spaced(it) for it in parameters.split(","))] for given, name, parameters in found}
 
 
 def type_in_c(word):
@@ -45,24 +31,39 @@ def type_in_c(word):
     return CRATE_TYPES[word]
 
 
+# ---- calls
+
+def spaced(text):
+    """A declaration with one space between words, and stars beside the name."""
+    return re.sub(r"\* ", "*", re.sub(r" ?\* ?", " *", " ".join(text.split())))
+
+
+def without_comments(text):
+    return re.sub(r"/\*.*?\*/", "", text, flags=re.S)
+
+
+def prototypes(header):
+    """The calls of a header: by name, what they return and their parameters."""
+    found = re.findall(r"^([\w ]+?) (wasmi?_\w+)\(([^)]*)\);", without_comments(header), re.M)
+    return {name: [given, *map(spaced, parameters.split(","))] for given, name, parameters in found}
+
+
 def parameter_in_c(name, word, is_only_array):
     """The declarations that a parameter has in C: two for an array, of its first element and its length."""
-    found = re.fullmatch(r"(&mut |&|)(\[)?(\w+)(?:; \d+)?(\])?", word)
+    found = re.fullmatch(r"(&mut |&|)(\[)?(\w+)(; \d+)?(\])?", word)
     if not found:
         raise Unread(f"the parameter {name}: {word}")
-    reference, is_array, item = found[1], found[2], type_in_c(found[3])
-    kind = f"{item} *" if reference else item
+    kind = type_in_c(found[3]) + " *" * bool(found[1])
     name = OTHER_NAMES.get((name, kind), name)
-    first = ("const " if reference == "&" else "") + (f"{item} *{name}" if reference else f"{item} {name}")
-    if not is_array or ";" in word:
-        return [first]
-    return [first, "size_t len" if is_only_array else f"size_t {LENGTHS.get(name, name + '_len')}"]
+    made = ["const " * (found[1] == "&") + (f"{kind}{name}" if found[1] else f"{kind} {name}")]
+    if found[2] and not found[4]:
+        made.append("size_t len" if is_only_array else f"size_t {LENGTHS.get(name, f'{name}_len')}")
+    return made
 
 
 def signature_in_c(parameters, given, prototype):
     """A signature as C would write it. The length of the last array may be called `len`."""
-    pairs = [tuple(it.strip().split(": ", 1)) for it in parameters.split(",") if it.strip()]
-    pairs = [(name, word) for name, word in pairs if word != "Global"]
+    pairs = [tuple(it.strip().split(": ", 1)) for it in parameters.split(",") if it.strip() and not it.endswith(": Global")]
     arrays = [name for name, word in pairs if "[" in word and ";" not in word]
     made = [type_in_c(given) if given else "void"]
     for name, word in pairs:
@@ -70,54 +71,75 @@ def signature_in_c(parameters, given, prototype):
     return made
 
 
-def signatures(source):
-    """The functions of a crate that C calls: by name, the parameters and what they return."""
-    found = re.findall(r'extern "C" fn (\w+)\(([^)]*)\)(?: -> (\w+))?', source)
-    return {name: (parameters, given) for name, parameters, given in found}
-
-
 def differing_calls(header, source):
     """A sentence for each call whose prototype and signature differ in a name, a type or the order of the parameters."""
-    ours, theirs = prototypes(header), signatures(source)
+    found = re.findall(r'extern "C" fn (\w+)\(([^)]*)\)(?: -> (\w+))?', source)
+    ours, theirs = prototypes(header), {name: (parameters, given) for name, parameters, given in found}
     for name in sorted(ours.keys() | theirs.keys()):
         if name not in ours or name not in theirs:
             yield f"{name} is only in the {'crate' if name in theirs else 'header'}"
-            continue
-        wanted = signature_in_c(*theirs[name], ours[name])
-        if ours[name] != wanted:
+        elif ours[name] != (wanted := signature_in_c(*theirs[name], ours[name])):
             header_has, crate_has = (f"{made[0]} ({', '.join(made[1:])})" for made in (ours[name], wanted))
             yield f"{name} is {header_has} in the header, and {crate_has} in the crate"
 
+
+# ---- structs
 
 def structs(header):
     """The structs of a header: by name, their fields in order, each with its type."""
     made = {}
     for body, name in re.findall(r"typedef struct \{(.*?)\} (\w+);", without_comments(header), re.S):
-        made[name] = []
-        for line in body.split(";")[:-1]:
-            kind, fields = line.strip().split(" ", 1)
-            made[name] += [spaced(f"{kind} {field}") for field in fields.split(",")]
+        lines = [line.strip().split(" ", 1) for line in body.split(";")[:-1]]
+        made[name] = [spaced(f"{kind} {field}") for kind, fields in lines for field in fields.split(",")]
     return made
 
 
 def fields_in_c(body):
     """The fields of a struct of a crate as C would write them."""
-    made = []
-    for name, word in re.findall(r"^    pub (\w+): (.*),$", body, re.M):
-        array = re.fullmatch(r"\[(\w+); (\d+)\]", word)
-        kind = type_in_c(array[1] if array else word)
-        made.append(f"{kind} {OTHER_NAMES.get((name, kind), name)}" + (f"[{array[2]}]" if array else ""))
-    return made
+    for name, item, count in re.findall(r"^    pub (\w+): \[?(\w+)(?:; (\d+)\])?,$", body, re.M):
+        kind = type_in_c(item)
+        yield f"{kind} {OTHER_NAMES.get((name, kind), name)}" + (f"[{count}]" if count else "")
 
 
 def differing_structs(header, source):
-    """A sentence for each struct of a header whose fields differ from those of the struct in the crate. C reads no field of a handle,
-    and wasmi_words is in another crate."""
+    """A sentence for each struct of a header whose fields differ from those of the struct in the crate."""
     names = {theirs: ours for ours, theirs in CRATE_TYPES.items()}
-    for name, fields in structs(header).items():
-        if name in ("wasmi_machine", "wasmi_pool", "wasmi_words"):
-            continue
+    for name, fields in ((name, fields) for name, fields in structs(header).items() if name not in OPAQUE):
         body = re.search(rf"#\[repr\(C\)\][^{{}}]*?pub struct {names.get(name)} \{{(.*?)^\}}", source, re.S | re.M)
-        wanted = fields_in_c(body[1]) if body else ["none"]
+        wanted = list(fields_in_c(body[1])) if body else ["none"]
         if fields != wanted:
             yield f"{name} has the fields ({', '.join(fields)}) in the header, and ({', '.join(wanted)}) in the crate"
+
+
+# ---- statuses, kinds of calls, value types and answers
+
+def capitals(name):
+    """A name in capitals, its words apart: NewMemory is NEW_MEMORY."""
+    return re.sub(r"(?<!^)(?=[A-Z])", "_", name).upper()
+
+
+def enumerators(header):
+    """The numbers of a header by their names without WASMI_."""
+    return {name: int(number) for name, number in re.findall(r"\bWASMI_(\w+) = (\d+)", header)}
+
+
+def crate_numbers(traps, source):
+    """The numbers in the crates by the names that C has for them: the codes of traps, the statuses, and the places of the kinds of calls,
+    the value types and the answers."""
+    made = {capitals(name): int(number) for name, number in re.findall(r"^    (\w+) = (\d+),$", traps, re.M)}
+    made |= {name: int(number) for name, number in re.findall(r"pub const (\w+): u8 = (\d+);", source)}
+    kinds = re.search(r"pub const KINDS: .*? = \[(.*?)\n\];", source, re.S)[1]
+    types = re.search(r"pub const VAL_TYPES: .*? = \[(.*?)\n\];", source, re.S)[1]
+    made |= {f"CALL_{capitals(name)}": number for number, name in enumerate(re.findall(r"Call::(\w+)\)", kinds))}
+    made |= {f"TYPE_{name.upper()}": number for number, name in enumerate(re.findall(r"ValType::(\w+),", types))}
+    answers = re.findall(r"(?:\d+|_) => LimiterAnswer::(\w+),", source)
+    return made | {f"ANSWER_{name.upper()}": number for number, name in enumerate(answers)}
+
+
+def differing_numbers(ours, theirs):
+    """A sentence for each number of the headers that the crates have otherwise or not at all, and for each kind of calls, value type and
+    answer of the crates that the headers lack."""
+    listed = {word for word in theirs if word.startswith(("CALL_", "TYPE_", "ANSWER_"))}
+    for word in sorted(ours.keys() | listed, key=lambda word: (ours.get(word, 0), word)):
+        if ours.get(word) != theirs.get(word):
+            yield f"WASMI_{word} is {ours.get(word, 'nothing')} in the headers, and {theirs.get(word, 'nothing')} in the crates"

@@ -2,7 +2,7 @@
    bytes, whose arrays end at an inaccessible page, and loads and stores of items, by calls with plain arguments and by
    structs, inside the memory, at its end, and past 2^32 and 2^64. usage: bytes ROUNDS [SEED]; its last line is
    `N calls, M differ`, and the exit status is 0 if M is 0. It is built with -fsanitize=address,undefined. */
-#include "basics.h"
+#include "hostile.h"
 #include "wasmi_machine.h"
 
 enum { MEMORIES = 2, PAGE = 65536, MOST = 3 * PAGE, LONG = 70000, LOADS = 12, STORES = 7, ACCESSES = 40 };
@@ -98,7 +98,7 @@ static size_t some_place(int memory, size_t length) {
     switch (below(6)) {
     case 0: return last;
     case 1: return last + 1;
-    case 2: return (size_t)number();
+    case 2: return (size_t)any_number();
     default: return below(last + 1);
     }
 }
@@ -146,7 +146,7 @@ static void one_round(void) {
     write_bytes(memory);
     read_bytes(memory);
     for (int i = 0; i < ACCESSES; i++) {
-        uint64_t ptr = below(4) ? below(size[memory]) : number(), offset = below(2) ? below(16) : number();
+        uint64_t ptr = below(4) ? below(size[memory]) : any_number(), offset = below(2) ? below(16) : any_number();
         load(memory, (uint16_t)below(LOADS), ptr, offset);
         store(memory, (uint16_t)below(STORES), ptr, offset);
     }
@@ -175,7 +175,7 @@ static void begin(void) {
 
 int main(int count, char **words) {
     uint64_t rounds = argument(count, words, 1, 400);
-    seed = argument(count, words, 2, 1) * 0x9e3779b97f4a7c15u | 1;
+    random_state = argument(count, words, 2, 1);
     array_end = fenced(LONG);
     whole = fenced(MOST) - MOST;
     begin();

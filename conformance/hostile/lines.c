@@ -4,14 +4,11 @@
    have ended is a difference. usage: lines SCRIPTS [SEED]. The last line is `N scripts, M differ`; the exit status is 0
    if M is 0. Link it with --wrap for malloc, realloc and free. */
 #define _DEFAULT_SOURCE
-#include "argument.h"
-#include "blocks.h"
 #include "scripts.h"
 #include "wasmi_machine.h"
 
 enum { LINES = 40, PARTS = 6 };
 
-static char script[TEXT], printed[TEXT], whole[TEXT], dots[TEXT];
 static wasmi_machine machine, narrow;
 
 /* Runs a part on a machine, with so much room, and leaves in `text` what the room has then. */
@@ -105,10 +102,9 @@ static char *begin(wasmi_limits *limits) {
     return at;
 }
 
-static void one_script(uint64_t seed) {
+static void one_script(void) {
     wasmi_limits limits;
-    size_t len = 0, needed = 0;
-    state = seed;
+    size_t len = 0;
     char *at = begin(&limits);
     for (int part = 0; part < PARTS; part++) {
         at = one_part(at, &len);
@@ -119,24 +115,9 @@ static void one_script(uint64_t seed) {
     }
     wasmi_machine_drop(&machine);
     wasmi_machine_drop(&narrow);
-    *at = 0;
-    uint8_t ended = wasmi_script_run((uint8_t *)script, (size_t)(at - script), (uint8_t *)whole, TEXT, &needed);
-    if (ended != 0 || needed != len || memcmp(whole, printed, len) != 0) {
-        differs("a whole script", script);
-    }
-    if (blocks != 0) {
-        differs("memory wasn't given back", script);
-        blocks = 0;
-    }
+    same_whole(at, len);
 }
 
 int main(int count, char **arguments) {
-    long scripts = (long)argument(count, arguments, 1, 2000);
-    uint64_t seed = argument(count, arguments, 2, 1);
-    memset(dots, '.', sizeof dots);
-    for (long i = 0; i < scripts; i++) {
-        one_script(seed + (uint64_t)i * 1000003);
-    }
-    printf("%ld scripts, %ld differ\n", scripts, differing);
-    return differing != 0;
+    return try_scripts(count, arguments, one_script);
 }

@@ -3,44 +3,22 @@
    last `N calls, M differ`; the exit status is 0 if M is 0. A block that is left after the last drop of a part is a
    difference. Link it with --wrap for malloc, realloc and free. */
 #define _DEFAULT_SOURCE
-#include "argument.h"
 #include "blocks.h"
+#include "hostile.h"
 #include "wasmi_machine.h"
 #include <pthread.h>
 #include <stdarg.h>
-#include <stddef.h>
-#include <string.h>
-#include <sys/mman.h>
 
 enum { PAGE = 65536, TEXT = 1 << 16, SEQUENCE = 60, THREADS = 4, KINDS = 29, REGISTERS = 5, MOST_LINE = 512 };
 enum { MOST_ANSWERS = 24, FRONT = 1024 };
 
-static _Thread_local long calls, differing;
+static _Thread_local long calls;
 
-/* A copy that ends where a page begins which can't be touched; there is one copy of each use at a time. */
-
-enum use { OF_CALL, OF_ARRAY, OF_WORD, USES };
-
-static void *at_edge(enum use use, const void *from, size_t len) {
-    static _Thread_local uint8_t *regions[USES];
-    if (regions[use] == NULL) {
-        void *region = mmap(NULL, 2 * PAGE, PROT_READ | PROT_WRITE, MAP_PRIVATE | MAP_ANONYMOUS, -1, 0);
-        if (region == MAP_FAILED || mprotect((uint8_t *)region + PAGE, PAGE, PROT_NONE) != 0) {
-            fprintf(stderr, "no page at whose end an array could lie\n");
-            exit(2);
-        }
-        regions[use] = region;
-    }
-    void *copy = regions[use] + PAGE - len;
-    if (len > 0) {
-        memcpy(copy, from, len);
-    }
-    return copy;
-}
+/* The uses of `at_edge`. */
+enum { OF_CALL, OF_ARRAY, OF_WORD };
 
 static int is_direct(const wasmi_call *c);
 static wasmi_reply called_directly(wasmi_machine *machine, const wasmi_call *c);
-static uint64_t below(uint64_t most);
 
 /* A call by its struct, or, where it has a function of its own, by that one in half of the cases. */
 static wasmi_reply called(wasmi_machine *machine, wasmi_call call) {
@@ -52,35 +30,12 @@ static wasmi_reply called(wasmi_machine *machine, wasmi_call call) {
     return wasmi_machine_call(machine, at_edge(OF_CALL, &call, sizeof call));
 }
 
-static void differs(const char *what, const char *more) {
-    differing++;
-    if (differing < 5) {
-        printf("%s\n%s\n", what, more);
-    }
-}
-
 /* After the machines of a part have ended, their memory has been given back. */
 static void nothing_left(const char *part) {
     if (blocks != 0) {
         differs(part, "memory wasn't given back");
         blocks = 0;
     }
-}
-
-/* Random numbers. */
-
-static _Thread_local uint64_t state;
-
-static uint64_t next(void) {
-    state += UINT64_C(0x9e3779b97f4a7c15);
-    uint64_t z = state;
-    z = (z ^ (z >> 30)) * UINT64_C(0xbf58476d1ce4e5b9);
-    z = (z ^ (z >> 27)) * UINT64_C(0x94d049bb133111eb);
-    return z ^ (z >> 31);
-}
-
-static uint64_t below(uint64_t most) {
-    return next() % most;
 }
 
 /* A number that is small, within some pages, or next to a border. */
@@ -356,21 +311,21 @@ static uint8_t random_register(void) {
 static wasmi_call random_call(void) {
     wasmi_call c;
     memset(&c, 0, sizeof c);
-    c.kind = (uint16_t)(below(60) == 0 ? next() : below(KINDS));
+    c.kind = (uint16_t)(below(60) == 0 ? any() : below(KINDS));
     c.op = random_op(c.kind);
     c.lane = (uint8_t)(below(20) == 0 ? below(256) : below(2));
     c.dst = random_register(), c.a = random_register(), c.b = random_register(), c.c = random_register();
-    c.type = (uint8_t)(below(40) == 0 ? next() : c.kind <= WASMI_CALL_DROP_ITEMS ? 5 + below(2) : below(7));
+    c.type = (uint8_t)(below(40) == 0 ? any() : c.kind <= WASMI_CALL_DROP_ITEMS ? 5 + below(2) : below(7));
     c.is_mutable = (uint8_t)below(3), c.is_64 = (uint8_t)below(3), c.has_maximum = (uint8_t)below(3);
-    c.page_size_log2 = (uint8_t)(below(30) == 0 ? next() : below(2) * 16);
+    c.page_size_log2 = (uint8_t)(below(30) == 0 ? any() : below(2) * 16);
     c.reference = (uint32_t)number();
     c.index = (size_t)(below(30) == 0 ? number() : below(3)), c.source = (size_t)(below(30) == 0 ? number() : below(3));
     c.count = below(3) ? below(6) : number(), c.maximum = below(2) ? 1 + below(40) : number();
     c.ptr = below(3) ? below(below(2) ? 16 : PAGE) : number(), c.offset = below(3) ? 0 : number();
     c.to = below(3) ? below(6) : number(), c.from = below(3) ? below(6) : number();
-    c.value = (wasmi_words){next(), next()};
+    c.value = (wasmi_words){any(), any()};
     for (int i = 0; i < 16; i++) {
-        c.lanes[i] = (uint8_t)(below(200) == 0 ? next() : below(32));
+        c.lanes[i] = (uint8_t)(below(200) == 0 ? any() : below(32));
     }
     return c;
 }
@@ -417,7 +372,7 @@ static void one_write(struct sequence *s, size_t memory, size_t offset, size_t l
     uint8_t bytes[FRONT];
     char *end = put(line, "write %zu %zu", memory, offset);
     for (size_t i = 0; i < len; i++) {
-        bytes[i] = (uint8_t)next();
+        bytes[i] = (uint8_t)any();
         end = put(end, " %d", bytes[i]);
     }
     end = put(end, "\n");
@@ -460,7 +415,7 @@ static void some_segment(struct sequence *s) {
     char line[2 * MOST_LINE];
     uint32_t items[16];
     size_t len = (size_t)below(16);
-    uint8_t type = (uint8_t)(below(20) == 0 ? next() : 5 + below(2));
+    uint8_t type = (uint8_t)(below(20) == 0 ? any() : 5 + below(2));
     char *end = put(line, "segment %s", reference_word(type));
     for (size_t i = 0; i < len; i++) {
         items[i] = (uint32_t)number();
@@ -505,7 +460,7 @@ static void fill(struct sequence *s) {
     one_call(s, table);
     some_segment(s);
     for (set.dst = 0; set.dst < REGISTERS; set.dst++) {
-        set.value = (wasmi_words){next(), next()};
+        set.value = (wasmi_words){any(), any()};
         one_call(s, set);
     }
 }
@@ -597,7 +552,7 @@ static void end(struct sequence *s) {
 }
 
 static uint64_t run_sequence(struct sequence *s, uint64_t seed) {
-    state = seed;
+    random_state = seed;
     begin(s);
     fill(s);
     for (int i = 0; i < SEQUENCE; i++) {
@@ -698,7 +653,7 @@ static void forge(long count) {
     for (long i = 0; i < count; i++) {
         wasmi_call call;
         for (size_t at = 0; at < sizeof call; at += sizeof(uint64_t)) {
-            uint64_t word = below(3) ? number() : next();
+            uint64_t word = below(3) ? number() : any();
             memcpy((uint8_t *)&call + at, &word, sizeof word);
         }
         call.kind = (uint16_t)below(KINDS);
@@ -868,7 +823,7 @@ static void refuse(size_t answers) {
 int main(int count, char **words) {
     long wanted = (long)argument(count, words, 1, 10000);
     uint64_t seed = argument(count, words, 2, 1);
-    state = seed;
+    random_state = seed;
     without_machine();
     nothing_left("a handle of zeros");
     forge(wanted / 10);

@@ -206,12 +206,12 @@ static wasmi_memory any_memory(size_t length) {
     wasmi_memory m;
     memset(&m, 0, sizeof m);
     m.page_size_log2 = below(8) == 0 ? (uint8_t)any() : below(3) == 0 ? 16 : 0;
-    m.minimum = below(2) ? below(4) : number();
+    m.minimum = below(2) ? below(4) : any_number();
     m.has_maximum = flag();
-    m.maximum = below(2) ? m.minimum + below(SMALL) : number();
+    m.maximum = below(2) ? m.minimum + below(SMALL) : any_number();
     m.is_64 = flag();
     size_t page = m.page_size_log2 == 16 ? PAGE : 1;
-    m.size = below(4) ? below(length / page + 1) * page : (size_t)number();
+    m.size = below(4) ? below(length / page + 1) * page : (size_t)any_number();
     return m;
 }
 
@@ -226,14 +226,11 @@ static void begin(state *s, state *model) {
             s->region[i][k] = (uint8_t)any();
         s->memory[i] = any_memory(length);
     }
-    const wasmi_meter meter = {number(), below(2) ? 64 : (uint32_t)number(), 7, 2, flag()};
-    const wasmi_quota quota = {number(), number(), below(2) ? 0 : number(), number(), number(), (uint8_t)below(4), flag()};
-    const wasmi_answers answers = {(size_t)number(), flag(), flag(), flag(), flag(), (size_t)number()};
+    s->meter = any_meter(64);
+    s->quota = any_quota();
+    s->answers = any_answers();
     memset(&s->question, 0, sizeof s->question);
-    s->meter = meter;
-    s->quota = quota;
-    s->answers = answers;
-    s->number = number();
+    s->number = any_number();
     *model = *s;
     for (int i = 0; i < MEMORIES; i++) {
         model->region[i] = s->length[i] > 0 ? model_end[i] - s->length[i] : NULL;
@@ -253,12 +250,7 @@ static bool same(const state *a, const state *b) {
             (a->length[i] > 0 && memcmp(a->region[i], b->region[i], a->length[i])))
             return false;
     return a->meter.left == b->meter.left && a->meter.is_on == b->meter.is_on && same_quota(&a->quota, &b->quota) &&
-           a->answers.current == b->answers.current && a->answers.answer == b->answers.answer &&
-           a->answers.notice_answer == b->answers.notice_answer && a->answers.asked == b->answers.asked &&
-           a->answers.told == b->answers.told && a->answers.desired == b->answers.desired &&
-           a->question.current == b->question.current &&
-           a->question.desired == b->question.desired && a->question.maximum == b->question.maximum &&
-           a->question.has_maximum == b->question.has_maximum && a->number == b->number;
+           same_answers(&a->answers, &b->answers) && same_question(&a->question, &b->question) && a->number == b->number;
 }
 
 /* The size of a page, or 1 where the struct has none. */
@@ -270,7 +262,7 @@ static size_t some_page(const wasmi_memory *m) {
 static uint64_t some_pages(const state *s, int i) {
     size_t page = some_page(&s->memory[i]);
     size_t left = s->memory[i].size <= s->length[i] ? (s->length[i] - s->memory[i].size) / page : 0;
-    return below(3) ? below(left / 2 + 3) : number();
+    return below(3) ? below(left / 2 + 3) : any_number();
 }
 
 /* How many bytes are read or written. */
@@ -282,7 +274,7 @@ static size_t some_length(void) {
 /* Where they begin: mostly where they fit. */
 static size_t some_offset(const wasmi_memory *m, size_t length) {
     size_t size = m->size % (MOST + 1);
-    return below(4) ? below((size > length ? size - length : size) + 2) : (size_t)number();
+    return below(4) ? below((size > length ? size - length : size) + 2) : (size_t)any_number();
 }
 
 /* Bytes that are read or written, with those of the model. */
@@ -301,8 +293,8 @@ static bool access_agrees(state *s, state *model, int i, bool is_write) {
 /* A range that mostly lies within two memories, or within a memory and so many bytes. */
 static wasmi_range some_range(const state *s, int i, size_t source) {
     size_t size = s->memory[i].size % (MOST + 1), least = size < source ? size : source;
-    uint64_t count = below(8) ? below(below(8) ? least % SMALL + 2 : least + 2) : number();
-    wasmi_range range = {number(), number(), count};
+    uint64_t count = below(8) ? below(below(8) ? least % SMALL + 2 : least + 2) : any_number();
+    wasmi_range range = {any_number(), any_number(), count};
     if (below(8))
         range.to = below((size > count ? size - count : size) + 2);
     if (below(8))
@@ -341,7 +333,7 @@ static bool write_agrees(state *s, state *model, int i) {
 /* A call that reads a number alone. */
 static bool number_agrees(state *s, state *model, int i) {
     const wasmi_memory *m = &s->memory[i];
-    uint64_t found = 7, amount = number();
+    uint64_t found = 7, amount = any_number();
     switch (below(4)) {
     case 0: {
         bool is = is_state(m, s->length[i]);
@@ -376,20 +368,20 @@ static bool call_agrees(state *s, state *model) {
         return wasmi_memory_question(m, s->region[i], s->length[i], pages, &s->question) ==
                question_by_model(model, i, pages);
     case 5:
-        s->answers.current = model->answers.current = below(8) ? m->size : (size_t)number();
-        s->answers.desired = model->answers.desired = below(8) ? m->size + pages * some_page(m) : (size_t)number();
+        s->answers.current = model->answers.current = below(8) ? m->size : (size_t)any_number();
+        s->answers.desired = model->answers.desired = below(8) ? m->size + pages * some_page(m) : (size_t)any_number();
         s->answers.answer = model->answers.answer = flag();
         s->answers.notice_answer = model->answers.notice_answer = flag();
         return wasmi_memory_settle(m, s->region[i], s->length[i], pages, &s->meter, &s->answers, &s->number) ==
                grow_by_model(model, i, pages, true);
     case 6: return access_agrees(s, model, i, below(2) != 0);
     case 7: {
-        uint64_t amount = number();
+        uint64_t amount = any_number();
         return wasmi_fuel_consume(&s->meter, amount, &s->number) == consume_by_model(model, amount);
     }
     case 8: return write_agrees(s, model, i);
     case 9: {
-        uint64_t amount = number();
+        uint64_t amount = any_number();
         return wasmi_fuel_consume_copy(&s->meter, amount, &s->number) ==
                consume_by_model(model, price_of(&model->meter, amount));
     }
@@ -397,25 +389,21 @@ static bool call_agrees(state *s, state *model) {
     }
 }
 
+static state own, by_model;
+
+static void begin_both(void) {
+    begin(&own, &by_model);
+}
+
+static bool next_agrees(void) {
+    return call_agrees(&own, &by_model) && same(&own, &by_model);
+}
+
 int main(int count, char **words) {
-    uint64_t sequences = argument(count, words, 1, 20000), calls = 0, differ = 0;
-    uint64_t first = argument(count, words, 2, 1);
     for (int i = 0; i < MEMORIES; i++) {
         end[i] = fenced(MOST);
         model_end[i] = fenced(MOST);
     }
     bytes_end = fenced(LONG);
-    for (uint64_t n = 0; n < sequences; n++) {
-        state s, model;
-        seed = (first + n) * 0x9e3779b97f4a7c15u | 1;
-        begin(&s, &model);
-        for (uint64_t k = below(24); k > 0; k--, calls++)
-            if (!call_agrees(&s, &model) || !same(&s, &model)) {
-                printf("seed %" PRIu64 ": a call differs, with %" PRIu64 " before its end\n", first + n, k);
-                differ++;
-                break;
-            }
-    }
-    printf("%" PRIu64 " sequences, %" PRIu64 " calls, %" PRIu64 " differ\n", sequences, calls, differ);
-    return differ != 0;
+    return try_sequences(count, words, begin_both, next_agrees);
 }

@@ -5,14 +5,11 @@
    ended is a difference. usage: pool SCRIPTS [SEED]. The last line is `N scripts, M differ`; the exit status is 0 if M
    is 0. Link it with --wrap for malloc, realloc and free. */
 #define _DEFAULT_SOURCE
-#include "argument.h"
-#include "blocks.h"
 #include "scripts.h"
 #include "wasmi_machine.h"
 
 enum { MOST_TENANTS = 4, TURNS = 16, MOST_LINES = 6, WRITTEN = 8 };
 
-static char script[TEXT], printed[TEXT], whole[TEXT], dots[TEXT];
 static wasmi_pool pool, none;
 static size_t tenants, printed_len;
 
@@ -202,9 +199,8 @@ static void totals(void) {
     }
 }
 
-static void one_script(uint64_t seed) {
-    size_t needed = 0;
-    state = seed, printed_len = 0;
+static void one_script(void) {
+    printed_len = 0;
     char *at = begin();
     for (uint64_t i = below(TURNS); i > 0; i--) {
         size_t tenant = (size_t)below(tenants);
@@ -215,24 +211,9 @@ static void one_script(uint64_t seed) {
     totals();
     wasmi_pool_drop(&pool);
     wasmi_pool_drop(&none);
-    uint8_t ended = wasmi_script_run((uint8_t *)script, (size_t)(at - script), (uint8_t *)whole, TEXT, &needed);
-    if (ended != 0 || needed != printed_len || memcmp(whole, printed, printed_len) != 0) {
-        *at = 0;
-        differs("a whole script", script);
-    }
-    if (blocks != 0) {
-        differs("memory wasn't given back", script);
-        blocks = 0;
-    }
+    same_whole(at, printed_len);
 }
 
 int main(int count, char **arguments) {
-    long scripts = (long)argument(count, arguments, 1, 2000);
-    uint64_t seed = argument(count, arguments, 2, 1);
-    memset(dots, '.', sizeof dots);
-    for (long i = 0; i < scripts; i++) {
-        one_script(seed + (uint64_t)i * 1000003);
-    }
-    printf("%ld scripts, %ld differ\n", scripts, differing);
-    return differing != 0;
+    return try_scripts(count, arguments, one_script);
 }

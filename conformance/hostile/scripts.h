@@ -1,37 +1,13 @@
-/* What programs of random scripts share: random numbers, lines, and arrays that end where a page begins which can't be
-   touched. */
+/* What programs of random scripts share: lines, and how a script's text is compared with that of its parts. */
 #ifndef SCRIPTS_H
 #define SCRIPTS_H
 
-#include <inttypes.h>
-#include <stdint.h>
-#include <stdio.h>
-#include <stdlib.h>
-#include <string.h>
-#include <sys/mman.h>
+#include "blocks.h"
+#include "hostile.h"
 
 enum { PAGE = 65536, TEXT = 1 << 16 };
 
-static long differing;
-
-static void differs(const char *what, const char *more) {
-    differing++;
-    if (differing < 5) {
-        printf("%s\n%s\n", what, more);
-    }
-}
-
-/* Random numbers. */
-
-static uint64_t state;
-
-static uint64_t below(uint64_t most) {
-    state += UINT64_C(0x9e3779b97f4a7c15);
-    uint64_t z = state;
-    z = (z ^ (z >> 30)) * UINT64_C(0xbf58476d1ce4e5b9);
-    z = (z ^ (z >> 27)) * UINT64_C(0x94d049bb133111eb);
-    return (z ^ (z >> 31)) % most;
-}
+static char script[TEXT], printed[TEXT], whole[TEXT], dots[TEXT];
 
 static uint64_t number(void) {
     static const uint64_t borders[] = {0, 255, PAGE, UINT32_MAX, UINT64_C(1) << 48, INT64_MAX, UINT64_MAX};
@@ -80,22 +56,30 @@ static char *line(char *at, const char *form) {
     return at + 1;
 }
 
-/* A copy that ends where a page begins which can't be touched; there is one copy of each use at a time. */
-static void *at_edge(int use, const void *from, size_t len) {
-    static uint8_t *regions[2];
-    if (regions[use] == NULL) {
-        void *region = mmap(NULL, TEXT + PAGE, PROT_READ | PROT_WRITE, MAP_PRIVATE | MAP_ANONYMOUS, -1, 0);
-        if (region == MAP_FAILED || mprotect((uint8_t *)region + TEXT, PAGE, PROT_NONE) != 0) {
-            fprintf(stderr, "no page at whose end an array could lie\n");
-            exit(2);
-        }
-        regions[use] = (uint8_t *)region;
+/* Whether the script up to a place prints what its parts have, whole, and no block of memory is left. */
+static void same_whole(char *end, size_t len) {
+    size_t needed = 0;
+    uint8_t ended = wasmi_script_run((uint8_t *)script, (size_t)(end - script), (uint8_t *)whole, TEXT, &needed);
+    *end = 0;
+    if (ended != 0 || needed != len || memcmp(whole, printed, len) != 0) {
+        differs("a whole script", script);
     }
-    uint8_t *copy = regions[use] + TEXT - len;
-    if (len > 0) {
-        memcpy(copy, from, len);
+    if (blocks != 0) {
+        differs("memory wasn't given back", script);
+        blocks = 0;
     }
-    return copy;
+}
+
+/* Tries so many scripts, as the arguments say. */
+static int try_scripts(int count, char **arguments, void (*one_script)(void)) {
+    uint64_t scripts = argument(count, arguments, 1, 2000), seed = argument(count, arguments, 2, 1);
+    memset(dots, '.', sizeof dots);
+    for (uint64_t i = 0; i < scripts; i++) {
+        random_state = seed + i * 1000003;
+        one_script();
+    }
+    printf("%" PRIu64 " scripts, %ld differ\n", scripts, differing);
+    return differing != 0;
 }
 
 #endif

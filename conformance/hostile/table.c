@@ -17,21 +17,18 @@ static void begin(state *s, state *model) {
         for (size_t k = 0; k < length; k++)
             s->region[i][k] = (uint32_t)any();
         memset(t, 0, sizeof *t);
-        t->minimum = below(4) ? below(4) : number();
+        t->minimum = below(4) ? below(4) : any_number();
         t->has_maximum = flag();
-        t->maximum = below(4) ? t->minimum + below(MOST) : number();
+        t->maximum = below(4) ? t->minimum + below(MOST) : any_number();
         t->is_64 = flag();
         t->type = below(8) ? (uint8_t)(5 + below(4) / 3) : (uint8_t)any();
-        t->size = below(6) ? below(length + 1) : (size_t)number();
+        t->size = below(6) ? below(length + 1) : (size_t)any_number();
     }
-    const wasmi_meter meter = {number(), below(2) ? 1 : (uint32_t)number(), 7, 2, flag()};
-    const wasmi_quota quota = {number(), number(), number(), below(2) ? 0 : number(), number(), (uint8_t)below(4), flag()};
-    const wasmi_answers answers = {(size_t)number(), flag(), flag(), flag(), flag(), (size_t)number()};
+    s->meter = any_meter(1);
+    s->quota = any_quota();
+    s->answers = any_answers();
     memset(&s->question, 0, sizeof s->question);
-    s->meter = meter;
-    s->quota = quota;
-    s->answers = answers;
-    s->number = number();
+    s->number = any_number();
     *model = *s;
     for (int i = 0; i < TABLES; i++) {
         model->region[i] = s->length[i] > 0 ? model_end[i] - s->length[i] : NULL;
@@ -51,17 +48,12 @@ static bool same(const state *a, const state *b) {
             (a->length[i] > 0 && memcmp(a->region[i], b->region[i], a->length[i] * sizeof *a->region[i])))
             return false;
     return a->meter.left == b->meter.left && a->meter.is_on == b->meter.is_on && same_quota(&a->quota, &b->quota) &&
-           a->answers.current == b->answers.current && a->answers.answer == b->answers.answer &&
-           a->answers.notice_answer == b->answers.notice_answer && a->answers.asked == b->answers.asked &&
-           a->answers.told == b->answers.told && a->answers.desired == b->answers.desired &&
-           a->question.current == b->question.current &&
-           a->question.desired == b->question.desired && a->question.maximum == b->question.maximum &&
-           a->question.has_maximum == b->question.has_maximum && a->number == b->number;
+           same_answers(&a->answers, &b->answers) && same_question(&a->question, &b->question) && a->number == b->number;
 }
 
 /* An index or a count that is often within a table. */
 static uint64_t place(const state *s, int i) {
-    return below(6) ? below(s->table[i].size % MOST + 2) : number();
+    return below(6) ? below(s->table[i].size % MOST + 2) : any_number();
 }
 
 static bool init_agrees(state *s, state *model, int i, const wasmi_range *range) {
@@ -95,7 +87,7 @@ static bool set_agrees(state *s, state *model, int i) {
 
 static bool growth_agrees(state *s, state *model, int i) {
     wasmi_table *t = &s->table[i];
-    uint64_t delta = below(3) ? below(6) : number();
+    uint64_t delta = below(3) ? below(6) : any_number();
     uint32_t reference = (uint32_t)any();
     switch (below(5)) {
     case 0:
@@ -104,8 +96,8 @@ static bool growth_agrees(state *s, state *model, int i) {
         return wasmi_table_question(t, s->region[i], s->length[i], delta, &s->question) ==
                question_by_model(model, i, delta);
     case 2:
-        s->answers.current = model->answers.current = below(8) ? t->size : (size_t)number();
-        s->answers.desired = model->answers.desired = below(8) ? t->size + delta : (size_t)number();
+        s->answers.current = model->answers.current = below(8) ? t->size : (size_t)any_number();
+        s->answers.desired = model->answers.desired = below(8) ? t->size + delta : (size_t)any_number();
         s->answers.answer = model->answers.answer = flag();
         s->answers.notice_answer = model->answers.notice_answer = flag();
         return wasmi_table_settle(t, s->region[i], s->length[i], delta, reference, &s->meter, &s->answers, &s->number) ==
@@ -119,7 +111,7 @@ static bool growth_agrees(state *s, state *model, int i) {
 static bool call_agrees(state *s, state *model) {
     int i = (int)below(TABLES), other = 1 - i;
     wasmi_table *t = &s->table[i];
-    const wasmi_range range = {place(s, i), place(s, below(2) ? i : other), below(3) ? below(6) : number()};
+    const wasmi_range range = {place(s, i), place(s, below(2) ? i : other), below(3) ? below(6) : any_number()};
     uint32_t reference = (uint32_t)any();
     switch (below(10)) {
     case 0: return get_agrees(s, i);
@@ -139,25 +131,21 @@ static bool call_agrees(state *s, state *model) {
     }
 }
 
+static state own, by_model;
+
+static void begin_both(void) {
+    begin(&own, &by_model);
+}
+
+static bool next_agrees(void) {
+    return call_agrees(&own, &by_model) && same(&own, &by_model);
+}
+
 int main(int count, char **words) {
-    uint64_t sequences = argument(count, words, 1, 20000), calls = 0, differ = 0;
-    uint64_t first = argument(count, words, 2, 1);
     for (int i = 0; i < TABLES; i++) {
         end[i] = (uint32_t *)(void *)fenced(MOST * sizeof(uint32_t));
         model_end[i] = (uint32_t *)(void *)fenced(MOST * sizeof(uint32_t));
     }
     items_end = (uint32_t *)(void *)fenced(MOST * sizeof(uint32_t));
-    for (uint64_t n = 0; n < sequences; n++) {
-        state s, model;
-        seed = (first + n) * 0x9e3779b97f4a7c15u | 1;
-        begin(&s, &model);
-        for (uint64_t k = below(24); k > 0; k--, calls++)
-            if (!call_agrees(&s, &model) || !same(&s, &model)) {
-                printf("seed %" PRIu64 ": a call differs, with %" PRIu64 " before its end\n", first + n, k);
-                differ++;
-                break;
-            }
-    }
-    printf("%" PRIu64 " sequences, %" PRIu64 " calls, %" PRIu64 " differ\n", sequences, calls, differ);
-    return differ != 0;
+    return try_sequences(count, words, begin_both, next_agrees);
 }

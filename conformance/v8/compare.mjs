@@ -5,10 +5,8 @@
 // 2 if nothing is compared.
 import { spawnSync } from "node:child_process";
 import v8 from "node:v8";
-import { numbers } from "./numbers.mjs";
-import { Random } from "./random.mjs";
+import { numbers, Random, shuffles } from "./numbers.mjs";
 import { scripts } from "./scripts.mjs";
-import { shuffles } from "./shuffles.mjs";
 
 const stop = (text) => {
   console.error(`compare.mjs: ${text}`);

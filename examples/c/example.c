@@ -36,3 +36,16 @@ int main(void) {
     }
     return failed;
 }
+
+/* It prints:
+done
+memory 0
+value 1
+error out of bounds memory growth
+value 976
+i32_rotl: status 0, 24
+i32_div_s: status 5
+i8x16_add: status 0
+  8080808080808080 1
+  4 6
+*/

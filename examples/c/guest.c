@@ -165,3 +165,56 @@ int main(void) {
     answered();
     return 0;
 }
+
+/* It prints:
+call without machine   status 16, number 0, value 0
+new                    status 0
+new again              status 22
+memory of a page       status 0, number 0, value 0
+grow without fuel      status 40, number 2048, value 0
+set fuel               status 0, number 0, value 0
+grow by two            status 0, number 1, value 0
+grow beyond the cap    status 33, number 0, value 0
+fuel left              status 0, number 5952, value 0
+take fuel              status 0, number 4952, value 0
+take too much          status 65, number 10000, value 0
+write                  status 0, number 0, value 0
+read                   status 0, number 0, value 0
+what was read          hello
+read past the end      status 34, number 0, value 0
+load                   status 0, number 0, value 6c6c6568
+load past the end      status 2, number 0, value 0
+store                  status 0
+load of its half       status 0, value 11223344
+load past the end      status 2, value 11223344
+load of a vector       status 17
+grow by none           status 0, number 3
+grow by one            status 0, number 3
+grow another           status 18, number 3
+fuel left after that   status 0, number 3928
+table of four          status 0, number 0, value 0
+segment                status 0, number 0, value 0
+init from 1 on         status 0, number 0, value 0
+init past the end      status 53, number 0, value 0
+element 2              status 0, type 5, reference 8
+set register 0         status 0, number 0, value 0
+set register 1         status 0, number 0, value 0
+every second byte      status 0, number 0, value 0
+register 2             status 0, number 0, value 11131517191b1d1f
+no such lane           status 17, number 0, value 0
+sums of bytes          status 0
+register 2             status 0, number 0, value 22262a2e32363a3e
+no such register       status 18
+no such kind           status 17, number 0, value 0
+totals                 262144 bytes, 4 elements
+call after drop        status 16, number 0, value 0
+no such answer         status 26
+new with answers       status 0
+permit: a table        status 0, number 0, value 0
+deny: grow by one      status 52, number 0, value 0
+unasked: another type  status 57, number 0, value 0
+permit: grow by one    status 0, number 1, value 0
+complain: beyond 3     status 51, number 0, value 0
+error: grow by one     status 51, number 0, value 0
+no answer left         status 0, number 2, value 0
+*/

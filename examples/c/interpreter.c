@@ -218,3 +218,18 @@ int main(void) {
     report(&guests[1], "a load past the end", load_past_the_end, bits);
     return 0;
 }
+
+/* It prints:
+guest 0: status 0
+guest 1: status 0
+sum of squares: status 0, stack 285; 2710 fuel, 131072 bytes; the quota holds 196608 bytes, 4 elements
+growths by 3 and by 2 without fuel: status 10, stack 4294967295; 6 fuel, 65536 bytes; the quota holds 196608 bytes, 4 elements
+growths by 3 and by 2: status 0, stack 4294967295 1 3; 1947 fuel, 196608 bytes; the quota holds 327680 bytes, 4 elements
+growths beyond the type and the quota: status 0, stack 4294967295 4294967295 2; 2705 fuel, 131072 bytes; the quota holds 327680 bytes, 4 elements
+a call: status 0, stack 8; 1943 fuel, 196608 bytes; the quota holds 327680 bytes, 4 elements
+a call of null: status 4, stack; 1941 fuel, 196608 bytes; the quota holds 327680 bytes, 4 elements
+a call past the end: status 3, stack; 1939 fuel, 196608 bytes; the quota holds 327680 bytes, 4 elements
+a function that calls itself: status 8, stack; 1923 fuel, 196608 bytes; the quota holds 327680 bytes, 4 elements
+a division by zero: status 5, stack; 1920 fuel, 196608 bytes; the quota holds 327680 bytes, 4 elements
+a load past the end: status 2, stack; 1918 fuel, 196608 bytes; the quota holds 327680 bytes, 4 elements
+*/

@@ -36,3 +36,36 @@ int main(void) {
     run("left\n", 256);              /* the handle has no machine */
     return 0;
 }
+
+/* It prints:
+made: 0
+status 0, number 33
+done
+memory 0
+value 1
+value 3976
+taken: 0
+status 0, number 82
+value 2976
+done
+bytes 0 0 7 8
+error out of bounds memory growth
+value 2
+value 928
+status 0, number 69
+table 0
+done
+func 6
+error out of bounds table access: `table.growth`
+status 0, number 28
+done
+done
+raw 2 4
+no region
+status 23, number 2
+status 24, number 0
+status 0, number 14
+bytes..
+status 0, number 0
+status 16, number 0
+*/

@@ -124,3 +124,37 @@ int main(void) {
     said("size", status, pages);
     return 0;
 }
+
+/* It prints:
+new                      status  0, number     0,  1 pages, fuel 0, held 1
+grow by none             status  0, number     1,  1 pages, fuel 0, held 1
+grow without fuel        status 40, number  1024,  1 pages, fuel 0, held 1
+grow by two              status  0, number     1,  3 pages, fuel 37952, held 3
+grow beyond the maximum  status 33, number     0,  3 pages, fuel 37952, held 3
+grow beyond the cap      status 33, number     0,  3 pages, fuel 37952, held 3
+grow up to the cap       status  0, number     3, 40 pages, fuel 64, held 40
+grow in a short region   status 36, number     0, 40 pages, fuel 1000000, held 40
+grow up to the maximum   status  0, number    40, 64 pages, fuel 975424, held 64
+grow without a quota     status 33, number     0, 64 pages, fuel 975424, held 64
+grow by none again       status  0, number    64, 64 pages, fuel 975424, held 64
+write                    status  0, number     0, 64 pages, fuel 975424, held 64
+read                     status  0, number     0, 64 pages, fuel 975424, held 64
+what was read            hello
+read past the end        status 34, number     0, 64 pages, fuel 975424, held 64
+take fuel                status  0, number 970000, 64 pages, fuel 970000, held 64
+take too much            status 65, number 1000000, 64 pages, fuel 970000, held 64
+price of a page          1024
+a size past the region   status 96, number     0, 65 pages, fuel 970000, held 64
+no whole pages           status 96, number     0,  0 pages, fuel 970000, held 64
+limits out of order      status 96, number     0, 64 pages, fuel 970000, held 64
+pages of 32 bytes        status 96, number     0, 64 pages, fuel 970000, held 64
+one page, not permitted  status 33, number     0,  1 pages, fuel 3000, held 64
+                         asked 1, told 0
+two pages                status  0, number     1,  3 pages, fuel 952, held 64
+                         asked 1, told 0
+two pages, no fuel       status 37, number     0,  3 pages, fuel 952, held 64
+                         asked 1, told 1
+beyond the maximum       status 33, number     0,  3 pages, fuel 952, held 64
+                         asked 0, told 0
+size                     status  0, number     3,  3 pages, fuel 952, held 64
+*/

@@ -81,3 +81,34 @@ int main(void) {
     call("call after the end", 0, WASMI_CALL_GET_FUEL, 0);
     return 0;
 }
+
+/* It prints:
+new status 0
+plug-in 0: added                      status 0, number 0
+plug-in 1: added                      status 0, number 1
+plug-in 0: set fuel                   status 0, number 0
+plug-in 0: memory of two pages        status 0, number 0
+plug-in 0: write                      status 0, number 0
+plug-in 0: read                       status 0, number 0
+plug-in 0: what was read is hello
+plug-in 1: lines                      status 0, number 90
+done
+memory 0
+table 0
+bytes 0 0 0 0 0
+error out of bounds memory growth
+value 1
+value 976
+plug-in 0: 131072 bytes, 0 elements
+plug-in 1: 131072 bytes, 8 elements
+all: 262144 bytes, 8 elements
+plug-in 0: grow by one                status 33, number 0
+plug-in 2: no plug-in                 status 29, number 0
+plug-in 0: fuel left                  status 0, number 2000
+plug-in 0: drop the memory            status 0, number 0
+plug-in 0: another one                status 37, number 0
+plug-in 0: 131072 bytes, 0 elements
+plug-in 1: 131072 bytes, 8 elements
+all: 262144 bytes, 8 elements
+plug-in 0: call after the end         status 27, number 0
+*/

@@ -95,3 +95,31 @@ int main(void) {
     said("a size past the region", grown(0, ROOM));
     return 0;
 }
+
+/* It prints:
+new                      status  0, number   0, fuel   0, held  4: 3 3 3 3
+another                  status  0, number   0, fuel   0, held  8: 3 3 3 3
+grow without fuel        status 58, number   8, fuel   0, held  8: 3 3 3 3
+grow by two              status  0, number   4, fuel  92, held 10: 3 3 3 3 7 7
+grow in a short region   status 48, number   0, fuel  84, held 10: 3 3 3 3 7 7
+grow beyond the maximum  status 52, number   0, fuel  84, held 10: 3 3 3 3 7 7
+grow beyond the cap      status 52, number   0, fuel  84, held 10: 3 3 3 3 7 7
+grow by none             status  0, number   6, fuel  84, held 10: 3 3 3 3 7 7
+set                      status  0, number   0, fuel  84, held 10: 5 3 3 3 7 7
+set past the end         status 55, number   0, fuel  84, held 10: 5 3 3 3 7 7
+init                     status  0, number   0, fuel  76, held 10: 5 22 23 3 7 7
+init past the items      status 53, number   0, fuel  76, held 10: 5 22 23 3 7 7
+copy onto itself         status  0, number   0, fuel  60, held 10: 5 22 5 22 23 3
+copy past the end        status 56, number   0, fuel  60, held 10: 5 22 5 22 23 3
+fill                     status  0, number   0, fuel  56, held 10: 9 22 5 22 23 3
+copy from another        status  0, number   0, fuel  48, held 10: 9 4 4 22 23 3
+copy of another type     status 57, number   0, fuel  48, held 10: 9 4 4 22 23 3
+fill without fuel        status 58, number  16, fuel   0, held 10: 9 4 4 22 23 3
+get past the end         status 21
+get                      status 0, reference 3
+settle two               status  0, number   6, fuel   2, held 10: 9 4 4 22 23 3 8 8
+                         asked 1, told 0
+settle beyond            status 51, number   0, fuel   2, held 10: 9 4 4 22 23 3 8 8
+                         asked 1, told 1
+a size past the region   status 96, number   0, fuel   2, held 10: 9 4 4 22 23 3 8 8 0 0 0 0
+*/

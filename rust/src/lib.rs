@@ -65,10 +65,8 @@
 //! - a function is applied by writing its arguments after it, without parentheses: `f x y`;
 //! - `≡` is "is", `×` is "and", `→` is "if .. then", and `λ x. e` is a function.
 //!
-//! Each word leads to its definition, whose sentence shows when the pointer rests on it; words and
-//! signs of Rattle's own library are in `specs::library`. Here is the contract of [`Fuel::get_fuel`]:
-//!
-#![doc = include_str!("proved/docs/meter/Fuel.get_fuel.clauses.md")]
+//! Below a contract stand links to the definitions that it uses. The words of Rattle's own library are
+//! in the table of [`specs`]. Try to read the contract of [`Fuel::get_fuel`].
 //!
 //! A section *Model* says what a contract sees of a type: `Value` is the type of its values there,
 //! `view` how one is read off the fields, `invariant` what holds at any time.
@@ -123,28 +121,88 @@ extern crate std;
 #[macro_use]
 #[path = "proved/docs.rs"]
 mod docs;
+#[macro_use]
+mod examples;
 
-mod convert;
-mod debug;
 mod float;
 mod func_type;
 mod lane_index;
 #[cfg(doc)]
-pub mod laws;
+pub mod laws {
+    //! What holds of all values, memories, runs and scripts, beyond what the contract of one function says.
+    //!
+    //! Each function here does nothing and isn't there for a caller: its contract states a law, which is proved of the Rattle
+    //! source. They are pages of this reference alone.
+
+    pub use crate::proved::accesses::laws as accesses;
+    pub use crate::proved::budget::laws as pool;
+    #[cfg(feature = "std")]
+    pub use crate::proved::grammar::laws as grammar;
+    pub use crate::proved::lanes::laws as lanes;
+    pub use crate::proved::laws::*;
+    pub use crate::proved::machine::laws as machine;
+    pub use crate::proved::raw::laws as raw;
+    #[cfg(feature = "std")]
+    pub use crate::proved::script::laws as script;
+    pub use crate::proved::store::laws as store;
+    pub use crate::proved::widening::laws as widening;
+
+    // The traits of lanes and bytes that laws name.
+    pub use crate::proved::accesses::access::LittleEndianConvert;
+    pub use crate::proved::lanes::Lanes;
+}
 mod limiter;
 pub mod machine;
 mod memory;
 #[allow(
-    unused_imports,
-    dead_code,
-    reason = "the proved library passes on more than this crate does"
+    unused,
+    unknown_lints,
+    mismatched_lifetime_syntaxes,
+    reason = "contracts, which aren't here, use more than the code does"
 )]
 mod proved;
 pub mod rattle;
-mod raw;
-mod shift_amount;
 #[cfg(feature = "simd")]
 pub mod simd;
+/// The words and signs of Rattle's own library that contracts use; each other word has a page below.
+///
+/// | In a contract | Meaning |
+/// |---|---|
+/// | `x ≡ y`, `x ≢ y` | x is y, x is not y |
+/// | `P × Q`, `P ⊎ Q`, `¬ P`, `⊤`, `⊥` | and, or, not, always true, always false; `(x : T) × P` is: there is an x for which P |
+/// | `P → Q`, `P ↔ Q` | if P, then Q; if and only if; `(x : T) → P` is P for every x; of types, the functions from P to Q |
+/// | `if b then x else y`, `MatchBool b P Q`, `IsTrue b` | by a Boolean; `==`, `&&`, `not`, `nat_eq`, `nat_le`, `nat_lt` give one |
+/// | `record { a = x; b = y }` | the value with these fields |
+/// | `⟦<T as Trait>⟧` | the implementation of a trait for a type |
+/// | `ℕ`, `m - n`, `m / n`, `m % n` | the whole numbers from 0 on: a difference is 0 where n is greater, a quotient is rounded down; `suc n` is n + 1 |
+/// | `ℤ`, `+ℤ`, `-ℤ`, `*ℤ`, `int_div`, .. | the numbers with a sign, whose quotient is rounded towards 0; `pos n` is n, and `negsuc n` is -(n + 1) |
+/// | `w8` .. `w128`, `bits w` | the widths of integers, and the number of bits of one |
+/// | `cast_signed w n`, `cast_unsigned w z` | a number of w bits read with a sign, in two's complement, and without one |
+/// | `int_wrap w z`, `FitsSigned w z` | z modulo 2 ^ w, as a number with a sign; z is in the range of those of a width |
+/// | `clamp_signed w z`, `clamp_unsigned w z` | the number of the range of a width that is nearest to z |
+/// | `bit_at n i`, `bit_and`, `bit_or`, `bit_xor` | bit i of n, where bit 0 is the lowest; the bits of two numbers |
+/// | `count_ones n`, `leading_zeros w n`, `trailing_zeros w n` | how many bits are set, or aren't above and below those that are |
+/// | `IsInRange a b n` | n is from a to b |
+/// | `[]`, `x ∷ xs`, `xs ++ ys`, `"text"` | lists: the empty one, one that begins with x, one followed by another, the characters of a text |
+/// | `take n xs`, `drop n xs`, `replicate n x` | the first n elements, all others, n times x |
+/// | `slice_get xs i`, `slice_index_or xs i x` | element i, if there is one, or x; `slice_index xs i` is 0 past the end |
+/// | `slice_set xs i x` | the list with x in place of element i |
+/// | `All P xs`, `sum_by f xs`, `flat_map f xs`, `fold f x xs`, `zip xs ys` | P of each element, the sum and the lists of each f, f of each in turn, the pairs |
+/// | `pointwise eq xs ys` | the lists are as long, and eq of each two elements |
+/// | `number_l p digits`, `decimal n`, `digit_value c` | the number of digits of base p, the lowest first; the digits of a number; the value of a character as a digit, or 36 |
+/// | `Some x`, `None`, `Ok x`, `Err e` | the values of `Option` and `Result` |
+/// | `IsSome o`, `IsOk r`, `IsErr r`, `IsErrOf r e` | there is a value, or an error, or that error; `is_some`, `is_none` are Booleans |
+/// | `IfSome o P`, `IfOk r P`, `IfErr r P` | P of the value or the error, if there is one; `IsSomeAnd`: there is one, and P of it |
+/// | `OnOk r P`, `OnErr r P` | P, if r is a value, or an error |
+/// | `SomeIff o P x`, `OkIff r P x` | if P, it is the value x; else there is none |
+/// | `MatchOption o P Q`, `MatchResult r P Q` | P where there is no value, else Q of it; P of the value, or Q of the error |
+/// | `option_map f o`, `option_and_then`, `unwrap_or o x` | as the methods of `Option` |
+/// | `F.post f x y`, `C.FnOnce`, `F.IsAlwaysCallable f` | the closure, called on x, may return y; it may be called on all arguments |
+/// | `P.into_iter_gives xs it`, `I.next_gives it x it'`, `I.can_next it` | what the functions of an iterator may give, and whether `next` may be called |
+/// | `T.converts x y`, `T.try_from_gives x r`, `T.output x` | what `From` and `TryFrom` may give, and the bytes that `Display` prints |
+/// | `W.contents w`, `Appends old new text`, `R.remaining r` | the bytes of a writer, what it has after a text, the bytes that a reader still has |
+/// | `sem 𝓛 (Lends R T x r F)` | the result r borrows from x: what is written through r last, w, makes x the value F w; `LendsIf`: where r is a value |
+/// | `vec_len v`, `vec_capacity v`, `non_zero_u8_get x` | the length and the capacity of a `Vec`, the number of a `NonZero` |
 #[cfg(doc)]
 #[path = "proved/specs.rs"]
 pub mod specs;
@@ -152,6 +210,7 @@ mod table;
 #[cfg(all(test, feature = "std", feature = "simd", feature = "memory64"))]
 mod tests;
 mod trap;
+mod values;
 pub mod wasm;
 
 pub use crate::proved::meter::{
@@ -170,7 +229,6 @@ pub use crate::proved::{grammar, script};
 pub use func_type::{FuncType, FuncTypeError};
 pub use limiter::{ResourceLimiter, ResourceLimiterRef};
 pub use memory::Memory;
-pub use raw::{ReadAs, WriteAs};
-pub use shift_amount::IntoShiftAmount;
 pub use table::{ElementSegment, Table};
 pub use trap::{HostError, Trap};
+pub use values::{IntoShiftAmount, ReadAs, WriteAs};

@@ -1,10 +1,8 @@
 //! The part of Rattle's standard library that Rust's lacks: lists whose memory can be refused, shared slices, lanes of vectors.
 
-pub mod alloc;
 #[cfg(feature = "std")]
 pub mod arrayvec;
 mod list;
-pub mod rc;
 /// Lanes of a vector, in registers of x86-64.
 #[cfg(all(feature = "sse2", target_arch = "x86_64"))]
 #[path = "rattle/simd_x86.rs"]
@@ -12,14 +10,82 @@ pub mod simd;
 /// Lanes of a vector, as arrays of them.
 #[cfg(any(test, not(all(feature = "sse2", target_arch = "x86_64"))))]
 pub mod simd_arrays;
-#[cfg(all(test, feature = "sse2", target_arch = "x86_64"))]
-mod simd_same;
 
 #[cfg(not(all(feature = "sse2", target_arch = "x86_64")))]
 pub use simd_arrays as simd;
 
 use alloc::AllocError;
 pub use list::Vec;
+
+pub mod alloc {
+    //! Allocators and what they refuse.
+
+    /// Memory was refused.
+    #[derive(Clone, Copy, Debug, PartialEq, Eq)]
+    pub struct AllocError;
+
+    impl core::fmt::Display for AllocError {
+        fn fmt(&self, f: &mut core::fmt::Formatter<'_>) -> core::fmt::Result {
+            f.write_str("out of memory")
+        }
+    }
+
+    impl core::error::Error for AllocError {}
+
+    /// Memory was refused for a value, which is given back.
+    #[derive(Clone, Copy, Debug, PartialEq, Eq)]
+    pub struct AllocFailed<T> {
+        /// The value.
+        pub value: T,
+    }
+
+    #[cfg(feature = "std")]
+    impl From<AllocError> for std::io::Error {
+        fn from(_: AllocError) -> Self {
+            std::io::ErrorKind::OutOfMemory.into()
+        }
+    }
+
+    impl<T> From<AllocFailed<T>> for AllocError {
+        fn from(_: AllocFailed<T>) -> Self {
+            AllocError
+        }
+    }
+}
+
+pub mod rc {
+    //! Shared slices.
+
+    use super::alloc::AllocError;
+    use ::alloc::sync::Arc;
+
+    /// A shared slice.
+    #[derive(Debug)]
+    pub struct RcSlice<T>(Arc<[T]>);
+
+    impl<T> RcSlice<T> {
+        /// The slice of a list. Rust has no fallible form of it: a refusal of memory aborts.
+        pub fn from_vec(list: super::Vec<T>) -> Result<Self, AllocError> {
+            Ok(RcSlice(Arc::from(list.into_inner())))
+        }
+
+        /// The slice.
+        pub fn as_slice(&self) -> &[T] {
+            &self.0
+        }
+
+        /// How many items it has.
+        pub fn len(&self) -> usize {
+            self.0.len()
+        }
+    }
+
+    impl<T> super::TryClone for RcSlice<T> {
+        fn try_clone(&self) -> Result<Self, AllocError> {
+            Ok(RcSlice(Arc::clone(&self.0)))
+        }
+    }
+}
 
 /// A copy for which memory can be refused.
 pub trait TryClone: Sized {

@@ -1,54 +1,58 @@
 """What the generated text has otherwise than the sources, so that the Rust crate's API can stand on it. No edit changes what a function does."""
 
-# (file, text, its replacement, how often it stands there)
+# (module, text, its replacement, how often it stands there)
 EDITS = [
-    # Without std, a text is of `alloc`.
-    ("types/trap.rs", "use core::fmt;\n", "use alloc::string::String;\nuse core::fmt;\n", 1),
     # Upstream's `const` functions, receivers, representations and attributes.
-    ("raw/raw.rs", "pub fn from_bits64", "pub const fn from_bits64", 1),
-    ("raw/raw.rs", "pub fn to_bits64", "pub const fn to_bits64", 1),
-    ("raw/vector.rs", "pub fn as_u128(self)", "pub fn as_u128(&self)", 1),
-    ("raw/raw_ref.rs", "pub struct RawRef", "#[repr(transparent)]\npub struct RawRef", 1),
-    ("types/trap.rs", "pub enum TrapCode", "#[repr(u8)]\npub enum TrapCode", 1),
-    ("typed/global.rs", "pub enum GlobalError", "#[non_exhaustive]\npub enum GlobalError", 1),
-    ("meter/error.rs", "pub enum TableError", "#[non_exhaustive]\npub enum TableError", 1),
+    ("raw", "pub fn from_bits64", "pub const fn from_bits64", 1),
+    ("raw", "pub fn to_bits64", "pub const fn to_bits64", 1),
+    ("raw", "pub fn as_u128(self)", "pub fn as_u128(&self)", 1),
+    ("raw", "pub struct RawRef", "#[repr(transparent)]\npub struct RawRef", 1),
+    ("types", "pub enum TrapCode", "#[repr(u8)]\npub enum TrapCode", 1),
+    ("typed", "pub enum GlobalError", "#[non_exhaustive]\npub enum GlobalError", 1),
+    ("meter", "pub enum TableError", "#[non_exhaustive]\npub enum TableError", 1),
     # Fields that Rattle's contracts name and upstream hides.
-    ("raw/raw.rs", "    pub lo: u64", "    pub(crate) lo: u64", 1),
-    ("raw/raw.rs", "    pub hi: u64", "    pub(crate) hi: u64", 1),
-    ("typed/typed.rs", "    pub ty: ValType", "    pub(crate) ty: ValType", 1),
-    ("typed/typed.rs", "    pub raw: RawVal", "    pub(crate) raw: RawVal", 1),
-    ("typed/typed_ref.rs", "    pub raw: RawRef", "    pub(crate) raw: RawRef", 1),
-    ("typed/typed_ref.rs", "    pub ty: RefType", "    pub(crate) ty: RefType", 1),
-    ("typed/global.rs", "pub struct Global {\n    value: RawVal", "pub struct Global {\n    pub(crate) value: RawVal", 1),
-    ("typed/global.rs", "    pub content: ValType", "    pub(crate) content: ValType", 1),
-    ("typed/global.rs", "    pub mutability: Mutability", "    pub(crate) mutability: Mutability", 1),
+    ("raw", "pub lo: u64", "pub(crate) lo: u64", 1),
+    ("raw", "pub hi: u64", "pub(crate) hi: u64", 1),
+    ("typed", "pub ty: ValType", "pub(crate) ty: ValType", 1),
+    ("typed", "pub raw: RawVal", "pub(crate) raw: RawVal", 1),
+    ("typed", "pub raw: RawRef", "pub(crate) raw: RawRef", 1),
+    ("typed", "pub ty: RefType", "pub(crate) ty: RefType", 1),
+    ("typed", "pub struct Global {\n    value: RawVal", "pub struct Global {\n    pub(crate) value: RawVal", 1),
+    ("typed", "pub content: ValType", "pub(crate) content: ValType", 1),
+    ("typed", "pub mutability: Mutability", "pub(crate) mutability: Mutability", 1),
     # Rust derives `TryFrom` from upstream's `From`, which panics: Rattle's conversion, an answer in its place, becomes a function.
-    ("meter/error.rs", "impl TryFrom<FuelError> for TableError {\n    type Error = FuelError;\n", "impl TableError {\n", 1),
-    ("meter/error.rs", "    fn try_from(error: FuelError)", "    pub(crate) fn of_fuel(error: FuelError)", 1),
-    ("typed/typed_ref.rs", "impl TryFrom<TypedRawVal> for TypedRawRef {\n    type Error = NotAReference;\n", "impl TypedRawRef {\n", 1),
-    ("typed/typed_ref.rs", "    fn try_from(typed: TypedRawVal)", "    pub(crate) fn of_value(typed: TypedRawVal)", 1),
-    ("tests/store/fuel.rs", "TableError::try_from(", "TableError::of_fuel(", 2),
-    ("tests/value/values.rs", "TypedRawRef::try_from(", "TypedRawRef::of_value(", 1),
+    ("meter", "impl TryFrom<FuelError> for TableError {\n    type Error = FuelError;\n", "impl TableError {\n", 1),
+    ("meter", "fn try_from(error: FuelError)", "pub(crate) fn of_fuel(error: FuelError)", 1),
+    ("typed", "impl TryFrom<TypedRawVal> for TypedRawRef {\n    type Error = NotAReference;\n", "impl TypedRawRef {\n", 1),
+    ("typed", "fn try_from(typed: TypedRawVal)", "pub(crate) fn of_value(typed: TypedRawVal)", 1),
+    ("store_tests", "TableError::try_from(", "TableError::of_fuel(", 2),
+    ("value_tests", "TypedRawRef::try_from(", "TypedRawRef::of_value(", 1),
     # Rust knows the size of each type.
-    ("meter/fuel.rs", "/// # Contract\n///\n/// <span></span><pre><code>SIZE = 1</code></pre>\nimpl ValueSize for u8 {\n    const SIZE: u64 = 1;",
-     "/// The size in memory. Proved are the 1 of a byte and the 4 of a reference.\n"
-     "impl<T> ValueSize for T {\n    const SIZE: u64 = size_of::<T>() as u64;", 1),
-    ("meter/fuel.rs", "/// # Contract\n///\n/// <span></span><pre><code>SIZE = 4</code></pre>\n"
-     "impl ValueSize for RawRef {\n    const SIZE: u64 = 4;\n}\n", "", 1),
-    ("meter/fuel.rs", "pub fn fuel_for_copying_values<T: ValueSize>", "pub fn fuel_for_copying_values<T>", 1),
+    ("meter", "/// # Contract /// /// ```text /// SIZE = 1 /// ``` impl ValueSize for u8 { const SIZE: u64 = 1;",
+     "/// The size in memory. Proved are the 1 of a byte and the 4 of a reference.\nimpl<T> ValueSize for T { const SIZE: u64 = size_of::<T>() as u64;", 1),
+    ("meter", "/// # Contract /// /// ```text /// SIZE = 4 /// ``` impl ValueSize for RawRef { const SIZE: u64 = 4; }", "", 1),
+    ("meter", "pub fn fuel_for_copying_values<T: ValueSize>", "pub fn fuel_for_copying_values<T>", 1),
     # `impl Trait` as upstream's.
-    ("meter/fuel.rs", "<C: FnOnce(&FuelCostsProvider) -> u64>", "", 2),
-    ("meter/fuel.rs", "        f: C,", "        f: impl FnOnce(&FuelCostsProvider) -> u64,", 2),
-    # Printed by debug.rs, with upstream's names of fields.
-    ("raw/raw.rs", "#[derive(Clone, Copy, Debug, Default, PartialEq, Eq, PartialOrd, Ord)]\npub struct RawVal",
+    ("meter", "<C: FnOnce(&FuelCostsProvider) -> u64>", "", 2),
+    ("meter", "f: C,", "f: impl FnOnce(&FuelCostsProvider) -> u64,", 2),
+    # Printed by code of this crate, with upstream's names of fields.
+    ("raw", "#[derive(Clone, Copy, Debug, Default, PartialEq, Eq, PartialOrd, Ord)]\npub struct RawVal",
      "#[derive(Clone, Copy, Default, PartialEq, Eq, PartialOrd, Ord)]\npub struct RawVal", 1),
-    ("raw/vector.rs", "#[derive(Clone, Copy, Debug, PartialEq, Eq)]\npub struct V128", "#[derive(Clone, Copy, PartialEq, Eq)]\npub struct V128", 1),
-    ("typed/typed.rs", "#[derive(Clone, Copy, Debug, PartialEq, Eq)]\npub struct TypedRawVal", "#[derive(Clone, Copy, PartialEq, Eq)]\npub struct TypedRawVal", 1),
-    ("typed/shift_amount.rs", "#[derive(Clone, Copy, Debug, PartialEq, Eq)]\npub struct ShiftAmount", "#[derive(Clone, Copy, PartialEq, Eq)]\npub struct ShiftAmount", 1),
-    ("meter/fuel.rs", "#[derive(Clone, Debug, Default)]\npub struct FuelCostsProvider", "#[derive(Clone, Default)]\npub struct FuelCostsProvider", 1),
-    ("meter/fuel.rs", "    fn costs(&self)", "    pub(crate) fn costs(&self)", 1),
+    ("raw", "#[derive(Clone, Copy, Debug, PartialEq, Eq)]\npub struct V128", "#[derive(Clone, Copy, PartialEq, Eq)]\npub struct V128", 1),
+    ("typed", "#[derive(Clone, Copy, Debug, PartialEq, Eq)]\npub struct TypedRawVal", "#[derive(Clone, Copy, PartialEq, Eq)]\npub struct TypedRawVal", 1),
+    ("typed", "#[derive(Clone, Copy, Debug, PartialEq, Eq)]\npub struct ShiftAmount", "#[derive(Clone, Copy, PartialEq, Eq)]\npub struct ShiftAmount", 1),
+    ("meter", "#[derive(Clone, Debug, Default)]\npub struct FuelCostsProvider", "#[derive(Clone, Default)]\npub struct FuelCostsProvider", 1),
+    ("meter", "fn costs(&self)", "pub(crate) fn costs(&self)", 1),
+    # Fields without docs.
+    ("grammar", "BadCommand { line: usize }", "BadCommand {\n/// The number of the line, from 1 on.\nline: usize }", 1),
+    ("meter", "OutOfFuel { required_fuel: u64 }", "OutOfFuel {\n/// How much fuel the call takes.\nrequired_fuel: u64 }", 3),
+    ("machine", "pub enum Call {", """///
+/// Of the fields, `memory`, `table`, `segment` and `global` are indices, `a`, `b`, `c` and `item` registers of operands; `offset`
+/// is added to `ptr`, or counts bytes itself; `len`, `pages` and `delta` are how many; `lanes` has the index of the byte for each lane.
+#[allow(missing_docs)]
+pub enum Call {""", 1),
     # Upstream's feature.
-    ("store/memory/ty.rs", "        let Some(page) = PageSize::from_log2(",
+    ("store", "let Some(page) = PageSize::from_log2(",
      "        if cfg!(not(feature = \"memory64\")) && self.index.is_64() {\n            return Err(MemoryError::InvalidMemoryType);\n        }\n        let Some(page) = PageSize::from_log2(", 1),
 ]
 
@@ -66,17 +70,46 @@ def patterns(calls):
     return ["Call::" + call.replace("{", " { ").replace("}", " }") for call in calls.split()]
 
 
-EDITS += [("machine/store.rs", "\n            | ".join(patterns(calls)) + f" => self.{step},\n",
+EDITS += [("machine", "\n            | ".join(patterns(calls)) + f" => self.{step},\n",
            "".join(f"{pattern} => self.{step},\n" for pattern in patterns(calls)), 1) for step, calls in GROUPS.items()]
-EDITS += [("machine/store.rs", "            _ => self.step_register", " | ".join(patterns(REGISTERS)) + " => self.step_register", 1)]
+EDITS += [("machine", "            _ => self.step_register", " | ".join(patterns(REGISTERS)) + " => self.step_register", 1)]
 
 # Functions that upstream hasn't got, for this crate alone.
 HIDDEN = {
-    "meter/fuel.rs": ["unmetered"],
-    "raw/vector.rs": ["from_word_pair", "words"],
-    "store/memory/ty.rs": ["maximum_size", "pages_in", "grown_size", "size_of_pages"],
-    "store/table/ty.rs": ["ensure_element_type_matches", "grown_size", "indexes_size", "maximum_size", "allows_size"],
-    "typed/global.rs": ["get_raw_mut"],
+    "meter": ["unmetered"], "raw": ["from_word_pair", "words"], "typed": ["get_raw_mut"],
+    "store": ["allows_size", "ensure_element_type_matches", "indexes_size", "pages_in", "size_of_pages"],
 }
-EDITS += [(file, f"    pub fn {name}(", f"    pub(crate) fn {name}(", 1) for file, names in HIDDEN.items() for name in names]
+EDITS += [(module, f"pub fn {name}(", f"pub(crate) fn {name}(", 1) for module, names in HIDDEN.items() for name in names]
+EDITS += [("store", f"pub fn {name}(self", f"pub(crate) fn {name}(self", 2) for name in ("grown_size", "maximum_size")]
 
+# Texts that rustc's LLVM compiles badly, or that older compilers lack.
+EDITS += [
+    ("grammar", "let Some(words) = words.as_array::<16>() else {", "let Ok(words) = <&[&str; 16]>::try_from(words) else {", 1),
+    ("accesses", "for i in 0..N { memory[address + i] = bytes[i]; }", "memory[address..][..N].copy_from_slice(bytes);", 1),
+    ("accesses", "memory[address..address + N].split_first_chunk::<N>()", "memory[address..].split_first_chunk::<N>()", 1),
+    # The bounds one by one, as they were tested before: LLVM tests their sum once more.
+    ("store", "elements[index..index + items.len()]", "elements[index..][..items.len()]", 1),
+    ("machine", "memory[offset..offset + len]", "memory[offset..][..len]", 1),
+]
+
+# The printer's texts, piece by piece: Rattle makes code of each piece, and rustc a call of `core::fmt`.
+EDITS += [
+    ("script", "use std::fmt::{Display, Write};", "use crate::rattle::arrayvec::{Show, Sink};", 1),
+    ("script", "D: Display>", "D: Show>", 2),
+    ("script", 'format_args!("{error}")', "&error", 1),
+    ("script", 'format_args!(" {byte}")', '(" ", &byte)', 1),
+    ("script", 'format_args!("held {bytes} {elements}")', '("held ", &bytes, " ", &elements)', 1),
+    ("script", 'format_args!("held {index} {bytes} {elements}")', '("held ", &index, " ", &bytes, " ", &elements)', 1),
+    ("script", 'write!(f, "{first}")?', "first.show(f)?", 1),
+    ("script", 'write!(f, " {second}")', '(" ", &second).show(f)', 1),
+    ("script", "impl fmt::Display for ReplyHead<'_> { #[inline] fn fmt(&self, f: &mut fmt::Formatter<'_>) -> fmt::Result {", """
+impl fmt::Display for ReplyHead<'_> {
+    fn fmt(&self, f: &mut fmt::Formatter<'_>) -> fmt::Result {
+        self.show(f)
+    }
+}
+
+impl Show for ReplyHead<'_> {
+    #[inline]
+    fn show<W: Sink>(&self, f: &mut W) -> fmt::Result {""", 1),
+]

@@ -1,13 +1,20 @@
 """What the eraser knows by name: attributes, macros, modules, what callers have to meet, texts that Rust has otherwise."""
 
 STD_KEPT = {"fmt", "cmp", "error", "hash", "num", "str", "io"}  # as in Rust's std
-STD_SHIM = {"alloc", "rc", "simd", "test"}  # other than in Rust's std: the shim has them
-SHIM_NAMES = {"Vec"}  # of Rattle's prelude, and other than Rust's
 ATTRIBUTES = {"inline", "cold", "derive", "repr"}  # kept; `tactic` is left out
 DERIVES = {"Clone", "Copy", "Debug", "Default", "PartialEq", "Eq", "PartialOrd", "Ord", "Hash"}
-MACROS = {"matches", "unreachable", "write", "writeln", "stringify", "macro_rules", "format_args", "vec"}
-OF_TESTS = {"test", "assert", "concat", "println", "format"}  # attributes and macros of tests and programs alone
-LEFT_BY_MISTAKE = {"ghost", "requires", "ensures", "Model", "HostRuntime", "prove", "Drop", "unsafe", "rt", "Abort", "AllocGlobal"}
+MACROS = {"assert", "matches", "unreachable", "write", "writeln", "stringify", "format_args"}
+ATTRIBUTES_OF_TESTS, MACROS_OF_TESTS = {"test"}, {"concat"}
+# What tests and programs have otherwise.
+OF_TESTS = {
+    r"\bprintln!\(rt;\s*": "writeln!(std::io::stdout(), ",
+    r"(?<=[(\[{])[&$]*rt(:expr)?;\s*": "",
+    r"<\w+: Abort>": "",
+    r"\banyhow::Result<\(\)>": "Result<(), Box<dyn std::error::Error>>",
+    r"\.repeat\(": ".try_repeat(",
+    r"\.push_str\(": ".try_push_str(",
+    r"\bString::from_str\(": "String::try_of(",
+}
 
 GROWS = ("current <= desired", "the desired size is below the current one")
 ORDERED = ("maximum.is_none_or(|most| minimum <= most)", "the minimum is above the maximum")
@@ -66,32 +73,17 @@ UNTESTED = {
 MODULES = {"wasmi_core": "machine", "wasmi_simd": "widening", "wasmi_access": "accesses"}
 # The crates that have laws alone: pages of the reference.
 CRATES_OF_LAWS = {"wasmi_laws"}
-
 # The modules of the Rust crate's root that have another name than under `proved`.
 PUBLIC = {"wasmi_budget": "pool"}
-# The crates that pass on names of others for their users.
-PASSING_ON = {"wasmi_core"}
-
-# Texts that rustc's LLVM compiles badly, or that older compilers lack, and what stands for them in Rust. Each has to be found.
-TEXTS = {
-    "let Some(words) = words.as_array::<16>() else {": "let Ok(words) = <&[&str; 16]>::try_from(words) else {",
-    "for i in 0..N { memory[address + i] = bytes[i]; }": "memory[address..][..N].copy_from_slice(bytes);",
-    "memory[address..address + N].split_first_chunk::<N>()": "memory[address..].split_first_chunk::<N>()",
-    # The bounds one by one, as they were tested before: LLVM tests their sum once more.
-    "elements[index..index + items.len()]": "elements[index..][..items.len()]",
-    "memory[offset..offset + len]": "memory[offset..][..len]",
-}
 
 # Functions that return one of these are inlined always: a value that a call returns through memory is stored by words and read as a
 # whole, which stalls a run of calls.
 INLINED_ALWAYS = {"Reply"}
 
-# The shim's traits of texts.
-SHOW, SINK = "crate::rattle::arrayvec::Show", "crate::rattle::arrayvec::Sink"
-
-# Laws do nothing: they are there for the reference, and for tests.
-LAWS = "#[cfg(any(doc, test))]\n"
-
 
 def module_of(crate):
     return MODULES.get(crate, crate.removeprefix("wasmi_"))
+
+
+def module_of_instruction(name):
+    return "simd" if name.startswith(("i8x16", "i16x8", "i32x4", "i64x2", "v128")) else "wasm"

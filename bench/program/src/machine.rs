@@ -3,9 +3,8 @@ use std::hint::black_box;
 use std::time::Instant;
 
 mod the_crate {
-    use conformance::calls::{Call, Reply};
+    use conformance::calls::{Call, LOAD, Load, Reply, STORE, Store, find};
     use conformance::machine::{Machine, run};
-    use conformance::names::{LOAD, Load, STORE, Store, find};
     use wasmi_core::*;
     include!("runs.rs");
 

@@ -1,5 +1,5 @@
 //! The vector instructions, and the loads and stores of numbers: loops over arrays, each behind an opaque pointer.
-use crate::timing::least;
+use crate::least;
 use std::cell::RefCell;
 use std::collections::HashMap;
 use std::hint::black_box;

@@ -1,6 +1,6 @@
 //! Compares a library with the Rust crate on random scripts and mutants of them, in one process.
 use crate::generator::{Generator, PROFILES};
-use crate::mutants::mutant;
+use crate::random::Random;
 use crate::replay;
 use std::collections::BTreeMap;
 use std::panic::catch_unwind;
@@ -104,10 +104,9 @@ fn number(name: &str, word: &str) -> u64 {
 /// It tries COUNT scripts of the profile, or of each, and MUTANTS mutants of each. A script on which the status or what is printed
 /// differs is shortened and written to FOLDER, at most 20 of them. The last line counts; the exit status is 1 if one differs, and
 /// 2 if nothing is compared.
-pub fn run(library: Library) -> ! {
-    let words: Vec<String> = std::env::args().skip(1).collect();
-    let [profile, seed, count, mutants, folder] = &words[..] else {
-        stop("usage: compare PROFILE|all SEED COUNT MUTANTS FOLDER");
+pub fn run(library: Library, words: &[String]) -> ! {
+    let [profile, seed, count, mutants, folder] = words else {
+        stop("usage: compare [--replay] PROFILE|all SEED COUNT MUTANTS FOLDER");
     };
     let (seed, count, mutants) = (number("SEED", seed), number("COUNT", count), number("MUTANTS", mutants));
     if profile != "all" && !PROFILES.contains(&profile.as_str()) {
@@ -144,4 +143,76 @@ pub fn run(library: Library) -> ! {
     println!("scripts: {}; mutants: {} end with 0", statuses.join(", "), changed.statuses.get(&0).unwrap_or(&0));
     println!("seed {seed}: {} scripts, {} mutants, {lines} lines, {differ} differ", scripts.tried, changed.tried);
     exit((differ > 0).into());
+}
+
+/// Cuts a text after each of a byte.
+fn pieces(text: &[u8], after: u8) -> Vec<&[u8]> {
+    text.split_inclusive(|byte| *byte == after).collect()
+}
+
+/// Drops, doubles, moves or swaps a piece.
+fn change_pieces(mut pieces: Vec<&[u8]>, random: &mut Random) -> Vec<u8> {
+    let (from, to) = (random.index(pieces.len()), random.index(pieces.len()));
+    match random.below(4) {
+        0 => drop(pieces.remove(from)),
+        1 => pieces.insert(to, pieces[from]),
+        2 => {
+            let piece = pieces.remove(from);
+            pieces.insert(to, piece);
+        }
+        _ => pieces.swap(from, to),
+    }
+    pieces.concat()
+}
+
+/// Some lines in a row are put somewhere else again.
+fn repeat_part(text: &[u8], random: &mut Random) -> Vec<u8> {
+    let mut lines = pieces(text, b'\n');
+    let from = random.index(lines.len());
+    let part = lines[from..(from + 1 + random.index(8)).min(lines.len())].to_vec();
+    let to = random.index(lines.len());
+    lines.splice(to..to, part);
+    lines.concat()
+}
+
+fn change_byte(text: &[u8], random: &mut Random) -> Vec<u8> {
+    let mut changed = text.to_vec();
+    let place = random.index(text.len());
+    match random.below(4) {
+        0 => changed[place] = random.next() as u8,
+        1 => drop(changed.remove(place)),
+        2 => changed.insert(place, random.pick(b" \n0123456789abc")),
+        _ => changed[place] = b'0' + random.below(10) as u8,
+    }
+    changed
+}
+
+/// A number at an edge in the place of another.
+fn change_number(text: &[u8], random: &mut Random) -> Vec<u8> {
+    let mut words = pieces(text, b' ');
+    let is_number = |word: &[u8]| word.first().is_some_and(u8::is_ascii_digit) && !word.contains(&b'\n');
+    let numbers: Vec<usize> = (0..words.len()).filter(|place| is_number(words[*place])).collect();
+    let number = format!("{} ", random.edge());
+    if !numbers.is_empty() {
+        words[random.pick(&numbers)] = number.as_bytes();
+    }
+    words.concat()
+}
+
+/// A script with one to three changes.
+pub fn mutant(text: &[u8], random: &mut Random) -> Vec<u8> {
+    let mut mutant = text.to_vec();
+    for _ in 0..random.pick(&[1, 1, 2, 3]) {
+        if mutant.is_empty() {
+            break;
+        }
+        mutant = match random.below(8) {
+            0 => change_byte(&mutant, random),
+            1 | 2 => change_number(&mutant, random),
+            3 => change_pieces(pieces(&mutant, b' '), random),
+            4..=6 => change_pieces(pieces(&mutant, b'\n'), random),
+            _ => repeat_part(&mutant, random),
+        };
+    }
+    mutant
 }

@@ -6,14 +6,10 @@ pub mod calls;
 pub mod comparison;
 pub mod generator;
 pub mod instructions;
-pub mod limits;
 pub mod machine;
-pub mod mutants;
-pub mod names;
 pub mod parse;
 pub mod random;
 pub mod session;
-mod words;
 
 use session::Session;
 

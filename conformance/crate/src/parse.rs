@@ -1,9 +1,9 @@
-//! Reads a script: its lines become headers and calls.
-use crate::calls::Call;
-use crate::limits::Answer;
-use crate::names;
-use crate::words::Words;
-use wasmi_core::{GlobalType, Mutability, RawRef, RawVal, TypedRawVal, V128};
+//! Reads a script: its lines become headers and calls. The words of a line are read as numbers, types, references and names.
+use crate::calls::{self, Call, find};
+use crate::session::Answer;
+use wasmi_core::{
+    GlobalType, MemoryType, Mutability, RawRef, RawVal, RefType, TableType, TypedRawRef, TypedRawVal, V128, ValType,
+};
 
 #[derive(Default)]
 pub struct Headers {
@@ -89,9 +89,9 @@ fn command(first: &[u8], w: &mut Words<'_>) -> Option<Call> {
         },
         b"read" => Call::Read { memory: w.num()?, offset: w.num()?, len: w.num()? },
         b"write" => Call::Write { memory: w.num()?, offset: w.num()?, bytes: w.nums()? },
-        b"load" => Call::Load { op: w.op(names::LOAD)?, memory: w.num()?, ptr: w.num()?, offset: w.num()? },
+        b"load" => Call::Load { op: w.op(calls::LOAD)?, memory: w.num()?, ptr: w.num()?, offset: w.num()? },
         b"store" => Call::Store {
-            op: w.op(names::STORE)?,
+            op: w.op(calls::STORE)?,
             memory: w.num()?,
             ptr: w.num()?,
             offset: w.num()?,
@@ -127,20 +127,20 @@ fn command(first: &[u8], w: &mut Words<'_>) -> Option<Call> {
         b"gget" => Call::GetGlobal(w.num()?),
         b"set" => Call::SetRegister { dst: w.num()?, value: w.raw()? },
         b"show" => Call::GetRegister(w.num()?),
-        b"make" => Call::Make { op: w.op(names::MAKE)?, dst: w.num()?, a: w.num()? },
-        b"unary" => Call::Unary { op: w.op(names::UNARY)?, dst: w.num()?, a: w.num()? },
-        b"binary" => Call::Binary { op: w.op(names::BINARY)?, dst: w.num()?, a: w.num()?, b: w.num()? },
-        b"ternary" => Call::Ternary { op: w.op(names::TERNARY)?, dst: w.num()?, a: w.num()?, b: w.num()?, c: w.num()? },
-        b"shift" => Call::Shift { op: w.op(names::SHIFT)?, dst: w.num()?, a: w.num()?, amount: w.num()? },
-        b"test" => Call::Test { op: w.op(names::TEST)?, a: w.num()? },
+        b"make" => Call::Make { op: w.op(calls::MAKE)?, dst: w.num()?, a: w.num()? },
+        b"unary" => Call::Unary { op: w.op(calls::UNARY)?, dst: w.num()?, a: w.num()? },
+        b"binary" => Call::Binary { op: w.op(calls::BINARY)?, dst: w.num()?, a: w.num()?, b: w.num()? },
+        b"ternary" => Call::Ternary { op: w.op(calls::TERNARY)?, dst: w.num()?, a: w.num()?, b: w.num()?, c: w.num()? },
+        b"shift" => Call::Shift { op: w.op(calls::SHIFT)?, dst: w.num()?, a: w.num()?, amount: w.num()? },
+        b"test" => Call::Test { op: w.op(calls::TEST)?, a: w.num()? },
         b"extract" => {
-            let op = w.op(names::EXTRACT)?;
+            let op = w.op(calls::EXTRACT)?;
             let (a, lane) = (w.num()?, w.num()?);
             op(V128::from(0), lane)?;
             Call::Extract { op, a, lane }
         }
         b"replace" => {
-            let op = w.op(names::REPLACE)?;
+            let op = w.op(calls::REPLACE)?;
             let (dst, a, lane, item) = (w.num()?, w.num()?, w.num()?, w.num()?);
             op(V128::from(0), lane, RawVal::from_bits64(0))?;
             Call::Replace { op, dst, a, lane, item }
@@ -154,21 +154,21 @@ fn command(first: &[u8], w: &mut Words<'_>) -> Option<Call> {
             Call::Shuffle { dst, a, b, lanes }
         }
         b"vload" => Call::VectorLoad {
-            op: w.op(names::VECTOR_LOAD)?,
+            op: w.op(calls::VECTOR_LOAD)?,
             dst: w.num()?,
             memory: w.num()?,
             ptr: w.num()?,
             offset: w.num()?,
         },
         b"vloadlane" => {
-            let op = w.op(names::LOAD_LANE)?;
+            let op = w.op(calls::LOAD_LANE)?;
             let (dst, a, lane) = (w.num()?, w.num()?, w.num()?);
             op(&[], 0, 0, V128::from(0), lane)?.ok();
             Call::LoadLane { op, dst, a, lane, memory: w.num()?, ptr: w.num()?, offset: w.num()? }
         }
         b"vstore" => Call::VectorStore { a: w.num()?, memory: w.num()?, ptr: w.num()?, offset: w.num()? },
         b"vstorelane" => {
-            let op = w.op(names::STORE_LANE)?;
+            let op = w.op(calls::STORE_LANE)?;
             let (a, lane) = (w.num()?, w.num()?);
             op(&mut [], 0, 0, V128::from(0), lane)?.ok();
             Call::StoreLane { op, a, lane, memory: w.num()?, ptr: w.num()?, offset: w.num()? }
@@ -212,4 +212,115 @@ pub fn parse(text: &[u8]) -> Result<Script, usize> {
         script.calls.push((tenant, call));
     }
     Ok(script)
+}
+
+/// The words of one line, taken from the left.
+pub struct Words<'a>(pub std::vec::IntoIter<&'a [u8]>);
+
+pub trait Number: Sized {
+    fn of(n: u128) -> Option<Self>;
+}
+macro_rules! numbers { ($($t:ty),*) => { $(impl Number for $t { fn of(n: u128) -> Option<Self> { n.try_into().ok() } })* } }
+numbers!(u8, u32, u64, usize);
+
+fn number<N: Number>(word: &[u8]) -> Option<N> {
+    if word.is_empty() {
+        return None;
+    }
+    let mut n: u128 = 0;
+    for &b in word {
+        if !b.is_ascii_digit() {
+            return None;
+        }
+        // Any number past 64 bits fits no field; more digits can't bring it back.
+        n = (n * 10 + u128::from(b - b'0')).min(1 << 100);
+    }
+    N::of(n)
+}
+
+impl<'a> Words<'a> {
+    pub fn word(&mut self) -> Option<&'a [u8]> {
+        self.0.next()
+    }
+    pub fn num<N: Number>(&mut self) -> Option<N> {
+        number(self.word()?)
+    }
+    pub fn nums<N: Number>(&mut self) -> Option<Vec<N>> {
+        self.0.by_ref().map(number).collect()
+    }
+    pub fn optional<N: Number>(&mut self) -> Option<Option<N>> {
+        match self.word()? {
+            b"none" => Some(None),
+            word => number(word).map(Some),
+        }
+    }
+    pub fn ref_type(&mut self) -> Option<RefType> {
+        match self.word()? {
+            b"func" => Some(RefType::Func),
+            b"extern" => Some(RefType::Extern),
+            _ => None,
+        }
+    }
+    pub fn reference(&mut self) -> Option<TypedRawRef> {
+        let ty = self.ref_type()?;
+        Some(TypedRawRef::new(RawRef::from(self.num::<u32>()?), ty))
+    }
+    pub fn val_type(&mut self) -> Option<ValType> {
+        Some(match self.word()? {
+            b"i32" => ValType::I32,
+            b"i64" => ValType::I64,
+            b"f32" => ValType::F32,
+            b"f64" => ValType::F64,
+            b"v128" => ValType::V128,
+            b"funcref" => ValType::FuncRef,
+            b"externref" => ValType::ExternRef,
+            _ => return None,
+        })
+    }
+    pub fn raw(&mut self) -> Option<RawVal> {
+        let lo = self.num::<u64>()?;
+        let hi = self.num::<u64>()?;
+        Some(RawVal::from(V128::from(u128::from(hi) << 64 | u128::from(lo))))
+    }
+    pub fn bits(&mut self) -> Option<bool> {
+        match self.word()? {
+            b"32" => Some(false),
+            b"64" => Some(true),
+            _ => None,
+        }
+    }
+    pub fn memory_type(&mut self) -> Option<MemoryType> {
+        let mut b = MemoryType::builder();
+        b.min(self.num()?);
+        b.max(self.optional()?);
+        b.page_size_log2(self.num()?);
+        b.memory64(self.bits()?);
+        b.build().ok()
+    }
+    pub fn table_type(&mut self) -> Option<TableType> {
+        let element = self.ref_type()?;
+        let min: u64 = self.num()?;
+        let max: Option<u64> = self.optional()?;
+        let is_64 = self.bits()?;
+        if max.is_some_and(|max| min > max) {
+            return None;
+        }
+        if is_64 {
+            return Some(TableType::new64(element, min, max));
+        }
+        let max = match max {
+            Some(max) => Some(u32::try_from(max).ok()?),
+            None => None,
+        };
+        Some(TableType::new(element, u32::try_from(min).ok()?, max))
+    }
+    pub fn op<T: Copy>(&mut self, table: &[(&str, T)]) -> Option<T> {
+        find(table, self.word()?)
+    }
+    pub fn end(mut self) -> Option<()> {
+        match self.0.next() {
+            None => Some(()),
+            Some(_) => None,
+        }
+    }
 }

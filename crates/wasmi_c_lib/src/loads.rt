@@ -12,8 +12,8 @@ use wasmi_c::instruction::result::leave_item;
 /// `i32.load8_s`: 8 bits, read signed.
 #[unsafe(no_mangle)]
 pub extern "C" fn wasm_i32_load8_s(memory: &[u8], ptr: u64, offset: u64, value: &mut i32) -> u8
-    ensures { Gives
-        (loaded 1 (cast_signed w8) memory.now (ptr + offset)) value.old value.new result }
+    ensures { Gives (loaded 1 (cast_signed w8) memory.now (ptr + offset)) value.old value.new
+        result }
 {
     leave_item(wasm::i32_load8_s(memory, ptr, offset), value)
 }
@@ -29,8 +29,8 @@ pub extern "C" fn wasm_i32_load8_u(memory: &[u8], ptr: u64, offset: u64, value: 
 /// `i32.load16_s`: 16 bits, read signed.
 #[unsafe(no_mangle)]
 pub extern "C" fn wasm_i32_load16_s(memory: &[u8], ptr: u64, offset: u64, value: &mut i32) -> u8
-    ensures { Gives
-        (loaded 2 (cast_signed w16) memory.now (ptr + offset)) value.old value.new result }
+    ensures { Gives (loaded 2 (cast_signed w16) memory.now (ptr + offset)) value.old value.new
+        result }
 {
     leave_item(wasm::i32_load16_s(memory, ptr, offset), value)
 }
@@ -46,8 +46,8 @@ pub extern "C" fn wasm_i32_load16_u(memory: &[u8], ptr: u64, offset: u64, value:
 /// `i64.load8_s`: 8 bits, read signed.
 #[unsafe(no_mangle)]
 pub extern "C" fn wasm_i64_load8_s(memory: &[u8], ptr: u64, offset: u64, value: &mut i64) -> u8
-    ensures { Gives
-        (loaded 1 (cast_signed w8) memory.now (ptr + offset)) value.old value.new result }
+    ensures { Gives (loaded 1 (cast_signed w8) memory.now (ptr + offset)) value.old value.new
+        result }
 {
     leave_item(wasm::i64_load8_s(memory, ptr, offset), value)
 }
@@ -63,8 +63,8 @@ pub extern "C" fn wasm_i64_load8_u(memory: &[u8], ptr: u64, offset: u64, value: 
 /// `i64.load16_s`: 16 bits, read signed.
 #[unsafe(no_mangle)]
 pub extern "C" fn wasm_i64_load16_s(memory: &[u8], ptr: u64, offset: u64, value: &mut i64) -> u8
-    ensures { Gives
-        (loaded 2 (cast_signed w16) memory.now (ptr + offset)) value.old value.new result }
+    ensures { Gives (loaded 2 (cast_signed w16) memory.now (ptr + offset)) value.old value.new
+        result }
 {
     leave_item(wasm::i64_load16_s(memory, ptr, offset), value)
 }
@@ -80,8 +80,8 @@ pub extern "C" fn wasm_i64_load16_u(memory: &[u8], ptr: u64, offset: u64, value:
 /// `i64.load32_s`: 32 bits, read signed.
 #[unsafe(no_mangle)]
 pub extern "C" fn wasm_i64_load32_s(memory: &[u8], ptr: u64, offset: u64, value: &mut i64) -> u8
-    ensures { Gives
-        (loaded 4 (cast_signed w32) memory.now (ptr + offset)) value.old value.new result }
+    ensures { Gives (loaded 4 (cast_signed w32) memory.now (ptr + offset)) value.old value.new
+        result }
 {
     leave_item(wasm::i64_load32_s(memory, ptr, offset), value)
 }

@@ -564,8 +564,8 @@ pub extern "C" fn wasm_i64_add128(
     lo: &mut i64,
     hi: &mut i64,
 )
-    ensures { unsigned_of lo.new hi.new
-        ≡ add128 (unsigned_of lhs_lo lhs_hi) (unsigned_of rhs_lo rhs_hi) }
+    ensures { unsigned_of lo.new hi.new ≡ add128 (unsigned_of lhs_lo lhs_hi) (unsigned_of rhs_lo
+        rhs_hi) }
 {
     leave_pair(wasm::i64_add128(lhs_lo, lhs_hi, rhs_lo, rhs_hi), lo, hi)
 }
@@ -580,8 +580,8 @@ pub extern "C" fn wasm_i64_sub128(
     lo: &mut i64,
     hi: &mut i64,
 )
-    ensures { unsigned_of lo.new hi.new
-        ≡ sub128 (unsigned_of lhs_lo lhs_hi) (unsigned_of rhs_lo rhs_hi) }
+    ensures { unsigned_of lo.new hi.new ≡ sub128 (unsigned_of lhs_lo lhs_hi) (unsigned_of rhs_lo
+        rhs_hi) }
 {
     leave_pair(wasm::i64_sub128(lhs_lo, lhs_hi, rhs_lo, rhs_hi), lo, hi)
 }

@@ -12,8 +12,8 @@ use wasmi_c::instruction::result::status_of;
 /// `i32.store8`: the value modulo 2 to the power 8.
 #[unsafe(no_mangle)]
 pub extern "C" fn wasm_i32_store8(memory: &mut [u8], ptr: u64, offset: u64, value: i32) -> u8
-    ensures { StoresBytes memory.old (ptr + offset)
-        (le_bytes 1 (cast_unsigned w32 value % 2 ^ 8)) memory.new result }
+    ensures { StoresBytes memory.old (ptr + offset) (le_bytes 1 (cast_unsigned w32 value % 2 ^ 8))
+        memory.new result }
 {
     status_of(wasm::i32_store8(memory, ptr, offset, value))
 }
@@ -21,8 +21,8 @@ pub extern "C" fn wasm_i32_store8(memory: &mut [u8], ptr: u64, offset: u64, valu
 /// `i32.store16`: the value modulo 2 to the power 16.
 #[unsafe(no_mangle)]
 pub extern "C" fn wasm_i32_store16(memory: &mut [u8], ptr: u64, offset: u64, value: i32) -> u8
-    ensures { StoresBytes memory.old (ptr + offset)
-        (le_bytes 2 (cast_unsigned w32 value % 2 ^ 16)) memory.new result }
+    ensures { StoresBytes memory.old (ptr + offset) (le_bytes 2 (cast_unsigned w32 value % 2 ^ 16))
+        memory.new result }
 {
     status_of(wasm::i32_store16(memory, ptr, offset, value))
 }
@@ -30,8 +30,8 @@ pub extern "C" fn wasm_i32_store16(memory: &mut [u8], ptr: u64, offset: u64, val
 /// `i64.store8`: the value modulo 2 to the power 8.
 #[unsafe(no_mangle)]
 pub extern "C" fn wasm_i64_store8(memory: &mut [u8], ptr: u64, offset: u64, value: i64) -> u8
-    ensures { StoresBytes memory.old (ptr + offset)
-        (le_bytes 1 (cast_unsigned w64 value % 2 ^ 8)) memory.new result }
+    ensures { StoresBytes memory.old (ptr + offset) (le_bytes 1 (cast_unsigned w64 value % 2 ^ 8))
+        memory.new result }
 {
     status_of(wasm::i64_store8(memory, ptr, offset, value))
 }
@@ -39,8 +39,8 @@ pub extern "C" fn wasm_i64_store8(memory: &mut [u8], ptr: u64, offset: u64, valu
 /// `i64.store16`: the value modulo 2 to the power 16.
 #[unsafe(no_mangle)]
 pub extern "C" fn wasm_i64_store16(memory: &mut [u8], ptr: u64, offset: u64, value: i64) -> u8
-    ensures { StoresBytes memory.old (ptr + offset)
-        (le_bytes 2 (cast_unsigned w64 value % 2 ^ 16)) memory.new result }
+    ensures { StoresBytes memory.old (ptr + offset) (le_bytes 2 (cast_unsigned w64 value % 2 ^ 16))
+        memory.new result }
 {
     status_of(wasm::i64_store16(memory, ptr, offset, value))
 }
@@ -48,8 +48,8 @@ pub extern "C" fn wasm_i64_store16(memory: &mut [u8], ptr: u64, offset: u64, val
 /// `i64.store32`: the value modulo 2 to the power 32.
 #[unsafe(no_mangle)]
 pub extern "C" fn wasm_i64_store32(memory: &mut [u8], ptr: u64, offset: u64, value: i64) -> u8
-    ensures { StoresBytes memory.old (ptr + offset)
-        (le_bytes 4 (cast_unsigned w64 value % 2 ^ 32)) memory.new result }
+    ensures { StoresBytes memory.old (ptr + offset) (le_bytes 4 (cast_unsigned w64 value % 2 ^ 32))
+        memory.new result }
 {
     status_of(wasm::i64_store32(memory, ptr, offset, value))
 }

@@ -17,9 +17,8 @@ use wasmi_vector_access::simd;
 /// `v128.load`: 128 bits.
 #[unsafe(no_mangle)]
 pub extern "C" fn wasm_v128_load(memory: &[u8], ptr: u64, offset: u64, value: &mut RawVal) -> u8
-    ensures { Gives
-        (as_raw raw_of_vector (loaded 16 (λ n. n) memory.now (ptr + offset))) value.old value.new
-        result }
+    ensures { Gives (as_raw raw_of_vector (loaded 16 (λ n. n) memory.now (ptr + offset))) value.old
+        value.new result }
 {
     leave_vector(simd::v128_load(memory, ptr, offset), value)
 }
@@ -32,9 +31,8 @@ pub extern "C" fn wasm_v128_load8x8_s(
     offset: u64,
     value: &mut RawVal,
 ) -> u8
-    ensures { Gives
-        (as_raw raw_of_vector (loaded 8 (vector.widen_s w8 w16) memory.now (ptr + offset)))
-        value.old value.new result }
+    ensures { Gives (as_raw raw_of_vector (loaded 8 (vector.widen_s w8 w16) memory.now (ptr +
+        offset))) value.old value.new result }
 {
     leave_vector(simd::v128_load8x8_s(memory, ptr, offset), value)
 }
@@ -47,9 +45,8 @@ pub extern "C" fn wasm_v128_load8x8_u(
     offset: u64,
     value: &mut RawVal,
 ) -> u8
-    ensures { Gives
-        (as_raw raw_of_vector (loaded 8 (vector.widen_u w8 w16) memory.now (ptr + offset)))
-        value.old value.new result }
+    ensures { Gives (as_raw raw_of_vector (loaded 8 (vector.widen_u w8 w16) memory.now (ptr +
+        offset))) value.old value.new result }
 {
     leave_vector(simd::v128_load8x8_u(memory, ptr, offset), value)
 }
@@ -62,9 +59,8 @@ pub extern "C" fn wasm_v128_load16x4_s(
     offset: u64,
     value: &mut RawVal,
 ) -> u8
-    ensures { Gives
-        (as_raw raw_of_vector (loaded 8 (vector.widen_s w16 w32) memory.now (ptr + offset)))
-        value.old value.new result }
+    ensures { Gives (as_raw raw_of_vector (loaded 8 (vector.widen_s w16 w32) memory.now (ptr +
+        offset))) value.old value.new result }
 {
     leave_vector(simd::v128_load16x4_s(memory, ptr, offset), value)
 }
@@ -77,9 +73,8 @@ pub extern "C" fn wasm_v128_load16x4_u(
     offset: u64,
     value: &mut RawVal,
 ) -> u8
-    ensures { Gives
-        (as_raw raw_of_vector (loaded 8 (vector.widen_u w16 w32) memory.now (ptr + offset)))
-        value.old value.new result }
+    ensures { Gives (as_raw raw_of_vector (loaded 8 (vector.widen_u w16 w32) memory.now (ptr +
+        offset))) value.old value.new result }
 {
     leave_vector(simd::v128_load16x4_u(memory, ptr, offset), value)
 }
@@ -92,9 +87,8 @@ pub extern "C" fn wasm_v128_load32x2_s(
     offset: u64,
     value: &mut RawVal,
 ) -> u8
-    ensures { Gives
-        (as_raw raw_of_vector (loaded 8 (vector.widen_s w32 w64) memory.now (ptr + offset)))
-        value.old value.new result }
+    ensures { Gives (as_raw raw_of_vector (loaded 8 (vector.widen_s w32 w64) memory.now (ptr +
+        offset))) value.old value.new result }
 {
     leave_vector(simd::v128_load32x2_s(memory, ptr, offset), value)
 }
@@ -107,9 +101,8 @@ pub extern "C" fn wasm_v128_load32x2_u(
     offset: u64,
     value: &mut RawVal,
 ) -> u8
-    ensures { Gives
-        (as_raw raw_of_vector (loaded 8 (vector.widen_u w32 w64) memory.now (ptr + offset)))
-        value.old value.new result }
+    ensures { Gives (as_raw raw_of_vector (loaded 8 (vector.widen_u w32 w64) memory.now (ptr +
+        offset))) value.old value.new result }
 {
     leave_vector(simd::v128_load32x2_u(memory, ptr, offset), value)
 }
@@ -122,9 +115,8 @@ pub extern "C" fn wasm_v128_load8_splat(
     offset: u64,
     value: &mut RawVal,
 ) -> u8
-    ensures { Gives
-        (as_raw raw_of_vector (loaded 1 (splat_of w8) memory.now (ptr + offset))) value.old
-        value.new result }
+    ensures { Gives (as_raw raw_of_vector (loaded 1 (splat_of w8) memory.now (ptr + offset)))
+        value.old value.new result }
 {
     leave_vector(simd::v128_load8_splat(memory, ptr, offset), value)
 }
@@ -137,9 +129,8 @@ pub extern "C" fn wasm_v128_load16_splat(
     offset: u64,
     value: &mut RawVal,
 ) -> u8
-    ensures { Gives
-        (as_raw raw_of_vector (loaded 2 (splat_of w16) memory.now (ptr + offset))) value.old
-        value.new result }
+    ensures { Gives (as_raw raw_of_vector (loaded 2 (splat_of w16) memory.now (ptr + offset)))
+        value.old value.new result }
 {
     leave_vector(simd::v128_load16_splat(memory, ptr, offset), value)
 }
@@ -152,9 +143,8 @@ pub extern "C" fn wasm_v128_load32_splat(
     offset: u64,
     value: &mut RawVal,
 ) -> u8
-    ensures { Gives
-        (as_raw raw_of_vector (loaded 4 (splat_of w32) memory.now (ptr + offset))) value.old
-        value.new result }
+    ensures { Gives (as_raw raw_of_vector (loaded 4 (splat_of w32) memory.now (ptr + offset)))
+        value.old value.new result }
 {
     leave_vector(simd::v128_load32_splat(memory, ptr, offset), value)
 }
@@ -167,9 +157,8 @@ pub extern "C" fn wasm_v128_load64_splat(
     offset: u64,
     value: &mut RawVal,
 ) -> u8
-    ensures { Gives
-        (as_raw raw_of_vector (loaded 8 (splat_of w64) memory.now (ptr + offset))) value.old
-        value.new result }
+    ensures { Gives (as_raw raw_of_vector (loaded 8 (splat_of w64) memory.now (ptr + offset)))
+        value.old value.new result }
 {
     leave_vector(simd::v128_load64_splat(memory, ptr, offset), value)
 }
@@ -182,9 +171,8 @@ pub extern "C" fn wasm_v128_load32_zero(
     offset: u64,
     value: &mut RawVal,
 ) -> u8
-    ensures { Gives
-        (as_raw raw_of_vector (loaded 4 (vector.low_zero w32) memory.now (ptr + offset))) value.old
-        value.new result }
+    ensures { Gives (as_raw raw_of_vector (loaded 4 (vector.low_zero w32) memory.now (ptr +
+        offset))) value.old value.new result }
 {
     leave_vector(simd::v128_load32_zero(memory, ptr, offset), value)
 }
@@ -197,9 +185,8 @@ pub extern "C" fn wasm_v128_load64_zero(
     offset: u64,
     value: &mut RawVal,
 ) -> u8
-    ensures { Gives
-        (as_raw raw_of_vector (loaded 8 (vector.low_zero w64) memory.now (ptr + offset))) value.old
-        value.new result }
+    ensures { Gives (as_raw raw_of_vector (loaded 8 (vector.low_zero w64) memory.now (ptr +
+        offset))) value.old value.new result }
 {
     leave_vector(simd::v128_load64_zero(memory, ptr, offset), value)
 }

@@ -187,7 +187,7 @@ static const char *const programs[] = {
     "fn main(n) { return other(n); }",
     "fn main(n) { return n + ; }",
 };
-EXPORT(run) i64 run(i32 n) {
+GUEST(run) {
     i64 sum = 0;
     for (u32 i = 0; i < sizeof programs / sizeof *programs; i++) {
         compile(programs[i]);
@@ -196,4 +196,4 @@ EXPORT(run) i64 run(i32 n) {
     return sum;
 }
 // A division by zero of the language is one of the guest.
-EXPORT(divides_by_zero) i64 divides_by_zero(i32 n) { compile("fn main(n) { return n / (n - n); }"); return is_bad ? -1 : ran(n); }
+GUEST(divides_by_zero) { compile("fn main(n) { return n / (n - n); }"); return is_bad ? -1 : ran(n); }

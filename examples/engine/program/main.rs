@@ -8,7 +8,6 @@ use std::sync::Arc;
 use std::time::Duration;
 use std::{env, fs, io, thread};
 
-mod digest;
 mod script;
 mod values;
 

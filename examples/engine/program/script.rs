@@ -5,7 +5,7 @@
 //! | `module FILE` | `ok:`; the module is instantiated, and the one before is dropped |
 //! | `invoke FUNCTION ARGS..` | `ok: V..`, the results |
 //! | `get GLOBAL` | `ok: V` |
-//! | `digest` | `ok:` and the line that `digest.rs` makes |
+//! | `digest` | `ok:` and a line that tells contents apart |
 //! | `fuel N` | `ok:`; from now on fuel is charged, and so much is there |
 //! | `left` | `ok: N`, the fuel that is left |
 //! | `lenient` | `ok:`; from now on a module may have functions with floats, which stop when they are called |
@@ -14,9 +14,8 @@
 //! Other replies than `ok:` are `malformed:`, `invalid:`, `unsupported:` (floats, or beyond a limit), `unlinkable:`,
 //! `trap:`, and `error:` for a line that makes no sense; after one of them the module is the one before.
 
-use crate::digest::digest;
 use crate::values;
-use engine::library::{Fuel, FuelCostsProvider};
+use engine::library::{Fuel, FuelCostsProvider, Global, V128, ValType};
 use engine::{Caps, Failure, Instance, Module, Refusal, RefusalKind, Stopped, Store};
 use std::fmt::Display;
 use std::fs;
@@ -137,6 +136,45 @@ fn name(text: &str) -> Result<String, String> {
     String::from_utf8(bytes).or(Err("error: a name isn't UTF-8".into()))
 }
 
+/// One line that tells contents apart: of each memory its pages, of each table its elements, of the globals their
+/// number, and of each of these the FNV-1a of 64 bits of its bytes. An element has 4 bytes, 0 or the number of its
+/// function and 1; a global has 16. The least byte comes first.
+fn digest(instance: &Instance) -> String {
+    let (memories, tables, globals) = instance.contents();
+    let mut words = vec![];
+    for memory in memories {
+        words.push(format!("memory {} {:016x}", memory.size(), fnv(memory.data().iter().copied())));
+    }
+    for table in tables {
+        let elements = (0..table.size()).map(|i| table.get(i).map_or(0, |it| u32::from(it.raw())));
+        words.push(format!("table {} {:016x}", table.size(), fnv(elements.flat_map(u32::to_le_bytes))));
+    }
+    let bytes = globals.iter().map(bits).flat_map(u128::to_le_bytes);
+    words.push(format!("globals {} {:016x}", globals.len(), fnv(bytes)));
+    words.join(" ")
+}
+
+/// The bits of a global, zero above the width of its type.
+fn bits(global: &Global) -> u128 {
+    let value = global.get();
+    match value.ty() {
+        ValType::V128 => V128::from(value.raw()).as_u128(),
+        ValType::I64 | ValType::F64 => u64::from(value.raw()).into(),
+        _ => u32::from(value.raw()).into(),
+    }
+}
+
+fn fnv(bytes: impl Iterator<Item = u8>) -> u64 {
+    bytes.fold(0xcbf2_9ce4_8422_2325, |hash, byte| (hash ^ u64::from(byte)).wrapping_mul(0x100_0000_01b3))
+}
+
 #[cfg(test)]
-#[path = "../tests/unit/script.rs"]
-mod tests;
+mod tests {
+    use super::*;
+
+    #[test]
+    fn names() {
+        assert_eq!(name("a%20b%c3%A9%"), Ok("a b\u{e9}%".into()));
+        assert!(name("%c3").is_err());
+    }
+}

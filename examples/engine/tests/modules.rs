@@ -1,10 +1,117 @@
-//! Modules that are refused, and where; what instances share; memories beyond the first one and beyond 32 bits.
+//! Modules that are refused, and where; what instances share; memories beyond the first one and beyond 32 bits; fuel that
+//! can't be cheated, and stacks that end.
 
-mod common;
-use common::*;
-use engine::library::TrapCode;
-use engine::{Caps, Instance, Module, RefusalKind};
+use engine::library::{Fuel, FuelCostsProvider, TrapCode, TypedRawVal};
+use engine::{Caps, Failure, Instance, Module, Refusal, RefusalKind, Store};
+use std::sync::Arc;
 use std::thread;
+
+// ---- modules are written, and stores made for them
+
+const I32: u8 = 0x7f;
+const I64: u8 = 0x7e;
+const FUNC: u8 = 0x70;
+
+/// The sections of a module, as bytes of their items.
+#[derive(Default)]
+struct Wasm {
+    sections: [Vec<Vec<u8>>; 13],
+}
+
+fn leb(mut number: u64) -> Vec<u8> {
+    let mut bytes = vec![];
+    while number >= 0x80 {
+        bytes.push(number as u8 | 0x80);
+        number >>= 7;
+    }
+    bytes.push(number as u8);
+    bytes
+}
+
+fn sized(bytes: &[u8]) -> Vec<u8> {
+    [&leb(bytes.len() as u64)[..], bytes].concat()
+}
+
+impl Wasm {
+    fn item(mut self, section: usize, bytes: impl Into<Vec<u8>>) -> Self {
+        self.sections[section].push(bytes.into());
+        self
+    }
+
+    /// A function with a type of its own. The first one is exported as `f`, the second as `g`.
+    fn function(self, params: &[u8], results: &[u8], locals: &[(u64, u8)], code: &[u8]) -> Self {
+        let number = self.sections[3].len() as u64;
+        let ty = self.sections[1].len() as u64;
+        let mut body = leb(locals.len() as u64);
+        locals.iter().for_each(|(count, ty)| body.extend([leb(*count), vec![*ty]].concat()));
+        body.extend(code);
+        body.push(0x0b);
+        let export = [vec![1, b"fghijk"[number as usize % 6], 0], leb(number)].concat();
+        let it = self.item(1, [vec![0x60], sized(params), sized(results)].concat()).item(3, leb(ty));
+        let it = if number < 6 { it.item(7, export) } else { it };
+        it.item(10, sized(&body))
+    }
+
+    fn memory(self, limits: &[u8]) -> Self {
+        self.item(5, limits)
+    }
+
+    fn table(self, limits: &[u8]) -> Self {
+        self.item(4, [&[FUNC], limits].concat())
+    }
+
+    fn bytes(&self) -> Vec<u8> {
+        let mut bytes = b"\0asm\x01\0\0\0".to_vec();
+        for id in [1, 2, 3, 4, 5, 6, 7, 8, 9, 12, 10, 11] {
+            let items = &self.sections[id];
+            if items.is_empty() {
+                continue;
+            }
+            let body =
+                if matches!(id, 8 | 12) { items.concat() } else { [leb(items.len() as u64), items.concat()].concat() };
+            bytes.push(id as u8);
+            bytes.extend(sized(&body));
+        }
+        bytes
+    }
+
+    fn module(&self) -> Result<Arc<Module>, Refusal> {
+        Module::new(&self.bytes()).map(Arc::new)
+    }
+}
+
+/// A store with so much fuel, whose host prints nowhere.
+fn store(fuel: u64) -> Store {
+    store_with(fuel, Caps { bytes: 1 << 30, elements: 1 << 20 })
+}
+
+fn store_with(fuel: u64, caps: Caps) -> Store {
+    let mut meter = Fuel::new(true, FuelCostsProvider::default());
+    meter.set_fuel(fuel).unwrap();
+    let mut store = Store::new(meter, caps);
+    store.output = Box::new(std::io::sink());
+    store
+}
+
+/// What a call of `f` gives: its first result, or why it stops.
+fn called(wasm: &Wasm, store: &mut Store, args: &[TypedRawVal]) -> Result<i64, String> {
+    let module = wasm.module().map_err(|it| it.to_string())?;
+    let mut instance = Instance::new(&module, store).map_err(|it| it.to_string())?;
+    call(&mut instance, store, "f", args)
+}
+
+fn call(instance: &mut Instance, store: &mut Store, name: &str, args: &[TypedRawVal]) -> Result<i64, String> {
+    match instance.call(store, name, args) {
+        Ok(results) => Ok(results.first().map_or(0, |it| match it.ty() {
+            engine::library::ValType::I32 => i32::from(*it).into(),
+            _ => i64::from(*it),
+        })),
+        Err(Failure::Trapped(trap)) => Err(trap.to_string()),
+        Err(it) => panic!("{it}"),
+    }
+}
+
+// ---- modules and instances
 
 fn refused(bytes: &[u8]) -> (RefusalKind, usize) {
     Module::new(bytes).map(drop).map_err(|it| (it.kind, it.offset)).unwrap_err()
@@ -199,4 +306,106 @@ fn wide_arithmetic() {
     let of_four = |opcode| [0x42, 0, 0x42, 1, 0x42, 1, 0x42, 0, 0xfc, opcode];
     assert_eq!((reply(&of_four(0x13), 0), reply(&of_four(0x13), 1)), (Ok(1), Ok(1)));
     assert_eq!((reply(&of_four(0x14), 0), reply(&of_four(0x14), 1)), (Ok(-1), Ok(0)));
+}
+
+// ---- fuel
+
+fn out_of_fuel() -> Result<i64, String> {
+    Err(TrapCode::OutOfFuel.to_string())
+}
+
+/// Fuel for a while: much less than what any of these would use.
+const SOME: u64 = 1_000_000;
+
+#[test]
+fn a_loop_ends_by_fuel() {
+    let empty = Wasm::default().function(&[], &[], &[], &[0x03, 0x40, 0x0c, 0, 0x0b]);
+    assert_eq!(called(&empty, &mut store(SOME), &[]), out_of_fuel());
+    // A jump back by a table, and by an if.
+    let table = Wasm::default().function(&[], &[], &[], &[0x03, 0x40, 0x41, 0, 0x0e, 0, 0, 0x0b]);
+    assert_eq!(called(&table, &mut store(SOME), &[]), out_of_fuel());
+    let test = Wasm::default().function(&[], &[], &[], &[0x03, 0x40, 0x41, 1, 0x0d, 0, 0x0b]);
+    assert_eq!(called(&test, &mut store(SOME), &[]), out_of_fuel());
+}
+
+#[test]
+fn a_recursion_ends_by_fuel_or_by_the_stack() {
+    let direct = Wasm::default().function(&[], &[], &[], &[0x10, 0]);
+    assert_eq!(called(&direct, &mut store(1000), &[]), out_of_fuel());
+    assert_eq!(called(&direct, &mut store(u64::MAX), &[]), Err(TrapCode::StackOverflow.to_string()));
+    let element = [&[0, 0x41, 0, 0x0b][..], &[1, 0]].concat();
+    let indirect = Wasm::default().function(&[], &[], &[], &[0x41, 0, 0x11, 0, 0]).table(&[0, 1]).item(9, element);
+    assert_eq!(called(&indirect, &mut store(1000), &[]), out_of_fuel());
+    assert_eq!(called(&indirect, &mut store(u64::MAX), &[]), Err(TrapCode::StackOverflow.to_string()));
+}
+
+#[test]
+fn the_locals_of_a_call_are_paid_for() {
+    let used = |locals| {
+        let mut store = store(SOME);
+        called(&Wasm::default().function(&[], &[], &[(locals, I64)], &[]), &mut store, &[]).unwrap();
+        SOME - store.fuel.get_fuel().unwrap()
+    };
+    assert_eq!(used(0), 2);
+    assert_eq!(used(16_000), 2 + 16_000 * 16 / 64);
+}
+
+#[test]
+fn a_block_is_paid_for_once() {
+    // The entry, an addition, and the return.
+    let sum = Wasm::default().function(&[I32], &[I32], &[], &[0x20, 0, 0x41, 1, 0x6a]);
+    let mut store = store(SOME);
+    assert_eq!(called(&sum, &mut store, &[41.into()]), Ok(42));
+    assert_eq!(SOME - store.fuel.get_fuel().unwrap(), 3);
+}
+
+/// A loop without an end around some code.
+fn forever(code: &[u8]) -> Vec<u8> {
+    [&[0x03, 0x40], code, &[0x0c, 0, 0x0b]].concat()
+}
+
+#[test]
+fn growths_in_a_loop_end_by_fuel() {
+    let memory = Wasm::default().function(&[], &[], &[], &forever(&[0x41, 1, 0x40, 0, 0x1a])).memory(&[0, 0]);
+    assert_eq!(called(&memory, &mut store(SOME), &[]), out_of_fuel());
+    let grow = forever(&[0xd0, FUNC, 0x41, 1, 0xfc, 15, 0, 0x1a]);
+    let table = Wasm::default().function(&[], &[], &[], &grow).table(&[0, 0]);
+    assert_eq!(called(&table, &mut store(SOME), &[]), out_of_fuel());
+}
+
+#[test]
+fn bulk_instructions_in_a_loop_end_by_fuel() {
+    let len = [0x41, 0x80, 0x80, 0x04]; // 65,536
+    for code in [
+        [&[0x41, 0, 0x41, 7][..], &len, &[0xfc, 11, 0]].concat(), // memory.fill
+        [&[0x41, 0, 0x41, 0][..], &len, &[0xfc, 10, 0, 0]].concat(), // memory.copy
+        [&[0x41, 0, 0xd0, FUNC][..], &len, &[0xfc, 17, 0]].concat(), // table.fill
+        [&[0x41, 0, 0x41, 0][..], &len, &[0xfc, 14, 0, 0]].concat(), // table.copy
+    ] {
+        let wasm =
+            Wasm::default().function(&[], &[], &[], &forever(&code)).memory(&[0, 1]).table(&[0, 0x80, 0x80, 0x04]);
+        assert_eq!(called(&wasm, &mut store(SOME), &[]), out_of_fuel());
+    }
+}
+
+#[test]
+fn what_a_bulk_instruction_costs() {
+    let used = |len: u8| {
+        let code = [&[0x41, 0, 0x41, 7, 0x41][..], &[len | 0x80, 1], &[0xfc, 11, 0]].concat();
+        let mut store = store(SOME);
+        called(&Wasm::default().function(&[], &[], &[], &code).memory(&[0, 1]), &mut store, &[]).unwrap();
+        SOME - store.fuel.get_fuel().unwrap()
+    };
+    // 128 and 192 bytes, of which 64 cost one unit.
+    assert_eq!(used(64) - used(0), 1);
+}
+
+#[test]
+fn printing_in_a_loop_ends_by_fuel() {
+    let import = [sized(b"host"), sized(b"print"), vec![0, 0]].concat();
+    let code = forever(&[0x10, 0]);
+    let body = sized(&[&[0][..], &code, &[0x0b]].concat());
+    let wasm =
+        Wasm::default().item(1, [0x60, 0, 0]).item(2, import).item(3, [0]).item(7, [1, b'f', 0, 1]).item(10, body);
+    assert_eq!(called(&wasm, &mut store(SOME), &[]), out_of_fuel());
 }

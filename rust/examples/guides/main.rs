@@ -1,10 +1,250 @@
 //! Runs the guides one after another.
-mod bill;
-mod growth;
-mod limiter;
-mod memory;
-mod pool;
-mod quota;
+mod bill {
+    //! A bill: what a list of calls of unknown origin costs, and what is left for the next one.
+
+    use std::io::Write as _;
+    use wasmi_core_proved::machine::{
+        Call, Fuel, FuelCostsProvider, Machine, MemoryType, NoLimits, run_lending,
+    };
+    use wasmi_core_proved::rattle::Vec;
+
+    /// Runs a list of calls and prints what it was charged.
+    pub fn main() -> Result<(), Box<dyn std::error::Error>> {
+        // Fuel is counted at the default prices: one unit pays for 64 copied bytes.
+        let mut fuel = Fuel::new(true, FuelCostsProvider::default());
+        fuel.set_fuel(2000)?;
+        let mut machine = Machine::new(fuel);
+        let mut builder = MemoryType::builder();
+        builder.min(1);
+        let ty = builder.build()?;
+        let grow = Call::GrowMemory {
+            memory: 0,
+            pages: 1,
+        };
+        let calls = Vec::of([Call::NewMemory(ty), grow, Call::GetFuel])?;
+
+        // Whoever pays must not set the fuel.
+        if calls.iter().any(Call::sets_fuel) {
+            writeln!(std::io::stdout(), "refused: a call sets the fuel")?;
+            return Ok(());
+        }
+        let before = machine.fuel().get_fuel()?;
+        let replies = run_lending(&mut machine, &calls, &mut NoLimits)?;
+        let after = machine.fuel().get_fuel()?;
+        writeln!(std::io::stdout(), "replies: {replies:?}")?;
+        writeln!(
+            std::io::stdout(),
+            "charged {}, left {after}",
+            before.saturating_sub(after)
+        )?;
+        Ok(())
+    }
+}
+mod growth {
+    //! A growth under a quota, with the contract that its caller wants.
+
+    use std::io::Write as _;
+    use wasmi_core_proved::machine::{
+        Fuel, FuelCostsProvider, Memory, MemoryError, MemoryType, Quota,
+    };
+
+    /// Grows by so many pages, pays for them, and counts them in the quota.
+    ///
+    /// # Contract
+    ///
+    /// ```text
+    /// ensures: GrowsMemory (optional_rules quota_rules) pages
+    ///     (metered_value memory.old (Some fuel.old) (Some quota.old)) result
+    ///     (metered_value memory.new (Some fuel.new) (Some quota.new))
+    /// ```
+    pub fn grow(
+        memory: &mut Memory,
+        pages: u64,
+        fuel: &mut Fuel,
+        quota: &mut Quota,
+    ) -> Result<u64, MemoryError> {
+        memory.grow_lending(pages, fuel, quota)
+    }
+
+    /// Grows a memory of bytes by more than the quota has left, then by less.
+    pub fn main() -> Result<(), Box<dyn std::error::Error>> {
+        let mut quota = Quota::new(100, 0);
+        let mut fuel = Fuel::new(false, FuelCostsProvider::default());
+        let mut builder = MemoryType::builder();
+        builder.min(60).page_size_log2(0);
+        let mut memory = Memory::new_lending(builder.build()?, &mut quota)?;
+        writeln!(
+            std::io::stdout(),
+            "{:?}",
+            grow(&mut memory, 41, &mut fuel, &mut quota)
+        )?;
+        writeln!(
+            std::io::stdout(),
+            "{:?}",
+            grow(&mut memory, 40, &mut fuel, &mut quota)
+        )?;
+        writeln!(
+            std::io::stdout(),
+            "{} bytes, held {}",
+            memory.data().len(),
+            quota.held_bytes()
+        )?;
+        Ok(())
+    }
+}
+mod limiter {
+    //! A limiter of one's own: no memory above so many bytes, and no table above so many elements.
+
+    use std::io::Write as _;
+    use wasmi_core_proved::machine::{
+        Call, Fuel, FuelCostsProvider, Kind, LimiterByKind, LimiterError, Machine, MemoryType,
+        run_lending,
+    };
+    use wasmi_core_proved::rattle::Vec;
+
+    /// Permits each memory up to so many bytes, and each table up to so many elements.
+    #[derive(Clone, Copy, Debug)]
+    struct AtMost {
+        most: usize,
+    }
+
+    impl LimiterByKind for AtMost {
+        fn growing(&mut self, _kind: Kind, _from: usize, to: usize) -> Result<bool, LimiterError> {
+            Ok(to <= self.most)
+        }
+
+        fn grow_failed(&mut self, _kind: Kind) -> Result<(), LimiterError> {
+            Ok(())
+        }
+    }
+
+    /// Makes two memories, of which the second is above the limit.
+    pub fn main() -> Result<(), Box<dyn std::error::Error>> {
+        let fuel = Fuel::new(false, FuelCostsProvider::default());
+        let mut machine = Machine::new(fuel);
+        let mut limiter = AtMost { most: 65_536 };
+        for pages in 1..3 {
+            let mut builder = MemoryType::builder();
+            builder.min(pages);
+            let calls = Vec::of([Call::NewMemory(builder.build()?)])?;
+            writeln!(
+                std::io::stdout(),
+                "{:?}",
+                run_lending(&mut machine, &calls, &mut limiter)?
+            )?;
+        }
+        Ok(())
+    }
+}
+mod memory {
+    //! Instructions on a memory of one's own: stores, loads, a sum, a vector sum, and a trap.
+
+    use std::io;
+    use std::io::Write as _;
+    use wasmi_core_proved::machine::{TrapCode, simd, wasm};
+
+    /// Adds two numbers of a memory, and loads past its end.
+    pub fn main() -> io::Result<()> {
+        let mut memory = [0u8; 64];
+        match sum(&mut memory) {
+            Ok(number) => writeln!(std::io::stdout(), "sum: {number}")?,
+            Err(trap) => writeln!(std::io::stdout(), "sum: {trap}")?,
+        }
+        match lanes(&memory) {
+            Ok(bits) => writeln!(std::io::stdout(), "each byte plus one: {bits:032x}")?,
+            Err(trap) => writeln!(std::io::stdout(), "each byte plus one: {trap}")?,
+        }
+        match wasm::load_u32(&memory, 60, 1) {
+            Ok(number) => writeln!(std::io::stdout(), "past the end: {number}"),
+            Err(trap) => writeln!(std::io::stdout(), "past the end: {trap}"),
+        }
+    }
+
+    /// Stores two numbers side by side, loads them and adds them.
+    fn sum(memory: &mut [u8]) -> Result<i32, TrapCode> {
+        wasm::store32(memory, 8, 0, 40)?;
+        wasm::store32(memory, 8, 4, 2)?;
+        let first = wasm::load_u32(memory, 8, 0)?;
+        let second = wasm::load_u32(memory, 8, 4)?;
+        Ok(wasm::i32_add(first.cast_signed(), second.cast_signed()))
+    }
+
+    /// Loads 16 bytes as a vector, and adds one to each of them.
+    fn lanes(memory: &[u8]) -> Result<u128, TrapCode> {
+        let bytes = simd::v128_load(memory, 8, 0)?;
+        let sums = simd::i8x16_add(bytes, simd::i8x16_splat(1));
+        Ok(sums.as_u128())
+    }
+}
+mod pool {
+    //! A pool of two tenants: one run of each, and what each holds afterwards.
+
+    use std::io::Write as _;
+    use wasmi_core_proved::machine::{Call, Fuel, FuelCostsProvider, Machine, MemoryType};
+    use wasmi_core_proved::pool::Pool;
+    use wasmi_core_proved::rattle::Vec;
+
+    /// Runs one list of calls on each tenant.
+    pub fn main() -> Result<(), Box<dyn std::error::Error>> {
+        // One page of 64 KiB for both tenants together, and no tables.
+        let mut pool = Pool::new(65_536, 0);
+        for _tenant in 0..2 {
+            let fuel = Fuel::new(false, FuelCostsProvider::default());
+            if let Err((error, _machine)) = pool.add(Machine::new(fuel)) {
+                return Err(error.into());
+            }
+        }
+
+        // Each asks for a page: the second one is denied.
+        let mut builder = MemoryType::builder();
+        builder.min(1);
+        let ty = builder.build()?;
+        let calls = Vec::of([Call::NewMemory(ty)])?;
+        for tenant in 0..pool.len() {
+            let replies = pool.run(tenant, &calls)?;
+            writeln!(std::io::stdout(), "tenant {tenant}: {replies:?}")?;
+        }
+        for tenant in 0..pool.len() {
+            let bytes = pool.held_bytes(tenant).unwrap_or(0);
+            writeln!(std::io::stdout(), "tenant {tenant} holds {bytes} bytes")?;
+        }
+        Ok(())
+    }
+}
+mod quota {
+    //! A machine under a quota: a list of calls, their replies, and what the quota holds afterwards.
+
+    use std::io::Write as _;
+    use wasmi_core_proved::machine::{
+        Call, Fuel, FuelCostsProvider, Machine, MemoryType, Quota, run_reserving,
+    };
+    use wasmi_core_proved::rattle::Vec;
+
+    /// Makes a memory and lets it grow past the cap.
+    pub fn main() -> Result<(), Box<dyn std::error::Error>> {
+        // One to sixteen pages of 64 KiB, as a module may declare it.
+        let mut builder = MemoryType::builder();
+        builder.min(1).max(Some(16));
+        let ty = builder.build()?;
+
+        // A meter that is off, and a cap of two pages on all memories; no tables.
+        let fuel = Fuel::new(false, FuelCostsProvider::default());
+        let mut machine = Machine::new(fuel);
+        let mut quota = Quota::new(131_072, 0);
+
+        let grow = Call::GrowMemory {
+            memory: 0,
+            pages: 2,
+        };
+        let calls = Vec::of([Call::NewMemory(ty), grow])?;
+        let replies = run_reserving(&mut machine, &calls, &mut quota)?;
+        for (call, reply) in calls.iter().zip(&replies) {
+            writeln!(std::io::stdout(), "{call:?}: {reply:?}")?;
+        }
+        writeln!(std::io::stdout(), "held: {} bytes", quota.held_bytes())?;
+        Ok(())
+    }
+}
 
 fn main() -> Result<(), Box<dyn std::error::Error>> {
     memory::main()?;

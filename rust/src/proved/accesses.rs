@@ -24,14 +24,12 @@ pub mod access {
         ///
         /// # Contract
         ///
-        /// <span></span><pre><code>ensures value: result ≡ [T.of_number] ([int_wrap] [T.width] (Self.number self))
-        /// ensures low_bits: [wrap] [T.width] ([T.number] result) ≡ [wrap] [T.width] (Self.number self)</code></pre>
+        /// ```text
+        /// ensures value: result ≡ T.of_number (int_wrap T.width (Self.number self))
+        /// ensures low_bits: wrap T.width (T.number result) ≡ wrap T.width (Self.number self)
+        /// ```
         ///
-        /// [T.of_number]: trait@Number#contract
-        /// [int_wrap]: crate::specs::library#int_wrap "z modulo 2 ^ w, as a signed number of that width"
-        /// [T.width]: trait@Number#contract
-        /// [wrap]: crate::specs::types::Wrapping#wrap "the number below 2 ^ w that differs from z by a multiple of 2 ^ w"
-        /// [T.number]: trait@Number#contract
+        /// Definitions: [`wrap`](crate::specs::types::Wrapping#wrap).
         fn wrap_into(self) -> T;
     }
 
@@ -44,9 +42,9 @@ pub mod access {
         ///
         /// # Contract
         ///
-        /// <span></span><pre><code>ensures: result ≡ [T.of_number] (Self.number self)</code></pre>
-        ///
-        /// [T.of_number]: trait@Number#contract
+        /// ```text
+        /// ensures: result ≡ T.of_number (Self.number self)
+        /// ```
         fn extend_into(self) -> T;
     }
 
@@ -55,19 +53,20 @@ pub mod access {
     ///
     /// # Contract
     ///
-    /// <span></span><pre><code><i>\-\- How many bytes there are.</i>
-    /// LEN: [ℕ]
-    /// <i>\-\- The bytes, in their order.</i>
-    /// bytes_of: Self → [List] [ℕ]</code></pre>
-    ///
-    /// [ℕ]: crate::specs::library#%E2%84%95 "the whole numbers from 0 on"
-    /// [List]: crate::specs::library#List "the finite lists"
+    /// ```text
+    /// -- How many bytes there are.
+    /// LEN: ℕ
+    /// -- The bytes, in their order.
+    /// bytes_of: Self → List ℕ
+    /// ```
     pub trait ByteArray: sealed::Sealed {}
 
     /// # Contract
     ///
-    /// <span></span><pre><code>LEN = N
-    /// bytes_of = λ bytes. bytes</code></pre>
+    /// ```text
+    /// LEN = N
+    /// bytes_of = λ bytes. bytes
+    /// ```
     impl<const N: usize> ByteArray for [u8; N] {}
 
     /// Bytes that are read from a memory.
@@ -80,12 +79,13 @@ pub mod access {
         ///
         /// # Contract
         ///
-        /// <span></span><pre><code>ensures copied: [IsCopy] memory.now address Self.LEN (Self.bytes_of self.old)
-        /// &#32;&#32;&#32;&#32;(Self.bytes_of self.new) result
-        /// ensures length: [length] (Self.bytes_of self.new) ≡ Self.LEN</code></pre>
+        /// ```text
+        /// ensures copied: IsCopy memory.now address Self.LEN (Self.bytes_of self.old)
+        ///     (Self.bytes_of self.new) result
+        /// ensures length: length (Self.bytes_of self.new) ≡ Self.LEN
+        /// ```
         ///
-        /// [IsCopy]: crate::specs::accesses::LoadStore#IsCopy "the n bytes into which a load copies the memory at a: they are those, or the load traps and they are the same"
-        /// [length]: crate::specs::library#length "the number of elements of a list"
+        /// Definitions: [`IsCopy`](crate::specs::accesses::LoadStore#IsCopy).
         fn load_into(&mut self, memory: &[u8], address: usize) -> Result<(), TrapCode>;
     }
 
@@ -114,11 +114,12 @@ pub mod access {
         ///
         /// # Contract
         ///
-        /// <span></span><pre><code>ensures stored: [IsStore] memory.old address (Self.bytes_of self.now) memory.new result
-        /// ensures length: [length] (Self.bytes_of self.now) ≡ Self.LEN</code></pre>
+        /// ```text
+        /// ensures stored: IsStore memory.old address (Self.bytes_of self.now) memory.new result
+        /// ensures length: length (Self.bytes_of self.now) ≡ Self.LEN
+        /// ```
         ///
-        /// [IsStore]: crate::specs::accesses::LoadStore#IsStore "a store of ys at a: the memory has them there, or the store traps and the memory is the same"
-        /// [length]: crate::specs::library#length "the number of elements of a list"
+        /// Definitions: [`IsStore`](crate::specs::accesses::LoadStore#IsStore).
         fn store_from(&self, memory: &mut [u8], address: usize) -> Result<(), TrapCode>;
     }
 
@@ -137,12 +138,12 @@ pub mod access {
     ///
     /// # Contract
     ///
-    /// <span></span><pre><code>requires room: address + N ≤ [length] memory.old
-    /// ensures written: [overwrite] memory.old address bytes.now ≡ [Some] memory.new</code></pre>
+    /// ```text
+    /// requires room: address + N ≤ length memory.old
+    /// ensures written: overwrite memory.old address bytes.now ≡ Some memory.new
+    /// ```
     ///
-    /// [length]: crate::specs::library#length "the number of elements of a list"
-    /// [overwrite]: crate::specs::types::Access#overwrite "xs with ys at a, or none where the list ends before them"
-    /// [Some]: crate::specs::library#Some "the value x, of an \`Option\`"
+    /// Definitions: [`overwrite`](crate::specs::types::Access#overwrite).
     #[inline]
     fn put<const N: usize>(memory: &mut [u8], address: usize, bytes: &[u8; N]) {
         memory[address..][..N].copy_from_slice(bytes);
@@ -154,12 +155,10 @@ pub mod access {
     ///
     /// # Contract
     ///
-    /// <span></span><pre><code><i>\-\- The bytes have the bits of the number.</i>
-    /// is_as_wide: [Self.Bytes].LEN \* 8 ≡ [bits] [Self.width]</code></pre>
-    ///
-    /// [Self.Bytes]: trait@LittleEndianConvert#contract
-    /// [bits]: crate::specs::library#bits "the number of bits of a width"
-    /// [Self.width]: trait@LittleEndianConvert#contract
+    /// ```text
+    /// -- The bytes have the bits of the number.
+    /// is_as_wide: Self.Bytes.LEN * 8 ≡ bits Self.width
+    /// ```
     pub trait LittleEndianConvert: Number {
         /// As many bytes as the number has.
         type Bytes: Default + LoadInto + StoreFrom;
@@ -169,47 +168,35 @@ pub mod access {
         ///
         /// # Contract
         ///
-        /// <span></span><pre><code>ensures bytes: [Self.Bytes].bytes_of result
-        /// &#32;&#32;&#32;&#32;≡ [le_bytes] [Self.Bytes].LEN ([wrap] [Self.width] ([Self.number] self))
-        /// ensures number: [number_of] ([Self.Bytes].bytes_of result)
-        /// &#32;&#32;&#32;&#32;≡ [wrap] [Self.width] ([Self.number] self)
-        /// ensures round_trip: [Self.of_number]
-        /// &#32;&#32;&#32;&#32;([number_of_bits] [Self.is_signed] [Self.width] ([number_of] ([Self.Bytes].bytes_of result)))
-        /// &#32;&#32;&#32;&#32;≡ self</code></pre>
+        /// ```text
+        /// ensures bytes: Self.Bytes.bytes_of result
+        ///     ≡ le_bytes Self.Bytes.LEN (wrap Self.width (Self.number self))
+        /// ensures number: number_of (Self.Bytes.bytes_of result)
+        ///     ≡ wrap Self.width (Self.number self)
+        /// ensures round_trip: Self.of_number
+        ///     (number_of_bits Self.is_signed Self.width (number_of (Self.Bytes.bytes_of result)))
+        ///     ≡ self
+        /// ```
         ///
-        /// [Self.Bytes]: trait@LittleEndianConvert#contract
-        /// [le_bytes]: crate::specs::types::Bytes#le_bytes "the k bytes of a number below 256 to the power k"
-        /// [wrap]: crate::specs::types::Wrapping#wrap "the number below 2 ^ w that differs from z by a multiple of 2 ^ w"
-        /// [Self.width]: trait@LittleEndianConvert#contract
-        /// [Self.number]: trait@LittleEndianConvert#contract
-        /// [number_of]: crate::specs::types::Bytes#number_of "the number of a list of bytes: the sum of byte i times 256 to the power i"
-        /// [Self.of_number]: trait@LittleEndianConvert#contract
-        /// [number_of_bits]: crate::specs::raw::Number#number_of_bits "the number of the type whose bits are those of n, which is below 2 ^ w"
-        /// [Self.is_signed]: trait@LittleEndianConvert#contract
+        /// Definitions: [`le_bytes`](crate::specs::types::Bytes#le_bytes), [`wrap`](crate::specs::types::Wrapping#wrap), [`number_of`](crate::specs::types::Bytes#number_of), [`number_of_bits`](crate::specs::raw::Number#number_of_bits).
         fn into_le_bytes(self) -> Self::Bytes;
 
         /// The value of some bytes, the lowest first.
         ///
         /// # Contract
         ///
-        /// <span></span><pre><code>ensures value: result ≡ [Self.of_number]
-        /// &#32;&#32;&#32;&#32;([number_of_bits] [Self.is_signed] [Self.width] ([number_of] ([Self.Bytes].bytes_of bytes)))
-        /// ensures read: [Self.number] result
-        /// &#32;&#32;&#32;&#32;≡ [number_of_bits] [Self.is_signed] [Self.width] ([number_of] ([Self.Bytes].bytes_of bytes))
-        /// ensures number: [wrap] [Self.width] ([Self.number] result)
-        /// &#32;&#32;&#32;&#32;≡ [number_of] ([Self.Bytes].bytes_of bytes)
-        /// ensures round_trip: [le_bytes] [Self.Bytes].LEN ([wrap] [Self.width] ([Self.number] result))
-        /// &#32;&#32;&#32;&#32;≡ [Self.Bytes].bytes_of bytes</code></pre>
+        /// ```text
+        /// ensures value: result ≡ Self.of_number
+        ///     (number_of_bits Self.is_signed Self.width (number_of (Self.Bytes.bytes_of bytes)))
+        /// ensures read: Self.number result
+        ///     ≡ number_of_bits Self.is_signed Self.width (number_of (Self.Bytes.bytes_of bytes))
+        /// ensures number: wrap Self.width (Self.number result)
+        ///     ≡ number_of (Self.Bytes.bytes_of bytes)
+        /// ensures round_trip: le_bytes Self.Bytes.LEN (wrap Self.width (Self.number result))
+        ///     ≡ Self.Bytes.bytes_of bytes
+        /// ```
         ///
-        /// [Self.of_number]: trait@LittleEndianConvert#contract
-        /// [number_of_bits]: crate::specs::raw::Number#number_of_bits "the number of the type whose bits are those of n, which is below 2 ^ w"
-        /// [Self.is_signed]: trait@LittleEndianConvert#contract
-        /// [Self.width]: trait@LittleEndianConvert#contract
-        /// [number_of]: crate::specs::types::Bytes#number_of "the number of a list of bytes: the sum of byte i times 256 to the power i"
-        /// [Self.Bytes]: trait@LittleEndianConvert#contract
-        /// [Self.number]: trait@LittleEndianConvert#contract
-        /// [wrap]: crate::specs::types::Wrapping#wrap "the number below 2 ^ w that differs from z by a multiple of 2 ^ w"
-        /// [le_bytes]: crate::specs::types::Bytes#le_bytes "the k bytes of a number below 256 to the power k"
+        /// Definitions: [`number_of_bits`](crate::specs::raw::Number#number_of_bits), [`number_of`](crate::specs::types::Bytes#number_of), [`wrap`](crate::specs::types::Wrapping#wrap), [`le_bytes`](crate::specs::types::Bytes#le_bytes).
         fn from_le_bytes(bytes: Self::Bytes) -> Self;
     }
 
@@ -220,12 +207,11 @@ pub mod access {
     ///
     /// # Contract
     ///
-    /// <span></span><pre><code>ensures: [MatchResult] result
-    /// &#32;&#32;&#32;&#32;(λ address. address ≡ ptr + offset)
-    /// &#32;&#32;&#32;&#32;(λ trap. (trap ≡ [TrapCode.MemoryOutOfBounds]) × (2 ^ 64 ≤ ptr + offset))</code></pre>
-    ///
-    /// [MatchResult]: crate::specs::library#MatchResult "P of the value, or Q of the error"
-    /// [TrapCode.MemoryOutOfBounds]: crate::proved::types::TrapCode::MemoryOutOfBounds
+    /// ```text
+    /// ensures: MatchResult result
+    ///     (λ address. address ≡ ptr + offset)
+    ///     (λ trap. (trap ≡ TrapCode.MemoryOutOfBounds) × (2 ^ 64 ≤ ptr + offset))
+    /// ```
     #[inline(always)]
     pub fn effective_address(ptr: u64, offset: u64) -> Result<usize, TrapCode> {
         let address = ptr.wrapping_add(offset);
@@ -242,19 +228,14 @@ pub mod access {
     ///
     /// # Contract
     ///
-    /// <span></span><pre><code>ensures value: result ≡ [loaded] [T.Bytes].LEN
-    /// &#32;&#32;&#32;&#32;(λ n. [T.of_number] ([number_of_bits] [T.is_signed] [T.width] n)) memory.now (ptr + offset)
-    /// ensures number: [GivesNumber] [T.number] result
-    /// &#32;&#32;&#32;&#32;([loaded] [T.Bytes].LEN ([number_of_bits] [T.is_signed] [T.width]) memory.now (ptr + offset))</code></pre>
+    /// ```text
+    /// ensures value: result ≡ loaded T.Bytes.LEN
+    ///     (λ n. T.of_number (number_of_bits T.is_signed T.width n)) memory.now (ptr + offset)
+    /// ensures number: GivesNumber T.number result
+    ///     (loaded T.Bytes.LEN (number_of_bits T.is_signed T.width) memory.now (ptr + offset))
+    /// ```
     ///
-    /// [loaded]: crate::specs::accesses::LoadStore#loaded "what a load of n bytes at a gives"
-    /// [T.Bytes]: trait@LittleEndianConvert#contract
-    /// [T.of_number]: trait@LittleEndianConvert#contract
-    /// [number_of_bits]: crate::specs::raw::Number#number_of_bits "the number of the type whose bits are those of n, which is below 2 ^ w"
-    /// [T.is_signed]: trait@LittleEndianConvert#contract
-    /// [T.width]: trait@LittleEndianConvert#contract
-    /// [GivesNumber]: crate::specs::accesses::LoadStore#GivesNumber "an instruction gives this, where \`number\` reads its value"
-    /// [T.number]: trait@LittleEndianConvert#contract
+    /// Definitions: [`loaded`](crate::specs::accesses::LoadStore#loaded), [`number_of_bits`](crate::specs::raw::Number#number_of_bits), [`GivesNumber`](crate::specs::accesses::LoadStore#GivesNumber).
     #[inline]
     pub fn load<T>(memory: &[u8], ptr: u64, offset: u64) -> Result<T, TrapCode>
     where
@@ -270,19 +251,14 @@ pub mod access {
     ///
     /// # Contract
     ///
-    /// <span></span><pre><code>ensures value: result ≡ [loaded] [T.Bytes].LEN
-    /// &#32;&#32;&#32;&#32;(λ n. [T.of_number] ([number_of_bits] [T.is_signed] [T.width] n)) memory.now address
-    /// ensures number: [GivesNumber] [T.number] result
-    /// &#32;&#32;&#32;&#32;([loaded] [T.Bytes].LEN ([number_of_bits] [T.is_signed] [T.width]) memory.now address)</code></pre>
+    /// ```text
+    /// ensures value: result ≡ loaded T.Bytes.LEN
+    ///     (λ n. T.of_number (number_of_bits T.is_signed T.width n)) memory.now address
+    /// ensures number: GivesNumber T.number result
+    ///     (loaded T.Bytes.LEN (number_of_bits T.is_signed T.width) memory.now address)
+    /// ```
     ///
-    /// [loaded]: crate::specs::accesses::LoadStore#loaded "what a load of n bytes at a gives"
-    /// [T.Bytes]: trait@LittleEndianConvert#contract
-    /// [T.of_number]: trait@LittleEndianConvert#contract
-    /// [number_of_bits]: crate::specs::raw::Number#number_of_bits "the number of the type whose bits are those of n, which is below 2 ^ w"
-    /// [T.is_signed]: trait@LittleEndianConvert#contract
-    /// [T.width]: trait@LittleEndianConvert#contract
-    /// [GivesNumber]: crate::specs::accesses::LoadStore#GivesNumber "an instruction gives this, where \`number\` reads its value"
-    /// [T.number]: trait@LittleEndianConvert#contract
+    /// Definitions: [`loaded`](crate::specs::accesses::LoadStore#loaded), [`number_of_bits`](crate::specs::raw::Number#number_of_bits), [`GivesNumber`](crate::specs::accesses::LoadStore#GivesNumber).
     #[inline]
     pub fn load_at<T>(memory: &[u8], address: usize) -> Result<T, TrapCode>
     where
@@ -299,16 +275,13 @@ pub mod access {
     ///
     /// # Contract
     ///
-    /// <span></span><pre><code>ensures: result
-    /// &#32;&#32;&#32;&#32;≡ [loaded] [U.Bytes].LEN (λ n. [T.of_number] ([number_of_bits] [U.is_signed] [U.width] n)) memory.now
-    /// &#32;&#32;&#32;&#32;(ptr + offset)</code></pre>
+    /// ```text
+    /// ensures: result
+    ///     ≡ loaded U.Bytes.LEN (λ n. T.of_number (number_of_bits U.is_signed U.width n)) memory.now
+    ///     (ptr + offset)
+    /// ```
     ///
-    /// [loaded]: crate::specs::accesses::LoadStore#loaded "what a load of n bytes at a gives"
-    /// [U.Bytes]: trait@LittleEndianConvert#contract
-    /// [T.of_number]: trait@Number#contract
-    /// [number_of_bits]: crate::specs::raw::Number#number_of_bits "the number of the type whose bits are those of n, which is below 2 ^ w"
-    /// [U.is_signed]: trait@LittleEndianConvert#contract
-    /// [U.width]: trait@LittleEndianConvert#contract
+    /// Definitions: [`loaded`](crate::specs::accesses::LoadStore#loaded), [`number_of_bits`](crate::specs::raw::Number#number_of_bits).
     #[inline]
     pub fn load_extend<T, U>(memory: &[u8], ptr: u64, offset: u64) -> Result<T, TrapCode>
     where
@@ -325,16 +298,13 @@ pub mod access {
     ///
     /// # Contract
     ///
-    /// <span></span><pre><code>ensures: result
-    /// &#32;&#32;&#32;&#32;≡ [loaded] [U.Bytes].LEN
-    /// &#32;&#32;&#32;&#32;(λ n. [T.of_number] ([number_of_bits] [U.is_signed] [U.width] n)) memory.now address</code></pre>
+    /// ```text
+    /// ensures: result
+    ///     ≡ loaded U.Bytes.LEN
+    ///     (λ n. T.of_number (number_of_bits U.is_signed U.width n)) memory.now address
+    /// ```
     ///
-    /// [loaded]: crate::specs::accesses::LoadStore#loaded "what a load of n bytes at a gives"
-    /// [U.Bytes]: trait@LittleEndianConvert#contract
-    /// [T.of_number]: trait@Number#contract
-    /// [number_of_bits]: crate::specs::raw::Number#number_of_bits "the number of the type whose bits are those of n, which is below 2 ^ w"
-    /// [U.is_signed]: trait@LittleEndianConvert#contract
-    /// [U.width]: trait@LittleEndianConvert#contract
+    /// Definitions: [`loaded`](crate::specs::accesses::LoadStore#loaded), [`number_of_bits`](crate::specs::raw::Number#number_of_bits).
     #[inline]
     pub fn load_extend_at<T, U>(memory: &[u8], address: usize) -> Result<T, TrapCode>
     where
@@ -351,15 +321,12 @@ pub mod access {
     ///
     /// # Contract
     ///
-    /// <span></span><pre><code>ensures: [IsStore] memory.old (ptr + offset)
-    /// &#32;&#32;&#32;&#32;([le_bytes] [T.Bytes].LEN ([wrap] [T.width] ([T.number] value))) memory.new result</code></pre>
+    /// ```text
+    /// ensures: IsStore memory.old (ptr + offset)
+    ///     (le_bytes T.Bytes.LEN (wrap T.width (T.number value))) memory.new result
+    /// ```
     ///
-    /// [IsStore]: crate::specs::accesses::LoadStore#IsStore "a store of ys at a: the memory has them there, or the store traps and the memory is the same"
-    /// [le_bytes]: crate::specs::types::Bytes#le_bytes "the k bytes of a number below 256 to the power k"
-    /// [T.Bytes]: trait@LittleEndianConvert#contract
-    /// [wrap]: crate::specs::types::Wrapping#wrap "the number below 2 ^ w that differs from z by a multiple of 2 ^ w"
-    /// [T.width]: trait@LittleEndianConvert#contract
-    /// [T.number]: trait@LittleEndianConvert#contract
+    /// Definitions: [`IsStore`](crate::specs::accesses::LoadStore#IsStore), [`le_bytes`](crate::specs::types::Bytes#le_bytes), [`wrap`](crate::specs::types::Wrapping#wrap).
     #[inline]
     pub fn store<T>(memory: &mut [u8], ptr: u64, offset: u64, value: T) -> Result<(), TrapCode>
     where
@@ -375,15 +342,12 @@ pub mod access {
     ///
     /// # Contract
     ///
-    /// <span></span><pre><code>ensures: [IsStore] memory.old address
-    /// &#32;&#32;&#32;&#32;([le_bytes] [T.Bytes].LEN ([wrap] [T.width] ([T.number] value))) memory.new result</code></pre>
+    /// ```text
+    /// ensures: IsStore memory.old address
+    ///     (le_bytes T.Bytes.LEN (wrap T.width (T.number value))) memory.new result
+    /// ```
     ///
-    /// [IsStore]: crate::specs::accesses::LoadStore#IsStore "a store of ys at a: the memory has them there, or the store traps and the memory is the same"
-    /// [le_bytes]: crate::specs::types::Bytes#le_bytes "the k bytes of a number below 256 to the power k"
-    /// [T.Bytes]: trait@LittleEndianConvert#contract
-    /// [wrap]: crate::specs::types::Wrapping#wrap "the number below 2 ^ w that differs from z by a multiple of 2 ^ w"
-    /// [T.width]: trait@LittleEndianConvert#contract
-    /// [T.number]: trait@LittleEndianConvert#contract
+    /// Definitions: [`IsStore`](crate::specs::accesses::LoadStore#IsStore), [`le_bytes`](crate::specs::types::Bytes#le_bytes), [`wrap`](crate::specs::types::Wrapping#wrap).
     #[inline]
     pub fn store_at<T>(memory: &mut [u8], address: usize, value: T) -> Result<(), TrapCode>
     where
@@ -399,14 +363,12 @@ pub mod access {
     ///
     /// # Contract
     ///
-    /// <span></span><pre><code>ensures: [IsStore] memory.old (ptr + offset)
-    /// &#32;&#32;&#32;&#32;([le_bytes] [U.Bytes].LEN ([wrap] [U.width] (T.number value))) memory.new result</code></pre>
+    /// ```text
+    /// ensures: IsStore memory.old (ptr + offset)
+    ///     (le_bytes U.Bytes.LEN (wrap U.width (T.number value))) memory.new result
+    /// ```
     ///
-    /// [IsStore]: crate::specs::accesses::LoadStore#IsStore "a store of ys at a: the memory has them there, or the store traps and the memory is the same"
-    /// [le_bytes]: crate::specs::types::Bytes#le_bytes "the k bytes of a number below 256 to the power k"
-    /// [U.Bytes]: trait@LittleEndianConvert#contract
-    /// [wrap]: crate::specs::types::Wrapping#wrap "the number below 2 ^ w that differs from z by a multiple of 2 ^ w"
-    /// [U.width]: trait@LittleEndianConvert#contract
+    /// Definitions: [`IsStore`](crate::specs::accesses::LoadStore#IsStore), [`le_bytes`](crate::specs::types::Bytes#le_bytes), [`wrap`](crate::specs::types::Wrapping#wrap).
     #[inline]
     pub fn store_wrap<T, U>(
         memory: &mut [u8],
@@ -428,14 +390,12 @@ pub mod access {
     ///
     /// # Contract
     ///
-    /// <span></span><pre><code>ensures: [IsStore] memory.old address
-    /// &#32;&#32;&#32;&#32;([le_bytes] [U.Bytes].LEN ([wrap] [U.width] (T.number value))) memory.new result</code></pre>
+    /// ```text
+    /// ensures: IsStore memory.old address
+    ///     (le_bytes U.Bytes.LEN (wrap U.width (T.number value))) memory.new result
+    /// ```
     ///
-    /// [IsStore]: crate::specs::accesses::LoadStore#IsStore "a store of ys at a: the memory has them there, or the store traps and the memory is the same"
-    /// [le_bytes]: crate::specs::types::Bytes#le_bytes "the k bytes of a number below 256 to the power k"
-    /// [U.Bytes]: trait@LittleEndianConvert#contract
-    /// [wrap]: crate::specs::types::Wrapping#wrap "the number below 2 ^ w that differs from z by a multiple of 2 ^ w"
-    /// [U.width]: trait@LittleEndianConvert#contract
+    /// Definitions: [`IsStore`](crate::specs::accesses::LoadStore#IsStore), [`le_bytes`](crate::specs::types::Bytes#le_bytes), [`wrap`](crate::specs::types::Wrapping#wrap).
     #[inline]
     pub fn store_wrap_at<T, U>(memory: &mut [u8], address: usize, value: T) -> Result<(), TrapCode>
     where
@@ -739,25 +699,19 @@ pub mod laws {
     ///
     /// # Contract
     ///
-    /// <span></span><pre><code>ensures integer: (k n a : [ℕ]) (old new : [List] [ℕ]) (value : [ℕ] → [ℤ])
-    /// &#32;&#32;&#32;&#32;→ [IsStore] old a ([le_bytes] k n) new ([Ok] ([tt] {0}))
-    /// &#32;&#32;&#32;&#32;→ [loaded] k value new a ≡ [Ok] (value (n % 2 ^ (8 \* k)))
-    /// ensures natural: (k n a : [ℕ]) (old new : [List] [ℕ]) (value : [ℕ] → [ℕ])
-    /// &#32;&#32;&#32;&#32;→ [IsStore] old a ([le_bytes] k n) new ([Ok] ([tt] {0}))
-    /// &#32;&#32;&#32;&#32;→ [loaded] k value new a ≡ [Ok] (value (n % 2 ^ (8 \* k)))
-    /// ensures outside: (k n a : [ℕ]) (old new : [List] [ℕ])
-    /// &#32;&#32;&#32;&#32;→ [IsStore] old a ([le_bytes] k n) new ([Ok] ([tt] {0}))
-    /// &#32;&#32;&#32;&#32;→ [IsSameOutside] old new a k</code></pre>
+    /// ```text
+    /// ensures integer: (k n a : ℕ) (old new : List ℕ) (value : ℕ → ℤ)
+    ///     → IsStore old a (le_bytes k n) new (Ok (tt {0}))
+    ///     → loaded k value new a ≡ Ok (value (n % 2 ^ (8 * k)))
+    /// ensures natural: (k n a : ℕ) (old new : List ℕ) (value : ℕ → ℕ)
+    ///     → IsStore old a (le_bytes k n) new (Ok (tt {0}))
+    ///     → loaded k value new a ≡ Ok (value (n % 2 ^ (8 * k)))
+    /// ensures outside: (k n a : ℕ) (old new : List ℕ)
+    ///     → IsStore old a (le_bytes k n) new (Ok (tt {0}))
+    ///     → IsSameOutside old new a k
+    /// ```
     ///
-    /// [ℕ]: crate::specs::library#%E2%84%95 "the whole numbers from 0 on"
-    /// [List]: crate::specs::library#List "the finite lists"
-    /// [ℤ]: crate::specs::library#%E2%84%A4 "the whole numbers, with a sign"
-    /// [IsStore]: crate::specs::accesses::LoadStore#IsStore "a store of ys at a: the memory has them there, or the store traps and the memory is the same"
-    /// [le_bytes]: crate::specs::types::Bytes#le_bytes "the k bytes of a number below 256 to the power k"
-    /// [Ok]: crate::specs::library#Ok "the value x, of a \`Result\`"
-    /// [tt]: crate::specs::library#tt "the value \`()\`"
-    /// [loaded]: crate::specs::accesses::LoadStore#loaded "what a load of n bytes at a gives"
-    /// [IsSameOutside]: crate::specs::accesses::LoadStore#IsSameOutside "the bytes before a and those from a + n on are the same"
+    /// Definitions: [`IsStore`](crate::specs::accesses::LoadStore#IsStore), [`le_bytes`](crate::specs::types::Bytes#le_bytes), [`loaded`](crate::specs::accesses::LoadStore#loaded), [`IsSameOutside`](crate::specs::accesses::LoadStore#IsSameOutside).
     #[inline]
     pub fn stored_number_is_loaded() {}
 
@@ -765,9 +719,9 @@ pub mod laws {
     ///
     /// # Contract
     ///
-    /// <span></span><pre><code>ensures: [T.Bytes].bytes_of result ≡ [T.Bytes].bytes_of bytes</code></pre>
-    ///
-    /// [T.Bytes]: trait@LittleEndianConvert#contract
+    /// ```text
+    /// ensures: T.Bytes.bytes_of result ≡ T.Bytes.bytes_of bytes
+    /// ```
     #[inline]
     pub fn bytes_of_their_value<T: LittleEndianConvert>(bytes: T::Bytes) -> T::Bytes {
         T::from_le_bytes(bytes).into_le_bytes()
@@ -777,7 +731,9 @@ pub mod laws {
     ///
     /// # Contract
     ///
-    /// <span></span><pre><code>ensures: result ≡ value</code></pre>
+    /// ```text
+    /// ensures: result ≡ value
+    /// ```
     #[inline]
     pub fn value_of_its_bytes<T: LittleEndianConvert>(value: T) -> T {
         T::from_le_bytes(value.into_le_bytes())
@@ -799,11 +755,11 @@ pub mod wasm {
     ///
     /// # Contract
     ///
-    /// <span></span><pre><code>ensures: result ≡ [loaded] 1 ([cast_signed] [w8]) memory.now (ptr + offset)</code></pre>
+    /// ```text
+    /// ensures: result ≡ loaded 1 (cast_signed w8) memory.now (ptr + offset)
+    /// ```
     ///
-    /// [loaded]: crate::specs::accesses::LoadStore#loaded "what a load of n bytes at a gives"
-    /// [cast_signed]: crate::specs::library#cast_signed "the number from 0 up to 2 ^ w read as signed, in two\'s complement"
-    /// [w8]: crate::specs::library#w8 "the widths of integers in bits"
+    /// Definitions: [`loaded`](crate::specs::accesses::LoadStore#loaded).
     #[inline]
     pub fn i32_load8_s(memory: &[u8], ptr: u64, offset: u64) -> Result<i32, TrapCode> {
         load_extend::<i32, i8>(memory, ptr, offset)
@@ -813,11 +769,11 @@ pub mod wasm {
     ///
     /// # Contract
     ///
-    /// <span></span><pre><code>ensures: result ≡ [loaded] 1 ([cast_signed] [w8]) memory.now address</code></pre>
+    /// ```text
+    /// ensures: result ≡ loaded 1 (cast_signed w8) memory.now address
+    /// ```
     ///
-    /// [loaded]: crate::specs::accesses::LoadStore#loaded "what a load of n bytes at a gives"
-    /// [cast_signed]: crate::specs::library#cast_signed "the number from 0 up to 2 ^ w read as signed, in two\'s complement"
-    /// [w8]: crate::specs::library#w8 "the widths of integers in bits"
+    /// Definitions: [`loaded`](crate::specs::accesses::LoadStore#loaded).
     #[inline]
     pub fn i32_load8_s_at(memory: &[u8], address: usize) -> Result<i32, TrapCode> {
         load_extend_at::<i32, i8>(memory, address)
@@ -827,10 +783,11 @@ pub mod wasm {
     ///
     /// # Contract
     ///
-    /// <span></span><pre><code>ensures: result ≡ [loaded] 1 [pos] memory.now (ptr + offset)</code></pre>
+    /// ```text
+    /// ensures: result ≡ loaded 1 pos memory.now (ptr + offset)
+    /// ```
     ///
-    /// [loaded]: crate::specs::accesses::LoadStore#loaded "what a load of n bytes at a gives"
-    /// [pos]: crate::specs::library#pos "the number n, as one with a sign"
+    /// Definitions: [`loaded`](crate::specs::accesses::LoadStore#loaded).
     #[inline]
     pub fn i32_load8_u(memory: &[u8], ptr: u64, offset: u64) -> Result<i32, TrapCode> {
         load_extend::<i32, u8>(memory, ptr, offset)
@@ -840,10 +797,11 @@ pub mod wasm {
     ///
     /// # Contract
     ///
-    /// <span></span><pre><code>ensures: result ≡ [loaded] 1 [pos] memory.now address</code></pre>
+    /// ```text
+    /// ensures: result ≡ loaded 1 pos memory.now address
+    /// ```
     ///
-    /// [loaded]: crate::specs::accesses::LoadStore#loaded "what a load of n bytes at a gives"
-    /// [pos]: crate::specs::library#pos "the number n, as one with a sign"
+    /// Definitions: [`loaded`](crate::specs::accesses::LoadStore#loaded).
     #[inline]
     pub fn i32_load8_u_at(memory: &[u8], address: usize) -> Result<i32, TrapCode> {
         load_extend_at::<i32, u8>(memory, address)
@@ -853,11 +811,11 @@ pub mod wasm {
     ///
     /// # Contract
     ///
-    /// <span></span><pre><code>ensures: result ≡ [loaded] 2 ([cast_signed] [w16]) memory.now (ptr + offset)</code></pre>
+    /// ```text
+    /// ensures: result ≡ loaded 2 (cast_signed w16) memory.now (ptr + offset)
+    /// ```
     ///
-    /// [loaded]: crate::specs::accesses::LoadStore#loaded "what a load of n bytes at a gives"
-    /// [cast_signed]: crate::specs::library#cast_signed "the number from 0 up to 2 ^ w read as signed, in two\'s complement"
-    /// [w16]: crate::specs::library#w16 "the widths of integers in bits"
+    /// Definitions: [`loaded`](crate::specs::accesses::LoadStore#loaded).
     #[inline]
     pub fn i32_load16_s(memory: &[u8], ptr: u64, offset: u64) -> Result<i32, TrapCode> {
         load_extend::<i32, i16>(memory, ptr, offset)
@@ -867,11 +825,11 @@ pub mod wasm {
     ///
     /// # Contract
     ///
-    /// <span></span><pre><code>ensures: result ≡ [loaded] 2 ([cast_signed] [w16]) memory.now address</code></pre>
+    /// ```text
+    /// ensures: result ≡ loaded 2 (cast_signed w16) memory.now address
+    /// ```
     ///
-    /// [loaded]: crate::specs::accesses::LoadStore#loaded "what a load of n bytes at a gives"
-    /// [cast_signed]: crate::specs::library#cast_signed "the number from 0 up to 2 ^ w read as signed, in two\'s complement"
-    /// [w16]: crate::specs::library#w16 "the widths of integers in bits"
+    /// Definitions: [`loaded`](crate::specs::accesses::LoadStore#loaded).
     #[inline]
     pub fn i32_load16_s_at(memory: &[u8], address: usize) -> Result<i32, TrapCode> {
         load_extend_at::<i32, i16>(memory, address)
@@ -881,10 +839,11 @@ pub mod wasm {
     ///
     /// # Contract
     ///
-    /// <span></span><pre><code>ensures: result ≡ [loaded] 2 [pos] memory.now (ptr + offset)</code></pre>
+    /// ```text
+    /// ensures: result ≡ loaded 2 pos memory.now (ptr + offset)
+    /// ```
     ///
-    /// [loaded]: crate::specs::accesses::LoadStore#loaded "what a load of n bytes at a gives"
-    /// [pos]: crate::specs::library#pos "the number n, as one with a sign"
+    /// Definitions: [`loaded`](crate::specs::accesses::LoadStore#loaded).
     #[inline]
     pub fn i32_load16_u(memory: &[u8], ptr: u64, offset: u64) -> Result<i32, TrapCode> {
         load_extend::<i32, u16>(memory, ptr, offset)
@@ -894,10 +853,11 @@ pub mod wasm {
     ///
     /// # Contract
     ///
-    /// <span></span><pre><code>ensures: result ≡ [loaded] 2 [pos] memory.now address</code></pre>
+    /// ```text
+    /// ensures: result ≡ loaded 2 pos memory.now address
+    /// ```
     ///
-    /// [loaded]: crate::specs::accesses::LoadStore#loaded "what a load of n bytes at a gives"
-    /// [pos]: crate::specs::library#pos "the number n, as one with a sign"
+    /// Definitions: [`loaded`](crate::specs::accesses::LoadStore#loaded).
     #[inline]
     pub fn i32_load16_u_at(memory: &[u8], address: usize) -> Result<i32, TrapCode> {
         load_extend_at::<i32, u16>(memory, address)
@@ -907,11 +867,11 @@ pub mod wasm {
     ///
     /// # Contract
     ///
-    /// <span></span><pre><code>ensures: result ≡ [loaded] 1 ([cast_signed] [w8]) memory.now (ptr + offset)</code></pre>
+    /// ```text
+    /// ensures: result ≡ loaded 1 (cast_signed w8) memory.now (ptr + offset)
+    /// ```
     ///
-    /// [loaded]: crate::specs::accesses::LoadStore#loaded "what a load of n bytes at a gives"
-    /// [cast_signed]: crate::specs::library#cast_signed "the number from 0 up to 2 ^ w read as signed, in two\'s complement"
-    /// [w8]: crate::specs::library#w8 "the widths of integers in bits"
+    /// Definitions: [`loaded`](crate::specs::accesses::LoadStore#loaded).
     #[inline]
     pub fn i64_load8_s(memory: &[u8], ptr: u64, offset: u64) -> Result<i64, TrapCode> {
         load_extend::<i64, i8>(memory, ptr, offset)
@@ -921,11 +881,11 @@ pub mod wasm {
     ///
     /// # Contract
     ///
-    /// <span></span><pre><code>ensures: result ≡ [loaded] 1 ([cast_signed] [w8]) memory.now address</code></pre>
+    /// ```text
+    /// ensures: result ≡ loaded 1 (cast_signed w8) memory.now address
+    /// ```
     ///
-    /// [loaded]: crate::specs::accesses::LoadStore#loaded "what a load of n bytes at a gives"
-    /// [cast_signed]: crate::specs::library#cast_signed "the number from 0 up to 2 ^ w read as signed, in two\'s complement"
-    /// [w8]: crate::specs::library#w8 "the widths of integers in bits"
+    /// Definitions: [`loaded`](crate::specs::accesses::LoadStore#loaded).
     #[inline]
     pub fn i64_load8_s_at(memory: &[u8], address: usize) -> Result<i64, TrapCode> {
         load_extend_at::<i64, i8>(memory, address)
@@ -935,10 +895,11 @@ pub mod wasm {
     ///
     /// # Contract
     ///
-    /// <span></span><pre><code>ensures: result ≡ [loaded] 1 [pos] memory.now (ptr + offset)</code></pre>
+    /// ```text
+    /// ensures: result ≡ loaded 1 pos memory.now (ptr + offset)
+    /// ```
     ///
-    /// [loaded]: crate::specs::accesses::LoadStore#loaded "what a load of n bytes at a gives"
-    /// [pos]: crate::specs::library#pos "the number n, as one with a sign"
+    /// Definitions: [`loaded`](crate::specs::accesses::LoadStore#loaded).
     #[inline]
     pub fn i64_load8_u(memory: &[u8], ptr: u64, offset: u64) -> Result<i64, TrapCode> {
         load_extend::<i64, u8>(memory, ptr, offset)
@@ -948,10 +909,11 @@ pub mod wasm {
     ///
     /// # Contract
     ///
-    /// <span></span><pre><code>ensures: result ≡ [loaded] 1 [pos] memory.now address</code></pre>
+    /// ```text
+    /// ensures: result ≡ loaded 1 pos memory.now address
+    /// ```
     ///
-    /// [loaded]: crate::specs::accesses::LoadStore#loaded "what a load of n bytes at a gives"
-    /// [pos]: crate::specs::library#pos "the number n, as one with a sign"
+    /// Definitions: [`loaded`](crate::specs::accesses::LoadStore#loaded).
     #[inline]
     pub fn i64_load8_u_at(memory: &[u8], address: usize) -> Result<i64, TrapCode> {
         load_extend_at::<i64, u8>(memory, address)
@@ -961,11 +923,11 @@ pub mod wasm {
     ///
     /// # Contract
     ///
-    /// <span></span><pre><code>ensures: result ≡ [loaded] 2 ([cast_signed] [w16]) memory.now (ptr + offset)</code></pre>
+    /// ```text
+    /// ensures: result ≡ loaded 2 (cast_signed w16) memory.now (ptr + offset)
+    /// ```
     ///
-    /// [loaded]: crate::specs::accesses::LoadStore#loaded "what a load of n bytes at a gives"
-    /// [cast_signed]: crate::specs::library#cast_signed "the number from 0 up to 2 ^ w read as signed, in two\'s complement"
-    /// [w16]: crate::specs::library#w16 "the widths of integers in bits"
+    /// Definitions: [`loaded`](crate::specs::accesses::LoadStore#loaded).
     #[inline]
     pub fn i64_load16_s(memory: &[u8], ptr: u64, offset: u64) -> Result<i64, TrapCode> {
         load_extend::<i64, i16>(memory, ptr, offset)
@@ -975,11 +937,11 @@ pub mod wasm {
     ///
     /// # Contract
     ///
-    /// <span></span><pre><code>ensures: result ≡ [loaded] 2 ([cast_signed] [w16]) memory.now address</code></pre>
+    /// ```text
+    /// ensures: result ≡ loaded 2 (cast_signed w16) memory.now address
+    /// ```
     ///
-    /// [loaded]: crate::specs::accesses::LoadStore#loaded "what a load of n bytes at a gives"
-    /// [cast_signed]: crate::specs::library#cast_signed "the number from 0 up to 2 ^ w read as signed, in two\'s complement"
-    /// [w16]: crate::specs::library#w16 "the widths of integers in bits"
+    /// Definitions: [`loaded`](crate::specs::accesses::LoadStore#loaded).
     #[inline]
     pub fn i64_load16_s_at(memory: &[u8], address: usize) -> Result<i64, TrapCode> {
         load_extend_at::<i64, i16>(memory, address)
@@ -989,10 +951,11 @@ pub mod wasm {
     ///
     /// # Contract
     ///
-    /// <span></span><pre><code>ensures: result ≡ [loaded] 2 [pos] memory.now (ptr + offset)</code></pre>
+    /// ```text
+    /// ensures: result ≡ loaded 2 pos memory.now (ptr + offset)
+    /// ```
     ///
-    /// [loaded]: crate::specs::accesses::LoadStore#loaded "what a load of n bytes at a gives"
-    /// [pos]: crate::specs::library#pos "the number n, as one with a sign"
+    /// Definitions: [`loaded`](crate::specs::accesses::LoadStore#loaded).
     #[inline]
     pub fn i64_load16_u(memory: &[u8], ptr: u64, offset: u64) -> Result<i64, TrapCode> {
         load_extend::<i64, u16>(memory, ptr, offset)
@@ -1002,10 +965,11 @@ pub mod wasm {
     ///
     /// # Contract
     ///
-    /// <span></span><pre><code>ensures: result ≡ [loaded] 2 [pos] memory.now address</code></pre>
+    /// ```text
+    /// ensures: result ≡ loaded 2 pos memory.now address
+    /// ```
     ///
-    /// [loaded]: crate::specs::accesses::LoadStore#loaded "what a load of n bytes at a gives"
-    /// [pos]: crate::specs::library#pos "the number n, as one with a sign"
+    /// Definitions: [`loaded`](crate::specs::accesses::LoadStore#loaded).
     #[inline]
     pub fn i64_load16_u_at(memory: &[u8], address: usize) -> Result<i64, TrapCode> {
         load_extend_at::<i64, u16>(memory, address)
@@ -1015,11 +979,11 @@ pub mod wasm {
     ///
     /// # Contract
     ///
-    /// <span></span><pre><code>ensures: result ≡ [loaded] 4 ([cast_signed] [w32]) memory.now (ptr + offset)</code></pre>
+    /// ```text
+    /// ensures: result ≡ loaded 4 (cast_signed w32) memory.now (ptr + offset)
+    /// ```
     ///
-    /// [loaded]: crate::specs::accesses::LoadStore#loaded "what a load of n bytes at a gives"
-    /// [cast_signed]: crate::specs::library#cast_signed "the number from 0 up to 2 ^ w read as signed, in two\'s complement"
-    /// [w32]: crate::specs::library#w32 "the widths of integers in bits"
+    /// Definitions: [`loaded`](crate::specs::accesses::LoadStore#loaded).
     #[inline]
     pub fn i64_load32_s(memory: &[u8], ptr: u64, offset: u64) -> Result<i64, TrapCode> {
         load_extend::<i64, i32>(memory, ptr, offset)
@@ -1029,11 +993,11 @@ pub mod wasm {
     ///
     /// # Contract
     ///
-    /// <span></span><pre><code>ensures: result ≡ [loaded] 4 ([cast_signed] [w32]) memory.now address</code></pre>
+    /// ```text
+    /// ensures: result ≡ loaded 4 (cast_signed w32) memory.now address
+    /// ```
     ///
-    /// [loaded]: crate::specs::accesses::LoadStore#loaded "what a load of n bytes at a gives"
-    /// [cast_signed]: crate::specs::library#cast_signed "the number from 0 up to 2 ^ w read as signed, in two\'s complement"
-    /// [w32]: crate::specs::library#w32 "the widths of integers in bits"
+    /// Definitions: [`loaded`](crate::specs::accesses::LoadStore#loaded).
     #[inline]
     pub fn i64_load32_s_at(memory: &[u8], address: usize) -> Result<i64, TrapCode> {
         load_extend_at::<i64, i32>(memory, address)
@@ -1043,10 +1007,11 @@ pub mod wasm {
     ///
     /// # Contract
     ///
-    /// <span></span><pre><code>ensures: result ≡ [loaded] 4 [pos] memory.now (ptr + offset)</code></pre>
+    /// ```text
+    /// ensures: result ≡ loaded 4 pos memory.now (ptr + offset)
+    /// ```
     ///
-    /// [loaded]: crate::specs::accesses::LoadStore#loaded "what a load of n bytes at a gives"
-    /// [pos]: crate::specs::library#pos "the number n, as one with a sign"
+    /// Definitions: [`loaded`](crate::specs::accesses::LoadStore#loaded).
     #[inline]
     pub fn i64_load32_u(memory: &[u8], ptr: u64, offset: u64) -> Result<i64, TrapCode> {
         load_extend::<i64, u32>(memory, ptr, offset)
@@ -1056,10 +1021,11 @@ pub mod wasm {
     ///
     /// # Contract
     ///
-    /// <span></span><pre><code>ensures: result ≡ [loaded] 4 [pos] memory.now address</code></pre>
+    /// ```text
+    /// ensures: result ≡ loaded 4 pos memory.now address
+    /// ```
     ///
-    /// [loaded]: crate::specs::accesses::LoadStore#loaded "what a load of n bytes at a gives"
-    /// [pos]: crate::specs::library#pos "the number n, as one with a sign"
+    /// Definitions: [`loaded`](crate::specs::accesses::LoadStore#loaded).
     #[inline]
     pub fn i64_load32_u_at(memory: &[u8], address: usize) -> Result<i64, TrapCode> {
         load_extend_at::<i64, u32>(memory, address)
@@ -1069,9 +1035,11 @@ pub mod wasm {
     ///
     /// # Contract
     ///
-    /// <span></span><pre><code>ensures: result ≡ [loaded] 4 (λ n. n) memory.now (ptr + offset)</code></pre>
+    /// ```text
+    /// ensures: result ≡ loaded 4 (λ n. n) memory.now (ptr + offset)
+    /// ```
     ///
-    /// [loaded]: crate::specs::accesses::LoadStore#loaded "what a load of n bytes at a gives"
+    /// Definitions: [`loaded`](crate::specs::accesses::LoadStore#loaded).
     #[inline]
     pub fn load_u32(memory: &[u8], ptr: u64, offset: u64) -> Result<u32, TrapCode> {
         load::<u32>(memory, ptr, offset)
@@ -1081,9 +1049,11 @@ pub mod wasm {
     ///
     /// # Contract
     ///
-    /// <span></span><pre><code>ensures: result ≡ [loaded] 4 (λ n. n) memory.now address</code></pre>
+    /// ```text
+    /// ensures: result ≡ loaded 4 (λ n. n) memory.now address
+    /// ```
     ///
-    /// [loaded]: crate::specs::accesses::LoadStore#loaded "what a load of n bytes at a gives"
+    /// Definitions: [`loaded`](crate::specs::accesses::LoadStore#loaded).
     #[inline]
     pub fn load_u32_at(memory: &[u8], address: usize) -> Result<u32, TrapCode> {
         load_at::<u32>(memory, address)
@@ -1093,9 +1063,11 @@ pub mod wasm {
     ///
     /// # Contract
     ///
-    /// <span></span><pre><code>ensures: result ≡ [loaded] 8 (λ n. n) memory.now (ptr + offset)</code></pre>
+    /// ```text
+    /// ensures: result ≡ loaded 8 (λ n. n) memory.now (ptr + offset)
+    /// ```
     ///
-    /// [loaded]: crate::specs::accesses::LoadStore#loaded "what a load of n bytes at a gives"
+    /// Definitions: [`loaded`](crate::specs::accesses::LoadStore#loaded).
     #[inline]
     pub fn load_u64(memory: &[u8], ptr: u64, offset: u64) -> Result<u64, TrapCode> {
         load::<u64>(memory, ptr, offset)
@@ -1105,9 +1077,11 @@ pub mod wasm {
     ///
     /// # Contract
     ///
-    /// <span></span><pre><code>ensures: result ≡ [loaded] 8 (λ n. n) memory.now address</code></pre>
+    /// ```text
+    /// ensures: result ≡ loaded 8 (λ n. n) memory.now address
+    /// ```
     ///
-    /// [loaded]: crate::specs::accesses::LoadStore#loaded "what a load of n bytes at a gives"
+    /// Definitions: [`loaded`](crate::specs::accesses::LoadStore#loaded).
     #[inline]
     pub fn load_u64_at(memory: &[u8], address: usize) -> Result<u64, TrapCode> {
         load_at::<u64>(memory, address)
@@ -1117,13 +1091,12 @@ pub mod wasm {
     ///
     /// # Contract
     ///
-    /// <span></span><pre><code>ensures: [IsStore] memory.old (ptr + offset)
-    /// &#32;&#32;&#32;&#32;([le_bytes] 1 ([cast_unsigned] [w32] value % 2 ^ 8)) memory.new result</code></pre>
+    /// ```text
+    /// ensures: IsStore memory.old (ptr + offset)
+    ///     (le_bytes 1 (cast_unsigned w32 value % 2 ^ 8)) memory.new result
+    /// ```
     ///
-    /// [IsStore]: crate::specs::accesses::LoadStore#IsStore "a store of ys at a: the memory has them there, or the store traps and the memory is the same"
-    /// [le_bytes]: crate::specs::types::Bytes#le_bytes "the k bytes of a number below 256 to the power k"
-    /// [cast_unsigned]: crate::specs::library#cast_unsigned "the signed number as one from 0 up to 2 ^ w, in two\'s complement"
-    /// [w32]: crate::specs::library#w32 "the widths of integers in bits"
+    /// Definitions: [`IsStore`](crate::specs::accesses::LoadStore#IsStore), [`le_bytes`](crate::specs::types::Bytes#le_bytes).
     #[inline]
     pub fn i32_store8(
         memory: &mut [u8],
@@ -1138,13 +1111,12 @@ pub mod wasm {
     ///
     /// # Contract
     ///
-    /// <span></span><pre><code>ensures: [IsStore] memory.old address
-    /// &#32;&#32;&#32;&#32;([le_bytes] 1 ([cast_unsigned] [w32] value % 2 ^ 8)) memory.new result</code></pre>
+    /// ```text
+    /// ensures: IsStore memory.old address
+    ///     (le_bytes 1 (cast_unsigned w32 value % 2 ^ 8)) memory.new result
+    /// ```
     ///
-    /// [IsStore]: crate::specs::accesses::LoadStore#IsStore "a store of ys at a: the memory has them there, or the store traps and the memory is the same"
-    /// [le_bytes]: crate::specs::types::Bytes#le_bytes "the k bytes of a number below 256 to the power k"
-    /// [cast_unsigned]: crate::specs::library#cast_unsigned "the signed number as one from 0 up to 2 ^ w, in two\'s complement"
-    /// [w32]: crate::specs::library#w32 "the widths of integers in bits"
+    /// Definitions: [`IsStore`](crate::specs::accesses::LoadStore#IsStore), [`le_bytes`](crate::specs::types::Bytes#le_bytes).
     #[inline]
     pub fn i32_store8_at(memory: &mut [u8], address: usize, value: i32) -> Result<(), TrapCode> {
         store_wrap_at::<i32, i8>(memory, address, value)
@@ -1154,13 +1126,12 @@ pub mod wasm {
     ///
     /// # Contract
     ///
-    /// <span></span><pre><code>ensures: [IsStore] memory.old (ptr + offset)
-    /// &#32;&#32;&#32;&#32;([le_bytes] 2 ([cast_unsigned] [w32] value % 2 ^ 16)) memory.new result</code></pre>
+    /// ```text
+    /// ensures: IsStore memory.old (ptr + offset)
+    ///     (le_bytes 2 (cast_unsigned w32 value % 2 ^ 16)) memory.new result
+    /// ```
     ///
-    /// [IsStore]: crate::specs::accesses::LoadStore#IsStore "a store of ys at a: the memory has them there, or the store traps and the memory is the same"
-    /// [le_bytes]: crate::specs::types::Bytes#le_bytes "the k bytes of a number below 256 to the power k"
-    /// [cast_unsigned]: crate::specs::library#cast_unsigned "the signed number as one from 0 up to 2 ^ w, in two\'s complement"
-    /// [w32]: crate::specs::library#w32 "the widths of integers in bits"
+    /// Definitions: [`IsStore`](crate::specs::accesses::LoadStore#IsStore), [`le_bytes`](crate::specs::types::Bytes#le_bytes).
     #[inline]
     pub fn i32_store16(
         memory: &mut [u8],
@@ -1175,13 +1146,12 @@ pub mod wasm {
     ///
     /// # Contract
     ///
-    /// <span></span><pre><code>ensures: [IsStore] memory.old address
-    /// &#32;&#32;&#32;&#32;([le_bytes] 2 ([cast_unsigned] [w32] value % 2 ^ 16)) memory.new result</code></pre>
+    /// ```text
+    /// ensures: IsStore memory.old address
+    ///     (le_bytes 2 (cast_unsigned w32 value % 2 ^ 16)) memory.new result
+    /// ```
     ///
-    /// [IsStore]: crate::specs::accesses::LoadStore#IsStore "a store of ys at a: the memory has them there, or the store traps and the memory is the same"
-    /// [le_bytes]: crate::specs::types::Bytes#le_bytes "the k bytes of a number below 256 to the power k"
-    /// [cast_unsigned]: crate::specs::library#cast_unsigned "the signed number as one from 0 up to 2 ^ w, in two\'s complement"
-    /// [w32]: crate::specs::library#w32 "the widths of integers in bits"
+    /// Definitions: [`IsStore`](crate::specs::accesses::LoadStore#IsStore), [`le_bytes`](crate::specs::types::Bytes#le_bytes).
     #[inline]
     pub fn i32_store16_at(memory: &mut [u8], address: usize, value: i32) -> Result<(), TrapCode> {
         store_wrap_at::<i32, i16>(memory, address, value)
@@ -1191,13 +1161,12 @@ pub mod wasm {
     ///
     /// # Contract
     ///
-    /// <span></span><pre><code>ensures: [IsStore] memory.old (ptr + offset)
-    /// &#32;&#32;&#32;&#32;([le_bytes] 1 ([cast_unsigned] [w64] value % 2 ^ 8)) memory.new result</code></pre>
+    /// ```text
+    /// ensures: IsStore memory.old (ptr + offset)
+    ///     (le_bytes 1 (cast_unsigned w64 value % 2 ^ 8)) memory.new result
+    /// ```
     ///
-    /// [IsStore]: crate::specs::accesses::LoadStore#IsStore "a store of ys at a: the memory has them there, or the store traps and the memory is the same"
-    /// [le_bytes]: crate::specs::types::Bytes#le_bytes "the k bytes of a number below 256 to the power k"
-    /// [cast_unsigned]: crate::specs::library#cast_unsigned "the signed number as one from 0 up to 2 ^ w, in two\'s complement"
-    /// [w64]: crate::specs::library#w64 "the widths of integers in bits"
+    /// Definitions: [`IsStore`](crate::specs::accesses::LoadStore#IsStore), [`le_bytes`](crate::specs::types::Bytes#le_bytes).
     #[inline]
     pub fn i64_store8(
         memory: &mut [u8],
@@ -1212,13 +1181,12 @@ pub mod wasm {
     ///
     /// # Contract
     ///
-    /// <span></span><pre><code>ensures: [IsStore] memory.old address
-    /// &#32;&#32;&#32;&#32;([le_bytes] 1 ([cast_unsigned] [w64] value % 2 ^ 8)) memory.new result</code></pre>
+    /// ```text
+    /// ensures: IsStore memory.old address
+    ///     (le_bytes 1 (cast_unsigned w64 value % 2 ^ 8)) memory.new result
+    /// ```
     ///
-    /// [IsStore]: crate::specs::accesses::LoadStore#IsStore "a store of ys at a: the memory has them there, or the store traps and the memory is the same"
-    /// [le_bytes]: crate::specs::types::Bytes#le_bytes "the k bytes of a number below 256 to the power k"
-    /// [cast_unsigned]: crate::specs::library#cast_unsigned "the signed number as one from 0 up to 2 ^ w, in two\'s complement"
-    /// [w64]: crate::specs::library#w64 "the widths of integers in bits"
+    /// Definitions: [`IsStore`](crate::specs::accesses::LoadStore#IsStore), [`le_bytes`](crate::specs::types::Bytes#le_bytes).
     #[inline]
     pub fn i64_store8_at(memory: &mut [u8], address: usize, value: i64) -> Result<(), TrapCode> {
         store_wrap_at::<i64, i8>(memory, address, value)
@@ -1228,13 +1196,12 @@ pub mod wasm {
     ///
     /// # Contract
     ///
-    /// <span></span><pre><code>ensures: [IsStore] memory.old (ptr + offset)
-    /// &#32;&#32;&#32;&#32;([le_bytes] 2 ([cast_unsigned] [w64] value % 2 ^ 16)) memory.new result</code></pre>
+    /// ```text
+    /// ensures: IsStore memory.old (ptr + offset)
+    ///     (le_bytes 2 (cast_unsigned w64 value % 2 ^ 16)) memory.new result
+    /// ```
     ///
-    /// [IsStore]: crate::specs::accesses::LoadStore#IsStore "a store of ys at a: the memory has them there, or the store traps and the memory is the same"
-    /// [le_bytes]: crate::specs::types::Bytes#le_bytes "the k bytes of a number below 256 to the power k"
-    /// [cast_unsigned]: crate::specs::library#cast_unsigned "the signed number as one from 0 up to 2 ^ w, in two\'s complement"
-    /// [w64]: crate::specs::library#w64 "the widths of integers in bits"
+    /// Definitions: [`IsStore`](crate::specs::accesses::LoadStore#IsStore), [`le_bytes`](crate::specs::types::Bytes#le_bytes).
     #[inline]
     pub fn i64_store16(
         memory: &mut [u8],
@@ -1249,13 +1216,12 @@ pub mod wasm {
     ///
     /// # Contract
     ///
-    /// <span></span><pre><code>ensures: [IsStore] memory.old address
-    /// &#32;&#32;&#32;&#32;([le_bytes] 2 ([cast_unsigned] [w64] value % 2 ^ 16)) memory.new result</code></pre>
+    /// ```text
+    /// ensures: IsStore memory.old address
+    ///     (le_bytes 2 (cast_unsigned w64 value % 2 ^ 16)) memory.new result
+    /// ```
     ///
-    /// [IsStore]: crate::specs::accesses::LoadStore#IsStore "a store of ys at a: the memory has them there, or the store traps and the memory is the same"
-    /// [le_bytes]: crate::specs::types::Bytes#le_bytes "the k bytes of a number below 256 to the power k"
-    /// [cast_unsigned]: crate::specs::library#cast_unsigned "the signed number as one from 0 up to 2 ^ w, in two\'s complement"
-    /// [w64]: crate::specs::library#w64 "the widths of integers in bits"
+    /// Definitions: [`IsStore`](crate::specs::accesses::LoadStore#IsStore), [`le_bytes`](crate::specs::types::Bytes#le_bytes).
     #[inline]
     pub fn i64_store16_at(memory: &mut [u8], address: usize, value: i64) -> Result<(), TrapCode> {
         store_wrap_at::<i64, i16>(memory, address, value)
@@ -1265,13 +1231,12 @@ pub mod wasm {
     ///
     /// # Contract
     ///
-    /// <span></span><pre><code>ensures: [IsStore] memory.old (ptr + offset)
-    /// &#32;&#32;&#32;&#32;([le_bytes] 4 ([cast_unsigned] [w64] value % 2 ^ 32)) memory.new result</code></pre>
+    /// ```text
+    /// ensures: IsStore memory.old (ptr + offset)
+    ///     (le_bytes 4 (cast_unsigned w64 value % 2 ^ 32)) memory.new result
+    /// ```
     ///
-    /// [IsStore]: crate::specs::accesses::LoadStore#IsStore "a store of ys at a: the memory has them there, or the store traps and the memory is the same"
-    /// [le_bytes]: crate::specs::types::Bytes#le_bytes "the k bytes of a number below 256 to the power k"
-    /// [cast_unsigned]: crate::specs::library#cast_unsigned "the signed number as one from 0 up to 2 ^ w, in two\'s complement"
-    /// [w64]: crate::specs::library#w64 "the widths of integers in bits"
+    /// Definitions: [`IsStore`](crate::specs::accesses::LoadStore#IsStore), [`le_bytes`](crate::specs::types::Bytes#le_bytes).
     #[inline]
     pub fn i64_store32(
         memory: &mut [u8],
@@ -1286,13 +1251,12 @@ pub mod wasm {
     ///
     /// # Contract
     ///
-    /// <span></span><pre><code>ensures: [IsStore] memory.old address
-    /// &#32;&#32;&#32;&#32;([le_bytes] 4 ([cast_unsigned] [w64] value % 2 ^ 32)) memory.new result</code></pre>
+    /// ```text
+    /// ensures: IsStore memory.old address
+    ///     (le_bytes 4 (cast_unsigned w64 value % 2 ^ 32)) memory.new result
+    /// ```
     ///
-    /// [IsStore]: crate::specs::accesses::LoadStore#IsStore "a store of ys at a: the memory has them there, or the store traps and the memory is the same"
-    /// [le_bytes]: crate::specs::types::Bytes#le_bytes "the k bytes of a number below 256 to the power k"
-    /// [cast_unsigned]: crate::specs::library#cast_unsigned "the signed number as one from 0 up to 2 ^ w, in two\'s complement"
-    /// [w64]: crate::specs::library#w64 "the widths of integers in bits"
+    /// Definitions: [`IsStore`](crate::specs::accesses::LoadStore#IsStore), [`le_bytes`](crate::specs::types::Bytes#le_bytes).
     #[inline]
     pub fn i64_store32_at(memory: &mut [u8], address: usize, value: i64) -> Result<(), TrapCode> {
         store_wrap_at::<i64, i32>(memory, address, value)
@@ -1302,10 +1266,11 @@ pub mod wasm {
     ///
     /// # Contract
     ///
-    /// <span></span><pre><code>ensures: [IsStore] memory.old (ptr + offset) ([le_bytes] 4 value) memory.new result</code></pre>
+    /// ```text
+    /// ensures: IsStore memory.old (ptr + offset) (le_bytes 4 value) memory.new result
+    /// ```
     ///
-    /// [IsStore]: crate::specs::accesses::LoadStore#IsStore "a store of ys at a: the memory has them there, or the store traps and the memory is the same"
-    /// [le_bytes]: crate::specs::types::Bytes#le_bytes "the k bytes of a number below 256 to the power k"
+    /// Definitions: [`IsStore`](crate::specs::accesses::LoadStore#IsStore), [`le_bytes`](crate::specs::types::Bytes#le_bytes).
     #[inline]
     pub fn store32(memory: &mut [u8], ptr: u64, offset: u64, value: u32) -> Result<(), TrapCode> {
         store::<u32>(memory, ptr, offset, value)
@@ -1315,10 +1280,11 @@ pub mod wasm {
     ///
     /// # Contract
     ///
-    /// <span></span><pre><code>ensures: [IsStore] memory.old address ([le_bytes] 4 value) memory.new result</code></pre>
+    /// ```text
+    /// ensures: IsStore memory.old address (le_bytes 4 value) memory.new result
+    /// ```
     ///
-    /// [IsStore]: crate::specs::accesses::LoadStore#IsStore "a store of ys at a: the memory has them there, or the store traps and the memory is the same"
-    /// [le_bytes]: crate::specs::types::Bytes#le_bytes "the k bytes of a number below 256 to the power k"
+    /// Definitions: [`IsStore`](crate::specs::accesses::LoadStore#IsStore), [`le_bytes`](crate::specs::types::Bytes#le_bytes).
     #[inline]
     pub fn store32_at(memory: &mut [u8], address: usize, value: u32) -> Result<(), TrapCode> {
         store_at::<u32>(memory, address, value)
@@ -1328,10 +1294,11 @@ pub mod wasm {
     ///
     /// # Contract
     ///
-    /// <span></span><pre><code>ensures: [IsStore] memory.old (ptr + offset) ([le_bytes] 8 value) memory.new result</code></pre>
+    /// ```text
+    /// ensures: IsStore memory.old (ptr + offset) (le_bytes 8 value) memory.new result
+    /// ```
     ///
-    /// [IsStore]: crate::specs::accesses::LoadStore#IsStore "a store of ys at a: the memory has them there, or the store traps and the memory is the same"
-    /// [le_bytes]: crate::specs::types::Bytes#le_bytes "the k bytes of a number below 256 to the power k"
+    /// Definitions: [`IsStore`](crate::specs::accesses::LoadStore#IsStore), [`le_bytes`](crate::specs::types::Bytes#le_bytes).
     #[inline]
     pub fn store64(memory: &mut [u8], ptr: u64, offset: u64, value: u64) -> Result<(), TrapCode> {
         store::<u64>(memory, ptr, offset, value)
@@ -1341,10 +1308,11 @@ pub mod wasm {
     ///
     /// # Contract
     ///
-    /// <span></span><pre><code>ensures: [IsStore] memory.old address ([le_bytes] 8 value) memory.new result</code></pre>
+    /// ```text
+    /// ensures: IsStore memory.old address (le_bytes 8 value) memory.new result
+    /// ```
     ///
-    /// [IsStore]: crate::specs::accesses::LoadStore#IsStore "a store of ys at a: the memory has them there, or the store traps and the memory is the same"
-    /// [le_bytes]: crate::specs::types::Bytes#le_bytes "the k bytes of a number below 256 to the power k"
+    /// Definitions: [`IsStore`](crate::specs::accesses::LoadStore#IsStore), [`le_bytes`](crate::specs::types::Bytes#le_bytes).
     #[inline]
     pub fn store64_at(memory: &mut [u8], address: usize, value: u64) -> Result<(), TrapCode> {
         store_at::<u64>(memory, address, value)

@@ -17,10 +17,11 @@ mod error {
 
     /// # Contract
     ///
-    /// <span></span><pre><code>output = λ error. [Some] ([add_error_text] error)</code></pre>
+    /// ```text
+    /// output = λ error. Some (add_error_text error)
+    /// ```
     ///
-    /// [Some]: crate::specs::library#Some "the value x, of an \`Option\`"
-    /// [add_error_text]: crate::specs::budget::Texts#add_error_text "the text of why a machine isn\'t added to a pool"
+    /// Definitions: [`add_error_text`](crate::specs::budget::Texts#add_error_text).
     impl fmt::Display for AddError {
         #[inline]
         fn fmt(&self, f: &mut fmt::Formatter<'_>) -> fmt::Result {
@@ -46,10 +47,11 @@ mod error {
 
     /// # Contract
     ///
-    /// <span></span><pre><code>output = λ error. [Some] ([pool_error_text] error)</code></pre>
+    /// ```text
+    /// output = λ error. Some (pool_error_text error)
+    /// ```
     ///
-    /// [Some]: crate::specs::library#Some "the value x, of an \`Option\`"
-    /// [pool_error_text]: crate::specs::budget::Texts#pool_error_text "the text of why a pool makes no run"
+    /// Definitions: [`pool_error_text`](crate::specs::budget::Texts#pool_error_text).
     impl fmt::Display for PoolError {
         #[inline]
         fn fmt(&self, f: &mut fmt::Formatter<'_>) -> fmt::Result {
@@ -64,9 +66,9 @@ mod error {
 
     /// # Contract
     ///
-    /// <span></span><pre><code>from_gives = λ \_ error. error ≡ [OutOfMemory]</code></pre>
-    ///
-    /// [OutOfMemory]: crate::proved::budget::PoolError::OutOfMemory
+    /// ```text
+    /// from_gives = λ _ error. error ≡ OutOfMemory
+    /// ```
     impl From<AllocError> for PoolError {
         #[inline]
         fn from(_: AllocError) -> Self {
@@ -83,9 +85,11 @@ pub mod laws {
     ///
     /// # Contract
     ///
-    /// <span></span><pre><code>ensures: [CapsHold]</code></pre>
+    /// ```text
+    /// ensures: CapsHold
+    /// ```
     ///
-    /// [CapsHold]: crate::specs::budget::Laws#CapsHold "after all calls the caps are the same, and all machines together are within them"
+    /// Definitions: [`CapsHold`](crate::specs::budget::Laws#CapsHold).
     #[inline]
     pub fn caps_hold() {}
 
@@ -94,9 +98,11 @@ pub mod laws {
     ///
     /// # Contract
     ///
-    /// <span></span><pre><code>ensures: [OthersDontShow]</code></pre>
+    /// ```text
+    /// ensures: OthersDontShow
+    /// ```
     ///
-    /// [OthersDontShow]: crate::specs::budget::Laws#OthersDontShow "a run in which each question is permitted is one, with the same turns and the same machine, where the others hold nothing"
+    /// Definitions: [`OthersDontShow`](crate::specs::budget::Laws#OthersDontShow).
     #[inline]
     pub fn others_do_not_show() {}
 
@@ -105,9 +111,11 @@ pub mod laws {
     ///
     /// # Contract
     ///
-    /// <span></span><pre><code>ensures: [RunsAsAlone]</code></pre>
+    /// ```text
+    /// ensures: RunsAsAlone
+    /// ```
     ///
-    /// [RunsAsAlone]: crate::specs::budget::Laws#RunsAsAlone "a tenant that is never denied gets, run after run, what it gets alone under the same caps"
+    /// Definitions: [`RunsAsAlone`](crate::specs::budget::Laws#RunsAsAlone).
     #[inline]
     pub fn permitted_runs_as_alone() {}
 
@@ -116,9 +124,11 @@ pub mod laws {
     ///
     /// # Contract
     ///
-    /// <span></span><pre><code>ensures: [RepliesPermit]</code></pre>
+    /// ```text
+    /// ensures: RepliesPermit
+    /// ```
     ///
-    /// [RepliesPermit]: crate::specs::budget::Laws#RepliesPermit "an accepted run of a tenant in which no reply reports a denial is one in which each question was permitted"
+    /// Definitions: [`RepliesPermit`](crate::specs::budget::Laws#RepliesPermit).
     #[inline]
     pub fn replies_permit() {}
 
@@ -126,10 +136,11 @@ pub mod laws {
     ///
     /// # Contract
     ///
-    /// <span></span><pre><code>ensures: [IsDeterministic] [tenant_rules]</code></pre>
+    /// ```text
+    /// ensures: IsDeterministic tenant_rules
+    /// ```
     ///
-    /// [IsDeterministic]: crate::specs::machine::Determinism#IsDeterministic "each question and each notice has one answer, and leaves one state"
-    /// [tenant_rules]: crate::specs::budget::Tenant#tenant_rules "the rules of a tenant"
+    /// Definitions: [`IsDeterministic`](crate::specs::machine::Determinism#IsDeterministic), [`tenant_rules`](crate::specs::budget::Tenant#tenant_rules).
     #[inline]
     pub fn tenants_leave_no_choice() {}
 
@@ -137,10 +148,11 @@ pub mod laws {
     ///
     /// # Contract
     ///
-    /// <span></span><pre><code>ensures: [AcceptsNotices] [tenant_rules]</code></pre>
+    /// ```text
+    /// ensures: AcceptsNotices tenant_rules
+    /// ```
     ///
-    /// [AcceptsNotices]: crate::specs::machine::Determinism#AcceptsNotices "each notice is accepted"
-    /// [tenant_rules]: crate::specs::budget::Tenant#tenant_rules "the rules of a tenant"
+    /// Definitions: [`AcceptsNotices`](crate::specs::machine::Determinism#AcceptsNotices), [`tenant_rules`](crate::specs::budget::Tenant#tenant_rules).
     #[inline]
     pub fn tenants_accept_notices() {}
 }
@@ -160,38 +172,17 @@ mod pool {
     ///
     /// Own: upstream has no pool.
     ///
-    /// # Examples
-    ///
-    /// ```
-    /// use wasmi_core_proved::machine::{Call, Fuel, FuelCostsProvider, Machine, MemoryType, Reply};
-    /// use wasmi_core_proved::pool::Pool;
-    ///
-    /// // A page for both tenants together, and no tables.
-    /// let mut pool = Pool::new(65_536, 0);
-    /// for _ in 0..2 {
-    ///     let machine = Machine::new(Fuel::new(false, FuelCostsProvider::default()));
-    ///     assert!(pool.add(machine).is_ok());
-    /// }
-    /// let mut builder = MemoryType::builder();
-    /// builder.min(1);
-    /// let ty = builder.build()?;
-    /// let replies = pool.run(0, &[Call::NewMemory(ty)])?;
-    /// assert!(matches!(replies[0], Reply::Made(0)));
-    /// let replies = pool.run(1, &[Call::NewMemory(ty)])?;
-    /// assert!(matches!(replies[0], Reply::Memory(_)));
-    /// assert_eq!((pool.held_bytes(0), pool.held_bytes(1)), (Some(65_536), Some(0)));
-    /// # Ok::<(), Box<dyn std::error::Error>>(())
-    /// ```
-    ///
     /// # Model
     ///
-    /// <span></span><pre><code>Value = [PoolValue]
+    /// ```text
+    /// Value = PoolValue
     /// view = λ p. record { caps = p.caps; machines = p.machines.items }
     /// invariant = λ p.
-    /// &#32;&#32;&#32;&#32;[IsKept] (record { caps = p.caps; machines = p.machines.items }) p.held_by_all</code></pre>
+    ///     IsKept (record { caps = p.caps; machines = p.machines.items }) p.held_by_all
+    /// ```
     ///
-    /// [PoolValue]: crate::specs::budget::Pool#PoolValue "a pool: its caps, and the machines of its tenants by their indices"
-    /// [IsKept]: crate::specs::budget::Pool#IsKept "all machines together are within the caps, which are numbers of 64 bits, and have these amounts"
+    /// Definitions: [`PoolValue`](crate::specs::budget::Pool#PoolValue), [`IsKept`](crate::specs::budget::Pool#IsKept).
+    #[doc = examples!(budget Pool)]
     #[derive(Debug)]
     pub struct Pool<'r> {
         caps: Amounts,
@@ -204,11 +195,13 @@ mod pool {
         ///
         /// # Contract
         ///
-        /// <span></span><pre><code>ensures made: result
-        /// &#32;&#32;&#32;&#32;≡ record { caps = record { bytes = bytes; elements = elements }; machines = \[\] }
-        /// ensures within: [IsWithinCaps] result</code></pre>
+        /// ```text
+        /// ensures made: result
+        ///     ≡ record { caps = record { bytes = bytes; elements = elements }; machines = [] }
+        /// ensures within: IsWithinCaps result
+        /// ```
         ///
-        /// [IsWithinCaps]: crate::specs::budget::Pool#IsWithinCaps "all machines together are within the caps"
+        /// Definitions: [`IsWithinCaps`](crate::specs::budget::Pool#IsWithinCaps).
         #[inline]
         pub fn new(bytes: u64, elements: u64) -> Pool<'r> {
             Pool {
@@ -222,11 +215,12 @@ mod pool {
         ///
         /// # Contract
         ///
-        /// <span></span><pre><code>ensures value: result ≡ [length] self.now.machines
-        /// ensures within: [IsWithinCaps] self.now</code></pre>
+        /// ```text
+        /// ensures value: result ≡ length self.now.machines
+        /// ensures within: IsWithinCaps self.now
+        /// ```
         ///
-        /// [length]: crate::specs::library#length "the number of elements of a list"
-        /// [IsWithinCaps]: crate::specs::budget::Pool#IsWithinCaps "all machines together are within the caps"
+        /// Definitions: [`IsWithinCaps`](crate::specs::budget::Pool#IsWithinCaps).
         #[inline]
         pub fn len(&self) -> usize {
             self.machines.len()
@@ -236,9 +230,9 @@ mod pool {
         ///
         /// # Contract
         ///
-        /// <span></span><pre><code>ensures: [IsTrue] result ↔ (self.now.machines ≡ \[\])</code></pre>
-        ///
-        /// [IsTrue]: crate::specs::library#IsTrue "b is true"
+        /// ```text
+        /// ensures: IsTrue result ↔ (self.now.machines ≡ [])
+        /// ```
         #[inline]
         pub fn is_empty(&self) -> bool {
             self.machines.is_empty()
@@ -253,20 +247,17 @@ mod pool {
         ///
         /// # Contract
         ///
-        /// <span></span><pre><code>ensures added: [IfOk] result
-        /// &#32;&#32;&#32;&#32;(λ index. (index ≡ [length] self.old.machines)
-        /// &#32;&#32;&#32;&#32;× [AddsTenant] self.old machine.entry self.new)
-        /// ensures refused: [IfErr] result (λ refusal. [IsAddRefusal] machine.entry refusal.0)
-        /// ensures same: [IfErr] result
-        /// &#32;&#32;&#32;&#32;(λ refusal. (refusal.1 ≡ machine.entry) × (self.new ≡ self.old))
-        /// ensures within: [IsWithinCaps] self.new</code></pre>
+        /// ```text
+        /// ensures added: IfOk result
+        ///     (λ index. (index ≡ length self.old.machines)
+        ///     × AddsTenant self.old machine.entry self.new)
+        /// ensures refused: IfErr result (λ refusal. IsAddRefusal machine.entry refusal.0)
+        /// ensures same: IfErr result
+        ///     (λ refusal. (refusal.1 ≡ machine.entry) × (self.new ≡ self.old))
+        /// ensures within: IsWithinCaps self.new
+        /// ```
         ///
-        /// [IfOk]: crate::specs::library#IfOk "P of the value, if r is a value"
-        /// [length]: crate::specs::library#length "the number of elements of a list"
-        /// [AddsTenant]: crate::specs::budget::Pool#AddsTenant "a machine that has nothing is added as it is"
-        /// [IfErr]: crate::specs::library#IfErr "P of the error, if r is an error"
-        /// [IsAddRefusal]: crate::specs::budget::Pool#IsAddRefusal "why a machine isn\'t added"
-        /// [IsWithinCaps]: crate::specs::budget::Pool#IsWithinCaps "all machines together are within the caps"
+        /// Definitions: [`AddsTenant`](crate::specs::budget::Pool#AddsTenant), [`IsAddRefusal`](crate::specs::budget::Pool#IsAddRefusal), [`IsWithinCaps`](crate::specs::budget::Pool#IsWithinCaps).
         #[inline]
         pub fn add(&mut self, machine: Machine<'r>) -> Result<usize, (AddError, Machine<'r>)> {
             let index = self.machines.len();
@@ -288,19 +279,15 @@ mod pool {
         ///
         /// # Contract
         ///
-        /// <span></span><pre><code>ensures ran: [IfOk] result
-        /// &#32;&#32;&#32;&#32;(λ replies. [RunsTenant] self.old index calls.now replies.items self.new)
-        /// ensures no_tenant: [IsErrOf] result [PoolError.NoTenant] ↔ ([length] self.old.machines ≤ index)
-        /// ensures refused: [OnErr] result (self.new ≡ self.old)
-        /// ensures within: [IsWithinCaps] self.new</code></pre>
+        /// ```text
+        /// ensures ran: IfOk result
+        ///     (λ replies. RunsTenant self.old index calls.now replies.items self.new)
+        /// ensures no_tenant: IsErrOf result PoolError.NoTenant ↔ (length self.old.machines ≤ index)
+        /// ensures refused: OnErr result (self.new ≡ self.old)
+        /// ensures within: IsWithinCaps self.new
+        /// ```
         ///
-        /// [IfOk]: crate::specs::library#IfOk "P of the value, if r is a value"
-        /// [RunsTenant]: crate::specs::budget::Pool#RunsTenant "the machine of an index has run these calls under its limiter by a tenant\'s rules, and all else is the same"
-        /// [IsErrOf]: crate::specs::library#IsErrOf "r is the error e"
-        /// [PoolError.NoTenant]: crate::proved::budget::PoolError::NoTenant
-        /// [length]: crate::specs::library#length "the number of elements of a list"
-        /// [OnErr]: crate::specs::library#OnErr "P, if r is an error"
-        /// [IsWithinCaps]: crate::specs::budget::Pool#IsWithinCaps "all machines together are within the caps"
+        /// Definitions: [`RunsTenant`](crate::specs::budget::Pool#RunsTenant), [`IsWithinCaps`](crate::specs::budget::Pool#IsWithinCaps).
         #[inline]
         pub fn run(&mut self, index: usize, calls: &[Call]) -> Result<Vec<Reply>, PoolError> {
             let Some(mut tenant) = self.tenant(index) else {
@@ -316,12 +303,12 @@ mod pool {
         ///
         /// # Contract
         ///
-        /// <span></span><pre><code>ensures machine: [option_copied] result ≡ [slice_get] self.now.machines index
-        /// ensures within: [IsWithinCaps] self.now</code></pre>
+        /// ```text
+        /// ensures machine: option_copied result ≡ slice_get self.now.machines index
+        /// ensures within: IsWithinCaps self.now
+        /// ```
         ///
-        /// [option_copied]: crate::specs::library#option_copied "the value behind an optional reference, if there is one"
-        /// [slice_get]: crate::specs::library#slice_get "element i, if there is one"
-        /// [IsWithinCaps]: crate::specs::budget::Pool#IsWithinCaps "all machines together are within the caps"
+        /// Definitions: [`IsWithinCaps`](crate::specs::budget::Pool#IsWithinCaps).
         #[inline]
         pub fn machine(&self, index: usize) -> Option<&Machine<'r>> {
             let machine = self.machines.get(index)?;
@@ -335,12 +322,11 @@ mod pool {
         ///
         /// # Contract
         ///
-        /// <span></span><pre><code>ensures: result ≡ [option_map] (λ s. [total] s [Bytes]) ([slice_get] self.now.machines index)</code></pre>
+        /// ```text
+        /// ensures: result ≡ option_map (λ s. total s Bytes) (slice_get self.now.machines index)
+        /// ```
         ///
-        /// [option_map]: crate::specs::library#option_map "f of the value, if there is one"
-        /// [total]: crate::specs::machine::Totals#total "their sum"
-        /// [Bytes]: crate::proved::meter::Kind::Bytes
-        /// [slice_get]: crate::specs::library#slice_get "element i, if there is one"
+        /// Definitions: [`total`](crate::specs::machine::Totals#total).
         #[inline]
         pub fn held_bytes(&self, index: usize) -> Option<u64> {
             Some(self.held(index)?.bytes)
@@ -353,12 +339,11 @@ mod pool {
         ///
         /// # Contract
         ///
-        /// <span></span><pre><code>ensures: result ≡ [option_map] (λ s. [total] s [Elements]) ([slice_get] self.now.machines index)</code></pre>
+        /// ```text
+        /// ensures: result ≡ option_map (λ s. total s Elements) (slice_get self.now.machines index)
+        /// ```
         ///
-        /// [option_map]: crate::specs::library#option_map "f of the value, if there is one"
-        /// [total]: crate::specs::machine::Totals#total "their sum"
-        /// [Elements]: crate::proved::meter::Kind::Elements
-        /// [slice_get]: crate::specs::library#slice_get "element i, if there is one"
+        /// Definitions: [`total`](crate::specs::machine::Totals#total).
         #[inline]
         pub fn held_elements(&self, index: usize) -> Option<u64> {
             Some(self.held(index)?.elements)
@@ -371,10 +356,11 @@ mod pool {
         ///
         /// # Contract
         ///
-        /// <span></span><pre><code>ensures: result ≡ [amounts_of] ([total_of] self.now.machines)</code></pre>
+        /// ```text
+        /// ensures: result ≡ amounts_of (total_of self.now.machines)
+        /// ```
         ///
-        /// [amounts_of]: crate::specs::meter::Amounts#amounts_of "the amounts by kind"
-        /// [total_of]: crate::specs::budget::Pool#total_of "what these machines have of a kind"
+        /// Definitions: [`amounts_of`](crate::specs::meter::Amounts#amounts_of), [`total_of`](crate::specs::budget::Pool#total_of).
         #[inline]
         pub fn held_by_all(&self) -> Amounts {
             self.held_by_all
@@ -384,13 +370,12 @@ mod pool {
         ///
         /// # Contract
         ///
-        /// <span></span><pre><code>ensures: result
-        /// &#32;&#32;&#32;&#32;≡ [option_map] (λ s. [amounts_of] ([total] s)) ([slice_get] self.now.machines index)</code></pre>
+        /// ```text
+        /// ensures: result
+        ///     ≡ option_map (λ s. amounts_of (total s)) (slice_get self.now.machines index)
+        /// ```
         ///
-        /// [option_map]: crate::specs::library#option_map "f of the value, if there is one"
-        /// [amounts_of]: crate::specs::meter::Amounts#amounts_of "the amounts by kind"
-        /// [total]: crate::specs::machine::Totals#total "their sum"
-        /// [slice_get]: crate::specs::library#slice_get "element i, if there is one"
+        /// Definitions: [`amounts_of`](crate::specs::meter::Amounts#amounts_of), [`total`](crate::specs::machine::Totals#total).
         #[inline]
         fn held(&self, index: usize) -> Option<Amounts> {
             let machine = self.machines.get(index)?;
@@ -401,12 +386,12 @@ mod pool {
         ///
         /// # Contract
         ///
-        /// <span></span><pre><code>ensures: result
-        /// &#32;&#32;&#32;&#32;≡ [option_map] ([tenant_at] self.now index) ([slice_get] self.now.machines index)</code></pre>
+        /// ```text
+        /// ensures: result
+        ///     ≡ option_map (tenant_at self.now index) (slice_get self.now.machines index)
+        /// ```
         ///
-        /// [option_map]: crate::specs::library#option_map "f of the value, if there is one"
-        /// [tenant_at]: crate::specs::budget::Pool#tenant_at "the limiter of the machine s of an index: it holds what the machine has, beside what the others have"
-        /// [slice_get]: crate::specs::library#slice_get "element i, if there is one"
+        /// Definitions: [`tenant_at`](crate::specs::budget::Pool#tenant_at).
         #[inline]
         fn tenant(&self, index: usize) -> Option<Tenant> {
             let held = self.held(index)?;
@@ -444,11 +429,12 @@ mod tenant {
         ///
         /// # Contract
         ///
-        /// <span></span><pre><code>ensures: result ≡ record
-        /// &#32;&#32;&#32;&#32;{ caps = caps; others = others; [holdings] = record { held = held; last = [None] } }</code></pre>
+        /// ```text
+        /// ensures: result ≡ record
+        ///     { caps = caps; others = others; holdings = record { held = held; last = None } }
+        /// ```
         ///
-        /// [holdings]: crate::specs::budget::Tenant#holdings "what a tenant holds"
-        /// [None]: crate::specs::library#None "no value, of an \`Option\`"
+        /// Definitions: [`holdings`](crate::specs::budget::Tenant#holdings).
         #[inline]
         pub(crate) fn new(caps: Amounts, others: Amounts, held: Amounts) -> Self {
             Tenant {
@@ -462,7 +448,9 @@ mod tenant {
         ///
         /// # Contract
         ///
-        /// <span></span><pre><code>ensures: result ≡ self.now.holdings.held</code></pre>
+        /// ```text
+        /// ensures: result ≡ self.now.holdings.held
+        /// ```
         #[inline]
         pub(crate) fn held(&self) -> Amounts {
             self.holdings.held()
@@ -472,13 +460,12 @@ mod tenant {
         ///
         /// # Contract
         ///
-        /// <span></span><pre><code>requires fits: (kind : [Kind]) → [held_together] [capped_tenant] self.now kind < 2 ^ 64
-        /// ensures value: result ≡ [amounts_of] ([held_together] [capped_tenant] self.now)</code></pre>
+        /// ```text
+        /// requires fits: (kind : Kind) → held_together capped_tenant self.now kind < 2 ^ 64
+        /// ensures value: result ≡ amounts_of (held_together capped_tenant self.now)
+        /// ```
         ///
-        /// [Kind]: crate::proved::meter::Kind
-        /// [held_together]: crate::specs::meter::Capped#held_together "what all together hold of a kind"
-        /// [capped_tenant]: crate::specs::budget::Tenant#capped_tenant "tenants as limiters with caps"
-        /// [amounts_of]: crate::specs::meter::Amounts#amounts_of "the amounts by kind"
+        /// Definitions: [`held_together`](crate::specs::meter::Capped#held_together), [`capped_tenant`](crate::specs::budget::Tenant#capped_tenant), [`amounts_of`](crate::specs::meter::Amounts#amounts_of).
         #[inline]
         pub(crate) fn held_by_all(&self) -> Amounts {
             let held = self.held();
@@ -491,9 +478,11 @@ mod tenant {
 
     /// # Contract
     ///
-    /// <span></span><pre><code>capped = [capped_tenant]</code></pre>
+    /// ```text
+    /// capped = capped_tenant
+    /// ```
     ///
-    /// [capped_tenant]: crate::specs::budget::Tenant#capped_tenant "tenants as limiters with caps"
+    /// Definitions: [`capped_tenant`](crate::specs::budget::Tenant#capped_tenant).
     impl CappedLimiter for Tenant {
         #[inline]
         fn holdings(&self) -> Holdings {
@@ -517,13 +506,13 @@ mod tenant {
     ///
     /// # Model
     ///
-    /// <span></span><pre><code>Value = [State]
+    /// ```text
+    /// Value = State
     /// view = λ m. m.machine
-    /// invariant = λ m. m.held ≡ [amounts_of] ([total] m.machine)</code></pre>
+    /// invariant = λ m. m.held ≡ amounts_of (total m.machine)
+    /// ```
     ///
-    /// [State]: crate::specs::machine::State#State "the memories, tables, element segments and globals that were made, each kind in its order, the registers, the meter, and the bytes of the spare region, if there is one"
-    /// [amounts_of]: crate::specs::meter::Amounts#amounts_of "the amounts by kind"
-    /// [total]: crate::specs::machine::Totals#total "their sum"
+    /// Definitions: [`State`](crate::specs::machine::State#State), [`amounts_of`](crate::specs::meter::Amounts#amounts_of), [`total`](crate::specs::machine::Totals#total).
     #[derive(Debug)]
     pub(crate) struct CountedMachine<'r> {
         machine: Machine<'r>,
@@ -535,10 +524,12 @@ mod tenant {
         ///
         /// # Contract
         ///
-        /// <span></span><pre><code>requires nothing: [HasNothing] machine
-        /// ensures value: result ≡ machine.entry</code></pre>
+        /// ```text
+        /// requires nothing: HasNothing machine
+        /// ensures value: result ≡ machine.entry
+        /// ```
         ///
-        /// [HasNothing]: crate::specs::budget::Pool#HasNothing "the machine has no bytes and no elements, and dropped none"
+        /// Definitions: [`HasNothing`](crate::specs::budget::Pool#HasNothing).
         #[inline]
         pub(crate) fn empty(machine: Machine<'r>) -> Self {
             CountedMachine {
@@ -551,7 +542,9 @@ mod tenant {
         ///
         /// # Contract
         ///
-        /// <span></span><pre><code>ensures: result.now ≡ self.now</code></pre>
+        /// ```text
+        /// ensures: result.now ≡ self.now
+        /// ```
         #[inline]
         pub(crate) fn machine(&self) -> &Machine<'r> {
             &self.machine
@@ -561,10 +554,11 @@ mod tenant {
         ///
         /// # Contract
         ///
-        /// <span></span><pre><code>ensures: result ≡ [amounts_of] ([total] self.now)</code></pre>
+        /// ```text
+        /// ensures: result ≡ amounts_of (total self.now)
+        /// ```
         ///
-        /// [amounts_of]: crate::specs::meter::Amounts#amounts_of "the amounts by kind"
-        /// [total]: crate::specs::machine::Totals#total "their sum"
+        /// Definitions: [`amounts_of`](crate::specs::meter::Amounts#amounts_of), [`total`](crate::specs::machine::Totals#total).
         #[inline]
         pub(crate) fn held(&self) -> Amounts {
             self.held
@@ -575,21 +569,15 @@ mod tenant {
         ///
         /// # Contract
         ///
-        /// <span></span><pre><code>requires totals: [HoldsTotals] ([holdings] tenant.old) self.old
-        /// ensures run: [IfOk] result (λ replies. [IsRunOf] ([optional_rules] [tenant_rules]) calls.now
-        /// &#32;&#32;&#32;&#32;([world] self.old ([Some] tenant.old)) replies.items ([world] self.new ([Some] tenant.new)))
-        /// ensures err: [OnErr] result ((self.new ≡ self.old) × (tenant.new ≡ tenant.old))
-        /// ensures held: [HoldsTotals] ([holdings] tenant.new) self.new</code></pre>
+        /// ```text
+        /// requires totals: HoldsTotals (holdings tenant.old) self.old
+        /// ensures run: IfOk result (λ replies. IsRunOf (optional_rules tenant_rules) calls.now
+        ///     (world self.old (Some tenant.old)) replies.items (world self.new (Some tenant.new)))
+        /// ensures err: OnErr result ((self.new ≡ self.old) × (tenant.new ≡ tenant.old))
+        /// ensures held: HoldsTotals (holdings tenant.new) self.new
+        /// ```
         ///
-        /// [HoldsTotals]: crate::specs::machine::Totals#HoldsTotals "exactly these totals are held"
-        /// [holdings]: crate::specs::budget::Tenant#holdings "what a tenant holds"
-        /// [IfOk]: crate::specs::library#IfOk "P of the value, if r is a value"
-        /// [IsRunOf]: crate::specs::machine::Runs#IsRunOf "the replies are those of a run of the calls, from one world to another"
-        /// [optional_rules]: crate::specs::meter::Limiter#optional_rules "the rules of a limiter that may be absent"
-        /// [tenant_rules]: crate::specs::budget::Tenant#tenant_rules "the rules of a tenant"
-        /// [world]: crate::specs::machine::World#world "a machine in this state with this limiter"
-        /// [Some]: crate::specs::library#Some "the value x, of an \`Option\`"
-        /// [OnErr]: crate::specs::library#OnErr "P, if r is an error"
+        /// Definitions: [`HoldsTotals`](crate::specs::machine::Totals#HoldsTotals), [`holdings`](crate::specs::budget::Tenant#holdings), [`IsRunOf`](crate::specs::machine::Runs#IsRunOf), [`optional_rules`](crate::specs::meter::Limiter#optional_rules), [`tenant_rules`](crate::specs::budget::Tenant#tenant_rules), [`world`](crate::specs::machine::World#world).
         #[inline]
         pub(crate) fn run(
             &mut self,

@@ -14,11 +14,11 @@ mod command {
         ///
         /// # Contract
         ///
-        /// <span></span><pre><code>ensures: [Accepts] result ([NamesAfter] ([codes] \"load\") operands.now)</code></pre>
+        /// ```text
+        /// ensures: Accepts result (NamesAfter (codes "load") operands.now)
+        /// ```
         ///
-        /// [Accepts]: crate::specs::operands::Acceptance#Accepts "what is accepted is meant, and what is refused is a bad command: nothing is meant"
-        /// [NamesAfter]: crate::specs::grammar::Commands#NamesAfter "the word that a command begins with, and the words after it, name this call"
-        /// [codes]: crate::specs::library#codes "the characters of a text, by their numbers"
+        /// Definitions: [`Accepts`](crate::specs::operands::Acceptance#Accepts), [`NamesAfter`](crate::specs::grammar::Commands#NamesAfter).
         #[inline]
         pub fn load(operands: &[&str]) -> Result<Call, LineError> {
             let (op, memory, ptr, offset) = operand::four(operands)?;
@@ -34,11 +34,11 @@ mod command {
         ///
         /// # Contract
         ///
-        /// <span></span><pre><code>ensures: [Accepts] result ([NamesAfter] ([codes] \"store\") operands.now)</code></pre>
+        /// ```text
+        /// ensures: Accepts result (NamesAfter (codes "store") operands.now)
+        /// ```
         ///
-        /// [Accepts]: crate::specs::operands::Acceptance#Accepts "what is accepted is meant, and what is refused is a bad command: nothing is meant"
-        /// [NamesAfter]: crate::specs::grammar::Commands#NamesAfter "the word that a command begins with, and the words after it, name this call"
-        /// [codes]: crate::specs::library#codes "the characters of a text, by their numbers"
+        /// Definitions: [`Accepts`](crate::specs::operands::Acceptance#Accepts), [`NamesAfter`](crate::specs::grammar::Commands#NamesAfter).
         #[inline]
         pub fn store(operands: &[&str]) -> Result<Call, LineError> {
             let (op, memory, ptr, offset, lo) = operand::five(operands)?;
@@ -55,11 +55,11 @@ mod command {
         ///
         /// # Contract
         ///
-        /// <span></span><pre><code>ensures: [Accepts] result ([NamesAfter] ([codes] \"vload\") operands.now)</code></pre>
+        /// ```text
+        /// ensures: Accepts result (NamesAfter (codes "vload") operands.now)
+        /// ```
         ///
-        /// [Accepts]: crate::specs::operands::Acceptance#Accepts "what is accepted is meant, and what is refused is a bad command: nothing is meant"
-        /// [NamesAfter]: crate::specs::grammar::Commands#NamesAfter "the word that a command begins with, and the words after it, name this call"
-        /// [codes]: crate::specs::library#codes "the characters of a text, by their numbers"
+        /// Definitions: [`Accepts`](crate::specs::operands::Acceptance#Accepts), [`NamesAfter`](crate::specs::grammar::Commands#NamesAfter).
         #[inline]
         pub fn vector_load(operands: &[&str]) -> Result<Call, LineError> {
             let (op, dst, memory, ptr, offset) = operand::five(operands)?;
@@ -76,11 +76,11 @@ mod command {
         ///
         /// # Contract
         ///
-        /// <span></span><pre><code>ensures: [Accepts] result ([NamesAfter] ([codes] \"vloadlane\") operands.now)</code></pre>
+        /// ```text
+        /// ensures: Accepts result (NamesAfter (codes "vloadlane") operands.now)
+        /// ```
         ///
-        /// [Accepts]: crate::specs::operands::Acceptance#Accepts "what is accepted is meant, and what is refused is a bad command: nothing is meant"
-        /// [NamesAfter]: crate::specs::grammar::Commands#NamesAfter "the word that a command begins with, and the words after it, name this call"
-        /// [codes]: crate::specs::library#codes "the characters of a text, by their numbers"
+        /// Definitions: [`Accepts`](crate::specs::operands::Acceptance#Accepts), [`NamesAfter`](crate::specs::grammar::Commands#NamesAfter).
         #[inline]
         pub fn load_lane(operands: &[&str]) -> Result<Call, LineError> {
             let [name, dst, a, lane, place @ ..] = operands else {
@@ -101,11 +101,11 @@ mod command {
         ///
         /// # Contract
         ///
-        /// <span></span><pre><code>ensures: [Accepts] result ([NamesAfter] ([codes] \"vstore\") operands.now)</code></pre>
+        /// ```text
+        /// ensures: Accepts result (NamesAfter (codes "vstore") operands.now)
+        /// ```
         ///
-        /// [Accepts]: crate::specs::operands::Acceptance#Accepts "what is accepted is meant, and what is refused is a bad command: nothing is meant"
-        /// [NamesAfter]: crate::specs::grammar::Commands#NamesAfter "the word that a command begins with, and the words after it, name this call"
-        /// [codes]: crate::specs::library#codes "the characters of a text, by their numbers"
+        /// Definitions: [`Accepts`](crate::specs::operands::Acceptance#Accepts), [`NamesAfter`](crate::specs::grammar::Commands#NamesAfter).
         #[inline]
         pub fn vector_store(operands: &[&str]) -> Result<Call, LineError> {
             let (a, memory, ptr, offset) = operand::four(operands)?;
@@ -121,11 +121,11 @@ mod command {
         ///
         /// # Contract
         ///
-        /// <span></span><pre><code>ensures: [Accepts] result ([NamesAfter] ([codes] \"vstorelane\") operands.now)</code></pre>
+        /// ```text
+        /// ensures: Accepts result (NamesAfter (codes "vstorelane") operands.now)
+        /// ```
         ///
-        /// [Accepts]: crate::specs::operands::Acceptance#Accepts "what is accepted is meant, and what is refused is a bad command: nothing is meant"
-        /// [NamesAfter]: crate::specs::grammar::Commands#NamesAfter "the word that a command begins with, and the words after it, name this call"
-        /// [codes]: crate::specs::library#codes "the characters of a text, by their numbers"
+        /// Definitions: [`Accepts`](crate::specs::operands::Acceptance#Accepts), [`NamesAfter`](crate::specs::grammar::Commands#NamesAfter).
         #[inline]
         pub fn store_lane(operands: &[&str]) -> Result<Call, LineError> {
             let [name, a, lane, place @ ..] = operands else {
@@ -152,11 +152,11 @@ mod command {
         ///
         /// # Contract
         ///
-        /// <span></span><pre><code>ensures: [Accepts] result ([NamesAfter] ([codes] \"memory\") operands.now)</code></pre>
+        /// ```text
+        /// ensures: Accepts result (NamesAfter (codes "memory") operands.now)
+        /// ```
         ///
-        /// [Accepts]: crate::specs::operands::Acceptance#Accepts "what is accepted is meant, and what is refused is a bad command: nothing is meant"
-        /// [NamesAfter]: crate::specs::grammar::Commands#NamesAfter "the word that a command begins with, and the words after it, name this call"
-        /// [codes]: crate::specs::library#codes "the characters of a text, by their numbers"
+        /// Definitions: [`Accepts`](crate::specs::operands::Acceptance#Accepts), [`NamesAfter`](crate::specs::grammar::Commands#NamesAfter).
         #[inline]
         pub fn new_memory(operands: &[&str]) -> Result<Call, LineError> {
             let [min, max, log2, width] = operands else {
@@ -169,11 +169,11 @@ mod command {
         ///
         /// # Contract
         ///
-        /// <span></span><pre><code>ensures: [Accepts] result ([NamesAfter] ([codes] \"lent\") operands.now)</code></pre>
+        /// ```text
+        /// ensures: Accepts result (NamesAfter (codes "lent") operands.now)
+        /// ```
         ///
-        /// [Accepts]: crate::specs::operands::Acceptance#Accepts "what is accepted is meant, and what is refused is a bad command: nothing is meant"
-        /// [NamesAfter]: crate::specs::grammar::Commands#NamesAfter "the word that a command begins with, and the words after it, name this call"
-        /// [codes]: crate::specs::library#codes "the characters of a text, by their numbers"
+        /// Definitions: [`Accepts`](crate::specs::operands::Acceptance#Accepts), [`NamesAfter`](crate::specs::grammar::Commands#NamesAfter).
         #[inline]
         pub fn new_lent_memory(operands: &[&str]) -> Result<Call, LineError> {
             let [min, max, log2, width] = operands else {
@@ -186,11 +186,11 @@ mod command {
         ///
         /// # Contract
         ///
-        /// <span></span><pre><code>ensures: [Accepts] result ([NamesAfter] ([codes] \"grow\") operands.now)</code></pre>
+        /// ```text
+        /// ensures: Accepts result (NamesAfter (codes "grow") operands.now)
+        /// ```
         ///
-        /// [Accepts]: crate::specs::operands::Acceptance#Accepts "what is accepted is meant, and what is refused is a bad command: nothing is meant"
-        /// [NamesAfter]: crate::specs::grammar::Commands#NamesAfter "the word that a command begins with, and the words after it, name this call"
-        /// [codes]: crate::specs::library#codes "the characters of a text, by their numbers"
+        /// Definitions: [`Accepts`](crate::specs::operands::Acceptance#Accepts), [`NamesAfter`](crate::specs::grammar::Commands#NamesAfter).
         #[inline]
         pub fn grow(operands: &[&str]) -> Result<Call, LineError> {
             let (memory, pages) = operand::two(operands)?;
@@ -201,11 +201,11 @@ mod command {
         ///
         /// # Contract
         ///
-        /// <span></span><pre><code>ensures: [Accepts] result ([NamesAfter] ([codes] \"read\") operands.now)</code></pre>
+        /// ```text
+        /// ensures: Accepts result (NamesAfter (codes "read") operands.now)
+        /// ```
         ///
-        /// [Accepts]: crate::specs::operands::Acceptance#Accepts "what is accepted is meant, and what is refused is a bad command: nothing is meant"
-        /// [NamesAfter]: crate::specs::grammar::Commands#NamesAfter "the word that a command begins with, and the words after it, name this call"
-        /// [codes]: crate::specs::library#codes "the characters of a text, by their numbers"
+        /// Definitions: [`Accepts`](crate::specs::operands::Acceptance#Accepts), [`NamesAfter`](crate::specs::grammar::Commands#NamesAfter).
         #[inline]
         pub fn read(operands: &[&str]) -> Result<Call, LineError> {
             let (memory, offset, len) = operand::three(operands)?;
@@ -220,11 +220,11 @@ mod command {
         ///
         /// # Contract
         ///
-        /// <span></span><pre><code>ensures: [AcceptsWithMemory] result ([NamesAfter] ([codes] \"write\") operands.now)</code></pre>
+        /// ```text
+        /// ensures: AcceptsWithMemory result (NamesAfter (codes "write") operands.now)
+        /// ```
         ///
-        /// [AcceptsWithMemory]: crate::specs::operands::Acceptance#AcceptsWithMemory "the words are read as a value that means this, or they mean nothing of the kind, or memory was refused"
-        /// [NamesAfter]: crate::specs::grammar::Commands#NamesAfter "the word that a command begins with, and the words after it, name this call"
-        /// [codes]: crate::specs::library#codes "the characters of a text, by their numbers"
+        /// Definitions: [`AcceptsWithMemory`](crate::specs::operands::Acceptance#AcceptsWithMemory), [`NamesAfter`](crate::specs::grammar::Commands#NamesAfter).
         #[inline]
         pub fn write(operands: &[&str]) -> Result<Call, LineError> {
             let [memory, offset, bytes @ ..] = operands else {
@@ -241,11 +241,11 @@ mod command {
         ///
         /// # Contract
         ///
-        /// <span></span><pre><code>ensures: [Accepts] result ([NamesAfter] ([codes] \"drop\") operands.now)</code></pre>
+        /// ```text
+        /// ensures: Accepts result (NamesAfter (codes "drop") operands.now)
+        /// ```
         ///
-        /// [Accepts]: crate::specs::operands::Acceptance#Accepts "what is accepted is meant, and what is refused is a bad command: nothing is meant"
-        /// [NamesAfter]: crate::specs::grammar::Commands#NamesAfter "the word that a command begins with, and the words after it, name this call"
-        /// [codes]: crate::specs::library#codes "the characters of a text, by their numbers"
+        /// Definitions: [`Accepts`](crate::specs::operands::Acceptance#Accepts), [`NamesAfter`](crate::specs::grammar::Commands#NamesAfter).
         #[inline]
         pub fn drop_live(operands: &[&str]) -> Result<Call, LineError> {
             let [kind, index] = operands else {
@@ -263,10 +263,11 @@ mod command {
         ///
         /// # Contract
         ///
-        /// <span></span><pre><code>ensures: [Accepts] result ([NamesType] min.now max.now log2.now width.now)</code></pre>
+        /// ```text
+        /// ensures: Accepts result (NamesType min.now max.now log2.now width.now)
+        /// ```
         ///
-        /// [Accepts]: crate::specs::operands::Acceptance#Accepts "what is accepted is meant, and what is refused is a bad command: nothing is meant"
-        /// [NamesType]: crate::specs::grammar::MemoryWords#NamesType "four words name this memory type, which there is: its minimum, its maximum, its page size and the width of its addresses"
+        /// Definitions: [`Accepts`](crate::specs::operands::Acceptance#Accepts), [`NamesType`](crate::specs::grammar::MemoryWords#NamesType).
         #[inline]
         fn memory_type(
             min: &str,
@@ -285,11 +286,12 @@ mod command {
         ///
         /// # Contract
         ///
-        /// <span></span><pre><code>ensures: [Accepts] result ([HasSettings]
-        /// &#32;&#32;&#32;&#32;(record { index = index; minimum = minimum; maximum = maximum }) page_size_log2)</code></pre>
+        /// ```text
+        /// ensures: Accepts result (HasSettings
+        ///     (record { index = index; minimum = minimum; maximum = maximum }) page_size_log2)
+        /// ```
         ///
-        /// [Accepts]: crate::specs::operands::Acceptance#Accepts "what is accepted is meant, and what is refused is a bad command: nothing is meant"
-        /// [HasSettings]: crate::specs::grammar::MemoryWords#HasSettings "a memory type, which there is, of these limits and this page size"
+        /// Definitions: [`Accepts`](crate::specs::operands::Acceptance#Accepts), [`HasSettings`](crate::specs::grammar::MemoryWords#HasSettings).
         #[inline]
         fn type_of(
             index: IndexType,
@@ -322,11 +324,11 @@ mod command {
         ///
         /// # Contract
         ///
-        /// <span></span><pre><code>ensures: [Accepts] result ([NamesAfter] ([codes] \"table\") operands.now)</code></pre>
+        /// ```text
+        /// ensures: Accepts result (NamesAfter (codes "table") operands.now)
+        /// ```
         ///
-        /// [Accepts]: crate::specs::operands::Acceptance#Accepts "what is accepted is meant, and what is refused is a bad command: nothing is meant"
-        /// [NamesAfter]: crate::specs::grammar::Commands#NamesAfter "the word that a command begins with, and the words after it, name this call"
-        /// [codes]: crate::specs::library#codes "the characters of a text, by their numbers"
+        /// Definitions: [`Accepts`](crate::specs::operands::Acceptance#Accepts), [`NamesAfter`](crate::specs::grammar::Commands#NamesAfter).
         #[inline]
         pub fn new_table(operands: &[&str]) -> Result<Call, LineError> {
             let [element, min, max, width, ty, raw] = operands else {
@@ -342,11 +344,11 @@ mod command {
         ///
         /// # Contract
         ///
-        /// <span></span><pre><code>ensures: [Accepts] result ([NamesAfter] ([codes] \"tgrow\") operands.now)</code></pre>
+        /// ```text
+        /// ensures: Accepts result (NamesAfter (codes "tgrow") operands.now)
+        /// ```
         ///
-        /// [Accepts]: crate::specs::operands::Acceptance#Accepts "what is accepted is meant, and what is refused is a bad command: nothing is meant"
-        /// [NamesAfter]: crate::specs::grammar::Commands#NamesAfter "the word that a command begins with, and the words after it, name this call"
-        /// [codes]: crate::specs::library#codes "the characters of a text, by their numbers"
+        /// Definitions: [`Accepts`](crate::specs::operands::Acceptance#Accepts), [`NamesAfter`](crate::specs::grammar::Commands#NamesAfter).
         #[inline]
         pub fn grow(operands: &[&str]) -> Result<Call, LineError> {
             let (table, delta, ty, raw) = operand::four(operands)?;
@@ -361,11 +363,11 @@ mod command {
         ///
         /// # Contract
         ///
-        /// <span></span><pre><code>ensures: [Accepts] result ([NamesAfter] ([codes] \"get\") operands.now)</code></pre>
+        /// ```text
+        /// ensures: Accepts result (NamesAfter (codes "get") operands.now)
+        /// ```
         ///
-        /// [Accepts]: crate::specs::operands::Acceptance#Accepts "what is accepted is meant, and what is refused is a bad command: nothing is meant"
-        /// [NamesAfter]: crate::specs::grammar::Commands#NamesAfter "the word that a command begins with, and the words after it, name this call"
-        /// [codes]: crate::specs::library#codes "the characters of a text, by their numbers"
+        /// Definitions: [`Accepts`](crate::specs::operands::Acceptance#Accepts), [`NamesAfter`](crate::specs::grammar::Commands#NamesAfter).
         #[inline]
         pub fn get(operands: &[&str]) -> Result<Call, LineError> {
             let (table, index) = operand::two(operands)?;
@@ -376,11 +378,11 @@ mod command {
         ///
         /// # Contract
         ///
-        /// <span></span><pre><code>ensures: [Accepts] result ([NamesAfter] ([codes] \"tset\") operands.now)</code></pre>
+        /// ```text
+        /// ensures: Accepts result (NamesAfter (codes "tset") operands.now)
+        /// ```
         ///
-        /// [Accepts]: crate::specs::operands::Acceptance#Accepts "what is accepted is meant, and what is refused is a bad command: nothing is meant"
-        /// [NamesAfter]: crate::specs::grammar::Commands#NamesAfter "the word that a command begins with, and the words after it, name this call"
-        /// [codes]: crate::specs::library#codes "the characters of a text, by their numbers"
+        /// Definitions: [`Accepts`](crate::specs::operands::Acceptance#Accepts), [`NamesAfter`](crate::specs::grammar::Commands#NamesAfter).
         #[inline]
         pub fn set(operands: &[&str]) -> Result<Call, LineError> {
             let (table, index, ty, raw) = operand::four(operands)?;
@@ -395,11 +397,11 @@ mod command {
         ///
         /// # Contract
         ///
-        /// <span></span><pre><code>ensures: [Accepts] result ([NamesAfter] ([codes] \"init\") operands.now)</code></pre>
+        /// ```text
+        /// ensures: Accepts result (NamesAfter (codes "init") operands.now)
+        /// ```
         ///
-        /// [Accepts]: crate::specs::operands::Acceptance#Accepts "what is accepted is meant, and what is refused is a bad command: nothing is meant"
-        /// [NamesAfter]: crate::specs::grammar::Commands#NamesAfter "the word that a command begins with, and the words after it, name this call"
-        /// [codes]: crate::specs::library#codes "the characters of a text, by their numbers"
+        /// Definitions: [`Accepts`](crate::specs::operands::Acceptance#Accepts), [`NamesAfter`](crate::specs::grammar::Commands#NamesAfter).
         #[inline]
         pub fn init(operands: &[&str]) -> Result<Call, LineError> {
             let (table, segment, dst, src, len) = operand::five(operands)?;
@@ -416,11 +418,11 @@ mod command {
         ///
         /// # Contract
         ///
-        /// <span></span><pre><code>ensures: [Accepts] result ([NamesAfter] ([codes] \"copy\") operands.now)</code></pre>
+        /// ```text
+        /// ensures: Accepts result (NamesAfter (codes "copy") operands.now)
+        /// ```
         ///
-        /// [Accepts]: crate::specs::operands::Acceptance#Accepts "what is accepted is meant, and what is refused is a bad command: nothing is meant"
-        /// [NamesAfter]: crate::specs::grammar::Commands#NamesAfter "the word that a command begins with, and the words after it, name this call"
-        /// [codes]: crate::specs::library#codes "the characters of a text, by their numbers"
+        /// Definitions: [`Accepts`](crate::specs::operands::Acceptance#Accepts), [`NamesAfter`](crate::specs::grammar::Commands#NamesAfter).
         #[inline]
         pub fn copy(operands: &[&str]) -> Result<Call, LineError> {
             let (dst_table, dst, src_table, src, len) = operand::five(operands)?;
@@ -437,11 +439,11 @@ mod command {
         ///
         /// # Contract
         ///
-        /// <span></span><pre><code>ensures: [Accepts] result ([NamesAfter] ([codes] \"fill\") operands.now)</code></pre>
+        /// ```text
+        /// ensures: Accepts result (NamesAfter (codes "fill") operands.now)
+        /// ```
         ///
-        /// [Accepts]: crate::specs::operands::Acceptance#Accepts "what is accepted is meant, and what is refused is a bad command: nothing is meant"
-        /// [NamesAfter]: crate::specs::grammar::Commands#NamesAfter "the word that a command begins with, and the words after it, name this call"
-        /// [codes]: crate::specs::library#codes "the characters of a text, by their numbers"
+        /// Definitions: [`Accepts`](crate::specs::operands::Acceptance#Accepts), [`NamesAfter`](crate::specs::grammar::Commands#NamesAfter).
         #[inline]
         pub fn fill(operands: &[&str]) -> Result<Call, LineError> {
             let (table, dst, ty, raw, len) = operand::five(operands)?;
@@ -457,11 +459,11 @@ mod command {
         ///
         /// # Contract
         ///
-        /// <span></span><pre><code>ensures: [AcceptsWithMemory] result ([NamesAfter] ([codes] \"segment\") operands.now)</code></pre>
+        /// ```text
+        /// ensures: AcceptsWithMemory result (NamesAfter (codes "segment") operands.now)
+        /// ```
         ///
-        /// [AcceptsWithMemory]: crate::specs::operands::Acceptance#AcceptsWithMemory "the words are read as a value that means this, or they mean nothing of the kind, or memory was refused"
-        /// [NamesAfter]: crate::specs::grammar::Commands#NamesAfter "the word that a command begins with, and the words after it, name this call"
-        /// [codes]: crate::specs::library#codes "the characters of a text, by their numbers"
+        /// Definitions: [`AcceptsWithMemory`](crate::specs::operands::Acceptance#AcceptsWithMemory), [`NamesAfter`](crate::specs::grammar::Commands#NamesAfter).
         #[inline]
         pub fn new_segment(operands: &[&str]) -> Result<Call, LineError> {
             let [ty, items @ ..] = operands else {
@@ -477,11 +479,11 @@ mod command {
         ///
         /// # Contract
         ///
-        /// <span></span><pre><code>ensures: [Accepts] result ([NamesAfter] ([codes] \"empty\") operands.now)</code></pre>
+        /// ```text
+        /// ensures: Accepts result (NamesAfter (codes "empty") operands.now)
+        /// ```
         ///
-        /// [Accepts]: crate::specs::operands::Acceptance#Accepts "what is accepted is meant, and what is refused is a bad command: nothing is meant"
-        /// [NamesAfter]: crate::specs::grammar::Commands#NamesAfter "the word that a command begins with, and the words after it, name this call"
-        /// [codes]: crate::specs::library#codes "the characters of a text, by their numbers"
+        /// Definitions: [`Accepts`](crate::specs::operands::Acceptance#Accepts), [`NamesAfter`](crate::specs::grammar::Commands#NamesAfter).
         #[inline]
         pub fn empty(operands: &[&str]) -> Result<Call, LineError> {
             let [segment] = operands else {
@@ -494,10 +496,11 @@ mod command {
         ///
         /// # Contract
         ///
-        /// <span></span><pre><code>ensures: [Accepts] result ([NamesTableType] element.now min.now max.now width.now)</code></pre>
+        /// ```text
+        /// ensures: Accepts result (NamesTableType element.now min.now max.now width.now)
+        /// ```
         ///
-        /// [Accepts]: crate::specs::operands::Acceptance#Accepts "what is accepted is meant, and what is refused is a bad command: nothing is meant"
-        /// [NamesTableType]: crate::specs::grammar::TableWords#NamesTableType "four words name this table type, which there is: the type of its elements, its minimum, its maximum and the width of its indices"
+        /// Definitions: [`Accepts`](crate::specs::operands::Acceptance#Accepts), [`NamesTableType`](crate::specs::grammar::TableWords#NamesTableType).
         #[inline]
         fn table_type(
             element: &str,
@@ -516,11 +519,12 @@ mod command {
         ///
         /// # Contract
         ///
-        /// <span></span><pre><code>ensures: [Accepts] result ([HasLimits]
-        /// &#32;&#32;&#32;&#32;(record { index = index; minimum = minimum; maximum = maximum }) element)</code></pre>
+        /// ```text
+        /// ensures: Accepts result (HasLimits
+        ///     (record { index = index; minimum = minimum; maximum = maximum }) element)
+        /// ```
         ///
-        /// [Accepts]: crate::specs::operands::Acceptance#Accepts "what is accepted is meant, and what is refused is a bad command: nothing is meant"
-        /// [HasLimits]: crate::specs::grammar::TableWords#HasLimits "a table type, which there is, of these limits and this type of elements"
+        /// Definitions: [`Accepts`](crate::specs::operands::Acceptance#Accepts), [`HasLimits`](crate::specs::grammar::TableWords#HasLimits).
         #[inline]
         fn type_of(
             index: IndexType,
@@ -550,12 +554,10 @@ mod command {
         ///
         /// # Contract
         ///
-        /// <span></span><pre><code>ensures value: [OkIff] result (limit < 2 ^ 32) limit
-        /// ensures refused: [IfErr] result (λ error. error ≡ [LineError.BadCommand])</code></pre>
-        ///
-        /// [OkIff]: crate::specs::library#OkIff "if P, r is the value x; else it is an error"
-        /// [IfErr]: crate::specs::library#IfErr "P of the error, if r is an error"
-        /// [LineError.BadCommand]: crate::proved::operands::LineError::BadCommand
+        /// ```text
+        /// ensures value: OkIff result (limit < 2 ^ 32) limit
+        /// ensures refused: IfErr result (λ error. error ≡ LineError.BadCommand)
+        /// ```
         #[inline]
         fn index32(limit: u64) -> Result<u32, LineError> {
             match u32::try_from(limit) {
@@ -574,11 +576,11 @@ mod command {
         ///
         /// # Contract
         ///
-        /// <span></span><pre><code>ensures: [Accepts] result ([NamesAfter] ([codes] \"fuel\") operands.now)</code></pre>
+        /// ```text
+        /// ensures: Accepts result (NamesAfter (codes "fuel") operands.now)
+        /// ```
         ///
-        /// [Accepts]: crate::specs::operands::Acceptance#Accepts "what is accepted is meant, and what is refused is a bad command: nothing is meant"
-        /// [NamesAfter]: crate::specs::grammar::Commands#NamesAfter "the word that a command begins with, and the words after it, name this call"
-        /// [codes]: crate::specs::library#codes "the characters of a text, by their numbers"
+        /// Definitions: [`Accepts`](crate::specs::operands::Acceptance#Accepts), [`NamesAfter`](crate::specs::grammar::Commands#NamesAfter).
         #[inline]
         pub fn set_fuel(operands: &[&str]) -> Result<Call, LineError> {
             let [fuel] = operands else {
@@ -591,11 +593,11 @@ mod command {
         ///
         /// # Contract
         ///
-        /// <span></span><pre><code>ensures: [Accepts] result ([NamesAfter] ([codes] \"left\") operands.now)</code></pre>
+        /// ```text
+        /// ensures: Accepts result (NamesAfter (codes "left") operands.now)
+        /// ```
         ///
-        /// [Accepts]: crate::specs::operands::Acceptance#Accepts "what is accepted is meant, and what is refused is a bad command: nothing is meant"
-        /// [NamesAfter]: crate::specs::grammar::Commands#NamesAfter "the word that a command begins with, and the words after it, name this call"
-        /// [codes]: crate::specs::library#codes "the characters of a text, by their numbers"
+        /// Definitions: [`Accepts`](crate::specs::operands::Acceptance#Accepts), [`NamesAfter`](crate::specs::grammar::Commands#NamesAfter).
         #[inline]
         pub fn get_fuel(operands: &[&str]) -> Result<Call, LineError> {
             if operands.is_empty() {
@@ -609,11 +611,11 @@ mod command {
         ///
         /// # Contract
         ///
-        /// <span></span><pre><code>ensures: [Accepts] result ([NamesAfter] ([codes] \"global\") operands.now)</code></pre>
+        /// ```text
+        /// ensures: Accepts result (NamesAfter (codes "global") operands.now)
+        /// ```
         ///
-        /// [Accepts]: crate::specs::operands::Acceptance#Accepts "what is accepted is meant, and what is refused is a bad command: nothing is meant"
-        /// [NamesAfter]: crate::specs::grammar::Commands#NamesAfter "the word that a command begins with, and the words after it, name this call"
-        /// [codes]: crate::specs::library#codes "the characters of a text, by their numbers"
+        /// Definitions: [`Accepts`](crate::specs::operands::Acceptance#Accepts), [`NamesAfter`](crate::specs::grammar::Commands#NamesAfter).
         #[inline]
         pub fn new_global(operands: &[&str]) -> Result<Call, LineError> {
             let (content, mutability, lo, hi) = operand::four(operands)?;
@@ -627,11 +629,11 @@ mod command {
         ///
         /// # Contract
         ///
-        /// <span></span><pre><code>ensures: [Accepts] result ([NamesAfter] ([codes] \"gset\") operands.now)</code></pre>
+        /// ```text
+        /// ensures: Accepts result (NamesAfter (codes "gset") operands.now)
+        /// ```
         ///
-        /// [Accepts]: crate::specs::operands::Acceptance#Accepts "what is accepted is meant, and what is refused is a bad command: nothing is meant"
-        /// [NamesAfter]: crate::specs::grammar::Commands#NamesAfter "the word that a command begins with, and the words after it, name this call"
-        /// [codes]: crate::specs::library#codes "the characters of a text, by their numbers"
+        /// Definitions: [`Accepts`](crate::specs::operands::Acceptance#Accepts), [`NamesAfter`](crate::specs::grammar::Commands#NamesAfter).
         #[inline]
         pub fn set_global(operands: &[&str]) -> Result<Call, LineError> {
             let (global, ty, lo, hi) = operand::four(operands)?;
@@ -645,11 +647,11 @@ mod command {
         ///
         /// # Contract
         ///
-        /// <span></span><pre><code>ensures: [Accepts] result ([NamesAfter] ([codes] \"gget\") operands.now)</code></pre>
+        /// ```text
+        /// ensures: Accepts result (NamesAfter (codes "gget") operands.now)
+        /// ```
         ///
-        /// [Accepts]: crate::specs::operands::Acceptance#Accepts "what is accepted is meant, and what is refused is a bad command: nothing is meant"
-        /// [NamesAfter]: crate::specs::grammar::Commands#NamesAfter "the word that a command begins with, and the words after it, name this call"
-        /// [codes]: crate::specs::library#codes "the characters of a text, by their numbers"
+        /// Definitions: [`Accepts`](crate::specs::operands::Acceptance#Accepts), [`NamesAfter`](crate::specs::grammar::Commands#NamesAfter).
         #[inline]
         pub fn get_global(operands: &[&str]) -> Result<Call, LineError> {
             let [global] = operands else {
@@ -662,11 +664,11 @@ mod command {
         ///
         /// # Contract
         ///
-        /// <span></span><pre><code>ensures: [Accepts] result ([NamesAfter] ([codes] \"set\") operands.now)</code></pre>
+        /// ```text
+        /// ensures: Accepts result (NamesAfter (codes "set") operands.now)
+        /// ```
         ///
-        /// [Accepts]: crate::specs::operands::Acceptance#Accepts "what is accepted is meant, and what is refused is a bad command: nothing is meant"
-        /// [NamesAfter]: crate::specs::grammar::Commands#NamesAfter "the word that a command begins with, and the words after it, name this call"
-        /// [codes]: crate::specs::library#codes "the characters of a text, by their numbers"
+        /// Definitions: [`Accepts`](crate::specs::operands::Acceptance#Accepts), [`NamesAfter`](crate::specs::grammar::Commands#NamesAfter).
         #[inline]
         pub fn set_register(operands: &[&str]) -> Result<Call, LineError> {
             let (dst, lo, hi) = operand::three(operands)?;
@@ -680,11 +682,11 @@ mod command {
         ///
         /// # Contract
         ///
-        /// <span></span><pre><code>ensures: [Accepts] result ([NamesAfter] ([codes] \"show\") operands.now)</code></pre>
+        /// ```text
+        /// ensures: Accepts result (NamesAfter (codes "show") operands.now)
+        /// ```
         ///
-        /// [Accepts]: crate::specs::operands::Acceptance#Accepts "what is accepted is meant, and what is refused is a bad command: nothing is meant"
-        /// [NamesAfter]: crate::specs::grammar::Commands#NamesAfter "the word that a command begins with, and the words after it, name this call"
-        /// [codes]: crate::specs::library#codes "the characters of a text, by their numbers"
+        /// Definitions: [`Accepts`](crate::specs::operands::Acceptance#Accepts), [`NamesAfter`](crate::specs::grammar::Commands#NamesAfter).
         #[inline]
         pub fn get_register(operands: &[&str]) -> Result<Call, LineError> {
             let [a] = operands else {
@@ -707,11 +709,11 @@ mod command {
         ///
         /// # Contract
         ///
-        /// <span></span><pre><code>ensures: [Accepts] result ([NamesAfter] ([codes] \"make\") operands.now)</code></pre>
+        /// ```text
+        /// ensures: Accepts result (NamesAfter (codes "make") operands.now)
+        /// ```
         ///
-        /// [Accepts]: crate::specs::operands::Acceptance#Accepts "what is accepted is meant, and what is refused is a bad command: nothing is meant"
-        /// [NamesAfter]: crate::specs::grammar::Commands#NamesAfter "the word that a command begins with, and the words after it, name this call"
-        /// [codes]: crate::specs::library#codes "the characters of a text, by their numbers"
+        /// Definitions: [`Accepts`](crate::specs::operands::Acceptance#Accepts), [`NamesAfter`](crate::specs::grammar::Commands#NamesAfter).
         #[inline]
         pub fn make(operands: &[&str]) -> Result<Call, LineError> {
             let (op, dst, a) = operand::three(operands)?;
@@ -722,11 +724,11 @@ mod command {
         ///
         /// # Contract
         ///
-        /// <span></span><pre><code>ensures: [Accepts] result ([NamesAfter] ([codes] \"unary\") operands.now)</code></pre>
+        /// ```text
+        /// ensures: Accepts result (NamesAfter (codes "unary") operands.now)
+        /// ```
         ///
-        /// [Accepts]: crate::specs::operands::Acceptance#Accepts "what is accepted is meant, and what is refused is a bad command: nothing is meant"
-        /// [NamesAfter]: crate::specs::grammar::Commands#NamesAfter "the word that a command begins with, and the words after it, name this call"
-        /// [codes]: crate::specs::library#codes "the characters of a text, by their numbers"
+        /// Definitions: [`Accepts`](crate::specs::operands::Acceptance#Accepts), [`NamesAfter`](crate::specs::grammar::Commands#NamesAfter).
         #[inline]
         pub fn unary(operands: &[&str]) -> Result<Call, LineError> {
             let (op, dst, a) = operand::three(operands)?;
@@ -737,11 +739,11 @@ mod command {
         ///
         /// # Contract
         ///
-        /// <span></span><pre><code>ensures: [Accepts] result ([NamesAfter] ([codes] \"binary\") operands.now)</code></pre>
+        /// ```text
+        /// ensures: Accepts result (NamesAfter (codes "binary") operands.now)
+        /// ```
         ///
-        /// [Accepts]: crate::specs::operands::Acceptance#Accepts "what is accepted is meant, and what is refused is a bad command: nothing is meant"
-        /// [NamesAfter]: crate::specs::grammar::Commands#NamesAfter "the word that a command begins with, and the words after it, name this call"
-        /// [codes]: crate::specs::library#codes "the characters of a text, by their numbers"
+        /// Definitions: [`Accepts`](crate::specs::operands::Acceptance#Accepts), [`NamesAfter`](crate::specs::grammar::Commands#NamesAfter).
         #[inline]
         pub fn binary(operands: &[&str]) -> Result<Call, LineError> {
             let (op, dst, a, b) = operand::four(operands)?;
@@ -752,11 +754,11 @@ mod command {
         ///
         /// # Contract
         ///
-        /// <span></span><pre><code>ensures: [Accepts] result ([NamesAfter] ([codes] \"ternary\") operands.now)</code></pre>
+        /// ```text
+        /// ensures: Accepts result (NamesAfter (codes "ternary") operands.now)
+        /// ```
         ///
-        /// [Accepts]: crate::specs::operands::Acceptance#Accepts "what is accepted is meant, and what is refused is a bad command: nothing is meant"
-        /// [NamesAfter]: crate::specs::grammar::Commands#NamesAfter "the word that a command begins with, and the words after it, name this call"
-        /// [codes]: crate::specs::library#codes "the characters of a text, by their numbers"
+        /// Definitions: [`Accepts`](crate::specs::operands::Acceptance#Accepts), [`NamesAfter`](crate::specs::grammar::Commands#NamesAfter).
         #[inline]
         pub fn ternary(operands: &[&str]) -> Result<Call, LineError> {
             let (op, dst, a, b, c) = operand::five(operands)?;
@@ -767,11 +769,11 @@ mod command {
         ///
         /// # Contract
         ///
-        /// <span></span><pre><code>ensures: [Accepts] result ([NamesAfter] ([codes] \"shift\") operands.now)</code></pre>
+        /// ```text
+        /// ensures: Accepts result (NamesAfter (codes "shift") operands.now)
+        /// ```
         ///
-        /// [Accepts]: crate::specs::operands::Acceptance#Accepts "what is accepted is meant, and what is refused is a bad command: nothing is meant"
-        /// [NamesAfter]: crate::specs::grammar::Commands#NamesAfter "the word that a command begins with, and the words after it, name this call"
-        /// [codes]: crate::specs::library#codes "the characters of a text, by their numbers"
+        /// Definitions: [`Accepts`](crate::specs::operands::Acceptance#Accepts), [`NamesAfter`](crate::specs::grammar::Commands#NamesAfter).
         #[inline]
         pub fn shift(operands: &[&str]) -> Result<Call, LineError> {
             let (op, dst, a, amount) = operand::four(operands)?;
@@ -782,11 +784,11 @@ mod command {
         ///
         /// # Contract
         ///
-        /// <span></span><pre><code>ensures: [Accepts] result ([NamesAfter] ([codes] \"test\") operands.now)</code></pre>
+        /// ```text
+        /// ensures: Accepts result (NamesAfter (codes "test") operands.now)
+        /// ```
         ///
-        /// [Accepts]: crate::specs::operands::Acceptance#Accepts "what is accepted is meant, and what is refused is a bad command: nothing is meant"
-        /// [NamesAfter]: crate::specs::grammar::Commands#NamesAfter "the word that a command begins with, and the words after it, name this call"
-        /// [codes]: crate::specs::library#codes "the characters of a text, by their numbers"
+        /// Definitions: [`Accepts`](crate::specs::operands::Acceptance#Accepts), [`NamesAfter`](crate::specs::grammar::Commands#NamesAfter).
         #[inline]
         pub fn test(operands: &[&str]) -> Result<Call, LineError> {
             let (op, a) = operand::two(operands)?;
@@ -797,11 +799,11 @@ mod command {
         ///
         /// # Contract
         ///
-        /// <span></span><pre><code>ensures: [Accepts] result ([NamesAfter] ([codes] \"extract\") operands.now)</code></pre>
+        /// ```text
+        /// ensures: Accepts result (NamesAfter (codes "extract") operands.now)
+        /// ```
         ///
-        /// [Accepts]: crate::specs::operands::Acceptance#Accepts "what is accepted is meant, and what is refused is a bad command: nothing is meant"
-        /// [NamesAfter]: crate::specs::grammar::Commands#NamesAfter "the word that a command begins with, and the words after it, name this call"
-        /// [codes]: crate::specs::library#codes "the characters of a text, by their numbers"
+        /// Definitions: [`Accepts`](crate::specs::operands::Acceptance#Accepts), [`NamesAfter`](crate::specs::grammar::Commands#NamesAfter).
         #[inline]
         pub fn extract(operands: &[&str]) -> Result<Call, LineError> {
             let [name, a, lane] = operands else {
@@ -817,11 +819,11 @@ mod command {
         ///
         /// # Contract
         ///
-        /// <span></span><pre><code>ensures: [Accepts] result ([NamesAfter] ([codes] \"replace\") operands.now)</code></pre>
+        /// ```text
+        /// ensures: Accepts result (NamesAfter (codes "replace") operands.now)
+        /// ```
         ///
-        /// [Accepts]: crate::specs::operands::Acceptance#Accepts "what is accepted is meant, and what is refused is a bad command: nothing is meant"
-        /// [NamesAfter]: crate::specs::grammar::Commands#NamesAfter "the word that a command begins with, and the words after it, name this call"
-        /// [codes]: crate::specs::library#codes "the characters of a text, by their numbers"
+        /// Definitions: [`Accepts`](crate::specs::operands::Acceptance#Accepts), [`NamesAfter`](crate::specs::grammar::Commands#NamesAfter).
         #[inline]
         pub fn replace(operands: &[&str]) -> Result<Call, LineError> {
             let [name, dst, a, lane, item] = operands else {
@@ -839,11 +841,11 @@ mod command {
         ///
         /// # Contract
         ///
-        /// <span></span><pre><code>ensures: [Accepts] result ([NamesAfter] ([codes] \"shuffle\") operands.now)</code></pre>
+        /// ```text
+        /// ensures: Accepts result (NamesAfter (codes "shuffle") operands.now)
+        /// ```
         ///
-        /// [Accepts]: crate::specs::operands::Acceptance#Accepts "what is accepted is meant, and what is refused is a bad command: nothing is meant"
-        /// [NamesAfter]: crate::specs::grammar::Commands#NamesAfter "the word that a command begins with, and the words after it, name this call"
-        /// [codes]: crate::specs::library#codes "the characters of a text, by their numbers"
+        /// Definitions: [`Accepts`](crate::specs::operands::Acceptance#Accepts), [`NamesAfter`](crate::specs::grammar::Commands#NamesAfter).
         #[inline]
         pub fn shuffle(operands: &[&str]) -> Result<Call, LineError> {
             let [dst, a, b, lanes @ ..] = operands else {
@@ -861,10 +863,11 @@ mod command {
         ///
         /// # Contract
         ///
-        /// <span></span><pre><code>ensures: [Accepts] result ([WritesLanes] words.now)</code></pre>
+        /// ```text
+        /// ensures: Accepts result (WritesLanes words.now)
+        /// ```
         ///
-        /// [Accepts]: crate::specs::operands::Acceptance#Accepts "what is accepted is meant, and what is refused is a bad command: nothing is meant"
-        /// [WritesLanes]: crate::specs::operands::LaneNames#WritesLanes "sixteen words write the lanes of a shuffle, of which there are 32 to choose from"
+        /// Definitions: [`Accepts`](crate::specs::operands::Acceptance#Accepts), [`WritesLanes`](crate::specs::operands::LaneNames#WritesLanes).
         #[inline]
         fn lanes_of(words: &[&str]) -> Result<[ImmLaneIdx32; 16], LineError> {
             let Ok(words) = <&[&str; 16]>::try_from(words) else {
@@ -893,9 +896,9 @@ mod error {
 
     /// # Contract
     ///
-    /// <span></span><pre><code>from_gives = λ \_ error. error ≡ [OutOfMemory]</code></pre>
-    ///
-    /// [OutOfMemory]: crate::proved::grammar::ParseError::OutOfMemory
+    /// ```text
+    /// from_gives = λ _ error. error ≡ OutOfMemory
+    /// ```
     impl From<AllocError> for ParseError {
         #[inline]
         fn from(_: AllocError) -> Self {
@@ -968,9 +971,11 @@ mod header {
         ///
         /// # Contract
         ///
-        /// <span></span><pre><code>ensures: result ≡ [tenants_of] self.now.limiter</code></pre>
+        /// ```text
+        /// ensures: result ≡ tenants_of self.now.limiter
+        /// ```
         ///
-        /// [tenants_of]: crate::specs::grammar::Headers#tenants_of "how many tenants a limiter line asks for"
+        /// Definitions: [`tenants_of`](crate::specs::grammar::Headers#tenants_of).
         #[inline]
         pub fn tenants(&self) -> usize {
             match &self.limiter {
@@ -984,10 +989,11 @@ mod header {
     ///
     /// # Contract
     ///
-    /// <span></span><pre><code>ensures: [Accepts] result ([WritesMeter] operands.now)</code></pre>
+    /// ```text
+    /// ensures: Accepts result (WritesMeter operands.now)
+    /// ```
     ///
-    /// [Accepts]: crate::specs::operands::Acceptance#Accepts "what is accepted is meant, and what is refused is a bad command: nothing is meant"
-    /// [WritesMeter]: crate::specs::grammar::Headers#WritesMeter "the words after the first write what the meter line says"
+    /// Definitions: [`Accepts`](crate::specs::operands::Acceptance#Accepts), [`WritesMeter`](crate::specs::grammar::Headers#WritesMeter).
     #[inline]
     pub(crate) fn meter_line(operands: &[&str]) -> Result<MeterLine, LineError> {
         match operands {
@@ -1001,10 +1007,11 @@ mod header {
     ///
     /// # Contract
     ///
-    /// <span></span><pre><code>ensures: [Accepts] result ([WritesRegion] operands.now)</code></pre>
+    /// ```text
+    /// ensures: Accepts result (WritesRegion operands.now)
+    /// ```
     ///
-    /// [Accepts]: crate::specs::operands::Acceptance#Accepts "what is accepted is meant, and what is refused is a bad command: nothing is meant"
-    /// [WritesRegion]: crate::specs::grammar::Headers#WritesRegion "the words after the first write what the region line says"
+    /// Definitions: [`Accepts`](crate::specs::operands::Acceptance#Accepts), [`WritesRegion`](crate::specs::grammar::Headers#WritesRegion).
     #[inline]
     pub(crate) fn region_line(operands: &[&str]) -> Result<RegionLine, LineError> {
         let (len, byte) = operand::two(operands)?;
@@ -1015,11 +1022,11 @@ mod header {
     ///
     /// # Contract
     ///
-    /// <span></span><pre><code>ensures: [Accepts] result ([NamesLimiterAfter] ([codes] \"quota\") operands.now)</code></pre>
+    /// ```text
+    /// ensures: Accepts result (NamesLimiterAfter (codes "quota") operands.now)
+    /// ```
     ///
-    /// [Accepts]: crate::specs::operands::Acceptance#Accepts "what is accepted is meant, and what is refused is a bad command: nothing is meant"
-    /// [NamesLimiterAfter]: crate::specs::grammar::Headers#NamesLimiterAfter "the word that a limiter line begins with, and the words after it, name this line"
-    /// [codes]: crate::specs::library#codes "the characters of a text, by their numbers"
+    /// Definitions: [`Accepts`](crate::specs::operands::Acceptance#Accepts), [`NamesLimiterAfter`](crate::specs::grammar::Headers#NamesLimiterAfter).
     #[inline]
     pub(crate) fn quota(operands: &[&str]) -> Result<LimiterLine, LineError> {
         let (bytes, elements) = operand::two(operands)?;
@@ -1030,11 +1037,11 @@ mod header {
     ///
     /// # Contract
     ///
-    /// <span></span><pre><code>ensures: [Accepts] result ([NamesLimiterAfter] ([codes] \"tenants\") operands.now)</code></pre>
+    /// ```text
+    /// ensures: Accepts result (NamesLimiterAfter (codes "tenants") operands.now)
+    /// ```
     ///
-    /// [Accepts]: crate::specs::operands::Acceptance#Accepts "what is accepted is meant, and what is refused is a bad command: nothing is meant"
-    /// [NamesLimiterAfter]: crate::specs::grammar::Headers#NamesLimiterAfter "the word that a limiter line begins with, and the words after it, name this line"
-    /// [codes]: crate::specs::library#codes "the characters of a text, by their numbers"
+    /// Definitions: [`Accepts`](crate::specs::operands::Acceptance#Accepts), [`NamesLimiterAfter`](crate::specs::grammar::Headers#NamesLimiterAfter).
     #[inline]
     pub(crate) fn tenants(operands: &[&str]) -> Result<LimiterLine, LineError> {
         let (count, bytes, elements) = operand::three(operands)?;
@@ -1051,11 +1058,11 @@ mod header {
     ///
     /// # Contract
     ///
-    /// <span></span><pre><code>ensures: [AcceptsWithMemory] result ([NamesLimiterAfter] ([codes] \"answers\") operands.now)</code></pre>
+    /// ```text
+    /// ensures: AcceptsWithMemory result (NamesLimiterAfter (codes "answers") operands.now)
+    /// ```
     ///
-    /// [AcceptsWithMemory]: crate::specs::operands::Acceptance#AcceptsWithMemory "the words are read as a value that means this, or they mean nothing of the kind, or memory was refused"
-    /// [NamesLimiterAfter]: crate::specs::grammar::Headers#NamesLimiterAfter "the word that a limiter line begins with, and the words after it, name this line"
-    /// [codes]: crate::specs::library#codes "the characters of a text, by their numbers"
+    /// Definitions: [`AcceptsWithMemory`](crate::specs::operands::Acceptance#AcceptsWithMemory), [`NamesLimiterAfter`](crate::specs::grammar::Headers#NamesLimiterAfter).
     #[inline]
     pub(crate) fn listed(operands: &[&str]) -> Result<LimiterLine, LineError> {
         Ok(LimiterLine::Answers(list_of(operands)?))
@@ -1071,9 +1078,11 @@ pub mod laws {
     ///
     /// # Contract
     ///
-    /// <span></span><pre><code>ensures: [TextsWriteOneScript]</code></pre>
+    /// ```text
+    /// ensures: TextsWriteOneScript
+    /// ```
     ///
-    /// [TextsWriteOneScript]: crate::specs::grammar::Meanings#TextsWriteOneScript "two scripts that one text writes say the same"
+    /// Definitions: [`TextsWriteOneScript`](crate::specs::grammar::Meanings#TextsWriteOneScript).
     #[inline]
     pub fn texts_write_one_script() {}
 
@@ -1081,9 +1090,11 @@ pub mod laws {
     ///
     /// # Contract
     ///
-    /// <span></span><pre><code>ensures: [FirstBadLinesAreOne]</code></pre>
+    /// ```text
+    /// ensures: FirstBadLinesAreOne
+    /// ```
     ///
-    /// [FirstBadLinesAreOne]: crate::specs::grammar::Meanings#FirstBadLinesAreOne "the first bad line of a text is one number"
+    /// Definitions: [`FirstBadLinesAreOne`](crate::specs::grammar::Meanings#FirstBadLinesAreOne).
     #[inline]
     pub fn first_bad_lines_are_one() {}
 
@@ -1091,9 +1102,11 @@ pub mod laws {
     ///
     /// # Contract
     ///
-    /// <span></span><pre><code>ensures: [WrittenTextsHaveNoBadLine]</code></pre>
+    /// ```text
+    /// ensures: WrittenTextsHaveNoBadLine
+    /// ```
     ///
-    /// [WrittenTextsHaveNoBadLine]: crate::specs::grammar::Meanings#WrittenTextsHaveNoBadLine "a text that writes a script has no bad line"
+    /// Definitions: [`WrittenTextsHaveNoBadLine`](crate::specs::grammar::Meanings#WrittenTextsHaveNoBadLine).
     #[inline]
     pub fn written_texts_have_no_bad_line() {}
 }
@@ -1124,19 +1137,17 @@ mod script {
     ///
     /// # Model
     ///
-    /// <span></span><pre><code>Value = [PartsValue]
+    /// ```text
+    /// Value = PartsValue
     /// view = λ p. record {
-    /// &#32;&#32;&#32;&#32;earlier = [map] ([part_at] p.calls.items) p.earlier.items;
-    /// &#32;&#32;&#32;&#32;tenant = p.tenant;
-    /// &#32;&#32;&#32;&#32;calls = [drop] p.start p.calls.items;
-    /// &#32;&#32;&#32;&#32;}
-    /// invariant = λ p. [AreCut] p.earlier.items p.start p.calls.items</code></pre>
+    ///     earlier = map (part_at p.calls.items) p.earlier.items;
+    ///     tenant = p.tenant;
+    ///     calls = drop p.start p.calls.items;
+    ///     }
+    /// invariant = λ p. AreCut p.earlier.items p.start p.calls.items
+    /// ```
     ///
-    /// [PartsValue]: crate::specs::grammar::Parts#PartsValue "the parts before the last \`as\` line; after it, the tenant that it names and the calls so far"
-    /// [map]: crate::specs::library#map "f of each element"
-    /// [part_at]: crate::specs::grammar::Parts#part_at "the part whose calls stand at these places of a list"
-    /// [drop]: crate::specs::library#drop "all but the first n elements"
-    /// [AreCut]: crate::specs::grammar::Parts#AreCut "the earlier parts have the calls up to a place of a list, one after another"
+    /// Definitions: [`PartsValue`](crate::specs::grammar::Parts#PartsValue), [`part_at`](crate::specs::grammar::Parts#part_at), [`AreCut`](crate::specs::grammar::Parts#AreCut).
     pub struct Parts {
         /// The call of each command, in order.
         calls: Vec<Call>,
@@ -1161,7 +1172,9 @@ mod script {
         ///
         /// # Contract
         ///
-        /// <span></span><pre><code>ensures: result ≡ record { earlier = \[\]; tenant = 0; calls = \[\] }</code></pre>
+        /// ```text
+        /// ensures: result ≡ record { earlier = []; tenant = 0; calls = [] }
+        /// ```
         #[inline]
         fn new() -> Self {
             Parts {
@@ -1176,9 +1189,9 @@ mod script {
         ///
         /// # Contract
         ///
-        /// <span></span><pre><code>ensures: [IsTrue] result ↔ ((self.now.calls ≡ \[\]) × (self.now.earlier ≡ \[\]))</code></pre>
-        ///
-        /// [IsTrue]: crate::specs::library#IsTrue "b is true"
+        /// ```text
+        /// ensures: IsTrue result ↔ ((self.now.calls ≡ []) × (self.now.earlier ≡ []))
+        /// ```
         #[inline]
         fn is_empty(&self) -> bool {
             self.calls.is_empty() && self.earlier.is_empty()
@@ -1188,10 +1201,10 @@ mod script {
         ///
         /// # Contract
         ///
-        /// <span></span><pre><code>ensures: [OnOk] result
-        /// &#32;&#32;&#32;&#32;(self.new ≡ record self.old { calls = self.old.calls ++ call ∷ \[\] })</code></pre>
-        ///
-        /// [OnOk]: crate::specs::library#OnOk "P, if r is a value"
+        /// ```text
+        /// ensures: OnOk result
+        ///     (self.new ≡ record self.old { calls = self.old.calls ++ call ∷ [] })
+        /// ```
         #[inline]
         fn push(&mut self, call: Call) -> Result<(), AllocError> {
             self.calls.push(call)?;
@@ -1202,11 +1215,12 @@ mod script {
         ///
         /// # Contract
         ///
-        /// <span></span><pre><code>ensures: [OnOk] result
-        /// &#32;&#32;&#32;&#32;(self.new ≡ record { earlier = [parts_in] self.old; tenant = tenant; calls = \[\] })</code></pre>
+        /// ```text
+        /// ensures: OnOk result
+        ///     (self.new ≡ record { earlier = parts_in self.old; tenant = tenant; calls = [] })
+        /// ```
         ///
-        /// [OnOk]: crate::specs::library#OnOk "P, if r is a value"
-        /// [parts_in]: crate::specs::grammar::Parts#parts_in "all parts, in order: without an \`as\` line there is one"
+        /// Definitions: [`parts_in`](crate::specs::grammar::Parts#parts_in).
         #[inline]
         fn begin(&mut self, tenant: usize) -> Result<(), AllocError> {
             let end = self.calls.len();
@@ -1225,10 +1239,11 @@ mod script {
         ///
         /// # Contract
         ///
-        /// <span></span><pre><code>ensures: result ≡ [length] ([parts_in] self.now)</code></pre>
+        /// ```text
+        /// ensures: result ≡ length (parts_in self.now)
+        /// ```
         ///
-        /// [length]: crate::specs::library#length "the number of elements of a list"
-        /// [parts_in]: crate::specs::grammar::Parts#parts_in "all parts, in order: without an \`as\` line there is one"
+        /// Definitions: [`parts_in`](crate::specs::grammar::Parts#parts_in).
         #[inline]
         pub fn len(&self) -> usize {
             self.earlier.len() + 1
@@ -1238,12 +1253,12 @@ mod script {
         ///
         /// # Contract
         ///
-        /// <span></span><pre><code>ensures: [option_map] (λ part. record { tenant = part.0; calls = part.1.now }) result
-        /// &#32;&#32;&#32;&#32;≡ [slice_get] ([parts_in] self.now) index</code></pre>
+        /// ```text
+        /// ensures: option_map (λ part. record { tenant = part.0; calls = part.1.now }) result
+        ///     ≡ slice_get (parts_in self.now) index
+        /// ```
         ///
-        /// [option_map]: crate::specs::library#option_map "f of the value, if there is one"
-        /// [slice_get]: crate::specs::library#slice_get "element i, if there is one"
-        /// [parts_in]: crate::specs::grammar::Parts#parts_in "all parts, in order: without an \`as\` line there is one"
+        /// Definitions: [`parts_in`](crate::specs::grammar::Parts#parts_in).
         #[inline]
         pub fn get(&self, index: usize) -> Option<(usize, &[Call])> {
             if index < self.earlier.len() {
@@ -1263,10 +1278,11 @@ mod script {
         ///
         /// # Contract
         ///
-        /// <span></span><pre><code>ensures: result.now ≡ [calls_in] ([parts_in] self.now)</code></pre>
+        /// ```text
+        /// ensures: result.now ≡ calls_in (parts_in self.now)
+        /// ```
         ///
-        /// [calls_in]: crate::specs::grammar::Parts#calls_in "the calls of parts, in order"
-        /// [parts_in]: crate::specs::grammar::Parts#parts_in "all parts, in order: without an \`as\` line there is one"
+        /// Definitions: [`calls_in`](crate::specs::grammar::Parts#calls_in), [`parts_in`](crate::specs::grammar::Parts#parts_in).
         #[inline]
         pub fn calls(&self) -> &[Call] {
             &self.calls
@@ -1277,13 +1293,11 @@ mod script {
     ///
     /// # Contract
     ///
-    /// <span></span><pre><code>requires order: start ≤ end
-    /// requires within: end ≤ [length] calls.now
-    /// ensures calls: result.now ≡ [take] (end - start) ([drop] start calls.now)</code></pre>
-    ///
-    /// [length]: crate::specs::library#length "the number of elements of a list"
-    /// [take]: crate::specs::library#take "the first n elements"
-    /// [drop]: crate::specs::library#drop "all but the first n elements"
+    /// ```text
+    /// requires order: start ≤ end
+    /// requires within: end ≤ length calls.now
+    /// ensures calls: result.now ≡ take (end - start) (drop start calls.now)
+    /// ```
     #[inline]
     fn calls_at(calls: &[Call], start: usize, end: usize) -> &[Call] {
         &calls[start..end]
@@ -1294,9 +1308,11 @@ mod script {
         ///
         /// # Contract
         ///
-        /// <span></span><pre><code>ensures: [IsNewScript] result</code></pre>
+        /// ```text
+        /// ensures: IsNewScript result
+        /// ```
         ///
-        /// [IsNewScript]: crate::specs::grammar::Lines#IsNewScript "no line was taken yet"
+        /// Definitions: [`IsNewScript`](crate::specs::grammar::Lines#IsNewScript).
         #[inline]
         fn new() -> Self {
             Script {
@@ -1310,14 +1326,13 @@ mod script {
         ///
         /// # Contract
         ///
-        /// <span></span><pre><code>ensures ok: [OnOk] result ([AddsWords] self.old words.now self.new)
-        /// ensures refused: [IfErr] result (λ error. error ≡ [LineError.BadCommand]
-        /// &#32;&#32;&#32;&#32;→ (new : Script) → ¬ ([AddsWords] self.old words.now new))</code></pre>
+        /// ```text
+        /// ensures ok: OnOk result (AddsWords self.old words.now self.new)
+        /// ensures refused: IfErr result (λ error. error ≡ LineError.BadCommand
+        ///     → (new : Script) → ¬ (AddsWords self.old words.now new))
+        /// ```
         ///
-        /// [OnOk]: crate::specs::library#OnOk "P, if r is a value"
-        /// [AddsWords]: crate::specs::grammar::Lines#AddsWords "the words of a line add what they say, and no words add nothing"
-        /// [IfErr]: crate::specs::library#IfErr "P of the error, if r is an error"
-        /// [LineError.BadCommand]: crate::proved::operands::LineError::BadCommand
+        /// Definitions: [`AddsWords`](crate::specs::grammar::Lines#AddsWords).
         #[inline]
         fn take_line(&mut self, words: &[&str]) -> Result<(), LineError> {
             let [name, operands @ ..] = words else {
@@ -1331,14 +1346,13 @@ mod script {
         ///
         /// # Contract
         ///
-        /// <span></span><pre><code>ensures ok: [OnOk] result ([AddsLine] self.old line self.new)
-        /// ensures refused: [IfErr] result (λ error. error ≡ [LineError.BadCommand]
-        /// &#32;&#32;&#32;&#32;→ (new : Script) → ¬ ([AddsLine] self.old line new))</code></pre>
+        /// ```text
+        /// ensures ok: OnOk result (AddsLine self.old line self.new)
+        /// ensures refused: IfErr result (λ error. error ≡ LineError.BadCommand
+        ///     → (new : Script) → ¬ (AddsLine self.old line new))
+        /// ```
         ///
-        /// [OnOk]: crate::specs::library#OnOk "P, if r is a value"
-        /// [AddsLine]: crate::specs::grammar::Lines#AddsLine "what a line says, added to the lines before"
-        /// [IfErr]: crate::specs::library#IfErr "P of the error, if r is an error"
-        /// [LineError.BadCommand]: crate::proved::operands::LineError::BadCommand
+        /// Definitions: [`AddsLine`](crate::specs::grammar::Lines#AddsLine).
         #[inline]
         fn take(&mut self, line: Line) -> Result<(), LineError> {
             match line {
@@ -1354,16 +1368,14 @@ mod script {
         ///
         /// # Contract
         ///
-        /// <span></span><pre><code>ensures ok: [OnOk] result ([AddsMeter] self.old line self.new)
-        /// ensures err: [OnErr] result (self.new ≡ self.old)
-        /// ensures bad: [IfErr] result (λ error. error ≡ [LineError.BadCommand])
-        /// ensures refused: [OnErr] result ((new : Script) → ¬ ([AddsMeter] self.old line new))</code></pre>
+        /// ```text
+        /// ensures ok: OnOk result (AddsMeter self.old line self.new)
+        /// ensures err: OnErr result (self.new ≡ self.old)
+        /// ensures bad: IfErr result (λ error. error ≡ LineError.BadCommand)
+        /// ensures refused: OnErr result ((new : Script) → ¬ (AddsMeter self.old line new))
+        /// ```
         ///
-        /// [OnOk]: crate::specs::library#OnOk "P, if r is a value"
-        /// [AddsMeter]: crate::specs::grammar::Lines#AddsMeter "a \`meter\` line, the first one and before all commands"
-        /// [OnErr]: crate::specs::library#OnErr "P, if r is an error"
-        /// [IfErr]: crate::specs::library#IfErr "P of the error, if r is an error"
-        /// [LineError.BadCommand]: crate::proved::operands::LineError::BadCommand
+        /// Definitions: [`AddsMeter`](crate::specs::grammar::Lines#AddsMeter).
         #[inline]
         fn take_meter(&mut self, line: MeterLine) -> Result<(), LineError> {
             self.expect_no_commands()?;
@@ -1378,16 +1390,14 @@ mod script {
         ///
         /// # Contract
         ///
-        /// <span></span><pre><code>ensures ok: [OnOk] result ([AddsLimiter] self.old line self.new)
-        /// ensures err: [OnErr] result (self.new ≡ self.old)
-        /// ensures bad: [IfErr] result (λ error. error ≡ [LineError.BadCommand])
-        /// ensures refused: [OnErr] result ((new : Script) → ¬ ([AddsLimiter] self.old line new))</code></pre>
+        /// ```text
+        /// ensures ok: OnOk result (AddsLimiter self.old line self.new)
+        /// ensures err: OnErr result (self.new ≡ self.old)
+        /// ensures bad: IfErr result (λ error. error ≡ LineError.BadCommand)
+        /// ensures refused: OnErr result ((new : Script) → ¬ (AddsLimiter self.old line new))
+        /// ```
         ///
-        /// [OnOk]: crate::specs::library#OnOk "P, if r is a value"
-        /// [AddsLimiter]: crate::specs::grammar::Lines#AddsLimiter "a limiter line, the first one of any kind and before all commands"
-        /// [OnErr]: crate::specs::library#OnErr "P, if r is an error"
-        /// [IfErr]: crate::specs::library#IfErr "P of the error, if r is an error"
-        /// [LineError.BadCommand]: crate::proved::operands::LineError::BadCommand
+        /// Definitions: [`AddsLimiter`](crate::specs::grammar::Lines#AddsLimiter).
         #[inline]
         fn take_limiter(&mut self, line: LimiterLine) -> Result<(), LineError> {
             self.expect_no_commands()?;
@@ -1405,16 +1415,14 @@ mod script {
         ///
         /// # Contract
         ///
-        /// <span></span><pre><code>ensures ok: [OnOk] result ([AddsRegion] self.old line self.new)
-        /// ensures err: [OnErr] result (self.new ≡ self.old)
-        /// ensures bad: [IfErr] result (λ error. error ≡ [LineError.BadCommand])
-        /// ensures refused: [OnErr] result ((new : Script) → ¬ ([AddsRegion] self.old line new))</code></pre>
+        /// ```text
+        /// ensures ok: OnOk result (AddsRegion self.old line self.new)
+        /// ensures err: OnErr result (self.new ≡ self.old)
+        /// ensures bad: IfErr result (λ error. error ≡ LineError.BadCommand)
+        /// ensures refused: OnErr result ((new : Script) → ¬ (AddsRegion self.old line new))
+        /// ```
         ///
-        /// [OnOk]: crate::specs::library#OnOk "P, if r is a value"
-        /// [AddsRegion]: crate::specs::grammar::Lines#AddsRegion "a \`region\` line, the first one and before all commands"
-        /// [OnErr]: crate::specs::library#OnErr "P, if r is an error"
-        /// [IfErr]: crate::specs::library#IfErr "P of the error, if r is an error"
-        /// [LineError.BadCommand]: crate::proved::operands::LineError::BadCommand
+        /// Definitions: [`AddsRegion`](crate::specs::grammar::Lines#AddsRegion).
         #[inline]
         fn take_region(&mut self, line: RegionLine) -> Result<(), LineError> {
             self.expect_no_commands()?;
@@ -1431,14 +1439,13 @@ mod script {
         ///
         /// # Contract
         ///
-        /// <span></span><pre><code>ensures ok: [OnOk] result ([HasNoCommands] self.now)
-        /// ensures err: [IfErr] result
-        /// &#32;&#32;&#32;&#32;(λ error. (error ≡ [LineError.BadCommand]) × ¬ ([HasNoCommands] self.now))</code></pre>
+        /// ```text
+        /// ensures ok: OnOk result (HasNoCommands self.now)
+        /// ensures err: IfErr result
+        ///     (λ error. (error ≡ LineError.BadCommand) × ¬ (HasNoCommands self.now))
+        /// ```
         ///
-        /// [OnOk]: crate::specs::library#OnOk "P, if r is a value"
-        /// [HasNoCommands]: crate::specs::grammar::Lines#HasNoCommands "no command was taken yet"
-        /// [IfErr]: crate::specs::library#IfErr "P of the error, if r is an error"
-        /// [LineError.BadCommand]: crate::proved::operands::LineError::BadCommand
+        /// Definitions: [`HasNoCommands`](crate::specs::grammar::Lines#HasNoCommands).
         #[inline]
         fn expect_no_commands(&self) -> Result<(), LineError> {
             if self.parts.is_empty() {
@@ -1452,13 +1459,12 @@ mod script {
         ///
         /// # Contract
         ///
-        /// <span></span><pre><code>ensures ok: [OnOk] result ([AddsCall] self.old call self.new)
-        /// ensures memory: [IfErr] result (λ error. error ≡ [LineError.OutOfMemory])</code></pre>
+        /// ```text
+        /// ensures ok: OnOk result (AddsCall self.old call self.new)
+        /// ensures memory: IfErr result (λ error. error ≡ LineError.OutOfMemory)
+        /// ```
         ///
-        /// [OnOk]: crate::specs::library#OnOk "P, if r is a value"
-        /// [AddsCall]: crate::specs::grammar::Lines#AddsCall "a command, whose call comes after those of the lines before"
-        /// [IfErr]: crate::specs::library#IfErr "P of the error, if r is an error"
-        /// [LineError.OutOfMemory]: crate::proved::operands::LineError::OutOfMemory
+        /// Definitions: [`AddsCall`](crate::specs::grammar::Lines#AddsCall).
         #[inline]
         fn take_call(&mut self, call: Call) -> Result<(), LineError> {
             self.parts.push(call)?;
@@ -1469,14 +1475,13 @@ mod script {
         ///
         /// # Contract
         ///
-        /// <span></span><pre><code>ensures ok: [OnOk] result ([AddsPart] self.old tenant self.new)
-        /// ensures refused: [IfErr] result (λ error. error ≡ [LineError.BadCommand]
-        /// &#32;&#32;&#32;&#32;→ (new : Script) → ¬ ([AddsPart] self.old tenant new))</code></pre>
+        /// ```text
+        /// ensures ok: OnOk result (AddsPart self.old tenant self.new)
+        /// ensures refused: IfErr result (λ error. error ≡ LineError.BadCommand
+        ///     → (new : Script) → ¬ (AddsPart self.old tenant new))
+        /// ```
         ///
-        /// [OnOk]: crate::specs::library#OnOk "P, if r is a value"
-        /// [AddsPart]: crate::specs::grammar::Lines#AddsPart "an \`as\` line: the calls before it are a part, and those after it are another tenant\'s, of whom there is one"
-        /// [IfErr]: crate::specs::library#IfErr "P of the error, if r is an error"
-        /// [LineError.BadCommand]: crate::proved::operands::LineError::BadCommand
+        /// Definitions: [`AddsPart`](crate::specs::grammar::Lines#AddsPart).
         #[inline]
         fn take_part(&mut self, tenant: usize) -> Result<(), LineError> {
             if tenant >= self.header.tenants() {
@@ -1505,10 +1510,11 @@ mod script {
     ///
     /// # Contract
     ///
-    /// <span></span><pre><code>ensures: [AcceptsWithMemory] result ([NamesLine] name.now operands.now)</code></pre>
+    /// ```text
+    /// ensures: AcceptsWithMemory result (NamesLine name.now operands.now)
+    /// ```
     ///
-    /// [AcceptsWithMemory]: crate::specs::operands::Acceptance#AcceptsWithMemory "the words are read as a value that means this, or they mean nothing of the kind, or memory was refused"
-    /// [NamesLine]: crate::specs::grammar::Lines#NamesLine "the first word of a line and the words after it say this"
+    /// Definitions: [`AcceptsWithMemory`](crate::specs::operands::Acceptance#AcceptsWithMemory), [`NamesLine`](crate::specs::grammar::Lines#NamesLine).
     #[inline]
     fn line_of(name: &str, operands: &[&str]) -> Result<Line, LineError> {
         match name {
@@ -1526,10 +1532,11 @@ mod script {
     ///
     /// # Contract
     ///
-    /// <span></span><pre><code>ensures: [Accepts] result ([WritesTenant] operands.now)</code></pre>
+    /// ```text
+    /// ensures: Accepts result (WritesTenant operands.now)
+    /// ```
     ///
-    /// [Accepts]: crate::specs::operands::Acceptance#Accepts "what is accepted is meant, and what is refused is a bad command: nothing is meant"
-    /// [WritesTenant]: crate::specs::grammar::Headers#WritesTenant "the words after the first write which tenant the \`as\` line means"
+    /// Definitions: [`Accepts`](crate::specs::operands::Acceptance#Accepts), [`WritesTenant`](crate::specs::grammar::Headers#WritesTenant).
     #[inline]
     fn tenant_named(operands: &[&str]) -> Result<usize, LineError> {
         let [tenant] = operands else {
@@ -1542,10 +1549,11 @@ mod script {
     ///
     /// # Contract
     ///
-    /// <span></span><pre><code>ensures: [AcceptsWithMemory] result ([NamesAfter] name.now operands.now)</code></pre>
+    /// ```text
+    /// ensures: AcceptsWithMemory result (NamesAfter name.now operands.now)
+    /// ```
     ///
-    /// [AcceptsWithMemory]: crate::specs::operands::Acceptance#AcceptsWithMemory "the words are read as a value that means this, or they mean nothing of the kind, or memory was refused"
-    /// [NamesAfter]: crate::specs::grammar::Commands#NamesAfter "the word that a command begins with, and the words after it, name this call"
+    /// Definitions: [`AcceptsWithMemory`](crate::specs::operands::Acceptance#AcceptsWithMemory), [`NamesAfter`](crate::specs::grammar::Commands#NamesAfter).
     #[inline]
     fn command(name: &str, operands: &[&str]) -> Result<Call, LineError> {
         match name {
@@ -1594,21 +1602,16 @@ mod script {
     ///
     /// # Contract
     ///
-    /// <span></span><pre><code>ensures script: [IfOk] result ([WritesScript] bytes.now)
-    /// ensures calls: [IfOk] result (λ script. [length] ([calls_of] script) ≤ [length] bytes.now + 1)
-    /// ensures refused: [IfErr] result ([IsParseError] bytes.now)
-    /// ensures line: [IfErr] result
-    /// &#32;&#32;&#32;&#32;(λ error. (line : [ℕ]) → error ≡ [ParseError.BadCommand] line
-    /// &#32;&#32;&#32;&#32;→ (0 < line) × (line ≤ [length] bytes.now + 1))</code></pre>
+    /// ```text
+    /// ensures script: IfOk result (WritesScript bytes.now)
+    /// ensures calls: IfOk result (λ script. length (calls_of script) ≤ length bytes.now + 1)
+    /// ensures refused: IfErr result (IsParseError bytes.now)
+    /// ensures line: IfErr result
+    ///     (λ error. (line : ℕ) → error ≡ ParseError.BadCommand line
+    ///     → (0 < line) × (line ≤ length bytes.now + 1))
+    /// ```
     ///
-    /// [IfOk]: crate::specs::library#IfOk "P of the value, if r is a value"
-    /// [WritesScript]: crate::specs::grammar::Lines#WritesScript "the script that a text writes: what its lines make"
-    /// [length]: crate::specs::library#length "the number of elements of a list"
-    /// [calls_of]: crate::specs::grammar::Lines#calls_of "all calls of a script, in order"
-    /// [IfErr]: crate::specs::library#IfErr "P of the error, if r is an error"
-    /// [IsParseError]: crate::specs::grammar::Refusals#IsParseError "why a text isn\'t parsed"
-    /// [ℕ]: crate::specs::library#%E2%84%95 "the whole numbers from 0 on"
-    /// [ParseError.BadCommand]: crate::proved::grammar::ParseError::BadCommand
+    /// Definitions: [`WritesScript`](crate::specs::grammar::Lines#WritesScript), [`calls_of`](crate::specs::grammar::Lines#calls_of), [`IsParseError`](crate::specs::grammar::Refusals#IsParseError).
     #[inline]
     pub fn parse(bytes: &[u8]) -> Result<Script, ParseError> {
         let mut script = Script::new();

@@ -9,10 +9,9 @@ mod clamp {
     ///
     /// # Contract
     ///
-    /// <span></span><pre><code>ensures: result ≡ [clamp_signed] [w8] number</code></pre>
-    ///
-    /// [clamp_signed]: crate::specs::library#clamp_signed "the number of the signed range of a width that is nearest to z"
-    /// [w8]: crate::specs::library#w8 "the widths of integers in bits"
+    /// ```text
+    /// ensures: result ≡ clamp_signed w8 number
+    /// ```
     #[inline]
     pub fn clamped_i8(number: i16) -> i8 {
         number.clamp(-128, 127) as i8
@@ -22,10 +21,9 @@ mod clamp {
     ///
     /// # Contract
     ///
-    /// <span></span><pre><code>ensures: result ≡ [clamp_signed] [w16] number</code></pre>
-    ///
-    /// [clamp_signed]: crate::specs::library#clamp_signed "the number of the signed range of a width that is nearest to z"
-    /// [w16]: crate::specs::library#w16 "the widths of integers in bits"
+    /// ```text
+    /// ensures: result ≡ clamp_signed w16 number
+    /// ```
     #[inline]
     pub fn clamped_i16(number: i32) -> i16 {
         number.clamp(-32768, 32767) as i16
@@ -47,13 +45,14 @@ mod index {
     ///
     /// # Model
     ///
-    /// <span></span><pre><code>Value = [ℕ]
+    /// ```text
+    /// Value = ℕ
     /// view = λ lane. lane.index
-    /// invariant = λ lane. (lane.index < N) × [IsLaneCount] N
-    /// inverse = λ number. record { index = number }</code></pre>
+    /// invariant = λ lane. (lane.index < N) × IsLaneCount N
+    /// inverse = λ number. record { index = number }
+    /// ```
     ///
-    /// [ℕ]: crate::specs::library#%E2%84%95 "the whole numbers from 0 on"
-    /// [IsLaneCount]: crate::specs::lanes::Lane#IsLaneCount "a number of lanes: of one vector, or of two vectors of bytes"
+    /// Definitions: [`IsLaneCount`](crate::specs::lanes::Lane#IsLaneCount).
     #[derive(Clone, Copy, Debug, PartialEq, Eq)]
     pub struct ImmLaneIdx<const N: usize> {
         index: u8,
@@ -74,10 +73,12 @@ mod index {
     ///
     /// # Contract
     ///
-    /// <span></span><pre><code><i>\-\- A vector, or two vectors of bytes, have \`N\` lanes.</i>
-    /// is_lane_count: [IsLaneCount] N</code></pre>
+    /// ```text
+    /// -- A vector, or two vectors of bytes, have `N` lanes.
+    /// is_lane_count: IsLaneCount N
+    /// ```
     ///
-    /// [IsLaneCount]: crate::specs::lanes::Lane#IsLaneCount "a number of lanes: of one vector, or of two vectors of bytes"
+    /// Definitions: [`IsLaneCount`](crate::specs::lanes::Lane#IsLaneCount).
     pub trait CountsLanes<const N: usize> {}
 
     impl CountsLanes<2> for ImmLaneIdx2 {}
@@ -92,7 +93,9 @@ mod index {
 
     /// # Contract
     ///
-    /// <span></span><pre><code>from_gives = λ lane number. (number ≡ lane) × (number < N)</code></pre>
+    /// ```text
+    /// from_gives = λ lane number. (number ≡ lane) × (number < N)
+    /// ```
     impl<const N: usize> From<ImmLaneIdx<N>> for u8 {
         #[inline]
         fn from(lane: ImmLaneIdx<N>) -> u8 {
@@ -102,9 +105,9 @@ mod index {
 
     /// # Contract
     ///
-    /// <span></span><pre><code>try_from_gives = λ number lane. [OkIff] lane (number < N) number</code></pre>
-    ///
-    /// [OkIff]: crate::specs::library#OkIff "if P, r is the value x; else it is an error"
+    /// ```text
+    /// try_from_gives = λ number lane. OkIff lane (number < N) number
+    /// ```
     impl<const N: usize> TryFrom<u8> for ImmLaneIdx<N>
     where
         ImmLaneIdx<N>: CountsLanes<N>,
@@ -126,30 +129,28 @@ mod index {
     ///
     /// # Contract
     ///
-    /// <span></span><pre><code><i>\-\- How many lanes there are.</i>
-    /// COUNT: [ℕ]
-    /// <i>\-\- The number of an index.</i>
-    /// number: Self → [ℕ]
-    /// <i>\-\- An index gives its number, which is below \`COUNT\`.</i>
-    /// number_is: (lane : Self) (n : [ℕ]) → [Self.converts] lane n
-    /// &#32;&#32;&#32;&#32;→ (n ≡ number lane) × (n < COUNT)
-    /// <i>\-\- A number that makes an index is that of the index, and below \`COUNT\`.</i>
-    /// taken: (n : [ℕ]) (lane : Self) → [Self.try_from_gives] n ([Ok] lane)
-    /// &#32;&#32;&#32;&#32;→ (number lane ≡ n) × (n < COUNT)
-    /// <i>\-\- A number that makes no index is \`COUNT\` or more.</i>
-    /// refused: (n : [ℕ]) (error : \_) → [Self.try_from_gives] n ([Err] error) → COUNT ≤ n</code></pre>
-    ///
-    /// [ℕ]: crate::specs::library#%E2%84%95 "the whole numbers from 0 on"
-    /// [Self.converts]: crate::specs::library#converts "what \`From\` or \`Into\` gives for x may be y"
-    /// [Self.try_from_gives]: crate::specs::library#try_from_gives "what \`TryFrom\` gives for x may be r"
-    /// [Ok]: crate::specs::library#Ok "the value x, of a \`Result\`"
-    /// [Err]: crate::specs::library#Err "the error e, of a \`Result\`"
+    /// ```text
+    /// -- How many lanes there are.
+    /// COUNT: ℕ
+    /// -- The number of an index.
+    /// number: Self → ℕ
+    /// -- An index gives its number, which is below `COUNT`.
+    /// number_is: (lane : Self) (n : ℕ) → Self.converts lane n
+    ///     → (n ≡ number lane) × (n < COUNT)
+    /// -- A number that makes an index is that of the index, and below `COUNT`.
+    /// taken: (n : ℕ) (lane : Self) → Self.try_from_gives n (Ok lane)
+    ///     → (number lane ≡ n) × (n < COUNT)
+    /// -- A number that makes no index is `COUNT` or more.
+    /// refused: (n : ℕ) (error : _) → Self.try_from_gives n (Err error) → COUNT ≤ n
+    /// ```
     pub trait LaneIndex: Copy + Into<u8> + TryFrom<u8, Error = OutOfBoundsLaneIdx> {}
 
     /// # Contract
     ///
-    /// <span></span><pre><code>COUNT = N
-    /// number = λ lane. lane</code></pre>
+    /// ```text
+    /// COUNT = N
+    /// number = λ lane. lane
+    /// ```
     impl<const N: usize> LaneIndex for ImmLaneIdx<N> where ImmLaneIdx<N>: CountsLanes<N> {}
 
     /// An integer with the index of one of its lanes in a vector, of which there are 128 divided by its
@@ -157,12 +158,10 @@ mod index {
     ///
     /// # Contract
     ///
-    /// <span></span><pre><code><i>\-\- As many lanes as there are indices make 128 bits.</i>
-    /// count: [Self.LaneIdx].COUNT \* [bits] [Self.width] ≡ 128</code></pre>
-    ///
-    /// [Self.LaneIdx]: trait@IntoLaneIdx#contract
-    /// [bits]: crate::specs::library#bits "the number of bits of a width"
-    /// [Self.width]: trait@IntoLaneIdx#contract
+    /// ```text
+    /// -- As many lanes as there are indices make 128 bits.
+    /// count: Self.LaneIdx.COUNT * bits Self.width ≡ 128
+    /// ```
     pub trait IntoLaneIdx: LaneInteger {
         /// The index of a lane of these integers.
         type LaneIdx: LaneIndex;
@@ -179,24 +178,24 @@ mod item {
     ///
     /// # Contract
     ///
-    /// <span></span><pre><code><i>\-\- The width of a lane.</i>
-    /// width: [Width]
-    /// <i>\-\- The item as which a lane\'s number is read.</i>
-    /// read: [ℕ] → Self
-    /// <i>\-\- The number of an item.</i>
-    /// image: Self → [ℕ]
-    /// <i>\-\- The item is in its type\'s range.</i>
+    /// ```text
+    /// -- The width of a lane.
+    /// width: Width
+    /// -- The item as which a lane's number is read.
+    /// read: ℕ → Self
+    /// -- The number of an item.
+    /// image: Self → ℕ
+    /// -- The item is in its type's range.
     /// Fits: Self → Type 0
-    /// <i>\-\- The item whose bits are all ones, in contracts.</i>
+    /// -- The item whose bits are all ones, in contracts.
     /// ALL_ONES: Self
-    /// <i>\-\- The item whose bits are all zeros, in contracts.</i>
+    /// -- The item whose bits are all zeros, in contracts.
     /// ALL_ZEROS: Self
-    /// <i>\-\- The items are those of the lanes of the width.</i>
-    /// laws: [ReadsLanes] width read image Fits ALL_ONES ALL_ZEROS</code></pre>
+    /// -- The items are those of the lanes of the width.
+    /// laws: ReadsLanes width read image Fits ALL_ONES ALL_ZEROS
+    /// ```
     ///
-    /// [Width]: crate::specs::library#Width "the widths of integers: 8, 16, 32, 64 or 128 bits"
-    /// [ℕ]: crate::specs::library#%E2%84%95 "the whole numbers from 0 on"
-    /// [ReadsLanes]: crate::specs::lanes::Lane#ReadsLanes "the items of a type are those of lanes of a width: \`read\` gives the item of a lane\'s number, \`image\` the number of an item, and \`Fits\` says which items are in the type\'s range; \`ones\` is the item whose bits are all ones, \`zeros\` that whose bits are all zeros"
+    /// Definitions: [`lane`](crate::specs::lanes::Lane#lane), [`ReadsLanes`](crate::specs::lanes::Lane#ReadsLanes).
     pub trait LaneInteger: Copy {
         /// The item whose bits are all ones.
         const ALL_ONES: Self;
@@ -209,55 +208,49 @@ mod item {
     ///
     /// # Contract
     ///
-    /// <span></span><pre><code><i>\-\- \`N\` lanes make 128 bits.</i>
-    /// filled: N \* [bits] [Self.width] ≡ 128</code></pre>
-    ///
-    /// [bits]: crate::specs::library#bits "the number of bits of a width"
-    /// [Self.width]: trait@LaneItem#contract
+    /// ```text
+    /// -- `N` lanes make 128 bits.
+    /// filled: N * bits Self.width ≡ 128
+    /// ```
     pub trait LaneItem<const N: usize>: LaneInteger {
         /// Fills `items` with the lanes of a vector, lane 0 first.
         ///
         /// # Contract
         ///
-        /// <span></span><pre><code>ensures: (i : [ℕ]) → i < N
-        /// &#32;&#32;&#32;&#32;→ [slice_index_or] items.new i [Self.ALL_ZEROS] ≡ [Self.read] ([lane] [Self.width] vector i)</code></pre>
+        /// ```text
+        /// ensures: (i : ℕ) → i < N
+        ///     → slice_index_or items.new i Self.ALL_ZEROS ≡ Self.read (lane Self.width vector i)
+        /// ```
         ///
-        /// [ℕ]: crate::specs::library#%E2%84%95 "the whole numbers from 0 on"
-        /// [slice_index_or]: crate::specs::library#slice_index_or "element i of a list; x past its end"
-        /// [Self.ALL_ZEROS]: trait@LaneItem#contract
-        /// [Self.read]: trait@LaneItem#contract
-        /// [lane]: crate::specs::lanes::Lane#lane "lane i of the vector v"
-        /// [Self.width]: trait@LaneItem#contract
+        /// Definitions: [`lane`](crate::specs::lanes::Lane#lane).
         fn read_into(vector: V128, items: &mut [Self; N]);
 
         /// The vector with these lanes, lane 0 first.
         ///
         /// # Contract
         ///
-        /// <span></span><pre><code>ensures lanes: (i : [ℕ]) → i < N
-        /// &#32;&#32;&#32;&#32;→ [slice_index_or] items.now i [Self.ALL_ZEROS] ≡ [Self.read] ([lane] [Self.width] result i)
-        /// ensures in_range: result < 2 ^ 128</code></pre>
+        /// ```text
+        /// ensures lanes: (i : ℕ) → i < N
+        ///     → slice_index_or items.now i Self.ALL_ZEROS ≡ Self.read (lane Self.width result i)
+        /// ensures in_range: result < 2 ^ 128
+        /// ```
         ///
-        /// [ℕ]: crate::specs::library#%E2%84%95 "the whole numbers from 0 on"
-        /// [slice_index_or]: crate::specs::library#slice_index_or "element i of a list; x past its end"
-        /// [Self.ALL_ZEROS]: trait@LaneItem#contract
-        /// [Self.read]: trait@LaneItem#contract
-        /// [lane]: crate::specs::lanes::Lane#lane "lane i of the vector v"
-        /// [Self.width]: trait@LaneItem#contract
+        /// Definitions: [`lane`](crate::specs::lanes::Lane#lane).
         fn write_from(items: &[Self; N]) -> V128;
     }
 
     /// # Contract
     ///
-    /// <span></span><pre><code>ALL_ONES = 255
+    /// ```text
+    /// ALL_ONES = 255
     /// ALL_ZEROS = 0
-    /// width = [w8]
-    /// read = [unsigned]
+    /// width = w8
+    /// read = unsigned
     /// image = λ item. item
-    /// Fits = λ item. item < 2 ^ 8</code></pre>
+    /// Fits = λ item. item < 2 ^ 8
+    /// ```
     ///
-    /// [w8]: crate::specs::library#w8 "the widths of integers in bits"
-    /// [unsigned]: crate::specs::lanes::Lane#unsigned "a lane\'s number as it is; \`signed\` reads it as a signed number"
+    /// Definitions: [`unsigned`](crate::specs::lanes::Lane#unsigned).
     impl LaneInteger for u8 {
         const ALL_ONES: u8 = u8::MAX;
 
@@ -279,19 +272,14 @@ mod item {
 
     /// # Contract
     ///
-    /// <span></span><pre><code>ALL_ONES = [negsuc] 0
-    /// ALL_ZEROS = [pos] 0
-    /// width = [w8]
-    /// read = [signed] [w8]
-    /// image = [cast_unsigned] [w8]
-    /// Fits = [FitsSigned] [w8]</code></pre>
-    ///
-    /// [negsuc]: crate::specs::library#negsuc "the number -(n + 1)"
-    /// [pos]: crate::specs::library#pos "the number n, as one with a sign"
-    /// [w8]: crate::specs::library#w8 "the widths of integers in bits"
-    /// [signed]: crate::specs::library#cast_signed "the number from 0 up to 2 ^ w read as signed, in two\'s complement"
-    /// [cast_unsigned]: crate::specs::library#cast_unsigned "the signed number as one from 0 up to 2 ^ w, in two\'s complement"
-    /// [FitsSigned]: crate::specs::library#FitsSigned "z is in the range of the signed integers of a width"
+    /// ```text
+    /// ALL_ONES = negsuc 0
+    /// ALL_ZEROS = pos 0
+    /// width = w8
+    /// read = signed w8
+    /// image = cast_unsigned w8
+    /// Fits = FitsSigned w8
+    /// ```
     impl LaneInteger for i8 {
         const ALL_ONES: i8 = -1;
 
@@ -320,15 +308,16 @@ mod item {
 
     /// # Contract
     ///
-    /// <span></span><pre><code>ALL_ONES = 65535
+    /// ```text
+    /// ALL_ONES = 65535
     /// ALL_ZEROS = 0
-    /// width = [w16]
-    /// read = [unsigned]
+    /// width = w16
+    /// read = unsigned
     /// image = λ item. item
-    /// Fits = λ item. item < 2 ^ 16</code></pre>
+    /// Fits = λ item. item < 2 ^ 16
+    /// ```
     ///
-    /// [w16]: crate::specs::library#w16 "the widths of integers in bits"
-    /// [unsigned]: crate::specs::lanes::Lane#unsigned "a lane\'s number as it is; \`signed\` reads it as a signed number"
+    /// Definitions: [`unsigned`](crate::specs::lanes::Lane#unsigned).
     impl LaneInteger for u16 {
         const ALL_ONES: u16 = u16::MAX;
 
@@ -350,19 +339,14 @@ mod item {
 
     /// # Contract
     ///
-    /// <span></span><pre><code>ALL_ONES = [negsuc] 0
-    /// ALL_ZEROS = [pos] 0
-    /// width = [w16]
-    /// read = [signed] [w16]
-    /// image = [cast_unsigned] [w16]
-    /// Fits = [FitsSigned] [w16]</code></pre>
-    ///
-    /// [negsuc]: crate::specs::library#negsuc "the number -(n + 1)"
-    /// [pos]: crate::specs::library#pos "the number n, as one with a sign"
-    /// [w16]: crate::specs::library#w16 "the widths of integers in bits"
-    /// [signed]: crate::specs::library#cast_signed "the number from 0 up to 2 ^ w read as signed, in two\'s complement"
-    /// [cast_unsigned]: crate::specs::library#cast_unsigned "the signed number as one from 0 up to 2 ^ w, in two\'s complement"
-    /// [FitsSigned]: crate::specs::library#FitsSigned "z is in the range of the signed integers of a width"
+    /// ```text
+    /// ALL_ONES = negsuc 0
+    /// ALL_ZEROS = pos 0
+    /// width = w16
+    /// read = signed w16
+    /// image = cast_unsigned w16
+    /// Fits = FitsSigned w16
+    /// ```
     impl LaneInteger for i16 {
         const ALL_ONES: i16 = -1;
 
@@ -391,15 +375,16 @@ mod item {
 
     /// # Contract
     ///
-    /// <span></span><pre><code>ALL_ONES = 4294967295
+    /// ```text
+    /// ALL_ONES = 4294967295
     /// ALL_ZEROS = 0
-    /// width = [w32]
-    /// read = [unsigned]
+    /// width = w32
+    /// read = unsigned
     /// image = λ item. item
-    /// Fits = λ item. item < 2 ^ 32</code></pre>
+    /// Fits = λ item. item < 2 ^ 32
+    /// ```
     ///
-    /// [w32]: crate::specs::library#w32 "the widths of integers in bits"
-    /// [unsigned]: crate::specs::lanes::Lane#unsigned "a lane\'s number as it is; \`signed\` reads it as a signed number"
+    /// Definitions: [`unsigned`](crate::specs::lanes::Lane#unsigned).
     impl LaneInteger for u32 {
         const ALL_ONES: u32 = u32::MAX;
 
@@ -421,19 +406,14 @@ mod item {
 
     /// # Contract
     ///
-    /// <span></span><pre><code>ALL_ONES = [negsuc] 0
-    /// ALL_ZEROS = [pos] 0
-    /// width = [w32]
-    /// read = [signed] [w32]
-    /// image = [cast_unsigned] [w32]
-    /// Fits = [FitsSigned] [w32]</code></pre>
-    ///
-    /// [negsuc]: crate::specs::library#negsuc "the number -(n + 1)"
-    /// [pos]: crate::specs::library#pos "the number n, as one with a sign"
-    /// [w32]: crate::specs::library#w32 "the widths of integers in bits"
-    /// [signed]: crate::specs::library#cast_signed "the number from 0 up to 2 ^ w read as signed, in two\'s complement"
-    /// [cast_unsigned]: crate::specs::library#cast_unsigned "the signed number as one from 0 up to 2 ^ w, in two\'s complement"
-    /// [FitsSigned]: crate::specs::library#FitsSigned "z is in the range of the signed integers of a width"
+    /// ```text
+    /// ALL_ONES = negsuc 0
+    /// ALL_ZEROS = pos 0
+    /// width = w32
+    /// read = signed w32
+    /// image = cast_unsigned w32
+    /// Fits = FitsSigned w32
+    /// ```
     impl LaneInteger for i32 {
         const ALL_ONES: i32 = -1;
 
@@ -462,15 +442,16 @@ mod item {
 
     /// # Contract
     ///
-    /// <span></span><pre><code>ALL_ONES = 18446744073709551615
+    /// ```text
+    /// ALL_ONES = 18446744073709551615
     /// ALL_ZEROS = 0
-    /// width = [w64]
-    /// read = [unsigned]
+    /// width = w64
+    /// read = unsigned
     /// image = λ item. item
-    /// Fits = λ item. item < 2 ^ 64</code></pre>
+    /// Fits = λ item. item < 2 ^ 64
+    /// ```
     ///
-    /// [w64]: crate::specs::library#w64 "the widths of integers in bits"
-    /// [unsigned]: crate::specs::lanes::Lane#unsigned "a lane\'s number as it is; \`signed\` reads it as a signed number"
+    /// Definitions: [`unsigned`](crate::specs::lanes::Lane#unsigned).
     impl LaneInteger for u64 {
         const ALL_ONES: u64 = u64::MAX;
 
@@ -492,19 +473,14 @@ mod item {
 
     /// # Contract
     ///
-    /// <span></span><pre><code>ALL_ONES = [negsuc] 0
-    /// ALL_ZEROS = [pos] 0
-    /// width = [w64]
-    /// read = [signed] [w64]
-    /// image = [cast_unsigned] [w64]
-    /// Fits = [FitsSigned] [w64]</code></pre>
-    ///
-    /// [negsuc]: crate::specs::library#negsuc "the number -(n + 1)"
-    /// [pos]: crate::specs::library#pos "the number n, as one with a sign"
-    /// [w64]: crate::specs::library#w64 "the widths of integers in bits"
-    /// [signed]: crate::specs::library#cast_signed "the number from 0 up to 2 ^ w read as signed, in two\'s complement"
-    /// [cast_unsigned]: crate::specs::library#cast_unsigned "the signed number as one from 0 up to 2 ^ w, in two\'s complement"
-    /// [FitsSigned]: crate::specs::library#FitsSigned "z is in the range of the signed integers of a width"
+    /// ```text
+    /// ALL_ONES = negsuc 0
+    /// ALL_ZEROS = pos 0
+    /// width = w64
+    /// read = signed w64
+    /// image = cast_unsigned w64
+    /// Fits = FitsSigned w64
+    /// ```
     impl LaneInteger for i64 {
         const ALL_ONES: i64 = -1;
 
@@ -542,22 +518,21 @@ mod lanes {
     ///
     /// # Contract
     ///
-    /// <span></span><pre><code><i>\-\- The item of the lane at an index.</i>
-    /// item: Self → [ℕ] → [Self.Item]
-    /// <i>\-\- The number of lanes, in contracts.</i>
-    /// LANES: [ℕ]
-    /// <i>\-\- The item whose bits are all ones, in contracts.</i>
-    /// ALL_ONES: [Self.Item]
-    /// <i>\-\- The item whose bits are all zeros, in contracts.</i>
-    /// ALL_ZEROS: [Self.Item]
-    /// <i>\-\- The lanes make 128 bits, there are as many indices, and all ones and all zeros are those of the item\'s type.</i>
-    /// laws: [AreWholeLanes] [Self.Item].width LANES [Self.LaneIdx].COUNT ALL_ONES ALL_ZEROS
-    /// &#32;&#32;&#32;&#32;[Self.Item].ALL_ONES [Self.Item].ALL_ZEROS</code></pre>
+    /// ```text
+    /// -- The item of the lane at an index.
+    /// item: Self → ℕ → Self.Item
+    /// -- The number of lanes, in contracts.
+    /// LANES: ℕ
+    /// -- The item whose bits are all ones, in contracts.
+    /// ALL_ONES: Self.Item
+    /// -- The item whose bits are all zeros, in contracts.
+    /// ALL_ZEROS: Self.Item
+    /// -- The lanes make 128 bits, there are as many indices, and all ones and all zeros are those of the item's type.
+    /// laws: AreWholeLanes Self.Item.width LANES Self.LaneIdx.COUNT ALL_ONES ALL_ZEROS
+    ///     Self.Item.ALL_ONES Self.Item.ALL_ZEROS
+    /// ```
     ///
-    /// [ℕ]: crate::specs::library#%E2%84%95 "the whole numbers from 0 on"
-    /// [Self.Item]: trait@Lanes#contract
-    /// [AreWholeLanes]: crate::specs::lanes::Lane#AreWholeLanes "the lanes of a type fill a vector, have as many indices, and have the ones and zeros of its items"
-    /// [Self.LaneIdx]: trait@Lanes#contract
+    /// Definitions: [`lane`](crate::specs::lanes::Lane#lane), [`AreWholeLanes`](crate::specs::lanes::Lane#AreWholeLanes).
     pub trait Lanes: Copy {
         /// The integer of one lane.
         type Item: LaneInteger;
@@ -578,82 +553,79 @@ mod lanes {
         ///
         /// # Contract
         ///
-        /// <span></span><pre><code>ensures lanes: (i : [ℕ]) → i < LANES
-        /// &#32;&#32;&#32;&#32;→ item result i ≡ [Self.Item].read ([lane] [Self.Item].width vector i)</code></pre>
+        /// ```text
+        /// ensures lanes: (i : ℕ) → i < LANES
+        ///     → item result i ≡ Self.Item.read (lane Self.Item.width vector i)
+        /// ```
         ///
-        /// [ℕ]: crate::specs::library#%E2%84%95 "the whole numbers from 0 on"
-        /// [Self.Item]: trait@Lanes#contract
-        /// [lane]: crate::specs::lanes::Lane#lane "lane i of the vector v"
+        /// Definitions: [`lane`](crate::specs::lanes::Lane#lane).
         fn from_v128(vector: V128) -> Self;
 
         /// The vector with these lanes.
         ///
         /// # Contract
         ///
-        /// <span></span><pre><code>ensures lanes: (i : [ℕ]) → i < LANES
-        /// &#32;&#32;&#32;&#32;→ item self i ≡ [Self.Item].read ([lane] [Self.Item].width result i)
-        /// ensures in_range: result < 2 ^ 128</code></pre>
+        /// ```text
+        /// ensures lanes: (i : ℕ) → i < LANES
+        ///     → item self i ≡ Self.Item.read (lane Self.Item.width result i)
+        /// ensures in_range: result < 2 ^ 128
+        /// ```
         ///
-        /// [ℕ]: crate::specs::library#%E2%84%95 "the whole numbers from 0 on"
-        /// [Self.Item]: trait@Lanes#contract
-        /// [lane]: crate::specs::lanes::Lane#lane "lane i of the vector v"
+        /// Definitions: [`lane`](crate::specs::lanes::Lane#lane).
         fn into_v128(self) -> V128;
 
         /// The same item in all lanes.
         ///
         /// # Contract
         ///
-        /// <span></span><pre><code>ensures lanes: (i : [ℕ]) → i < LANES → item result i ≡ value</code></pre>
-        ///
-        /// [ℕ]: crate::specs::library#%E2%84%95 "the whole numbers from 0 on"
+        /// ```text
+        /// ensures lanes: (i : ℕ) → i < LANES → item result i ≡ value
+        /// ```
         fn splat(value: Self::Item) -> Self;
 
         /// The item of one lane.
         ///
         /// # Contract
         ///
-        /// <span></span><pre><code>ensures item: result ≡ item self ([Self.LaneIdx].number [lane])
-        /// ensures inside: [Self.LaneIdx].number [lane] < LANES</code></pre>
+        /// ```text
+        /// ensures item: result ≡ item self (Self.LaneIdx.number lane)
+        /// ensures inside: Self.LaneIdx.number lane < LANES
+        /// ```
         ///
-        /// [Self.LaneIdx]: trait@Lanes#contract
-        /// [lane]: crate::specs::lanes::Lane#lane "lane i of the vector v"
+        /// Definitions: [`lane`](crate::specs::lanes::Lane#lane).
         fn extract_lane(self, lane: Self::LaneIdx) -> Self::Item;
 
         /// The lanes with `value` in one of them.
         ///
         /// # Contract
         ///
-        /// <span></span><pre><code>ensures lanes: (i : [ℕ]) → i < LANES
-        /// &#32;&#32;&#32;&#32;→ item result i ≡ (if i == [Self.LaneIdx].number [lane] then value else item self i)</code></pre>
+        /// ```text
+        /// ensures lanes: (i : ℕ) → i < LANES
+        ///     → item result i ≡ (if i == Self.LaneIdx.number lane then value else item self i)
+        /// ```
         ///
-        /// [ℕ]: crate::specs::library#%E2%84%95 "the whole numbers from 0 on"
-        /// [Self.LaneIdx]: trait@Lanes#contract
-        /// [lane]: crate::specs::lanes::Lane#lane "lane i of the vector v"
+        /// Definitions: [`lane`](crate::specs::lanes::Lane#lane).
         fn replace_lane(self, lane: Self::LaneIdx, value: Self::Item) -> Self;
 
         /// What `f` gives for each lane.
         ///
         /// # Contract
         ///
-        /// <span></span><pre><code>requires callable: [F.IsAlwaysCallable] f
-        /// ensures lanes: (i : [ℕ]) → i < LANES → [F.post] f (item self i) (item result i)</code></pre>
-        ///
-        /// [F.IsAlwaysCallable]: crate::specs::library#IsAlwaysCallable "the closure may be called on all arguments"
-        /// [ℕ]: crate::specs::library#%E2%84%95 "the whole numbers from 0 on"
-        /// [F.post]: crate::specs::library#post "the closure, called on x, may return y"
+        /// ```text
+        /// requires callable: F.IsAlwaysCallable f
+        /// ensures lanes: (i : ℕ) → i < LANES → F.post f (item self i) (item result i)
+        /// ```
         fn lanewise_unary<F: Fn(Self::Item) -> Self::Item>(self, f: F) -> Self;
 
         /// What `f` gives for the lanes of two vectors at each index.
         ///
         /// # Contract
         ///
-        /// <span></span><pre><code>requires callable: [F.IsAlwaysCallable] f
-        /// ensures lanes: (i : [ℕ]) → i < LANES
-        /// &#32;&#32;&#32;&#32;→ [F.post] f (item self i) (item other i) (item result i)</code></pre>
-        ///
-        /// [F.IsAlwaysCallable]: crate::specs::library#IsAlwaysCallable "the closure may be called on all arguments"
-        /// [ℕ]: crate::specs::library#%E2%84%95 "the whole numbers from 0 on"
-        /// [F.post]: crate::specs::library#post "the closure, called on x, may return y"
+        /// ```text
+        /// requires callable: F.IsAlwaysCallable f
+        /// ensures lanes: (i : ℕ) → i < LANES
+        ///     → F.post f (item self i) (item other i) (item result i)
+        /// ```
         fn lanewise_binary<F: Fn(Self::Item, Self::Item) -> Self::Item>(
             self,
             other: Self,
@@ -664,13 +636,11 @@ mod lanes {
         ///
         /// # Contract
         ///
-        /// <span></span><pre><code>requires callable: [F.IsAlwaysCallable] f
-        /// ensures lanes: (i : [ℕ]) → i < LANES
-        /// &#32;&#32;&#32;&#32;→ [F.post] f (item self i) (item b i) (item c i) (item result i)</code></pre>
-        ///
-        /// [F.IsAlwaysCallable]: crate::specs::library#IsAlwaysCallable "the closure may be called on all arguments"
-        /// [ℕ]: crate::specs::library#%E2%84%95 "the whole numbers from 0 on"
-        /// [F.post]: crate::specs::library#post "the closure, called on x, may return y"
+        /// ```text
+        /// requires callable: F.IsAlwaysCallable f
+        /// ensures lanes: (i : ℕ) → i < LANES
+        ///     → F.post f (item self i) (item b i) (item c i) (item result i)
+        /// ```
         fn lanewise_ternary<F: Fn(Self::Item, Self::Item, Self::Item) -> Self::Item>(
             self,
             b: Self,
@@ -682,15 +652,12 @@ mod lanes {
         ///
         /// # Contract
         ///
-        /// <span></span><pre><code>requires callable: [F.IsAlwaysCallable] f
-        /// ensures lanes: (i : [ℕ]) → i < LANES
-        /// &#32;&#32;&#32;&#32;→ (holds : [Bool]) × [F.post] f (item self i) (item other i) holds
-        /// &#32;&#32;&#32;&#32;× (item result i ≡ (if holds then ALL_ONES else ALL_ZEROS))</code></pre>
-        ///
-        /// [F.IsAlwaysCallable]: crate::specs::library#IsAlwaysCallable "the closure may be called on all arguments"
-        /// [ℕ]: crate::specs::library#%E2%84%95 "the whole numbers from 0 on"
-        /// [Bool]: crate::specs::library#Bool "the Booleans \`true\` and \`false\`"
-        /// [F.post]: crate::specs::library#post "the closure, called on x, may return y"
+        /// ```text
+        /// requires callable: F.IsAlwaysCallable f
+        /// ensures lanes: (i : ℕ) → i < LANES
+        ///     → (holds : Bool) × F.post f (item self i) (item other i) holds
+        ///     × (item result i ≡ (if holds then ALL_ONES else ALL_ZEROS))
+        /// ```
         fn lanewise_comparison<F: Fn(Self::Item, Self::Item) -> bool>(
             self,
             other: Self,
@@ -701,14 +668,14 @@ mod lanes {
         ///
         /// # Contract
         ///
-        /// <span></span><pre><code>requires callable: [F.IsAlwaysCallable] f
-        /// ensures steps: [ReducesTo]
-        /// &#32;&#32;&#32;&#32;(λ i before after. [F.post] f i (item self i) before after) LANES acc
-        /// &#32;&#32;&#32;&#32;result</code></pre>
+        /// ```text
+        /// requires callable: F.IsAlwaysCallable f
+        /// ensures steps: ReducesTo
+        ///     (λ i before after. F.post f i (item self i) before after) LANES acc
+        ///     result
+        /// ```
         ///
-        /// [F.IsAlwaysCallable]: crate::specs::library#IsAlwaysCallable "the closure may be called on all arguments"
-        /// [ReducesTo]: crate::specs::lanes::Lane#ReducesTo "the steps at 0, 1 and so on, n of them, lead from \`first\` to \`last\`"
-        /// [F.post]: crate::specs::library#post "the closure, called on x, may return y"
+        /// Definitions: [`ReducesTo`](crate::specs::lanes::Lane#ReducesTo).
         fn lanewise_reduce<T, F: Fn(u8, Self::Item, T) -> T>(self, acc: T, f: F) -> T;
     }
 
@@ -721,10 +688,9 @@ mod lanes {
     // All ones where `holds`, else all zeros.
     /// # Contract
     ///
-    /// <span></span><pre><code>ensures: result ≡ (if holds then [T.ALL_ONES] else [T.ALL_ZEROS])</code></pre>
-    ///
-    /// [T.ALL_ONES]: trait@LaneInteger#contract
-    /// [T.ALL_ZEROS]: trait@LaneInteger#contract
+    /// ```text
+    /// ensures: result ≡ (if holds then T.ALL_ONES else T.ALL_ZEROS)
+    /// ```
     #[inline(always)]
     fn ones_if<T: LaneInteger>(holds: bool) -> T {
         if holds { T::ALL_ONES } else { T::ALL_ZEROS }
@@ -732,14 +698,12 @@ mod lanes {
 
     /// # Contract
     ///
-    /// <span></span><pre><code>item = λ lanes i. [slice_index_or] lanes.items i [T.ALL_ZEROS]
+    /// ```text
+    /// item = λ lanes i. slice_index_or lanes.items i T.ALL_ZEROS
     /// LANES = N
-    /// ALL_ONES = [T.ALL_ONES]
-    /// ALL_ZEROS = [T.ALL_ZEROS]</code></pre>
-    ///
-    /// [slice_index_or]: crate::specs::library#slice_index_or "element i of a list; x past its end"
-    /// [T.ALL_ZEROS]: trait@LaneItem#contract
-    /// [T.ALL_ONES]: trait@LaneItem#contract
+    /// ALL_ONES = T.ALL_ONES
+    /// ALL_ZEROS = T.ALL_ZEROS
+    /// ```
     impl<T: LaneItem<N>, const N: usize> Lanes for LaneArray<T, N>
     where
         ImmLaneIdx<N>: CountsLanes<N>,
@@ -840,11 +804,9 @@ pub mod laws {
     ///
     /// # Contract
     ///
-    /// <span></span><pre><code>ensures same: (i : [ℕ]) → i < [L.LANES] → [L.item] result i ≡ [L.item] lanes i</code></pre>
-    ///
-    /// [ℕ]: crate::specs::library#%E2%84%95 "the whole numbers from 0 on"
-    /// [L.LANES]: trait@Lanes#contract
-    /// [L.item]: trait@Lanes#contract
+    /// ```text
+    /// ensures same: (i : ℕ) → i < L.LANES → L.item result i ≡ L.item lanes i
+    /// ```
     #[inline]
     pub fn lanes_there_and_back<L: Lanes>(lanes: L) -> L {
         L::from_v128(lanes.into_v128())
@@ -855,20 +817,16 @@ pub mod laws {
     ///
     /// # Contract
     ///
-    /// <span></span><pre><code>ensures made: (w : [Width]) (f : [ℕ] → [ℕ]) (i : [ℕ]) → i < 128 / [bits] w
-    /// &#32;&#32;&#32;&#32;→ [lane] w ([from_lanes] w f) i ≡ f i % 2 ^ [bits] w
-    /// ensures splat: (w : [Width]) (n i : [ℕ]) → i < 128 / [bits] w → n < 2 ^ [bits] w
-    /// &#32;&#32;&#32;&#32;→ [lane] w ([splat_of] w n) i ≡ n
-    /// ensures with_lane: (w : [Width]) (v k n i : [ℕ]) → i < 128 / [bits] w → n < 2 ^ [bits] w
-    /// &#32;&#32;&#32;&#32;→ [lane] w ([with_lane] w v k n) i ≡ (if i == k then n else [lane] w v i)</code></pre>
+    /// ```text
+    /// ensures made: (w : Width) (f : ℕ → ℕ) (i : ℕ) → i < 128 / bits w
+    ///     → lane w (from_lanes w f) i ≡ f i % 2 ^ bits w
+    /// ensures splat: (w : Width) (n i : ℕ) → i < 128 / bits w → n < 2 ^ bits w
+    ///     → lane w (splat_of w n) i ≡ n
+    /// ensures with_lane: (w : Width) (v k n i : ℕ) → i < 128 / bits w → n < 2 ^ bits w
+    ///     → lane w (with_lane w v k n) i ≡ (if i == k then n else lane w v i)
+    /// ```
     ///
-    /// [Width]: crate::specs::library#Width "the widths of integers: 8, 16, 32, 64 or 128 bits"
-    /// [ℕ]: crate::specs::library#%E2%84%95 "the whole numbers from 0 on"
-    /// [bits]: crate::specs::library#bits "the number of bits of a width"
-    /// [lane]: crate::specs::lanes::Lane#lane "lane i of the vector v"
-    /// [from_lanes]: crate::specs::lanes::Vector#from_lanes "the vector whose lane i is f i"
-    /// [splat_of]: crate::specs::lanes::Vector#splat_of "n in each lane"
-    /// [with_lane]: crate::specs::lanes::Vector#with_lane "v with n in lane k"
+    /// Definitions: [`lane`](crate::specs::lanes::Lane#lane), [`from_lanes`](crate::specs::lanes::Vector#from_lanes), [`splat_of`](crate::specs::lanes::Vector#splat_of), [`with_lane`](crate::specs::lanes::Vector#with_lane).
     #[inline]
     pub fn lanes_of_made_vector() {}
 
@@ -877,28 +835,22 @@ pub mod laws {
     ///
     /// # Contract
     ///
-    /// <span></span><pre><code>ensures unary: (read : [ℕ] → [L.Item]) (row : [L.Item] → [ℕ]) (a i : [ℕ]) → i < [L.LANES]
-    /// &#32;&#32;&#32;&#32;→ [lane] [L.Item].width ([unary_of_lanes] [L.Item].width read row a) i
-    /// &#32;&#32;&#32;&#32;≡ row (read ([lane] [L.Item].width a i)) % 2 ^ [bits] [L.Item].width
-    /// ensures binary: (read : [ℕ] → [L.Item]) (row : [L.Item] → [L.Item] → [ℕ]) (a b i : [ℕ]) → i < [L.LANES]
-    /// &#32;&#32;&#32;&#32;→ [lane] [L.Item].width ([binary_of_lanes] [L.Item].width read row a b) i
-    /// &#32;&#32;&#32;&#32;≡ row (read ([lane] [L.Item].width a i))
-    /// &#32;&#32;&#32;&#32;(read ([lane] [L.Item].width b i)) % 2 ^ [bits] [L.Item].width
-    /// ensures comparison: (read : [ℕ] → [L.Item]) (test : [L.Item] → [L.Item] → [Bool]) (a b i : [ℕ])
-    /// &#32;&#32;&#32;&#32;→ i < [L.LANES]
-    /// &#32;&#32;&#32;&#32;→ [lane] [L.Item].width ([comparison_of_lanes] [L.Item].width read test a b) i
-    /// &#32;&#32;&#32;&#32;≡ (if test (read ([lane] [L.Item].width a i))
-    /// &#32;&#32;&#32;&#32;(read ([lane] [L.Item].width b i)) then 2 ^ [bits] [L.Item].width - 1 else 0)</code></pre>
+    /// ```text
+    /// ensures unary: (read : ℕ → L.Item) (row : L.Item → ℕ) (a i : ℕ) → i < L.LANES
+    ///     → lane L.Item.width (unary_of_lanes L.Item.width read row a) i
+    ///     ≡ row (read (lane L.Item.width a i)) % 2 ^ bits L.Item.width
+    /// ensures binary: (read : ℕ → L.Item) (row : L.Item → L.Item → ℕ) (a b i : ℕ) → i < L.LANES
+    ///     → lane L.Item.width (binary_of_lanes L.Item.width read row a b) i
+    ///     ≡ row (read (lane L.Item.width a i))
+    ///     (read (lane L.Item.width b i)) % 2 ^ bits L.Item.width
+    /// ensures comparison: (read : ℕ → L.Item) (test : L.Item → L.Item → Bool) (a b i : ℕ)
+    ///     → i < L.LANES
+    ///     → lane L.Item.width (comparison_of_lanes L.Item.width read test a b) i
+    ///     ≡ (if test (read (lane L.Item.width a i))
+    ///     (read (lane L.Item.width b i)) then 2 ^ bits L.Item.width - 1 else 0)
+    /// ```
     ///
-    /// [ℕ]: crate::specs::library#%E2%84%95 "the whole numbers from 0 on"
-    /// [L.Item]: trait@Lanes#contract
-    /// [L.LANES]: trait@Lanes#contract
-    /// [lane]: crate::specs::lanes::Lane#lane "lane i of the vector v"
-    /// [unary_of_lanes]: crate::specs::lanes::Vector#unary_of_lanes "the vector whose lane i is the row of the operands\' lanes i"
-    /// [bits]: crate::specs::library#bits "the number of bits of a width"
-    /// [binary_of_lanes]: crate::specs::lanes::Vector#binary_of_lanes "the vector whose lane i is the row of lanes i of two vectors, read in one way"
-    /// [Bool]: crate::specs::library#Bool "the Booleans \`true\` and \`false\`"
-    /// [comparison_of_lanes]: crate::specs::lanes::Vector#comparison_of_lanes "all ones where the test of the operands\' lanes i holds, else all zeros"
+    /// Definitions: [`lane`](crate::specs::lanes::Lane#lane), [`unary_of_lanes`](crate::specs::lanes::Vector#unary_of_lanes), [`binary_of_lanes`](crate::specs::lanes::Vector#binary_of_lanes), [`comparison_of_lanes`](crate::specs::lanes::Vector#comparison_of_lanes).
     #[inline]
     pub fn lanes_of_rows<L: Lanes>() {}
 
@@ -906,32 +858,26 @@ pub mod laws {
     ///
     /// # Contract
     ///
-    /// <span></span><pre><code>ensures: (widths : [List] [ℕ]) → [sum] widths ≡ 64
-    /// &#32;&#32;&#32;&#32;→ word ≡ [word_of_lanes] (λ start width. [field] start width word) 0 widths</code></pre>
+    /// ```text
+    /// ensures: (widths : List ℕ) → sum widths ≡ 64
+    ///     → word ≡ word_of_lanes (λ start width. field start width word) 0 widths
+    /// ```
     ///
-    /// [List]: crate::specs::library#List "the finite lists"
-    /// [ℕ]: crate::specs::library#%E2%84%95 "the whole numbers from 0 on"
-    /// [sum]: crate::specs::library#sum "the sum of a list of numbers"
-    /// [word_of_lanes]: crate::specs::lanes::Words#word_of_lanes "the word whose lanes of these widths, one after another from start on, are what f gives for start and width of each"
-    /// [field]: crate::specs::lanes::Words#field "the number in the bits of v from start to start + width - 1"
+    /// Definitions: [`word_of_lanes`](crate::specs::lanes::Words#word_of_lanes), [`field`](crate::specs::lanes::Words#field).
     #[inline]
-    pub fn word_is_made_of_lanes(word: u64) {
-        let _ = word;
-    }
+    pub fn word_is_made_of_lanes(word: u64) {}
 
     /// The sums of the lanes of two words are the word of `word_add`.
     ///
     /// # Contract
     ///
-    /// <span></span><pre><code>ensures: (widths : [List] [ℕ]) → [AreLanes] tops 0 widths
-    /// &#32;&#32;&#32;&#32;→ result ≡ [word_of_lanes]
-    /// &#32;&#32;&#32;&#32;(λ start width. ([field] start width a + [field] start width b) % 2 ^ width) 0 widths</code></pre>
+    /// ```text
+    /// ensures: (widths : List ℕ) → AreLanes tops 0 widths
+    ///     → result ≡ word_of_lanes
+    ///     (λ start width. (field start width a + field start width b) % 2 ^ width) 0 widths
+    /// ```
     ///
-    /// [List]: crate::specs::library#List "the finite lists"
-    /// [ℕ]: crate::specs::library#%E2%84%95 "the whole numbers from 0 on"
-    /// [AreLanes]: crate::specs::lanes::Words#AreLanes "lanes of these widths, one after another from start on, are those of tops up to the end of the word"
-    /// [word_of_lanes]: crate::specs::lanes::Words#word_of_lanes "the word whose lanes of these widths, one after another from start on, are what f gives for start and width of each"
-    /// [field]: crate::specs::lanes::Words#field "the number in the bits of v from start to start + width - 1"
+    /// Definitions: [`AreLanes`](crate::specs::lanes::Words#AreLanes), [`word_of_lanes`](crate::specs::lanes::Words#word_of_lanes), [`field`](crate::specs::lanes::Words#field).
     #[inline]
     pub fn sums_of_lanes(a: u64, b: u64, tops: u64) -> u64 {
         word_add(a, b, tops)
@@ -941,16 +887,14 @@ pub mod laws {
     ///
     /// # Contract
     ///
-    /// <span></span><pre><code>ensures: (widths : [List] [ℕ]) → [AreLanes] tops 0 widths
-    /// &#32;&#32;&#32;&#32;→ result ≡ [word_of_lanes]
-    /// &#32;&#32;&#32;&#32;(λ start width. ([field] start width a + (2 ^ width - [field] start width b)) % 2 ^ width) 0
-    /// &#32;&#32;&#32;&#32;widths</code></pre>
+    /// ```text
+    /// ensures: (widths : List ℕ) → AreLanes tops 0 widths
+    ///     → result ≡ word_of_lanes
+    ///     (λ start width. (field start width a + (2 ^ width - field start width b)) % 2 ^ width) 0
+    ///     widths
+    /// ```
     ///
-    /// [List]: crate::specs::library#List "the finite lists"
-    /// [ℕ]: crate::specs::library#%E2%84%95 "the whole numbers from 0 on"
-    /// [AreLanes]: crate::specs::lanes::Words#AreLanes "lanes of these widths, one after another from start on, are those of tops up to the end of the word"
-    /// [word_of_lanes]: crate::specs::lanes::Words#word_of_lanes "the word whose lanes of these widths, one after another from start on, are what f gives for start and width of each"
-    /// [field]: crate::specs::lanes::Words#field "the number in the bits of v from start to start + width - 1"
+    /// Definitions: [`AreLanes`](crate::specs::lanes::Words#AreLanes), [`word_of_lanes`](crate::specs::lanes::Words#word_of_lanes), [`field`](crate::specs::lanes::Words#field).
     #[inline]
     pub fn differences_of_lanes(a: u64, b: u64, tops: u64) -> u64 {
         word_sub(a, b, tops)
@@ -960,16 +904,14 @@ pub mod laws {
     ///
     /// # Contract
     ///
-    /// <span></span><pre><code>ensures: (widths : [List] [ℕ]) → [AreLanes] tops 0 widths
-    /// &#32;&#32;&#32;&#32;→ result ≡ [word_of_lanes]
-    /// &#32;&#32;&#32;&#32;(λ start width. if [field] start width a == [field] start width b then 0 else 2 ^
-    /// &#32;&#32;&#32;&#32;(width - 1)) 0 widths</code></pre>
+    /// ```text
+    /// ensures: (widths : List ℕ) → AreLanes tops 0 widths
+    ///     → result ≡ word_of_lanes
+    ///     (λ start width. if field start width a == field start width b then 0 else 2 ^
+    ///     (width - 1)) 0 widths
+    /// ```
     ///
-    /// [List]: crate::specs::library#List "the finite lists"
-    /// [ℕ]: crate::specs::library#%E2%84%95 "the whole numbers from 0 on"
-    /// [AreLanes]: crate::specs::lanes::Words#AreLanes "lanes of these widths, one after another from start on, are those of tops up to the end of the word"
-    /// [word_of_lanes]: crate::specs::lanes::Words#word_of_lanes "the word whose lanes of these widths, one after another from start on, are what f gives for start and width of each"
-    /// [field]: crate::specs::lanes::Words#field "the number in the bits of v from start to start + width - 1"
+    /// Definitions: [`AreLanes`](crate::specs::lanes::Words#AreLanes), [`word_of_lanes`](crate::specs::lanes::Words#word_of_lanes), [`field`](crate::specs::lanes::Words#field).
     #[inline]
     pub fn tops_of_different_lanes(a: u64, b: u64, tops: u64) -> u64 {
         word_differ(a, b, tops)
@@ -986,8 +928,10 @@ mod narrow {
     ///
     /// # Contract
     ///
-    /// <span></span><pre><code><i>\-\- There are twice as many as of \`U\`.</i>
-    /// twice: N ≡ 2 \* M</code></pre>
+    /// ```text
+    /// -- There are twice as many as of `U`.
+    /// twice: N ≡ 2 * M
+    /// ```
     pub trait Narrower<U: LaneItem<M>, const N: usize, const M: usize>: LaneItem<N> {}
 
     impl Narrower<u16, 16, 8> for u8 {}
@@ -1006,27 +950,21 @@ mod narrow {
     ///
     /// # Contract
     ///
-    /// <span></span><pre><code><i>\-\- There are twice as many lanes as wide ones.</i>
-    /// twice: [Self.LANES] ≡ 2 \* [W.LANES]</code></pre>
-    ///
-    /// [Self.LANES]: trait@FromWide#contract
-    /// [W.LANES]: trait@Lanes#contract
+    /// ```text
+    /// -- There are twice as many lanes as wide ones.
+    /// twice: Self.LANES ≡ 2 * W.LANES
+    /// ```
     pub trait FromWide<W: Lanes>: Lanes {
         /// Lanes made of each lane of `low`, then of each lane of `high`.
         ///
         /// # Contract
         ///
-        /// <span></span><pre><code>requires callable: [F.IsAlwaysCallable] f
-        /// ensures low: (i : [ℕ]) → i < [W.LANES] → [F.post] f ([W.item] low i) ([Self.item] result i)
-        /// ensures high: (i : [ℕ]) → i < [W.LANES]
-        /// &#32;&#32;&#32;&#32;→ [F.post] f ([W.item] high i) ([Self.item] result ([W.LANES] + i))</code></pre>
-        ///
-        /// [F.IsAlwaysCallable]: crate::specs::library#IsAlwaysCallable "the closure may be called on all arguments"
-        /// [ℕ]: crate::specs::library#%E2%84%95 "the whole numbers from 0 on"
-        /// [W.LANES]: trait@Lanes#contract
-        /// [F.post]: crate::specs::library#post "the closure, called on x, may return y"
-        /// [W.item]: trait@Lanes#contract
-        /// [Self.item]: trait@FromWide#contract
+        /// ```text
+        /// requires callable: F.IsAlwaysCallable f
+        /// ensures low: (i : ℕ) → i < W.LANES → F.post f (W.item low i) (Self.item result i)
+        /// ensures high: (i : ℕ) → i < W.LANES
+        ///     → F.post f (W.item high i) (Self.item result (W.LANES + i))
+        /// ```
         fn from_low_high<F: Fn(W::Item) -> Self::Item>(low: W, high: W, f: F) -> Self;
     }
 
@@ -1054,29 +992,23 @@ mod narrow {
         ///
         /// # Contract
         ///
-        /// <span></span><pre><code>requires callable: [F.IsAlwaysCallable] f
-        /// ensures lanes: (i : [ℕ]) → i < Self.LANES
-        /// &#32;&#32;&#32;&#32;→ [F.post] f ([S.item] narrow (2 \* i)) ([S.item] narrow (2 \* i + 1)) (Self.item result i)</code></pre>
-        ///
-        /// [F.IsAlwaysCallable]: crate::specs::library#IsAlwaysCallable "the closure may be called on all arguments"
-        /// [ℕ]: crate::specs::library#%E2%84%95 "the whole numbers from 0 on"
-        /// [F.post]: crate::specs::library#post "the closure, called on x, may return y"
-        /// [S.item]: trait@FromWide#contract
+        /// ```text
+        /// requires callable: F.IsAlwaysCallable f
+        /// ensures lanes: (i : ℕ) → i < Self.LANES
+        ///     → F.post f (S.item narrow (2 * i)) (S.item narrow (2 * i + 1)) (Self.item result i)
+        /// ```
         fn pairwise_unary<F: Fn(S::Item, S::Item) -> Self::Item>(narrow: S, f: F) -> Self;
 
         /// Lane i is made of the narrow lanes 2i and 2i + 1 of both operands.
         ///
         /// # Contract
         ///
-        /// <span></span><pre><code>requires callable: [F.IsAlwaysCallable] f
-        /// ensures lanes: (i : [ℕ]) → i < Self.LANES
-        /// &#32;&#32;&#32;&#32;→ [F.post] f ([S.item] a (2 \* i) ∷ [S.item] a (2 \* i + 1) ∷ \[\])
-        /// &#32;&#32;&#32;&#32;([S.item] b (2 \* i) ∷ [S.item] b (2 \* i + 1) ∷ \[\]) (Self.item result i)</code></pre>
-        ///
-        /// [F.IsAlwaysCallable]: crate::specs::library#IsAlwaysCallable "the closure may be called on all arguments"
-        /// [ℕ]: crate::specs::library#%E2%84%95 "the whole numbers from 0 on"
-        /// [F.post]: crate::specs::library#post "the closure, called on x, may return y"
-        /// [S.item]: trait@FromWide#contract
+        /// ```text
+        /// requires callable: F.IsAlwaysCallable f
+        /// ensures lanes: (i : ℕ) → i < Self.LANES
+        ///     → F.post f (S.item a (2 * i) ∷ S.item a (2 * i + 1) ∷ [])
+        ///     (S.item b (2 * i) ∷ S.item b (2 * i + 1) ∷ []) (Self.item result i)
+        /// ```
         fn pairwise_binary<F: Fn([S::Item; 2], [S::Item; 2]) -> Self::Item>(
             a: S,
             b: S,
@@ -1087,57 +1019,45 @@ mod narrow {
         ///
         /// # Contract
         ///
-        /// <span></span><pre><code>requires callable: [F.IsAlwaysCallable] f
-        /// ensures lanes: (i : [ℕ]) → i < Self.LANES
-        /// &#32;&#32;&#32;&#32;→ [F.post] f ([S.item] narrow i) (Self.item result i)</code></pre>
-        ///
-        /// [F.IsAlwaysCallable]: crate::specs::library#IsAlwaysCallable "the closure may be called on all arguments"
-        /// [ℕ]: crate::specs::library#%E2%84%95 "the whole numbers from 0 on"
-        /// [F.post]: crate::specs::library#post "the closure, called on x, may return y"
-        /// [S.item]: trait@FromWide#contract
+        /// ```text
+        /// requires callable: F.IsAlwaysCallable f
+        /// ensures lanes: (i : ℕ) → i < Self.LANES
+        ///     → F.post f (S.item narrow i) (Self.item result i)
+        /// ```
         fn low_unary<F: Fn(S::Item) -> Self::Item>(narrow: S, f: F) -> Self;
 
         /// Lane i is made of the narrow lane i of the upper half.
         ///
         /// # Contract
         ///
-        /// <span></span><pre><code>requires callable: [F.IsAlwaysCallable] f
-        /// ensures lanes: (i : [ℕ]) → i < Self.LANES
-        /// &#32;&#32;&#32;&#32;→ [F.post] f ([S.item] narrow (Self.LANES + i)) (Self.item result i)</code></pre>
-        ///
-        /// [F.IsAlwaysCallable]: crate::specs::library#IsAlwaysCallable "the closure may be called on all arguments"
-        /// [ℕ]: crate::specs::library#%E2%84%95 "the whole numbers from 0 on"
-        /// [F.post]: crate::specs::library#post "the closure, called on x, may return y"
-        /// [S.item]: trait@FromWide#contract
+        /// ```text
+        /// requires callable: F.IsAlwaysCallable f
+        /// ensures lanes: (i : ℕ) → i < Self.LANES
+        ///     → F.post f (S.item narrow (Self.LANES + i)) (Self.item result i)
+        /// ```
         fn high_unary<F: Fn(S::Item) -> Self::Item>(narrow: S, f: F) -> Self;
 
         /// Lane i is made of the narrow lanes i of both operands.
         ///
         /// # Contract
         ///
-        /// <span></span><pre><code>requires callable: [F.IsAlwaysCallable] f
-        /// ensures lanes: (i : [ℕ]) → i < Self.LANES
-        /// &#32;&#32;&#32;&#32;→ [F.post] f ([S.item] a i) ([S.item] b i) (Self.item result i)</code></pre>
-        ///
-        /// [F.IsAlwaysCallable]: crate::specs::library#IsAlwaysCallable "the closure may be called on all arguments"
-        /// [ℕ]: crate::specs::library#%E2%84%95 "the whole numbers from 0 on"
-        /// [F.post]: crate::specs::library#post "the closure, called on x, may return y"
-        /// [S.item]: trait@FromWide#contract
+        /// ```text
+        /// requires callable: F.IsAlwaysCallable f
+        /// ensures lanes: (i : ℕ) → i < Self.LANES
+        ///     → F.post f (S.item a i) (S.item b i) (Self.item result i)
+        /// ```
         fn low_binary<F: Fn(S::Item, S::Item) -> Self::Item>(a: S, b: S, f: F) -> Self;
 
         /// Lane i is made of the narrow lanes i of the upper halves of both operands.
         ///
         /// # Contract
         ///
-        /// <span></span><pre><code>requires callable: [F.IsAlwaysCallable] f
-        /// ensures lanes: (i : [ℕ]) → i < Self.LANES
-        /// &#32;&#32;&#32;&#32;→ [F.post] f ([S.item] a (Self.LANES + i)) ([S.item] b (Self.LANES + i))
-        /// &#32;&#32;&#32;&#32;(Self.item result i)</code></pre>
-        ///
-        /// [F.IsAlwaysCallable]: crate::specs::library#IsAlwaysCallable "the closure may be called on all arguments"
-        /// [ℕ]: crate::specs::library#%E2%84%95 "the whole numbers from 0 on"
-        /// [F.post]: crate::specs::library#post "the closure, called on x, may return y"
-        /// [S.item]: trait@FromWide#contract
+        /// ```text
+        /// requires callable: F.IsAlwaysCallable f
+        /// ensures lanes: (i : ℕ) → i < Self.LANES
+        ///     → F.post f (S.item a (Self.LANES + i)) (S.item b (Self.LANES + i))
+        ///     (Self.item result i)
+        /// ```
         fn high_binary<F: Fn(S::Item, S::Item) -> Self::Item>(a: S, b: S, f: F) -> Self;
     }
 
@@ -1220,22 +1140,17 @@ pub mod on_vectors {
     ///
     /// # Contract
     ///
-    /// <span></span><pre><code>requires callable: [F.IsAlwaysCallable] f
-    /// ensures each: (i : [ℕ]) → i < [L.LANES]
-    /// &#32;&#32;&#32;&#32;→ [F.post] f ([L.Item].read ([lane] [L.Item].width a i))
-    /// &#32;&#32;&#32;&#32;([L.Item].read ([lane] [L.Item].width result i))
-    /// ensures lanes: (row : [L.Item] → [ℕ])
-    /// &#32;&#32;&#32;&#32;→ [ComputesLane] [L.Item].Fits [L.Item].image (λ x z. [F.post] f x z) row
-    /// &#32;&#32;&#32;&#32;→ result ≡ [unary_of_lanes] [L.Item].width [L.Item].read row a</code></pre>
+    /// ```text
+    /// requires callable: F.IsAlwaysCallable f
+    /// ensures each: (i : ℕ) → i < L.LANES
+    ///     → F.post f (L.Item.read (lane L.Item.width a i))
+    ///     (L.Item.read (lane L.Item.width result i))
+    /// ensures lanes: (row : L.Item → ℕ)
+    ///     → ComputesLane L.Item.Fits L.Item.image (λ x z. F.post f x z) row
+    ///     → result ≡ unary_of_lanes L.Item.width L.Item.read row a
+    /// ```
     ///
-    /// [F.IsAlwaysCallable]: crate::specs::library#IsAlwaysCallable "the closure may be called on all arguments"
-    /// [ℕ]: crate::specs::library#%E2%84%95 "the whole numbers from 0 on"
-    /// [L.LANES]: trait@Lanes#contract
-    /// [F.post]: crate::specs::library#post "the closure, called on x, may return y"
-    /// [L.Item]: trait@Lanes#contract
-    /// [lane]: crate::specs::lanes::Lane#lane "lane i of the vector v"
-    /// [ComputesLane]: crate::specs::lanes::Vector#ComputesLane "what is made of an item in range has the number that the row names; \`Makes\` relates the item to what is made of it"
-    /// [unary_of_lanes]: crate::specs::lanes::Vector#unary_of_lanes "the vector whose lane i is the row of the operands\' lanes i"
+    /// Definitions: [`lane`](crate::specs::lanes::Lane#lane), [`ComputesLane`](crate::specs::lanes::Vector#ComputesLane), [`unary_of_lanes`](crate::specs::lanes::Vector#unary_of_lanes).
     #[inline(always)]
     pub fn unary<L: Lanes, F: Fn(L::Item) -> L::Item>(a: V128, f: F) -> V128 {
         L::from_v128(a).lanewise_unary(f).into_v128()
@@ -1245,22 +1160,17 @@ pub mod on_vectors {
     ///
     /// # Contract
     ///
-    /// <span></span><pre><code>requires callable: [F.IsAlwaysCallable] f
-    /// ensures each: (i : [ℕ]) → i < [L.LANES]
-    /// &#32;&#32;&#32;&#32;→ [F.post] f ([L.Item].read ([lane] [L.Item].width a i)) ([L.Item].read ([lane] [L.Item].width b i))
-    /// &#32;&#32;&#32;&#32;([L.Item].read ([lane] [L.Item].width result i))
-    /// ensures lanes: (row : [L.Item] → [L.Item] → [ℕ])
-    /// &#32;&#32;&#32;&#32;→ [ComputesLaneOfTwo] [L.Item].Fits [L.Item].image (λ x y z. [F.post] f x y z) row
-    /// &#32;&#32;&#32;&#32;→ result ≡ [binary_of_lanes] [L.Item].width [L.Item].read row a b</code></pre>
+    /// ```text
+    /// requires callable: F.IsAlwaysCallable f
+    /// ensures each: (i : ℕ) → i < L.LANES
+    ///     → F.post f (L.Item.read (lane L.Item.width a i)) (L.Item.read (lane L.Item.width b i))
+    ///     (L.Item.read (lane L.Item.width result i))
+    /// ensures lanes: (row : L.Item → L.Item → ℕ)
+    ///     → ComputesLaneOfTwo L.Item.Fits L.Item.image (λ x y z. F.post f x y z) row
+    ///     → result ≡ binary_of_lanes L.Item.width L.Item.read row a b
+    /// ```
     ///
-    /// [F.IsAlwaysCallable]: crate::specs::library#IsAlwaysCallable "the closure may be called on all arguments"
-    /// [ℕ]: crate::specs::library#%E2%84%95 "the whole numbers from 0 on"
-    /// [L.LANES]: trait@Lanes#contract
-    /// [F.post]: crate::specs::library#post "the closure, called on x, may return y"
-    /// [L.Item]: trait@Lanes#contract
-    /// [lane]: crate::specs::lanes::Lane#lane "lane i of the vector v"
-    /// [ComputesLaneOfTwo]: crate::specs::lanes::Vector#ComputesLaneOfTwo "what is made of two items in range has the number that the row names for them"
-    /// [binary_of_lanes]: crate::specs::lanes::Vector#binary_of_lanes "the vector whose lane i is the row of lanes i of two vectors, read in one way"
+    /// Definitions: [`lane`](crate::specs::lanes::Lane#lane), [`ComputesLaneOfTwo`](crate::specs::lanes::Vector#ComputesLaneOfTwo), [`binary_of_lanes`](crate::specs::lanes::Vector#binary_of_lanes).
     #[inline(always)]
     pub fn binary<L: Lanes, F: Fn(L::Item, L::Item) -> L::Item>(a: V128, b: V128, f: F) -> V128 {
         L::from_v128(a)
@@ -1272,26 +1182,19 @@ pub mod on_vectors {
     ///
     /// # Contract
     ///
-    /// <span></span><pre><code>requires callable: [F.IsAlwaysCallable] f
-    /// ensures each: (i : [ℕ]) → i < [L.LANES]
-    /// &#32;&#32;&#32;&#32;→ (holds : [Bool])
-    /// &#32;&#32;&#32;&#32;× [F.post] f ([L.Item].read ([lane] [L.Item].width a i))
-    /// &#32;&#32;&#32;&#32;([L.Item].read ([lane] [L.Item].width b i)) holds
-    /// &#32;&#32;&#32;&#32;× ([lane] [L.Item].width result i ≡ (if holds then 2 ^ [bits] [L.Item].width - 1 else 0))
-    /// ensures lanes: (test : [L.Item] → [L.Item] → [Bool])
-    /// &#32;&#32;&#32;&#32;→ [DecidesTest] [L.Item].Fits (λ x y holds. [F.post] f x y holds) test
-    /// &#32;&#32;&#32;&#32;→ result ≡ [comparison_of_lanes] [L.Item].width [L.Item].read test a b</code></pre>
+    /// ```text
+    /// requires callable: F.IsAlwaysCallable f
+    /// ensures each: (i : ℕ) → i < L.LANES
+    ///     → (holds : Bool)
+    ///     × F.post f (L.Item.read (lane L.Item.width a i))
+    ///     (L.Item.read (lane L.Item.width b i)) holds
+    ///     × (lane L.Item.width result i ≡ (if holds then 2 ^ bits L.Item.width - 1 else 0))
+    /// ensures lanes: (test : L.Item → L.Item → Bool)
+    ///     → DecidesTest L.Item.Fits (λ x y holds. F.post f x y holds) test
+    ///     → result ≡ comparison_of_lanes L.Item.width L.Item.read test a b
+    /// ```
     ///
-    /// [F.IsAlwaysCallable]: crate::specs::library#IsAlwaysCallable "the closure may be called on all arguments"
-    /// [ℕ]: crate::specs::library#%E2%84%95 "the whole numbers from 0 on"
-    /// [L.LANES]: trait@Lanes#contract
-    /// [Bool]: crate::specs::library#Bool "the Booleans \`true\` and \`false\`"
-    /// [F.post]: crate::specs::library#post "the closure, called on x, may return y"
-    /// [L.Item]: trait@Lanes#contract
-    /// [lane]: crate::specs::lanes::Lane#lane "lane i of the vector v"
-    /// [bits]: crate::specs::library#bits "the number of bits of a width"
-    /// [DecidesTest]: crate::specs::lanes::Vector#DecidesTest "the Boolean that is made of two items in range is that of the test"
-    /// [comparison_of_lanes]: crate::specs::lanes::Vector#comparison_of_lanes "all ones where the test of the operands\' lanes i holds, else all zeros"
+    /// Definitions: [`lane`](crate::specs::lanes::Lane#lane), [`DecidesTest`](crate::specs::lanes::Vector#DecidesTest), [`comparison_of_lanes`](crate::specs::lanes::Vector#comparison_of_lanes).
     #[inline(always)]
     pub fn comparison<L: Lanes, F: Fn(L::Item, L::Item) -> bool>(a: V128, b: V128, f: F) -> V128 {
         L::from_v128(a)
@@ -1303,13 +1206,13 @@ pub mod on_vectors {
     ///
     /// # Contract
     ///
-    /// <span></span><pre><code>ensures lanes: (number : [ℕ]) → ([L.Item].Fits value → [L.Item].image value ≡ number)
-    /// &#32;&#32;&#32;&#32;→ result ≡ [splat_of] [L.Item].width number
-    /// ensures image: result ≡ [splat_of] [L.Item].width ([L.Item].image value)</code></pre>
+    /// ```text
+    /// ensures lanes: (number : ℕ) → (L.Item.Fits value → L.Item.image value ≡ number)
+    ///     → result ≡ splat_of L.Item.width number
+    /// ensures image: result ≡ splat_of L.Item.width (L.Item.image value)
+    /// ```
     ///
-    /// [ℕ]: crate::specs::library#%E2%84%95 "the whole numbers from 0 on"
-    /// [L.Item]: trait@Lanes#contract
-    /// [splat_of]: crate::specs::lanes::Vector#splat_of "n in each lane"
+    /// Definitions: [`splat_of`](crate::specs::lanes::Vector#splat_of).
     #[inline(always)]
     pub fn splat<L: Lanes>(value: L::Item) -> V128 {
         L::splat(value).into_v128()
@@ -1327,11 +1230,12 @@ mod simd_lane {
     ///
     /// # Contract
     ///
-    /// <span></span><pre><code><i>\-\- The number of the lane at an index.</i>
-    /// at: [Self.Vector] → [ℕ] → [ℕ]</code></pre>
+    /// ```text
+    /// -- The number of the lane at an index.
+    /// at: Self.Vector → ℕ → ℕ
+    /// ```
     ///
-    /// [Self.Vector]: trait@SimdLane#contract
-    /// [ℕ]: crate::specs::library#%E2%84%95 "the whole numbers from 0 on"
+    /// Definitions: [`lane`](crate::specs::lanes::Lane#lane).
     pub trait SimdLane: LaneInteger {
         /// The lanes that fill a vector.
         type Vector: Copy;
@@ -1340,39 +1244,36 @@ mod simd_lane {
         ///
         /// # Contract
         ///
-        /// <span></span><pre><code>ensures lanes: (i : [ℕ]) → i < [lane_count] [Self.width]
-        /// &#32;&#32;&#32;&#32;→ at result i ≡ [lane] [Self.width] vector i</code></pre>
+        /// ```text
+        /// ensures lanes: (i : ℕ) → i < lane_count Self.width
+        ///     → at result i ≡ lane Self.width vector i
+        /// ```
         ///
-        /// [ℕ]: crate::specs::library#%E2%84%95 "the whole numbers from 0 on"
-        /// [lane_count]: crate::specs::lanes::Lane#lane_count "how many lanes of a width a vector has"
-        /// [Self.width]: trait@SimdLane#contract
-        /// [lane]: crate::specs::lanes::Lane#lane "lane i of the vector v"
+        /// Definitions: [`lane_count`](crate::specs::lanes::Lane#lane_count), [`lane`](crate::specs::lanes::Lane#lane).
         fn lanes_of(vector: V128) -> Self::Vector;
 
         /// The vector with these lanes.
         ///
         /// # Contract
         ///
-        /// <span></span><pre><code>ensures lanes: (i : [ℕ]) → i < [lane_count] [Self.width]
-        /// &#32;&#32;&#32;&#32;→ [lane] [Self.width] result i ≡ at items i
-        /// ensures in_range: result < 2 ^ 128</code></pre>
+        /// ```text
+        /// ensures lanes: (i : ℕ) → i < lane_count Self.width
+        ///     → lane Self.width result i ≡ at items i
+        /// ensures in_range: result < 2 ^ 128
+        /// ```
         ///
-        /// [ℕ]: crate::specs::library#%E2%84%95 "the whole numbers from 0 on"
-        /// [lane_count]: crate::specs::lanes::Lane#lane_count "how many lanes of a width a vector has"
-        /// [Self.width]: trait@SimdLane#contract
-        /// [lane]: crate::specs::lanes::Lane#lane "lane i of the vector v"
+        /// Definitions: [`lane_count`](crate::specs::lanes::Lane#lane_count), [`lane`](crate::specs::lanes::Lane#lane).
         fn vector_of(items: Self::Vector) -> V128;
 
         /// The same number in all lanes.
         ///
         /// # Contract
         ///
-        /// <span></span><pre><code>ensures lanes: (i : [ℕ]) → i < [lane_count] [Self.width] → at result i ≡ [Self.image] number</code></pre>
+        /// ```text
+        /// ensures lanes: (i : ℕ) → i < lane_count Self.width → at result i ≡ Self.image number
+        /// ```
         ///
-        /// [ℕ]: crate::specs::library#%E2%84%95 "the whole numbers from 0 on"
-        /// [lane_count]: crate::specs::lanes::Lane#lane_count "how many lanes of a width a vector has"
-        /// [Self.width]: trait@SimdLane#contract
-        /// [Self.image]: trait@SimdLane#contract
+        /// Definitions: [`lane_count`](crate::specs::lanes::Lane#lane_count).
         fn splat(number: Self) -> Self::Vector;
 
         /// The lanes moved by half of their range, so that as unsigned numbers they stand in the order
@@ -1380,26 +1281,24 @@ mod simd_lane {
         ///
         /// # Contract
         ///
-        /// <span></span><pre><code>ensures lanes: (i : [ℕ]) → i < [lane_count] [Self.width]
-        /// &#32;&#32;&#32;&#32;→ at result i ≡ (at items i + 2 ^ ([bits] [Self.width] - 1)) % 2 ^ [bits] [Self.width]</code></pre>
+        /// ```text
+        /// ensures lanes: (i : ℕ) → i < lane_count Self.width
+        ///     → at result i ≡ (at items i + 2 ^ (bits Self.width - 1)) % 2 ^ bits Self.width
+        /// ```
         ///
-        /// [ℕ]: crate::specs::library#%E2%84%95 "the whole numbers from 0 on"
-        /// [lane_count]: crate::specs::lanes::Lane#lane_count "how many lanes of a width a vector has"
-        /// [Self.width]: trait@SimdLane#contract
-        /// [bits]: crate::specs::library#bits "the number of bits of a width"
+        /// Definitions: [`lane_count`](crate::specs::lanes::Lane#lane_count).
         fn biased(items: Self::Vector) -> Self::Vector;
 
         /// The lanes of `chosen` where that of `a` is less than that of `b`, else those of `other`.
         ///
         /// # Contract
         ///
-        /// <span></span><pre><code>ensures lanes: (i : [ℕ]) → i < [lane_count] [Self.width]
-        /// &#32;&#32;&#32;&#32;→ at result i ≡ (if [nat_lt] (at a i) (at b i) then at chosen i else at other i)</code></pre>
+        /// ```text
+        /// ensures lanes: (i : ℕ) → i < lane_count Self.width
+        ///     → at result i ≡ (if nat_lt (at a i) (at b i) then at chosen i else at other i)
+        /// ```
         ///
-        /// [ℕ]: crate::specs::library#%E2%84%95 "the whole numbers from 0 on"
-        /// [lane_count]: crate::specs::lanes::Lane#lane_count "how many lanes of a width a vector has"
-        /// [Self.width]: trait@SimdLane#contract
-        /// [nat_lt]: crate::specs::library#nat_lt "whether m is below n, as a Boolean"
+        /// Definitions: [`lane_count`](crate::specs::lanes::Lane#lane_count).
         fn choose_if_less(
             a: Self::Vector,
             b: Self::Vector,
@@ -1410,9 +1309,9 @@ mod simd_lane {
 
     /// # Contract
     ///
-    /// <span></span><pre><code>at = λ items i. [slice_index] items i</code></pre>
-    ///
-    /// [slice_index]: crate::specs::library#slice_index "element i of a list of numbers; 0 past its end"
+    /// ```text
+    /// at = λ items i. slice_index items i
+    /// ```
     impl SimdLane for u8 {
         type Vector = u8x16;
 
@@ -1444,9 +1343,9 @@ mod simd_lane {
 
     /// # Contract
     ///
-    /// <span></span><pre><code>at = λ items i. [slice_index] items i</code></pre>
-    ///
-    /// [slice_index]: crate::specs::library#slice_index "element i of a list of numbers; 0 past its end"
+    /// ```text
+    /// at = λ items i. slice_index items i
+    /// ```
     impl SimdLane for u16 {
         type Vector = u16x8;
 
@@ -1478,9 +1377,9 @@ mod simd_lane {
 
     /// # Contract
     ///
-    /// <span></span><pre><code>at = λ items i. [slice_index] items i</code></pre>
-    ///
-    /// [slice_index]: crate::specs::library#slice_index "element i of a list of numbers; 0 past its end"
+    /// ```text
+    /// at = λ items i. slice_index items i
+    /// ```
     impl SimdLane for u32 {
         type Vector = u32x4;
 
@@ -1512,9 +1411,9 @@ mod simd_lane {
 
     /// # Contract
     ///
-    /// <span></span><pre><code>at = λ items i. [slice_index] items i</code></pre>
-    ///
-    /// [slice_index]: crate::specs::library#slice_index "element i of a list of numbers; 0 past its end"
+    /// ```text
+    /// at = λ items i. slice_index items i
+    /// ```
     impl SimdLane for u64 {
         type Vector = u64x2;
 
@@ -1655,19 +1554,23 @@ mod variable_lane {
         ///
         /// # Contract
         ///
-        /// <span></span><pre><code>ensures: Self.image result ≡ [lane] Self.width vector (Self.LaneIdx.number at)</code></pre>
+        /// ```text
+        /// ensures: Self.image result ≡ lane Self.width vector (Self.LaneIdx.number at)
+        /// ```
         ///
-        /// [lane]: crate::specs::lanes::Lane#lane "lane i of the vector v"
+        /// Definitions: [`lane`](crate::specs::lanes::Lane#lane).
         fn lane_at(vector: V128, at: Self::LaneIdx) -> Self;
 
         /// The vector with `item` in the lane at an index.
         ///
         /// # Contract
         ///
-        /// <span></span><pre><code>ensures: result
-        /// &#32;&#32;&#32;&#32;≡ [vectors.with_lane] Self.width vector (Self.LaneIdx.number at) (Self.image item)</code></pre>
+        /// ```text
+        /// ensures: result
+        ///     ≡ vectors.with_lane Self.width vector (Self.LaneIdx.number at) (Self.image item)
+        /// ```
         ///
-        /// [vectors.with_lane]: crate::specs::lanes::Vector#with_lane "v with n in lane k"
+        /// Definitions: [`with_lane`](crate::specs::lanes::Vector#with_lane).
         fn with_lane(vector: V128, at: Self::LaneIdx, item: Self) -> V128;
     }
 
@@ -1740,12 +1643,11 @@ mod variable_lane {
     // The lanes of `table` at indices below 16.
     /// # Contract
     ///
-    /// <span></span><pre><code>requires inside: (i : [ℕ]) → i < 16 → [slice_index] indices i < 16
-    /// ensures lanes: (i : [ℕ]) → i < 16
-    /// &#32;&#32;&#32;&#32;→ [slice_index] result i ≡ [slice_index] table ([slice_index] indices i)</code></pre>
-    ///
-    /// [ℕ]: crate::specs::library#%E2%84%95 "the whole numbers from 0 on"
-    /// [slice_index]: crate::specs::library#slice_index "element i of a list of numbers; 0 past its end"
+    /// ```text
+    /// requires inside: (i : ℕ) → i < 16 → slice_index indices i < 16
+    /// ensures lanes: (i : ℕ) → i < 16
+    ///     → slice_index result i ≡ slice_index table (slice_index indices i)
+    /// ```
     #[inline(always)]
     fn picked_inside(table: u8x16, indices: u8x16) -> u8x16 {
         table.swizzle_dyn_within::<16>(indices)
@@ -1754,13 +1656,13 @@ mod variable_lane {
     // The index of a lane of 8 bits.
     /// # Contract
     ///
-    /// <span></span><pre><code>requires lane: [lane] < 16
-    /// ensures first: [slice_index] result 0 ≡ [lane]
-    /// ensures inside: (i : [ℕ]) → i < 16 → [slice_index] result i < 16</code></pre>
+    /// ```text
+    /// requires lane: lane < 16
+    /// ensures first: slice_index result 0 ≡ lane
+    /// ensures inside: (i : ℕ) → i < 16 → slice_index result i < 16
+    /// ```
     ///
-    /// [lane]: crate::specs::lanes::Lane#lane "lane i of the vector v"
-    /// [slice_index]: crate::specs::library#slice_index "element i of a list of numbers; 0 past its end"
-    /// [ℕ]: crate::specs::library#%E2%84%95 "the whole numbers from 0 on"
+    /// Definitions: [`lane`](crate::specs::lanes::Lane#lane).
     #[inline(always)]
     fn indices_of_u8(lane: u8) -> u8x16 {
         u32x4::from_array([u32::from(lane), 0, 0, 0]).to_le_bytes()
@@ -1773,14 +1675,14 @@ mod variable_lane {
     // The indices of the two bytes of a lane of 16 bits.
     /// # Contract
     ///
-    /// <span></span><pre><code>requires lane: [lane] < 8
-    /// ensures first: [slice_index] result 0 ≡ 2 \* [lane]
-    /// ensures second: [slice_index] result 1 ≡ 2 \* [lane] + 1
-    /// ensures inside: (i : [ℕ]) → i < 16 → [slice_index] result i < 16</code></pre>
+    /// ```text
+    /// requires lane: lane < 8
+    /// ensures first: slice_index result 0 ≡ 2 * lane
+    /// ensures second: slice_index result 1 ≡ 2 * lane + 1
+    /// ensures inside: (i : ℕ) → i < 16 → slice_index result i < 16
+    /// ```
     ///
-    /// [lane]: crate::specs::lanes::Lane#lane "lane i of the vector v"
-    /// [slice_index]: crate::specs::library#slice_index "element i of a list of numbers; 0 past its end"
-    /// [ℕ]: crate::specs::library#%E2%84%95 "the whole numbers from 0 on"
+    /// Definitions: [`lane`](crate::specs::lanes::Lane#lane).
     #[inline(always)]
     fn indices_of_u16(lane: u8) -> u8x16 {
         u32x4::from_array([BYTES_OF_U16[usize::from(lane)], 0, 0, 0]).to_le_bytes()
@@ -1791,13 +1693,13 @@ mod variable_lane {
     // The indices of the four bytes of a lane of 32 bits.
     /// # Contract
     ///
-    /// <span></span><pre><code>requires lane: [lane] < 4
-    /// ensures lanes: (i : [ℕ]) → i < 4 → [slice_index] result i ≡ 4 \* [lane] + i
-    /// ensures inside: (i : [ℕ]) → i < 16 → [slice_index] result i < 16</code></pre>
+    /// ```text
+    /// requires lane: lane < 4
+    /// ensures lanes: (i : ℕ) → i < 4 → slice_index result i ≡ 4 * lane + i
+    /// ensures inside: (i : ℕ) → i < 16 → slice_index result i < 16
+    /// ```
     ///
-    /// [lane]: crate::specs::lanes::Lane#lane "lane i of the vector v"
-    /// [ℕ]: crate::specs::library#%E2%84%95 "the whole numbers from 0 on"
-    /// [slice_index]: crate::specs::library#slice_index "element i of a list of numbers; 0 past its end"
+    /// Definitions: [`lane`](crate::specs::lanes::Lane#lane).
     #[inline(always)]
     fn indices_of_u32(lane: u8) -> u8x16 {
         u32x4::from_array([BYTES_OF_U32[usize::from(lane)], 0, 0, 0]).to_le_bytes()
@@ -1817,11 +1719,12 @@ mod variable_lane {
     // The index of a lane of 16 bits, in each lane.
     /// # Contract
     ///
-    /// <span></span><pre><code>requires lane: [lane] < 8
-    /// ensures lanes: result ≡ [replicate] 8 [lane]</code></pre>
+    /// ```text
+    /// requires lane: lane < 8
+    /// ensures lanes: result ≡ replicate 8 lane
+    /// ```
     ///
-    /// [lane]: crate::specs::lanes::Lane#lane "lane i of the vector v"
-    /// [replicate]: crate::specs::library#replicate "the list of n times x"
+    /// Definitions: [`lane`](crate::specs::lanes::Lane#lane).
     #[inline(always)]
     fn in_each_u16(lane: u8) -> u16x8 {
         u16x8::from_le_bytes(u64x2::splat(IN_EACH_U16[usize::from(lane)]).to_le_bytes())
@@ -1837,14 +1740,12 @@ mod vector_bytes {
     ///
     /// # Contract
     ///
-    /// <span></span><pre><code>ensures number: [number_l] (2 ^ 8) result ≡ vector
-    /// ensures lanes: (i : [ℕ]) → i < 16 → [slice_index_or] result i 0 ≡ [lane] [w8] vector i</code></pre>
+    /// ```text
+    /// ensures number: number_l (2 ^ 8) result ≡ vector
+    /// ensures lanes: (i : ℕ) → i < 16 → slice_index_or result i 0 ≡ lane w8 vector i
+    /// ```
     ///
-    /// [number_l]: crate::specs::library#number_l "the number of digits of base p, the lowest first"
-    /// [ℕ]: crate::specs::library#%E2%84%95 "the whole numbers from 0 on"
-    /// [slice_index_or]: crate::specs::library#slice_index_or "element i of a list; x past its end"
-    /// [lane]: crate::specs::lanes::Lane#lane "lane i of the vector v"
-    /// [w8]: crate::specs::library#w8 "the widths of integers in bits"
+    /// Definitions: [`lane`](crate::specs::lanes::Lane#lane).
     #[inline(always)]
     pub fn bytes_of(vector: V128) -> u8x16 {
         let (low, high) = vector.words();
@@ -1858,14 +1759,12 @@ mod vector_bytes {
     ///
     /// # Contract
     ///
-    /// <span></span><pre><code>ensures number: [number_l] (2 ^ 8) result ≡ vector
-    /// ensures lanes: (i : [ℕ]) → i < 16 → [slice_index_or] result i 0 ≡ [lane] [w8] vector i</code></pre>
+    /// ```text
+    /// ensures number: number_l (2 ^ 8) result ≡ vector
+    /// ensures lanes: (i : ℕ) → i < 16 → slice_index_or result i 0 ≡ lane w8 vector i
+    /// ```
     ///
-    /// [number_l]: crate::specs::library#number_l "the number of digits of base p, the lowest first"
-    /// [ℕ]: crate::specs::library#%E2%84%95 "the whole numbers from 0 on"
-    /// [slice_index_or]: crate::specs::library#slice_index_or "element i of a list; x past its end"
-    /// [lane]: crate::specs::lanes::Lane#lane "lane i of the vector v"
-    /// [w8]: crate::specs::library#w8 "the widths of integers in bits"
+    /// Definitions: [`lane`](crate::specs::lanes::Lane#lane).
     #[inline(always)]
     pub(crate) fn bytes_to_take_out(vector: V128) -> u8x16 {
         let (low, high) = vector.words();
@@ -1878,15 +1777,13 @@ mod vector_bytes {
     ///
     /// # Contract
     ///
-    /// <span></span><pre><code>ensures number: result ≡ [number_l] (2 ^ 8) bytes
-    /// ensures lanes: (i : [ℕ]) → i < 16 → [lane] [w8] result i ≡ [slice_index_or] bytes i 0
-    /// ensures in_range: result < 2 ^ 128</code></pre>
+    /// ```text
+    /// ensures number: result ≡ number_l (2 ^ 8) bytes
+    /// ensures lanes: (i : ℕ) → i < 16 → lane w8 result i ≡ slice_index_or bytes i 0
+    /// ensures in_range: result < 2 ^ 128
+    /// ```
     ///
-    /// [number_l]: crate::specs::library#number_l "the number of digits of base p, the lowest first"
-    /// [ℕ]: crate::specs::library#%E2%84%95 "the whole numbers from 0 on"
-    /// [lane]: crate::specs::lanes::Lane#lane "lane i of the vector v"
-    /// [w8]: crate::specs::library#w8 "the widths of integers in bits"
-    /// [slice_index_or]: crate::specs::library#slice_index_or "element i of a list; x past its end"
+    /// Definitions: [`lane`](crate::specs::lanes::Lane#lane).
     #[inline(always)]
     pub fn from_bytes(bytes: u8x16) -> V128 {
         let [low, high] = u64x2::from_le_bytes(bytes).to_array();
@@ -1897,7 +1794,9 @@ mod vector_bytes {
     ///
     /// # Contract
     ///
-    /// <span></span><pre><code>ensures: result ≡ vector % 2 ^ 64 ∷ vector / 2 ^ 64 ∷ \[\]</code></pre>
+    /// ```text
+    /// ensures: result ≡ vector % 2 ^ 64 ∷ vector / 2 ^ 64 ∷ []
+    /// ```
     #[inline(always)]
     pub fn u64x2_of(vector: V128) -> u64x2 {
         let (low, high) = vector.words();
@@ -1908,10 +1807,11 @@ mod vector_bytes {
     ///
     /// # Contract
     ///
-    /// <span></span><pre><code>ensures: (low high : [ℕ]) → words ≡ low ∷ high ∷ \[\] → result ≡ [vector_of] low high</code></pre>
+    /// ```text
+    /// ensures: (low high : ℕ) → words ≡ low ∷ high ∷ [] → result ≡ vector_of low high
+    /// ```
     ///
-    /// [ℕ]: crate::specs::library#%E2%84%95 "the whole numbers from 0 on"
-    /// [vector_of]: crate::specs::raw::Vector#vector_of "the vector whose words are low and high"
+    /// Definitions: [`vector_of`](crate::specs::raw::Vector#vector_of).
     #[inline(always)]
     pub fn from_u64x2(words: u64x2) -> V128 {
         let [low, high] = words.to_array();
@@ -1927,18 +1827,18 @@ mod word_lane {
     ///
     /// # Contract
     ///
-    /// <span></span><pre><code><i>\-\- The width of a lane, in contracts.</i>
-    /// BITS: [ℕ]
-    /// <i>\-\- The highest bit of each lane of a word, in contracts.</i>
-    /// TOPS: [ℕ]
-    /// <i>\-\- The lowest bit of each lane of a word, in contracts.</i>
-    /// ONES: [ℕ]
-    /// <i>\-\- These are the numbers of the lanes of the width.</i>
-    /// laws: [IsWordLane] [Self.width] BITS TOPS ONES</code></pre>
+    /// ```text
+    /// -- The width of a lane, in contracts.
+    /// BITS: ℕ
+    /// -- The highest bit of each lane of a word, in contracts.
+    /// TOPS: ℕ
+    /// -- The lowest bit of each lane of a word, in contracts.
+    /// ONES: ℕ
+    /// -- These are the numbers of the lanes of the width.
+    /// laws: IsWordLane Self.width BITS TOPS ONES
+    /// ```
     ///
-    /// [ℕ]: crate::specs::library#%E2%84%95 "the whole numbers from 0 on"
-    /// [IsWordLane]: crate::specs::lanes::Words#IsWordLane "the numbers of the lanes of one width in a word: how many bits a lane has, the highest bits of the lanes, and the lowest bits of the lanes"
-    /// [Self.width]: trait@WordLane#contract
+    /// Definitions: [`IsWordLane`](crate::specs::lanes::Words#IsWordLane).
     pub trait WordLane: LaneInteger {
         /// The width of a lane.
         const BITS: u32;
@@ -1952,9 +1852,11 @@ mod word_lane {
 
     /// # Contract
     ///
-    /// <span></span><pre><code>BITS = 8
+    /// ```text
+    /// BITS = 8
     /// TOPS = 0x8080_8080_8080_8080
-    /// ONES = 0x0101_0101_0101_0101</code></pre>
+    /// ONES = 0x0101_0101_0101_0101
+    /// ```
     impl WordLane for u8 {
         const BITS: u32 = 8;
 
@@ -1965,9 +1867,11 @@ mod word_lane {
 
     /// # Contract
     ///
-    /// <span></span><pre><code>BITS = 16
+    /// ```text
+    /// BITS = 16
     /// TOPS = 0x8000_8000_8000_8000
-    /// ONES = 0x0001_0001_0001_0001</code></pre>
+    /// ONES = 0x0001_0001_0001_0001
+    /// ```
     impl WordLane for u16 {
         const BITS: u32 = 16;
 
@@ -1978,9 +1882,11 @@ mod word_lane {
 
     /// # Contract
     ///
-    /// <span></span><pre><code>BITS = 32
+    /// ```text
+    /// BITS = 32
     /// TOPS = 0x8000_0000_8000_0000
-    /// ONES = 0x0000_0001_0000_0001</code></pre>
+    /// ONES = 0x0000_0001_0000_0001
+    /// ```
     impl WordLane for u32 {
         const BITS: u32 = 32;
 
@@ -1991,9 +1897,11 @@ mod word_lane {
 
     /// # Contract
     ///
-    /// <span></span><pre><code>BITS = 64
+    /// ```text
+    /// BITS = 64
     /// TOPS = 0x8000_0000_0000_0000
-    /// ONES = 1</code></pre>
+    /// ONES = 1
+    /// ```
     impl WordLane for u64 {
         const BITS: u32 = 64;
 
@@ -2013,15 +1921,14 @@ pub mod words {
     ///
     /// # Contract
     ///
-    /// <span></span><pre><code>ensures lanes: (start width : [ℕ]) → [IsLane] tops start width
-    /// &#32;&#32;&#32;&#32;→ [field] start width result ≡ ([field] start width a + [field] start width b) % 2 ^ width
-    /// ensures last: (start width : [ℕ]) → [IsLastLane] tops start width
-    /// &#32;&#32;&#32;&#32;→ [field] start width result ≡ ([field] start width a + [field] start width b) % 2 ^ width</code></pre>
+    /// ```text
+    /// ensures lanes: (start width : ℕ) → IsLane tops start width
+    ///     → field start width result ≡ (field start width a + field start width b) % 2 ^ width
+    /// ensures last: (start width : ℕ) → IsLastLane tops start width
+    ///     → field start width result ≡ (field start width a + field start width b) % 2 ^ width
+    /// ```
     ///
-    /// [ℕ]: crate::specs::library#%E2%84%95 "the whole numbers from 0 on"
-    /// [IsLane]: crate::specs::lanes::Words#IsLane "the bits from start to start + width - 1 are a lane of tops"
-    /// [field]: crate::specs::lanes::Words#field "the number in the bits of v from start to start + width - 1"
-    /// [IsLastLane]: crate::specs::lanes::Words#IsLastLane "the bits from start to start + width - 1 are those of a word above the last top, or all of them where there is no top"
+    /// Definitions: [`IsLane`](crate::specs::lanes::Words#IsLane), [`field`](crate::specs::lanes::Words#field), [`IsLastLane`](crate::specs::lanes::Words#IsLastLane).
     #[inline]
     pub fn word_add(a: u64, b: u64, tops: u64) -> u64 {
         let rest = !tops;
@@ -2032,17 +1939,16 @@ pub mod words {
     ///
     /// # Contract
     ///
-    /// <span></span><pre><code>ensures lanes: (start width : [ℕ]) → [IsLane] tops start width
-    /// &#32;&#32;&#32;&#32;→ [field] start width result
-    /// &#32;&#32;&#32;&#32;≡ ([field] start width a + (2 ^ width - [field] start width b)) % 2 ^ width
-    /// ensures last: (start width : [ℕ]) → [IsLastLane] tops start width
-    /// &#32;&#32;&#32;&#32;→ [field] start width result
-    /// &#32;&#32;&#32;&#32;≡ ([field] start width a + (2 ^ width - [field] start width b)) % 2 ^ width</code></pre>
+    /// ```text
+    /// ensures lanes: (start width : ℕ) → IsLane tops start width
+    ///     → field start width result
+    ///     ≡ (field start width a + (2 ^ width - field start width b)) % 2 ^ width
+    /// ensures last: (start width : ℕ) → IsLastLane tops start width
+    ///     → field start width result
+    ///     ≡ (field start width a + (2 ^ width - field start width b)) % 2 ^ width
+    /// ```
     ///
-    /// [ℕ]: crate::specs::library#%E2%84%95 "the whole numbers from 0 on"
-    /// [IsLane]: crate::specs::lanes::Words#IsLane "the bits from start to start + width - 1 are a lane of tops"
-    /// [field]: crate::specs::lanes::Words#field "the number in the bits of v from start to start + width - 1"
-    /// [IsLastLane]: crate::specs::lanes::Words#IsLastLane "the bits from start to start + width - 1 are those of a word above the last top, or all of them where there is no top"
+    /// Definitions: [`IsLane`](crate::specs::lanes::Words#IsLane), [`field`](crate::specs::lanes::Words#field), [`IsLastLane`](crate::specs::lanes::Words#IsLastLane).
     #[inline]
     pub fn word_sub(a: u64, b: u64, tops: u64) -> u64 {
         (a | tops).wrapping_sub(b & !tops) ^ ((a ^ !b) & tops)
@@ -2052,15 +1958,14 @@ pub mod words {
     ///
     /// # Contract
     ///
-    /// <span></span><pre><code>ensures lanes: (start width : [ℕ]) → [IsLane] tops start width
-    /// &#32;&#32;&#32;&#32;→ [field] start width result
-    /// &#32;&#32;&#32;&#32;≡ (if [field] start width a == [field] start width b then 0 else 2 ^ (width - 1))
-    /// ensures tops_alone: [bit_and] result tops ≡ result</code></pre>
+    /// ```text
+    /// ensures lanes: (start width : ℕ) → IsLane tops start width
+    ///     → field start width result
+    ///     ≡ (if field start width a == field start width b then 0 else 2 ^ (width - 1))
+    /// ensures tops_alone: bit_and result tops ≡ result
+    /// ```
     ///
-    /// [ℕ]: crate::specs::library#%E2%84%95 "the whole numbers from 0 on"
-    /// [IsLane]: crate::specs::lanes::Words#IsLane "the bits from start to start + width - 1 are a lane of tops"
-    /// [field]: crate::specs::lanes::Words#field "the number in the bits of v from start to start + width - 1"
-    /// [bit_and]: crate::specs::library#bit_and "the bits that are set in both numbers"
+    /// Definitions: [`IsLane`](crate::specs::lanes::Words#IsLane), [`field`](crate::specs::lanes::Words#field).
     #[inline]
     pub fn word_differ(a: u64, b: u64, tops: u64) -> u64 {
         let rest = !tops;

@@ -19,10 +19,11 @@ pub mod simd {
         ///
         /// # Contract
         ///
-        /// <span></span><pre><code>ensures: result ≡ [vector.add] [w8] lhs rhs</code></pre>
+        /// ```text
+        /// ensures: result ≡ vector.add w8 lhs rhs
+        /// ```
         ///
-        /// [vector.add]: crate::specs::lanewise::VectorTable#add "the sums of the lanes modulo 2 to the width"
-        /// [w8]: crate::specs::library#w8 "the widths of integers in bits"
+        /// Definitions: [`add`](crate::specs::lanewise::VectorTable#add).
         #[inline]
         pub fn i8x16_add(lhs: V128, rhs: V128) -> V128 {
             words::sums::<u8>(lhs, rhs)
@@ -32,10 +33,11 @@ pub mod simd {
         ///
         /// # Contract
         ///
-        /// <span></span><pre><code>ensures: result ≡ [vector.add] [w16] lhs rhs</code></pre>
+        /// ```text
+        /// ensures: result ≡ vector.add w16 lhs rhs
+        /// ```
         ///
-        /// [vector.add]: crate::specs::lanewise::VectorTable#add "the sums of the lanes modulo 2 to the width"
-        /// [w16]: crate::specs::library#w16 "the widths of integers in bits"
+        /// Definitions: [`add`](crate::specs::lanewise::VectorTable#add).
         #[inline]
         pub fn i16x8_add(lhs: V128, rhs: V128) -> V128 {
             words::sums::<u16>(lhs, rhs)
@@ -45,10 +47,11 @@ pub mod simd {
         ///
         /// # Contract
         ///
-        /// <span></span><pre><code>ensures: result ≡ [vector.add] [w32] lhs rhs</code></pre>
+        /// ```text
+        /// ensures: result ≡ vector.add w32 lhs rhs
+        /// ```
         ///
-        /// [vector.add]: crate::specs::lanewise::VectorTable#add "the sums of the lanes modulo 2 to the width"
-        /// [w32]: crate::specs::library#w32 "the widths of integers in bits"
+        /// Definitions: [`add`](crate::specs::lanewise::VectorTable#add).
         #[inline]
         pub fn i32x4_add(lhs: V128, rhs: V128) -> V128 {
             words::sums::<u32>(lhs, rhs)
@@ -58,10 +61,11 @@ pub mod simd {
         ///
         /// # Contract
         ///
-        /// <span></span><pre><code>ensures: result ≡ [vector.add] [w64] lhs rhs</code></pre>
+        /// ```text
+        /// ensures: result ≡ vector.add w64 lhs rhs
+        /// ```
         ///
-        /// [vector.add]: crate::specs::lanewise::VectorTable#add "the sums of the lanes modulo 2 to the width"
-        /// [w64]: crate::specs::library#w64 "the widths of integers in bits"
+        /// Definitions: [`add`](crate::specs::lanewise::VectorTable#add).
         #[inline]
         pub fn i64x2_add(lhs: V128, rhs: V128) -> V128 {
             words::sums::<u64>(lhs, rhs)
@@ -71,10 +75,11 @@ pub mod simd {
         ///
         /// # Contract
         ///
-        /// <span></span><pre><code>ensures: result ≡ [vector.sub] [w8] lhs rhs</code></pre>
+        /// ```text
+        /// ensures: result ≡ vector.sub w8 lhs rhs
+        /// ```
         ///
-        /// [vector.sub]: crate::specs::lanewise::VectorTable#sub "the differences of the lanes modulo 2 to the width"
-        /// [w8]: crate::specs::library#w8 "the widths of integers in bits"
+        /// Definitions: [`sub`](crate::specs::lanewise::VectorTable#sub).
         #[inline]
         pub fn i8x16_sub(lhs: V128, rhs: V128) -> V128 {
             words::differences::<u8>(lhs, rhs)
@@ -84,10 +89,11 @@ pub mod simd {
         ///
         /// # Contract
         ///
-        /// <span></span><pre><code>ensures: result ≡ [vector.sub] [w16] lhs rhs</code></pre>
+        /// ```text
+        /// ensures: result ≡ vector.sub w16 lhs rhs
+        /// ```
         ///
-        /// [vector.sub]: crate::specs::lanewise::VectorTable#sub "the differences of the lanes modulo 2 to the width"
-        /// [w16]: crate::specs::library#w16 "the widths of integers in bits"
+        /// Definitions: [`sub`](crate::specs::lanewise::VectorTable#sub).
         #[inline]
         pub fn i16x8_sub(lhs: V128, rhs: V128) -> V128 {
             words::differences::<u16>(lhs, rhs)
@@ -97,10 +103,11 @@ pub mod simd {
         ///
         /// # Contract
         ///
-        /// <span></span><pre><code>ensures: result ≡ [vector.sub] [w32] lhs rhs</code></pre>
+        /// ```text
+        /// ensures: result ≡ vector.sub w32 lhs rhs
+        /// ```
         ///
-        /// [vector.sub]: crate::specs::lanewise::VectorTable#sub "the differences of the lanes modulo 2 to the width"
-        /// [w32]: crate::specs::library#w32 "the widths of integers in bits"
+        /// Definitions: [`sub`](crate::specs::lanewise::VectorTable#sub).
         #[inline]
         pub fn i32x4_sub(lhs: V128, rhs: V128) -> V128 {
             words::differences::<u32>(lhs, rhs)
@@ -110,10 +117,11 @@ pub mod simd {
         ///
         /// # Contract
         ///
-        /// <span></span><pre><code>ensures: result ≡ [vector.sub] [w64] lhs rhs</code></pre>
+        /// ```text
+        /// ensures: result ≡ vector.sub w64 lhs rhs
+        /// ```
         ///
-        /// [vector.sub]: crate::specs::lanewise::VectorTable#sub "the differences of the lanes modulo 2 to the width"
-        /// [w64]: crate::specs::library#w64 "the widths of integers in bits"
+        /// Definitions: [`sub`](crate::specs::lanewise::VectorTable#sub).
         #[inline]
         pub fn i64x2_sub(lhs: V128, rhs: V128) -> V128 {
             words::differences::<u64>(lhs, rhs)
@@ -124,10 +132,11 @@ pub mod simd {
         ///
         /// # Contract
         ///
-        /// <span></span><pre><code>ensures: result ≡ [vector.mul] [w8] lhs rhs</code></pre>
+        /// ```text
+        /// ensures: result ≡ vector.mul w8 lhs rhs
+        /// ```
         ///
-        /// [vector.mul]: crate::specs::lanewise::VectorTable#mul "the products of the lanes modulo 2 to the width"
-        /// [w8]: crate::specs::library#w8 "the widths of integers in bits"
+        /// Definitions: [`mul`](crate::specs::lanewise::VectorTable#mul).
         #[inline]
         pub fn i8x16_mul(lhs: V128, rhs: V128) -> V128 {
             on_vectors::binary::<U8x16, _>(lhs, rhs, |x, y| x.wrapping_mul(y))
@@ -137,10 +146,11 @@ pub mod simd {
         ///
         /// # Contract
         ///
-        /// <span></span><pre><code>ensures: result ≡ [vector.mul] [w16] lhs rhs</code></pre>
+        /// ```text
+        /// ensures: result ≡ vector.mul w16 lhs rhs
+        /// ```
         ///
-        /// [vector.mul]: crate::specs::lanewise::VectorTable#mul "the products of the lanes modulo 2 to the width"
-        /// [w16]: crate::specs::library#w16 "the widths of integers in bits"
+        /// Definitions: [`mul`](crate::specs::lanewise::VectorTable#mul).
         #[inline]
         pub fn i16x8_mul(lhs: V128, rhs: V128) -> V128 {
             on_vectors::binary::<U16x8, _>(lhs, rhs, |x, y| x.wrapping_mul(y))
@@ -150,10 +160,11 @@ pub mod simd {
         ///
         /// # Contract
         ///
-        /// <span></span><pre><code>ensures: result ≡ [vector.mul] [w32] lhs rhs</code></pre>
+        /// ```text
+        /// ensures: result ≡ vector.mul w32 lhs rhs
+        /// ```
         ///
-        /// [vector.mul]: crate::specs::lanewise::VectorTable#mul "the products of the lanes modulo 2 to the width"
-        /// [w32]: crate::specs::library#w32 "the widths of integers in bits"
+        /// Definitions: [`mul`](crate::specs::lanewise::VectorTable#mul).
         #[inline]
         pub fn i32x4_mul(lhs: V128, rhs: V128) -> V128 {
             on_vectors::binary::<U32x4, _>(lhs, rhs, |x, y| x.wrapping_mul(y))
@@ -163,10 +174,11 @@ pub mod simd {
         ///
         /// # Contract
         ///
-        /// <span></span><pre><code>ensures: result ≡ [vector.mul] [w64] lhs rhs</code></pre>
+        /// ```text
+        /// ensures: result ≡ vector.mul w64 lhs rhs
+        /// ```
         ///
-        /// [vector.mul]: crate::specs::lanewise::VectorTable#mul "the products of the lanes modulo 2 to the width"
-        /// [w64]: crate::specs::library#w64 "the widths of integers in bits"
+        /// Definitions: [`mul`](crate::specs::lanewise::VectorTable#mul).
         #[inline]
         pub fn i64x2_mul(lhs: V128, rhs: V128) -> V128 {
             let (a_low, a_high) = lhs.words();
@@ -179,7 +191,9 @@ pub mod simd {
         // is slower than two of words.
         /// # Contract
         ///
-        /// <span></span><pre><code>ensures: result ≡ x \* y % 2 ^ 64</code></pre>
+        /// ```text
+        /// ensures: result ≡ x * y % 2 ^ 64
+        /// ```
         #[inline(always)]
         fn product_by_u128(x: u64, y: u64) -> u64 {
             ((u128::from(x) << 64).wrapping_mul(u128::from(y)) >> 64) as u64
@@ -189,10 +203,11 @@ pub mod simd {
         ///
         /// # Contract
         ///
-        /// <span></span><pre><code>ensures: result ≡ [vector.add_sat_s] [w8] lhs rhs</code></pre>
+        /// ```text
+        /// ensures: result ≡ vector.add_sat_s w8 lhs rhs
+        /// ```
         ///
-        /// [vector.add_sat_s]: crate::specs::lanewise::VectorTable#add_sat_s "the sums of lanes read signed, clamped to the signed range"
-        /// [w8]: crate::specs::library#w8 "the widths of integers in bits"
+        /// Definitions: [`add_sat_s`](crate::specs::lanewise::VectorTable#add_sat_s).
         #[inline]
         pub fn i8x16_add_sat_s(lhs: V128, rhs: V128) -> V128 {
             on_vectors::binary::<I8x16, _>(lhs, rhs, |x, y| clamped_i8(sum_i8(x, y)))
@@ -202,10 +217,11 @@ pub mod simd {
         ///
         /// # Contract
         ///
-        /// <span></span><pre><code>ensures: result ≡ [vector.add_sat_u] [w8] lhs rhs</code></pre>
+        /// ```text
+        /// ensures: result ≡ vector.add_sat_u w8 lhs rhs
+        /// ```
         ///
-        /// [vector.add_sat_u]: crate::specs::lanewise::VectorTable#add_sat_u "the sums of lanes read unsigned, clamped to the unsigned range"
-        /// [w8]: crate::specs::library#w8 "the widths of integers in bits"
+        /// Definitions: [`add_sat_u`](crate::specs::lanewise::VectorTable#add_sat_u).
         #[inline]
         pub fn i8x16_add_sat_u(lhs: V128, rhs: V128) -> V128 {
             saturation::sums_u::<u8>(lhs, rhs)
@@ -215,10 +231,11 @@ pub mod simd {
         ///
         /// # Contract
         ///
-        /// <span></span><pre><code>ensures: result ≡ [vector.add_sat_s] [w16] lhs rhs</code></pre>
+        /// ```text
+        /// ensures: result ≡ vector.add_sat_s w16 lhs rhs
+        /// ```
         ///
-        /// [vector.add_sat_s]: crate::specs::lanewise::VectorTable#add_sat_s "the sums of lanes read signed, clamped to the signed range"
-        /// [w16]: crate::specs::library#w16 "the widths of integers in bits"
+        /// Definitions: [`add_sat_s`](crate::specs::lanewise::VectorTable#add_sat_s).
         #[inline]
         pub fn i16x8_add_sat_s(lhs: V128, rhs: V128) -> V128 {
             on_vectors::binary::<I16x8, _>(lhs, rhs, |x, y| clamped_i16(sum_i16(x, y)))
@@ -228,10 +245,11 @@ pub mod simd {
         ///
         /// # Contract
         ///
-        /// <span></span><pre><code>ensures: result ≡ [vector.add_sat_u] [w16] lhs rhs</code></pre>
+        /// ```text
+        /// ensures: result ≡ vector.add_sat_u w16 lhs rhs
+        /// ```
         ///
-        /// [vector.add_sat_u]: crate::specs::lanewise::VectorTable#add_sat_u "the sums of lanes read unsigned, clamped to the unsigned range"
-        /// [w16]: crate::specs::library#w16 "the widths of integers in bits"
+        /// Definitions: [`add_sat_u`](crate::specs::lanewise::VectorTable#add_sat_u).
         #[inline]
         pub fn i16x8_add_sat_u(lhs: V128, rhs: V128) -> V128 {
             saturation::sums_u::<u16>(lhs, rhs)
@@ -241,10 +259,11 @@ pub mod simd {
         ///
         /// # Contract
         ///
-        /// <span></span><pre><code>ensures: result ≡ [vector.sub_sat_s] [w8] lhs rhs</code></pre>
+        /// ```text
+        /// ensures: result ≡ vector.sub_sat_s w8 lhs rhs
+        /// ```
         ///
-        /// [vector.sub_sat_s]: crate::specs::lanewise::VectorTable#sub_sat_s "the differences of lanes read signed, clamped to the signed range"
-        /// [w8]: crate::specs::library#w8 "the widths of integers in bits"
+        /// Definitions: [`sub_sat_s`](crate::specs::lanewise::VectorTable#sub_sat_s).
         #[inline]
         pub fn i8x16_sub_sat_s(lhs: V128, rhs: V128) -> V128 {
             on_vectors::binary::<I8x16, _>(lhs, rhs, |x, y| clamped_i8(difference_i8(x, y)))
@@ -254,10 +273,11 @@ pub mod simd {
         ///
         /// # Contract
         ///
-        /// <span></span><pre><code>ensures: result ≡ [vector.sub_sat_u] [w8] lhs rhs</code></pre>
+        /// ```text
+        /// ensures: result ≡ vector.sub_sat_u w8 lhs rhs
+        /// ```
         ///
-        /// [vector.sub_sat_u]: crate::specs::lanewise::VectorTable#sub_sat_u "the differences of lanes read unsigned, clamped to the unsigned range"
-        /// [w8]: crate::specs::library#w8 "the widths of integers in bits"
+        /// Definitions: [`sub_sat_u`](crate::specs::lanewise::VectorTable#sub_sat_u).
         #[inline]
         pub fn i8x16_sub_sat_u(lhs: V128, rhs: V128) -> V128 {
             saturation::differences_u::<u8>(lhs, rhs)
@@ -267,10 +287,11 @@ pub mod simd {
         ///
         /// # Contract
         ///
-        /// <span></span><pre><code>ensures: result ≡ [vector.sub_sat_s] [w16] lhs rhs</code></pre>
+        /// ```text
+        /// ensures: result ≡ vector.sub_sat_s w16 lhs rhs
+        /// ```
         ///
-        /// [vector.sub_sat_s]: crate::specs::lanewise::VectorTable#sub_sat_s "the differences of lanes read signed, clamped to the signed range"
-        /// [w16]: crate::specs::library#w16 "the widths of integers in bits"
+        /// Definitions: [`sub_sat_s`](crate::specs::lanewise::VectorTable#sub_sat_s).
         #[inline]
         pub fn i16x8_sub_sat_s(lhs: V128, rhs: V128) -> V128 {
             on_vectors::binary::<I16x8, _>(lhs, rhs, |x, y| clamped_i16(difference_i16(x, y)))
@@ -280,10 +301,11 @@ pub mod simd {
         ///
         /// # Contract
         ///
-        /// <span></span><pre><code>ensures: result ≡ [vector.sub_sat_u] [w16] lhs rhs</code></pre>
+        /// ```text
+        /// ensures: result ≡ vector.sub_sat_u w16 lhs rhs
+        /// ```
         ///
-        /// [vector.sub_sat_u]: crate::specs::lanewise::VectorTable#sub_sat_u "the differences of lanes read unsigned, clamped to the unsigned range"
-        /// [w16]: crate::specs::library#w16 "the widths of integers in bits"
+        /// Definitions: [`sub_sat_u`](crate::specs::lanewise::VectorTable#sub_sat_u).
         #[inline]
         pub fn i16x8_sub_sat_u(lhs: V128, rhs: V128) -> V128 {
             saturation::differences_u::<u16>(lhs, rhs)
@@ -294,9 +316,11 @@ pub mod simd {
         ///
         /// # Contract
         ///
-        /// <span></span><pre><code>ensures: result ≡ [vector.q15mulr_sat_s] lhs rhs</code></pre>
+        /// ```text
+        /// ensures: result ≡ vector.q15mulr_sat_s lhs rhs
+        /// ```
         ///
-        /// [vector.q15mulr_sat_s]: crate::specs::lanewise::VectorTable#q15mulr_sat_s "the rounded products of q15 numbers, clamped to the signed range"
+        /// Definitions: [`q15mulr_sat_s`](crate::specs::lanewise::VectorTable#q15mulr_sat_s).
         #[inline]
         pub fn i16x8_q15mulr_sat_s(lhs: V128, rhs: V128) -> V128 {
             q15::rounded_products(lhs, rhs)
@@ -306,10 +330,11 @@ pub mod simd {
         ///
         /// # Contract
         ///
-        /// <span></span><pre><code>ensures: result ≡ [vector.min_s] [w8] lhs rhs</code></pre>
+        /// ```text
+        /// ensures: result ≡ vector.min_s w8 lhs rhs
+        /// ```
         ///
-        /// [vector.min_s]: crate::specs::lanewise::VectorTable#min_s "the smaller of each two lanes read signed"
-        /// [w8]: crate::specs::library#w8 "the widths of integers in bits"
+        /// Definitions: [`min_s`](crate::specs::lanewise::VectorTable#min_s).
         #[inline]
         pub fn i8x16_min_s(lhs: V128, rhs: V128) -> V128 {
             order::smaller_s::<u8>(lhs, rhs)
@@ -319,10 +344,11 @@ pub mod simd {
         ///
         /// # Contract
         ///
-        /// <span></span><pre><code>ensures: result ≡ [vector.min_u] [w8] lhs rhs</code></pre>
+        /// ```text
+        /// ensures: result ≡ vector.min_u w8 lhs rhs
+        /// ```
         ///
-        /// [vector.min_u]: crate::specs::lanewise::VectorTable#min_u "the smaller of each two lanes read unsigned"
-        /// [w8]: crate::specs::library#w8 "the widths of integers in bits"
+        /// Definitions: [`min_u`](crate::specs::lanewise::VectorTable#min_u).
         #[inline]
         pub fn i8x16_min_u(lhs: V128, rhs: V128) -> V128 {
             order::smaller_u::<u8>(lhs, rhs)
@@ -332,10 +358,11 @@ pub mod simd {
         ///
         /// # Contract
         ///
-        /// <span></span><pre><code>ensures: result ≡ [vector.min_s] [w16] lhs rhs</code></pre>
+        /// ```text
+        /// ensures: result ≡ vector.min_s w16 lhs rhs
+        /// ```
         ///
-        /// [vector.min_s]: crate::specs::lanewise::VectorTable#min_s "the smaller of each two lanes read signed"
-        /// [w16]: crate::specs::library#w16 "the widths of integers in bits"
+        /// Definitions: [`min_s`](crate::specs::lanewise::VectorTable#min_s).
         #[inline]
         pub fn i16x8_min_s(lhs: V128, rhs: V128) -> V128 {
             order::smaller_s::<u16>(lhs, rhs)
@@ -345,10 +372,11 @@ pub mod simd {
         ///
         /// # Contract
         ///
-        /// <span></span><pre><code>ensures: result ≡ [vector.min_u] [w16] lhs rhs</code></pre>
+        /// ```text
+        /// ensures: result ≡ vector.min_u w16 lhs rhs
+        /// ```
         ///
-        /// [vector.min_u]: crate::specs::lanewise::VectorTable#min_u "the smaller of each two lanes read unsigned"
-        /// [w16]: crate::specs::library#w16 "the widths of integers in bits"
+        /// Definitions: [`min_u`](crate::specs::lanewise::VectorTable#min_u).
         #[inline]
         pub fn i16x8_min_u(lhs: V128, rhs: V128) -> V128 {
             order::smaller_u::<u16>(lhs, rhs)
@@ -358,10 +386,11 @@ pub mod simd {
         ///
         /// # Contract
         ///
-        /// <span></span><pre><code>ensures: result ≡ [vector.min_s] [w32] lhs rhs</code></pre>
+        /// ```text
+        /// ensures: result ≡ vector.min_s w32 lhs rhs
+        /// ```
         ///
-        /// [vector.min_s]: crate::specs::lanewise::VectorTable#min_s "the smaller of each two lanes read signed"
-        /// [w32]: crate::specs::library#w32 "the widths of integers in bits"
+        /// Definitions: [`min_s`](crate::specs::lanewise::VectorTable#min_s).
         #[inline]
         pub fn i32x4_min_s(lhs: V128, rhs: V128) -> V128 {
             order::smaller_s::<u32>(lhs, rhs)
@@ -371,10 +400,11 @@ pub mod simd {
         ///
         /// # Contract
         ///
-        /// <span></span><pre><code>ensures: result ≡ [vector.min_u] [w32] lhs rhs</code></pre>
+        /// ```text
+        /// ensures: result ≡ vector.min_u w32 lhs rhs
+        /// ```
         ///
-        /// [vector.min_u]: crate::specs::lanewise::VectorTable#min_u "the smaller of each two lanes read unsigned"
-        /// [w32]: crate::specs::library#w32 "the widths of integers in bits"
+        /// Definitions: [`min_u`](crate::specs::lanewise::VectorTable#min_u).
         #[inline]
         pub fn i32x4_min_u(lhs: V128, rhs: V128) -> V128 {
             order::smaller_u::<u32>(lhs, rhs)
@@ -384,10 +414,11 @@ pub mod simd {
         ///
         /// # Contract
         ///
-        /// <span></span><pre><code>ensures: result ≡ [vector.max_s] [w8] lhs rhs</code></pre>
+        /// ```text
+        /// ensures: result ≡ vector.max_s w8 lhs rhs
+        /// ```
         ///
-        /// [vector.max_s]: crate::specs::lanewise::VectorTable#max_s "the greater of each two lanes read signed"
-        /// [w8]: crate::specs::library#w8 "the widths of integers in bits"
+        /// Definitions: [`max_s`](crate::specs::lanewise::VectorTable#max_s).
         #[inline]
         pub fn i8x16_max_s(lhs: V128, rhs: V128) -> V128 {
             order::larger_s::<u8>(lhs, rhs)
@@ -397,10 +428,11 @@ pub mod simd {
         ///
         /// # Contract
         ///
-        /// <span></span><pre><code>ensures: result ≡ [vector.max_u] [w8] lhs rhs</code></pre>
+        /// ```text
+        /// ensures: result ≡ vector.max_u w8 lhs rhs
+        /// ```
         ///
-        /// [vector.max_u]: crate::specs::lanewise::VectorTable#max_u "the greater of each two lanes read unsigned"
-        /// [w8]: crate::specs::library#w8 "the widths of integers in bits"
+        /// Definitions: [`max_u`](crate::specs::lanewise::VectorTable#max_u).
         #[inline]
         pub fn i8x16_max_u(lhs: V128, rhs: V128) -> V128 {
             order::larger_u::<u8>(lhs, rhs)
@@ -410,10 +442,11 @@ pub mod simd {
         ///
         /// # Contract
         ///
-        /// <span></span><pre><code>ensures: result ≡ [vector.max_s] [w16] lhs rhs</code></pre>
+        /// ```text
+        /// ensures: result ≡ vector.max_s w16 lhs rhs
+        /// ```
         ///
-        /// [vector.max_s]: crate::specs::lanewise::VectorTable#max_s "the greater of each two lanes read signed"
-        /// [w16]: crate::specs::library#w16 "the widths of integers in bits"
+        /// Definitions: [`max_s`](crate::specs::lanewise::VectorTable#max_s).
         #[inline]
         pub fn i16x8_max_s(lhs: V128, rhs: V128) -> V128 {
             order::larger_s::<u16>(lhs, rhs)
@@ -423,10 +456,11 @@ pub mod simd {
         ///
         /// # Contract
         ///
-        /// <span></span><pre><code>ensures: result ≡ [vector.max_u] [w16] lhs rhs</code></pre>
+        /// ```text
+        /// ensures: result ≡ vector.max_u w16 lhs rhs
+        /// ```
         ///
-        /// [vector.max_u]: crate::specs::lanewise::VectorTable#max_u "the greater of each two lanes read unsigned"
-        /// [w16]: crate::specs::library#w16 "the widths of integers in bits"
+        /// Definitions: [`max_u`](crate::specs::lanewise::VectorTable#max_u).
         #[inline]
         pub fn i16x8_max_u(lhs: V128, rhs: V128) -> V128 {
             order::larger_u::<u16>(lhs, rhs)
@@ -436,10 +470,11 @@ pub mod simd {
         ///
         /// # Contract
         ///
-        /// <span></span><pre><code>ensures: result ≡ [vector.max_s] [w32] lhs rhs</code></pre>
+        /// ```text
+        /// ensures: result ≡ vector.max_s w32 lhs rhs
+        /// ```
         ///
-        /// [vector.max_s]: crate::specs::lanewise::VectorTable#max_s "the greater of each two lanes read signed"
-        /// [w32]: crate::specs::library#w32 "the widths of integers in bits"
+        /// Definitions: [`max_s`](crate::specs::lanewise::VectorTable#max_s).
         #[inline]
         pub fn i32x4_max_s(lhs: V128, rhs: V128) -> V128 {
             order::larger_s::<u32>(lhs, rhs)
@@ -449,10 +484,11 @@ pub mod simd {
         ///
         /// # Contract
         ///
-        /// <span></span><pre><code>ensures: result ≡ [vector.max_u] [w32] lhs rhs</code></pre>
+        /// ```text
+        /// ensures: result ≡ vector.max_u w32 lhs rhs
+        /// ```
         ///
-        /// [vector.max_u]: crate::specs::lanewise::VectorTable#max_u "the greater of each two lanes read unsigned"
-        /// [w32]: crate::specs::library#w32 "the widths of integers in bits"
+        /// Definitions: [`max_u`](crate::specs::lanewise::VectorTable#max_u).
         #[inline]
         pub fn i32x4_max_u(lhs: V128, rhs: V128) -> V128 {
             order::larger_u::<u32>(lhs, rhs)
@@ -462,10 +498,11 @@ pub mod simd {
         ///
         /// # Contract
         ///
-        /// <span></span><pre><code>ensures: result ≡ [vector.avgr_u] [w8] lhs rhs</code></pre>
+        /// ```text
+        /// ensures: result ≡ vector.avgr_u w8 lhs rhs
+        /// ```
         ///
-        /// [vector.avgr_u]: crate::specs::lanewise::VectorTable#avgr_u "the averages of lanes read unsigned, rounded up"
-        /// [w8]: crate::specs::library#w8 "the widths of integers in bits"
+        /// Definitions: [`avgr_u`](crate::specs::lanewise::VectorTable#avgr_u).
         #[inline]
         pub fn i8x16_avgr_u(lhs: V128, rhs: V128) -> V128 {
             words::averages::<u8>(lhs, rhs)
@@ -475,10 +512,11 @@ pub mod simd {
         ///
         /// # Contract
         ///
-        /// <span></span><pre><code>ensures: result ≡ [vector.avgr_u] [w16] lhs rhs</code></pre>
+        /// ```text
+        /// ensures: result ≡ vector.avgr_u w16 lhs rhs
+        /// ```
         ///
-        /// [vector.avgr_u]: crate::specs::lanewise::VectorTable#avgr_u "the averages of lanes read unsigned, rounded up"
-        /// [w16]: crate::specs::library#w16 "the widths of integers in bits"
+        /// Definitions: [`avgr_u`](crate::specs::lanewise::VectorTable#avgr_u).
         #[inline]
         pub fn i16x8_avgr_u(lhs: V128, rhs: V128) -> V128 {
             words::averages::<u16>(lhs, rhs)
@@ -486,7 +524,9 @@ pub mod simd {
 
         /// # Contract
         ///
-        /// <span></span><pre><code>ensures: result ≡ x +ℤ y</code></pre>
+        /// ```text
+        /// ensures: result ≡ x +ℤ y
+        /// ```
         #[inline]
         fn sum_i8(x: i8, y: i8) -> i16 {
             i16::from(x) + i16::from(y)
@@ -494,7 +534,9 @@ pub mod simd {
 
         /// # Contract
         ///
-        /// <span></span><pre><code>ensures: result ≡ x -ℤ y</code></pre>
+        /// ```text
+        /// ensures: result ≡ x -ℤ y
+        /// ```
         #[inline]
         fn difference_i8(x: i8, y: i8) -> i16 {
             i16::from(x) - i16::from(y)
@@ -502,7 +544,9 @@ pub mod simd {
 
         /// # Contract
         ///
-        /// <span></span><pre><code>ensures: result ≡ x +ℤ y</code></pre>
+        /// ```text
+        /// ensures: result ≡ x +ℤ y
+        /// ```
         #[inline]
         fn sum_i16(x: i16, y: i16) -> i32 {
             i32::from(x) + i32::from(y)
@@ -510,7 +554,9 @@ pub mod simd {
 
         /// # Contract
         ///
-        /// <span></span><pre><code>ensures: result ≡ x -ℤ y</code></pre>
+        /// ```text
+        /// ensures: result ≡ x -ℤ y
+        /// ```
         #[inline]
         fn difference_i16(x: i16, y: i16) -> i32 {
             i32::from(x) - i32::from(y)
@@ -526,9 +572,11 @@ pub mod simd {
         ///
         /// # Contract
         ///
-        /// <span></span><pre><code>ensures: result ≡ [vector.v128_and] lhs rhs</code></pre>
+        /// ```text
+        /// ensures: result ≡ vector.v128_and lhs rhs
+        /// ```
         ///
-        /// [vector.v128_and]: crate::specs::lanewise::VectorTable#v128_and "each bit is set where it is set in both"
+        /// Definitions: [`v128_and`](crate::specs::lanewise::VectorTable#v128_and).
         #[inline]
         pub fn v128_and(lhs: V128, rhs: V128) -> V128 {
             let (a_low, a_high) = lhs.words();
@@ -540,9 +588,11 @@ pub mod simd {
         ///
         /// # Contract
         ///
-        /// <span></span><pre><code>ensures: result ≡ [vector.v128_or] lhs rhs</code></pre>
+        /// ```text
+        /// ensures: result ≡ vector.v128_or lhs rhs
+        /// ```
         ///
-        /// [vector.v128_or]: crate::specs::lanewise::VectorTable#v128_or "each bit is set where it is set in one or both"
+        /// Definitions: [`v128_or`](crate::specs::lanewise::VectorTable#v128_or).
         #[inline]
         pub fn v128_or(lhs: V128, rhs: V128) -> V128 {
             let (a_low, a_high) = lhs.words();
@@ -554,9 +604,11 @@ pub mod simd {
         ///
         /// # Contract
         ///
-        /// <span></span><pre><code>ensures: result ≡ [vector.v128_xor] lhs rhs</code></pre>
+        /// ```text
+        /// ensures: result ≡ vector.v128_xor lhs rhs
+        /// ```
         ///
-        /// [vector.v128_xor]: crate::specs::lanewise::VectorTable#v128_xor "each bit is set where it is set in exactly one"
+        /// Definitions: [`v128_xor`](crate::specs::lanewise::VectorTable#v128_xor).
         #[inline]
         pub fn v128_xor(lhs: V128, rhs: V128) -> V128 {
             let (a_low, a_high) = lhs.words();
@@ -568,9 +620,11 @@ pub mod simd {
         ///
         /// # Contract
         ///
-        /// <span></span><pre><code>ensures: result ≡ [vector.v128_not] v</code></pre>
+        /// ```text
+        /// ensures: result ≡ vector.v128_not v
+        /// ```
         ///
-        /// [vector.v128_not]: crate::specs::lanewise::VectorTable#v128_not "each bit is inverted"
+        /// Definitions: [`v128_not`](crate::specs::lanewise::VectorTable#v128_not).
         #[inline]
         pub fn v128_not(v: V128) -> V128 {
             let (low, high) = v.words();
@@ -581,9 +635,11 @@ pub mod simd {
         ///
         /// # Contract
         ///
-        /// <span></span><pre><code>ensures: result ≡ [vector.v128_andnot] lhs rhs</code></pre>
+        /// ```text
+        /// ensures: result ≡ vector.v128_andnot lhs rhs
+        /// ```
         ///
-        /// [vector.v128_andnot]: crate::specs::lanewise::VectorTable#v128_andnot "each bit is set where it is set in the first and not in the second"
+        /// Definitions: [`v128_andnot`](crate::specs::lanewise::VectorTable#v128_andnot).
         #[inline]
         pub fn v128_andnot(lhs: V128, rhs: V128) -> V128 {
             v128_and(lhs, v128_not(rhs))
@@ -593,9 +649,11 @@ pub mod simd {
         ///
         /// # Contract
         ///
-        /// <span></span><pre><code>ensures: result ≡ [vector.v128_bitselect] v1 v2 c</code></pre>
+        /// ```text
+        /// ensures: result ≡ vector.v128_bitselect v1 v2 c
+        /// ```
         ///
-        /// [vector.v128_bitselect]: crate::specs::lanewise::VectorTable#v128_bitselect "the bits of a where c has ones, those of b where it has zeros"
+        /// Definitions: [`v128_bitselect`](crate::specs::lanewise::VectorTable#v128_bitselect).
         #[inline]
         pub fn v128_bitselect(v1: V128, v2: V128, c: V128) -> V128 {
             let ones = u64x2_of(c);
@@ -612,10 +670,11 @@ pub mod simd {
         ///
         /// # Contract
         ///
-        /// <span></span><pre><code>ensures: result ≡ [vector.eq] [w8] lhs rhs</code></pre>
+        /// ```text
+        /// ensures: result ≡ vector.eq w8 lhs rhs
+        /// ```
         ///
-        /// [vector.eq]: crate::specs::lanewise::VectorTable#eq "all ones in the lanes that are equal, else all zeros"
-        /// [w8]: crate::specs::library#w8 "the widths of integers in bits"
+        /// Definitions: [`eq`](crate::specs::lanewise::VectorTable#eq).
         #[inline]
         pub fn i8x16_eq(lhs: V128, rhs: V128) -> V128 {
             words::equal::<u8>(lhs, rhs)
@@ -625,10 +684,11 @@ pub mod simd {
         ///
         /// # Contract
         ///
-        /// <span></span><pre><code>ensures: result ≡ [vector.eq] [w16] lhs rhs</code></pre>
+        /// ```text
+        /// ensures: result ≡ vector.eq w16 lhs rhs
+        /// ```
         ///
-        /// [vector.eq]: crate::specs::lanewise::VectorTable#eq "all ones in the lanes that are equal, else all zeros"
-        /// [w16]: crate::specs::library#w16 "the widths of integers in bits"
+        /// Definitions: [`eq`](crate::specs::lanewise::VectorTable#eq).
         #[inline]
         pub fn i16x8_eq(lhs: V128, rhs: V128) -> V128 {
             words::equal::<u16>(lhs, rhs)
@@ -638,10 +698,11 @@ pub mod simd {
         ///
         /// # Contract
         ///
-        /// <span></span><pre><code>ensures: result ≡ [vector.eq] [w32] lhs rhs</code></pre>
+        /// ```text
+        /// ensures: result ≡ vector.eq w32 lhs rhs
+        /// ```
         ///
-        /// [vector.eq]: crate::specs::lanewise::VectorTable#eq "all ones in the lanes that are equal, else all zeros"
-        /// [w32]: crate::specs::library#w32 "the widths of integers in bits"
+        /// Definitions: [`eq`](crate::specs::lanewise::VectorTable#eq).
         #[inline]
         pub fn i32x4_eq(lhs: V128, rhs: V128) -> V128 {
             words::equal::<u32>(lhs, rhs)
@@ -651,10 +712,11 @@ pub mod simd {
         ///
         /// # Contract
         ///
-        /// <span></span><pre><code>ensures: result ≡ [vector.eq] [w64] lhs rhs</code></pre>
+        /// ```text
+        /// ensures: result ≡ vector.eq w64 lhs rhs
+        /// ```
         ///
-        /// [vector.eq]: crate::specs::lanewise::VectorTable#eq "all ones in the lanes that are equal, else all zeros"
-        /// [w64]: crate::specs::library#w64 "the widths of integers in bits"
+        /// Definitions: [`eq`](crate::specs::lanewise::VectorTable#eq).
         #[inline]
         pub fn i64x2_eq(lhs: V128, rhs: V128) -> V128 {
             words::equal_words(lhs, rhs)
@@ -664,10 +726,11 @@ pub mod simd {
         ///
         /// # Contract
         ///
-        /// <span></span><pre><code>ensures: result ≡ [vector.ne] [w8] lhs rhs</code></pre>
+        /// ```text
+        /// ensures: result ≡ vector.ne w8 lhs rhs
+        /// ```
         ///
-        /// [vector.ne]: crate::specs::lanewise::VectorTable#ne "all ones in the lanes that differ, else all zeros"
-        /// [w8]: crate::specs::library#w8 "the widths of integers in bits"
+        /// Definitions: [`ne`](crate::specs::lanewise::VectorTable#ne).
         #[inline]
         pub fn i8x16_ne(lhs: V128, rhs: V128) -> V128 {
             words::different::<u8>(lhs, rhs)
@@ -677,10 +740,11 @@ pub mod simd {
         ///
         /// # Contract
         ///
-        /// <span></span><pre><code>ensures: result ≡ [vector.ne] [w16] lhs rhs</code></pre>
+        /// ```text
+        /// ensures: result ≡ vector.ne w16 lhs rhs
+        /// ```
         ///
-        /// [vector.ne]: crate::specs::lanewise::VectorTable#ne "all ones in the lanes that differ, else all zeros"
-        /// [w16]: crate::specs::library#w16 "the widths of integers in bits"
+        /// Definitions: [`ne`](crate::specs::lanewise::VectorTable#ne).
         #[inline]
         pub fn i16x8_ne(lhs: V128, rhs: V128) -> V128 {
             words::different::<u16>(lhs, rhs)
@@ -690,10 +754,11 @@ pub mod simd {
         ///
         /// # Contract
         ///
-        /// <span></span><pre><code>ensures: result ≡ [vector.ne] [w32] lhs rhs</code></pre>
+        /// ```text
+        /// ensures: result ≡ vector.ne w32 lhs rhs
+        /// ```
         ///
-        /// [vector.ne]: crate::specs::lanewise::VectorTable#ne "all ones in the lanes that differ, else all zeros"
-        /// [w32]: crate::specs::library#w32 "the widths of integers in bits"
+        /// Definitions: [`ne`](crate::specs::lanewise::VectorTable#ne).
         #[inline]
         pub fn i32x4_ne(lhs: V128, rhs: V128) -> V128 {
             words::different::<u32>(lhs, rhs)
@@ -703,10 +768,11 @@ pub mod simd {
         ///
         /// # Contract
         ///
-        /// <span></span><pre><code>ensures: result ≡ [vector.ne] [w64] lhs rhs</code></pre>
+        /// ```text
+        /// ensures: result ≡ vector.ne w64 lhs rhs
+        /// ```
         ///
-        /// [vector.ne]: crate::specs::lanewise::VectorTable#ne "all ones in the lanes that differ, else all zeros"
-        /// [w64]: crate::specs::library#w64 "the widths of integers in bits"
+        /// Definitions: [`ne`](crate::specs::lanewise::VectorTable#ne).
         #[inline]
         pub fn i64x2_ne(lhs: V128, rhs: V128) -> V128 {
             words::different_words(lhs, rhs)
@@ -716,10 +782,11 @@ pub mod simd {
         ///
         /// # Contract
         ///
-        /// <span></span><pre><code>ensures: result ≡ [vector.lt_s] [w8] lhs rhs</code></pre>
+        /// ```text
+        /// ensures: result ≡ vector.lt_s w8 lhs rhs
+        /// ```
         ///
-        /// [vector.lt_s]: crate::specs::lanewise::VectorTable#lt_s "all ones in the lanes that are less, read signed, else all zeros"
-        /// [w8]: crate::specs::library#w8 "the widths of integers in bits"
+        /// Definitions: [`lt_s`](crate::specs::lanewise::VectorTable#lt_s).
         #[inline]
         pub fn i8x16_lt_s(lhs: V128, rhs: V128) -> V128 {
             order::less_s::<u8>(lhs, rhs)
@@ -729,10 +796,11 @@ pub mod simd {
         ///
         /// # Contract
         ///
-        /// <span></span><pre><code>ensures: result ≡ [vector.lt_s] [w16] lhs rhs</code></pre>
+        /// ```text
+        /// ensures: result ≡ vector.lt_s w16 lhs rhs
+        /// ```
         ///
-        /// [vector.lt_s]: crate::specs::lanewise::VectorTable#lt_s "all ones in the lanes that are less, read signed, else all zeros"
-        /// [w16]: crate::specs::library#w16 "the widths of integers in bits"
+        /// Definitions: [`lt_s`](crate::specs::lanewise::VectorTable#lt_s).
         #[inline]
         pub fn i16x8_lt_s(lhs: V128, rhs: V128) -> V128 {
             order::less_s::<u16>(lhs, rhs)
@@ -742,10 +810,11 @@ pub mod simd {
         ///
         /// # Contract
         ///
-        /// <span></span><pre><code>ensures: result ≡ [vector.lt_s] [w32] lhs rhs</code></pre>
+        /// ```text
+        /// ensures: result ≡ vector.lt_s w32 lhs rhs
+        /// ```
         ///
-        /// [vector.lt_s]: crate::specs::lanewise::VectorTable#lt_s "all ones in the lanes that are less, read signed, else all zeros"
-        /// [w32]: crate::specs::library#w32 "the widths of integers in bits"
+        /// Definitions: [`lt_s`](crate::specs::lanewise::VectorTable#lt_s).
         #[inline]
         pub fn i32x4_lt_s(lhs: V128, rhs: V128) -> V128 {
             order::less_s::<u32>(lhs, rhs)
@@ -755,10 +824,11 @@ pub mod simd {
         ///
         /// # Contract
         ///
-        /// <span></span><pre><code>ensures: result ≡ [vector.lt_s] [w64] lhs rhs</code></pre>
+        /// ```text
+        /// ensures: result ≡ vector.lt_s w64 lhs rhs
+        /// ```
         ///
-        /// [vector.lt_s]: crate::specs::lanewise::VectorTable#lt_s "all ones in the lanes that are less, read signed, else all zeros"
-        /// [w64]: crate::specs::library#w64 "the widths of integers in bits"
+        /// Definitions: [`lt_s`](crate::specs::lanewise::VectorTable#lt_s).
         #[inline]
         pub fn i64x2_lt_s(lhs: V128, rhs: V128) -> V128 {
             order::less_s::<u64>(lhs, rhs)
@@ -768,10 +838,11 @@ pub mod simd {
         ///
         /// # Contract
         ///
-        /// <span></span><pre><code>ensures: result ≡ [vector.lt_u] [w8] lhs rhs</code></pre>
+        /// ```text
+        /// ensures: result ≡ vector.lt_u w8 lhs rhs
+        /// ```
         ///
-        /// [vector.lt_u]: crate::specs::lanewise::VectorTable#lt_u "all ones in the lanes that are less, read unsigned, else all zeros"
-        /// [w8]: crate::specs::library#w8 "the widths of integers in bits"
+        /// Definitions: [`lt_u`](crate::specs::lanewise::VectorTable#lt_u).
         #[inline]
         pub fn i8x16_lt_u(lhs: V128, rhs: V128) -> V128 {
             order::less_u::<u8>(lhs, rhs)
@@ -781,10 +852,11 @@ pub mod simd {
         ///
         /// # Contract
         ///
-        /// <span></span><pre><code>ensures: result ≡ [vector.lt_u] [w16] lhs rhs</code></pre>
+        /// ```text
+        /// ensures: result ≡ vector.lt_u w16 lhs rhs
+        /// ```
         ///
-        /// [vector.lt_u]: crate::specs::lanewise::VectorTable#lt_u "all ones in the lanes that are less, read unsigned, else all zeros"
-        /// [w16]: crate::specs::library#w16 "the widths of integers in bits"
+        /// Definitions: [`lt_u`](crate::specs::lanewise::VectorTable#lt_u).
         #[inline]
         pub fn i16x8_lt_u(lhs: V128, rhs: V128) -> V128 {
             order::less_u::<u16>(lhs, rhs)
@@ -794,10 +866,11 @@ pub mod simd {
         ///
         /// # Contract
         ///
-        /// <span></span><pre><code>ensures: result ≡ [vector.lt_u] [w32] lhs rhs</code></pre>
+        /// ```text
+        /// ensures: result ≡ vector.lt_u w32 lhs rhs
+        /// ```
         ///
-        /// [vector.lt_u]: crate::specs::lanewise::VectorTable#lt_u "all ones in the lanes that are less, read unsigned, else all zeros"
-        /// [w32]: crate::specs::library#w32 "the widths of integers in bits"
+        /// Definitions: [`lt_u`](crate::specs::lanewise::VectorTable#lt_u).
         #[inline]
         pub fn i32x4_lt_u(lhs: V128, rhs: V128) -> V128 {
             order::less_u::<u32>(lhs, rhs)
@@ -807,10 +880,11 @@ pub mod simd {
         ///
         /// # Contract
         ///
-        /// <span></span><pre><code>ensures: result ≡ [vector.le_s] [w8] lhs rhs</code></pre>
+        /// ```text
+        /// ensures: result ≡ vector.le_s w8 lhs rhs
+        /// ```
         ///
-        /// [vector.le_s]: crate::specs::lanewise::VectorTable#le_s "all ones in the lanes that are at most the other, read signed, else all zeros"
-        /// [w8]: crate::specs::library#w8 "the widths of integers in bits"
+        /// Definitions: [`le_s`](crate::specs::lanewise::VectorTable#le_s).
         #[inline]
         pub fn i8x16_le_s(lhs: V128, rhs: V128) -> V128 {
             order::at_most_s::<u8>(lhs, rhs)
@@ -820,10 +894,11 @@ pub mod simd {
         ///
         /// # Contract
         ///
-        /// <span></span><pre><code>ensures: result ≡ [vector.le_s] [w16] lhs rhs</code></pre>
+        /// ```text
+        /// ensures: result ≡ vector.le_s w16 lhs rhs
+        /// ```
         ///
-        /// [vector.le_s]: crate::specs::lanewise::VectorTable#le_s "all ones in the lanes that are at most the other, read signed, else all zeros"
-        /// [w16]: crate::specs::library#w16 "the widths of integers in bits"
+        /// Definitions: [`le_s`](crate::specs::lanewise::VectorTable#le_s).
         #[inline]
         pub fn i16x8_le_s(lhs: V128, rhs: V128) -> V128 {
             order::at_most_s::<u16>(lhs, rhs)
@@ -833,10 +908,11 @@ pub mod simd {
         ///
         /// # Contract
         ///
-        /// <span></span><pre><code>ensures: result ≡ [vector.le_s] [w32] lhs rhs</code></pre>
+        /// ```text
+        /// ensures: result ≡ vector.le_s w32 lhs rhs
+        /// ```
         ///
-        /// [vector.le_s]: crate::specs::lanewise::VectorTable#le_s "all ones in the lanes that are at most the other, read signed, else all zeros"
-        /// [w32]: crate::specs::library#w32 "the widths of integers in bits"
+        /// Definitions: [`le_s`](crate::specs::lanewise::VectorTable#le_s).
         #[inline]
         pub fn i32x4_le_s(lhs: V128, rhs: V128) -> V128 {
             order::at_most_s::<u32>(lhs, rhs)
@@ -846,10 +922,11 @@ pub mod simd {
         ///
         /// # Contract
         ///
-        /// <span></span><pre><code>ensures: result ≡ [vector.le_s] [w64] lhs rhs</code></pre>
+        /// ```text
+        /// ensures: result ≡ vector.le_s w64 lhs rhs
+        /// ```
         ///
-        /// [vector.le_s]: crate::specs::lanewise::VectorTable#le_s "all ones in the lanes that are at most the other, read signed, else all zeros"
-        /// [w64]: crate::specs::library#w64 "the widths of integers in bits"
+        /// Definitions: [`le_s`](crate::specs::lanewise::VectorTable#le_s).
         #[inline]
         pub fn i64x2_le_s(lhs: V128, rhs: V128) -> V128 {
             order::at_most_s::<u64>(lhs, rhs)
@@ -859,10 +936,11 @@ pub mod simd {
         ///
         /// # Contract
         ///
-        /// <span></span><pre><code>ensures: result ≡ [vector.le_u] [w8] lhs rhs</code></pre>
+        /// ```text
+        /// ensures: result ≡ vector.le_u w8 lhs rhs
+        /// ```
         ///
-        /// [vector.le_u]: crate::specs::lanewise::VectorTable#le_u "all ones in the lanes that are at most the other, read unsigned, else all zeros"
-        /// [w8]: crate::specs::library#w8 "the widths of integers in bits"
+        /// Definitions: [`le_u`](crate::specs::lanewise::VectorTable#le_u).
         #[inline]
         pub fn i8x16_le_u(lhs: V128, rhs: V128) -> V128 {
             order::at_most_u::<u8>(lhs, rhs)
@@ -872,10 +950,11 @@ pub mod simd {
         ///
         /// # Contract
         ///
-        /// <span></span><pre><code>ensures: result ≡ [vector.le_u] [w16] lhs rhs</code></pre>
+        /// ```text
+        /// ensures: result ≡ vector.le_u w16 lhs rhs
+        /// ```
         ///
-        /// [vector.le_u]: crate::specs::lanewise::VectorTable#le_u "all ones in the lanes that are at most the other, read unsigned, else all zeros"
-        /// [w16]: crate::specs::library#w16 "the widths of integers in bits"
+        /// Definitions: [`le_u`](crate::specs::lanewise::VectorTable#le_u).
         #[inline]
         pub fn i16x8_le_u(lhs: V128, rhs: V128) -> V128 {
             order::at_most_u::<u16>(lhs, rhs)
@@ -885,10 +964,11 @@ pub mod simd {
         ///
         /// # Contract
         ///
-        /// <span></span><pre><code>ensures: result ≡ [vector.le_u] [w32] lhs rhs</code></pre>
+        /// ```text
+        /// ensures: result ≡ vector.le_u w32 lhs rhs
+        /// ```
         ///
-        /// [vector.le_u]: crate::specs::lanewise::VectorTable#le_u "all ones in the lanes that are at most the other, read unsigned, else all zeros"
-        /// [w32]: crate::specs::library#w32 "the widths of integers in bits"
+        /// Definitions: [`le_u`](crate::specs::lanewise::VectorTable#le_u).
         #[inline]
         pub fn i32x4_le_u(lhs: V128, rhs: V128) -> V128 {
             order::at_most_u::<u32>(lhs, rhs)
@@ -899,10 +979,11 @@ pub mod simd {
         ///
         /// # Contract
         ///
-        /// <span></span><pre><code>ensures: result ≡ [vector.gt_s] [w8] lhs rhs</code></pre>
+        /// ```text
+        /// ensures: result ≡ vector.gt_s w8 lhs rhs
+        /// ```
         ///
-        /// [vector.gt_s]: crate::specs::lanewise::VectorTable#gt_s "all ones in the lanes that are greater, read signed, else all zeros"
-        /// [w8]: crate::specs::library#w8 "the widths of integers in bits"
+        /// Definitions: [`gt_s`](crate::specs::lanewise::VectorTable#gt_s).
         #[inline]
         pub fn i8x16_gt_s(lhs: V128, rhs: V128) -> V128 {
             order::greater_s::<u8>(lhs, rhs)
@@ -913,10 +994,11 @@ pub mod simd {
         ///
         /// # Contract
         ///
-        /// <span></span><pre><code>ensures: result ≡ [vector.gt_s] [w16] lhs rhs</code></pre>
+        /// ```text
+        /// ensures: result ≡ vector.gt_s w16 lhs rhs
+        /// ```
         ///
-        /// [vector.gt_s]: crate::specs::lanewise::VectorTable#gt_s "all ones in the lanes that are greater, read signed, else all zeros"
-        /// [w16]: crate::specs::library#w16 "the widths of integers in bits"
+        /// Definitions: [`gt_s`](crate::specs::lanewise::VectorTable#gt_s).
         #[inline]
         pub fn i16x8_gt_s(lhs: V128, rhs: V128) -> V128 {
             order::greater_s::<u16>(lhs, rhs)
@@ -927,10 +1009,11 @@ pub mod simd {
         ///
         /// # Contract
         ///
-        /// <span></span><pre><code>ensures: result ≡ [vector.gt_s] [w32] lhs rhs</code></pre>
+        /// ```text
+        /// ensures: result ≡ vector.gt_s w32 lhs rhs
+        /// ```
         ///
-        /// [vector.gt_s]: crate::specs::lanewise::VectorTable#gt_s "all ones in the lanes that are greater, read signed, else all zeros"
-        /// [w32]: crate::specs::library#w32 "the widths of integers in bits"
+        /// Definitions: [`gt_s`](crate::specs::lanewise::VectorTable#gt_s).
         #[inline]
         pub fn i32x4_gt_s(lhs: V128, rhs: V128) -> V128 {
             order::greater_s::<u32>(lhs, rhs)
@@ -941,10 +1024,11 @@ pub mod simd {
         ///
         /// # Contract
         ///
-        /// <span></span><pre><code>ensures: result ≡ [vector.gt_s] [w64] lhs rhs</code></pre>
+        /// ```text
+        /// ensures: result ≡ vector.gt_s w64 lhs rhs
+        /// ```
         ///
-        /// [vector.gt_s]: crate::specs::lanewise::VectorTable#gt_s "all ones in the lanes that are greater, read signed, else all zeros"
-        /// [w64]: crate::specs::library#w64 "the widths of integers in bits"
+        /// Definitions: [`gt_s`](crate::specs::lanewise::VectorTable#gt_s).
         #[inline]
         pub fn i64x2_gt_s(lhs: V128, rhs: V128) -> V128 {
             order::greater_s::<u64>(lhs, rhs)
@@ -955,10 +1039,11 @@ pub mod simd {
         ///
         /// # Contract
         ///
-        /// <span></span><pre><code>ensures: result ≡ [vector.gt_u] [w8] lhs rhs</code></pre>
+        /// ```text
+        /// ensures: result ≡ vector.gt_u w8 lhs rhs
+        /// ```
         ///
-        /// [vector.gt_u]: crate::specs::lanewise::VectorTable#gt_u "all ones in the lanes that are greater, read unsigned, else all zeros"
-        /// [w8]: crate::specs::library#w8 "the widths of integers in bits"
+        /// Definitions: [`gt_u`](crate::specs::lanewise::VectorTable#gt_u).
         #[inline]
         pub fn i8x16_gt_u(lhs: V128, rhs: V128) -> V128 {
             order::greater_u::<u8>(lhs, rhs)
@@ -969,10 +1054,11 @@ pub mod simd {
         ///
         /// # Contract
         ///
-        /// <span></span><pre><code>ensures: result ≡ [vector.gt_u] [w16] lhs rhs</code></pre>
+        /// ```text
+        /// ensures: result ≡ vector.gt_u w16 lhs rhs
+        /// ```
         ///
-        /// [vector.gt_u]: crate::specs::lanewise::VectorTable#gt_u "all ones in the lanes that are greater, read unsigned, else all zeros"
-        /// [w16]: crate::specs::library#w16 "the widths of integers in bits"
+        /// Definitions: [`gt_u`](crate::specs::lanewise::VectorTable#gt_u).
         #[inline]
         pub fn i16x8_gt_u(lhs: V128, rhs: V128) -> V128 {
             order::greater_u::<u16>(lhs, rhs)
@@ -983,10 +1069,11 @@ pub mod simd {
         ///
         /// # Contract
         ///
-        /// <span></span><pre><code>ensures: result ≡ [vector.gt_u] [w32] lhs rhs</code></pre>
+        /// ```text
+        /// ensures: result ≡ vector.gt_u w32 lhs rhs
+        /// ```
         ///
-        /// [vector.gt_u]: crate::specs::lanewise::VectorTable#gt_u "all ones in the lanes that are greater, read unsigned, else all zeros"
-        /// [w32]: crate::specs::library#w32 "the widths of integers in bits"
+        /// Definitions: [`gt_u`](crate::specs::lanewise::VectorTable#gt_u).
         #[inline]
         pub fn i32x4_gt_u(lhs: V128, rhs: V128) -> V128 {
             order::greater_u::<u32>(lhs, rhs)
@@ -996,10 +1083,11 @@ pub mod simd {
         ///
         /// # Contract
         ///
-        /// <span></span><pre><code>ensures: result ≡ [vector.ge_s] [w8] lhs rhs</code></pre>
+        /// ```text
+        /// ensures: result ≡ vector.ge_s w8 lhs rhs
+        /// ```
         ///
-        /// [vector.ge_s]: crate::specs::lanewise::VectorTable#ge_s "all ones in the lanes that are at least the other, read signed, else all zeros"
-        /// [w8]: crate::specs::library#w8 "the widths of integers in bits"
+        /// Definitions: [`ge_s`](crate::specs::lanewise::VectorTable#ge_s).
         #[inline]
         pub fn i8x16_ge_s(lhs: V128, rhs: V128) -> V128 {
             order::at_least_s::<u8>(lhs, rhs)
@@ -1009,10 +1097,11 @@ pub mod simd {
         ///
         /// # Contract
         ///
-        /// <span></span><pre><code>ensures: result ≡ [vector.ge_s] [w16] lhs rhs</code></pre>
+        /// ```text
+        /// ensures: result ≡ vector.ge_s w16 lhs rhs
+        /// ```
         ///
-        /// [vector.ge_s]: crate::specs::lanewise::VectorTable#ge_s "all ones in the lanes that are at least the other, read signed, else all zeros"
-        /// [w16]: crate::specs::library#w16 "the widths of integers in bits"
+        /// Definitions: [`ge_s`](crate::specs::lanewise::VectorTable#ge_s).
         #[inline]
         pub fn i16x8_ge_s(lhs: V128, rhs: V128) -> V128 {
             order::at_least_s::<u16>(lhs, rhs)
@@ -1022,10 +1111,11 @@ pub mod simd {
         ///
         /// # Contract
         ///
-        /// <span></span><pre><code>ensures: result ≡ [vector.ge_s] [w32] lhs rhs</code></pre>
+        /// ```text
+        /// ensures: result ≡ vector.ge_s w32 lhs rhs
+        /// ```
         ///
-        /// [vector.ge_s]: crate::specs::lanewise::VectorTable#ge_s "all ones in the lanes that are at least the other, read signed, else all zeros"
-        /// [w32]: crate::specs::library#w32 "the widths of integers in bits"
+        /// Definitions: [`ge_s`](crate::specs::lanewise::VectorTable#ge_s).
         #[inline]
         pub fn i32x4_ge_s(lhs: V128, rhs: V128) -> V128 {
             order::at_least_s::<u32>(lhs, rhs)
@@ -1035,10 +1125,11 @@ pub mod simd {
         ///
         /// # Contract
         ///
-        /// <span></span><pre><code>ensures: result ≡ [vector.ge_s] [w64] lhs rhs</code></pre>
+        /// ```text
+        /// ensures: result ≡ vector.ge_s w64 lhs rhs
+        /// ```
         ///
-        /// [vector.ge_s]: crate::specs::lanewise::VectorTable#ge_s "all ones in the lanes that are at least the other, read signed, else all zeros"
-        /// [w64]: crate::specs::library#w64 "the widths of integers in bits"
+        /// Definitions: [`ge_s`](crate::specs::lanewise::VectorTable#ge_s).
         #[inline]
         pub fn i64x2_ge_s(lhs: V128, rhs: V128) -> V128 {
             order::at_least_s::<u64>(lhs, rhs)
@@ -1048,10 +1139,11 @@ pub mod simd {
         ///
         /// # Contract
         ///
-        /// <span></span><pre><code>ensures: result ≡ [vector.ge_u] [w8] lhs rhs</code></pre>
+        /// ```text
+        /// ensures: result ≡ vector.ge_u w8 lhs rhs
+        /// ```
         ///
-        /// [vector.ge_u]: crate::specs::lanewise::VectorTable#ge_u "all ones in the lanes that are at least the other, read unsigned, else all zeros"
-        /// [w8]: crate::specs::library#w8 "the widths of integers in bits"
+        /// Definitions: [`ge_u`](crate::specs::lanewise::VectorTable#ge_u).
         #[inline]
         pub fn i8x16_ge_u(lhs: V128, rhs: V128) -> V128 {
             order::at_least_u::<u8>(lhs, rhs)
@@ -1061,10 +1153,11 @@ pub mod simd {
         ///
         /// # Contract
         ///
-        /// <span></span><pre><code>ensures: result ≡ [vector.ge_u] [w16] lhs rhs</code></pre>
+        /// ```text
+        /// ensures: result ≡ vector.ge_u w16 lhs rhs
+        /// ```
         ///
-        /// [vector.ge_u]: crate::specs::lanewise::VectorTable#ge_u "all ones in the lanes that are at least the other, read unsigned, else all zeros"
-        /// [w16]: crate::specs::library#w16 "the widths of integers in bits"
+        /// Definitions: [`ge_u`](crate::specs::lanewise::VectorTable#ge_u).
         #[inline]
         pub fn i16x8_ge_u(lhs: V128, rhs: V128) -> V128 {
             order::at_least_u::<u16>(lhs, rhs)
@@ -1074,10 +1167,11 @@ pub mod simd {
         ///
         /// # Contract
         ///
-        /// <span></span><pre><code>ensures: result ≡ [vector.ge_u] [w32] lhs rhs</code></pre>
+        /// ```text
+        /// ensures: result ≡ vector.ge_u w32 lhs rhs
+        /// ```
         ///
-        /// [vector.ge_u]: crate::specs::lanewise::VectorTable#ge_u "all ones in the lanes that are at least the other, read unsigned, else all zeros"
-        /// [w32]: crate::specs::library#w32 "the widths of integers in bits"
+        /// Definitions: [`ge_u`](crate::specs::lanewise::VectorTable#ge_u).
         #[inline]
         pub fn i32x4_ge_u(lhs: V128, rhs: V128) -> V128 {
             order::at_least_u::<u32>(lhs, rhs)
@@ -1097,10 +1191,11 @@ pub mod simd {
         ///
         /// # Contract
         ///
-        /// <span></span><pre><code>ensures: result ≡ [vector.splat] [w8] item</code></pre>
+        /// ```text
+        /// ensures: result ≡ vector.splat w8 item
+        /// ```
         ///
-        /// [vector.splat]: crate::specs::lanewise::VectorTable#splat "each lane is the number modulo 2 to the width"
-        /// [w8]: crate::specs::library#w8 "the widths of integers in bits"
+        /// Definitions: [`splat`](crate::specs::lanewise::VectorTable#splat).
         #[inline]
         pub fn i8x16_splat(item: i8) -> V128 {
             on_vectors::splat::<I8x16>(item)
@@ -1110,10 +1205,11 @@ pub mod simd {
         ///
         /// # Contract
         ///
-        /// <span></span><pre><code>ensures: result ≡ [vector.splat] [w16] item</code></pre>
+        /// ```text
+        /// ensures: result ≡ vector.splat w16 item
+        /// ```
         ///
-        /// [vector.splat]: crate::specs::lanewise::VectorTable#splat "each lane is the number modulo 2 to the width"
-        /// [w16]: crate::specs::library#w16 "the widths of integers in bits"
+        /// Definitions: [`splat`](crate::specs::lanewise::VectorTable#splat).
         #[inline]
         pub fn i16x8_splat(item: i16) -> V128 {
             same_lanes(item.cast_unsigned())
@@ -1122,10 +1218,11 @@ pub mod simd {
         // By a `core::simd` vector: LLVM puts eight plain lanes together by shifts.
         /// # Contract
         ///
-        /// <span></span><pre><code>ensures: result ≡ [splat_of] [w16] item</code></pre>
+        /// ```text
+        /// ensures: result ≡ splat_of w16 item
+        /// ```
         ///
-        /// [splat_of]: crate::specs::lanes::Vector#splat_of "n in each lane"
-        /// [w16]: crate::specs::library#w16 "the widths of integers in bits"
+        /// Definitions: [`splat_of`](crate::specs::lanes::Vector#splat_of).
         #[inline(always)]
         fn same_lanes(item: u16) -> V128 {
             u16::vector_of(u16::splat(item))
@@ -1135,10 +1232,11 @@ pub mod simd {
         ///
         /// # Contract
         ///
-        /// <span></span><pre><code>ensures: result ≡ [vector.splat] [w32] item</code></pre>
+        /// ```text
+        /// ensures: result ≡ vector.splat w32 item
+        /// ```
         ///
-        /// [vector.splat]: crate::specs::lanewise::VectorTable#splat "each lane is the number modulo 2 to the width"
-        /// [w32]: crate::specs::library#w32 "the widths of integers in bits"
+        /// Definitions: [`splat`](crate::specs::lanewise::VectorTable#splat).
         #[inline]
         pub fn i32x4_splat(item: i32) -> V128 {
             on_vectors::splat::<I32x4>(item)
@@ -1148,10 +1246,11 @@ pub mod simd {
         ///
         /// # Contract
         ///
-        /// <span></span><pre><code>ensures: result ≡ [vector.splat] [w64] item</code></pre>
+        /// ```text
+        /// ensures: result ≡ vector.splat w64 item
+        /// ```
         ///
-        /// [vector.splat]: crate::specs::lanewise::VectorTable#splat "each lane is the number modulo 2 to the width"
-        /// [w64]: crate::specs::library#w64 "the widths of integers in bits"
+        /// Definitions: [`splat`](crate::specs::lanewise::VectorTable#splat).
         #[inline]
         pub fn i64x2_splat(item: i64) -> V128 {
             same_words(item.cast_unsigned())
@@ -1160,10 +1259,11 @@ pub mod simd {
         // Both words the same, by lanes of 32 bits: of one word in two places LLVM makes two stores.
         /// # Contract
         ///
-        /// <span></span><pre><code>ensures: result ≡ [splat_of] [w64] word</code></pre>
+        /// ```text
+        /// ensures: result ≡ splat_of w64 word
+        /// ```
         ///
-        /// [splat_of]: crate::specs::lanes::Vector#splat_of "n in each lane"
-        /// [w64]: crate::specs::library#w64 "the widths of integers in bits"
+        /// Definitions: [`splat_of`](crate::specs::lanes::Vector#splat_of).
         #[inline(always)]
         fn same_words(word: u64) -> V128 {
             from_bytes(lower_half_twice(V128::from_word_pair(word, 0)).to_le_bytes())
@@ -1172,10 +1272,11 @@ pub mod simd {
         // The lanes of 32 bits of the lower half, twice.
         /// # Contract
         ///
-        /// <span></span><pre><code>ensures: result ≡ [lane] [w32] v 0 ∷ [lane] [w32] v 1 ∷ [lane] [w32] v 0 ∷ [lane] [w32] v 1 ∷ \[\]</code></pre>
+        /// ```text
+        /// ensures: result ≡ lane w32 v 0 ∷ lane w32 v 1 ∷ lane w32 v 0 ∷ lane w32 v 1 ∷ []
+        /// ```
         ///
-        /// [lane]: crate::specs::lanes::Lane#lane "lane i of the vector v"
-        /// [w32]: crate::specs::library#w32 "the widths of integers in bits"
+        /// Definitions: [`lane`](crate::specs::lanes::Lane#lane).
         #[inline(always)]
         fn lower_half_twice(v: V128) -> u32x4 {
             let items = u32::lanes_of(v);
@@ -1186,11 +1287,11 @@ pub mod simd {
         ///
         /// # Contract
         ///
-        /// <span></span><pre><code>ensures: result ≡ [vector.extract_lane_s] [w8] v [lane]</code></pre>
+        /// ```text
+        /// ensures: result ≡ vector.extract_lane_s w8 v lane
+        /// ```
         ///
-        /// [vector.extract_lane_s]: crate::specs::lanewise::VectorTable#extract_lane_s "a lane read signed"
-        /// [w8]: crate::specs::library#w8 "the widths of integers in bits"
-        /// [lane]: crate::specs::lanes::Lane#lane "lane i of the vector v"
+        /// Definitions: [`extract_lane_s`](crate::specs::lanewise::VectorTable#extract_lane_s), [`lane`](crate::specs::lanes::Lane#lane).
         #[inline]
         pub fn i8x16_extract_lane_s(v: V128, lane: ImmLaneIdx16) -> i32 {
             i32::from(u8::lane_at(v, lane).cast_signed())
@@ -1200,11 +1301,11 @@ pub mod simd {
         ///
         /// # Contract
         ///
-        /// <span></span><pre><code>ensures: result ≡ [vector.extract_lane_u] [w8] v [lane]</code></pre>
+        /// ```text
+        /// ensures: result ≡ vector.extract_lane_u w8 v lane
+        /// ```
         ///
-        /// [vector.extract_lane_u]: crate::specs::lanewise::VectorTable#extract_lane_u "a lane read unsigned"
-        /// [w8]: crate::specs::library#w8 "the widths of integers in bits"
-        /// [lane]: crate::specs::lanes::Lane#lane "lane i of the vector v"
+        /// Definitions: [`extract_lane_u`](crate::specs::lanewise::VectorTable#extract_lane_u), [`lane`](crate::specs::lanes::Lane#lane).
         #[inline]
         pub fn i8x16_extract_lane_u(v: V128, lane: ImmLaneIdx16) -> u32 {
             u32::from(u8::lane_at(v, lane))
@@ -1214,11 +1315,11 @@ pub mod simd {
         ///
         /// # Contract
         ///
-        /// <span></span><pre><code>ensures: result ≡ [vector.extract_lane_s] [w16] v [lane]</code></pre>
+        /// ```text
+        /// ensures: result ≡ vector.extract_lane_s w16 v lane
+        /// ```
         ///
-        /// [vector.extract_lane_s]: crate::specs::lanewise::VectorTable#extract_lane_s "a lane read signed"
-        /// [w16]: crate::specs::library#w16 "the widths of integers in bits"
-        /// [lane]: crate::specs::lanes::Lane#lane "lane i of the vector v"
+        /// Definitions: [`extract_lane_s`](crate::specs::lanewise::VectorTable#extract_lane_s), [`lane`](crate::specs::lanes::Lane#lane).
         #[inline]
         pub fn i16x8_extract_lane_s(v: V128, lane: ImmLaneIdx8) -> i32 {
             i32::from(u16::lane_at(v, lane).cast_signed())
@@ -1228,11 +1329,11 @@ pub mod simd {
         ///
         /// # Contract
         ///
-        /// <span></span><pre><code>ensures: result ≡ [vector.extract_lane_u] [w16] v [lane]</code></pre>
+        /// ```text
+        /// ensures: result ≡ vector.extract_lane_u w16 v lane
+        /// ```
         ///
-        /// [vector.extract_lane_u]: crate::specs::lanewise::VectorTable#extract_lane_u "a lane read unsigned"
-        /// [w16]: crate::specs::library#w16 "the widths of integers in bits"
-        /// [lane]: crate::specs::lanes::Lane#lane "lane i of the vector v"
+        /// Definitions: [`extract_lane_u`](crate::specs::lanewise::VectorTable#extract_lane_u), [`lane`](crate::specs::lanes::Lane#lane).
         #[inline]
         pub fn i16x8_extract_lane_u(v: V128, lane: ImmLaneIdx8) -> u32 {
             u32::from(u16::lane_at(v, lane))
@@ -1242,11 +1343,11 @@ pub mod simd {
         ///
         /// # Contract
         ///
-        /// <span></span><pre><code>ensures: result ≡ [vector.extract_lane_s] [w32] v [lane]</code></pre>
+        /// ```text
+        /// ensures: result ≡ vector.extract_lane_s w32 v lane
+        /// ```
         ///
-        /// [vector.extract_lane_s]: crate::specs::lanewise::VectorTable#extract_lane_s "a lane read signed"
-        /// [w32]: crate::specs::library#w32 "the widths of integers in bits"
-        /// [lane]: crate::specs::lanes::Lane#lane "lane i of the vector v"
+        /// Definitions: [`extract_lane_s`](crate::specs::lanewise::VectorTable#extract_lane_s), [`lane`](crate::specs::lanes::Lane#lane).
         #[inline]
         pub fn i32x4_extract_lane(v: V128, lane: ImmLaneIdx4) -> i32 {
             u32::lane_at(v, lane).cast_signed()
@@ -1256,11 +1357,11 @@ pub mod simd {
         ///
         /// # Contract
         ///
-        /// <span></span><pre><code>ensures: result ≡ [vector.extract_lane_s] [w64] v [lane]</code></pre>
+        /// ```text
+        /// ensures: result ≡ vector.extract_lane_s w64 v lane
+        /// ```
         ///
-        /// [vector.extract_lane_s]: crate::specs::lanewise::VectorTable#extract_lane_s "a lane read signed"
-        /// [w64]: crate::specs::library#w64 "the widths of integers in bits"
-        /// [lane]: crate::specs::lanes::Lane#lane "lane i of the vector v"
+        /// Definitions: [`extract_lane_s`](crate::specs::lanewise::VectorTable#extract_lane_s), [`lane`](crate::specs::lanes::Lane#lane).
         #[inline]
         pub fn i64x2_extract_lane(v: V128, lane: ImmLaneIdx2) -> i64 {
             u64::lane_at(v, lane).cast_signed()
@@ -1270,11 +1371,11 @@ pub mod simd {
         ///
         /// # Contract
         ///
-        /// <span></span><pre><code>ensures: result ≡ [vector.replace_lane] [w8] v [lane] item</code></pre>
+        /// ```text
+        /// ensures: result ≡ vector.replace_lane w8 v lane item
+        /// ```
         ///
-        /// [vector.replace_lane]: crate::specs::lanewise::VectorTable#replace_lane "one lane is the number modulo 2 to the width, and the others stay"
-        /// [w8]: crate::specs::library#w8 "the widths of integers in bits"
-        /// [lane]: crate::specs::lanes::Lane#lane "lane i of the vector v"
+        /// Definitions: [`replace_lane`](crate::specs::lanewise::VectorTable#replace_lane), [`lane`](crate::specs::lanes::Lane#lane).
         #[inline]
         pub fn i8x16_replace_lane(v: V128, lane: ImmLaneIdx16, item: i8) -> V128 {
             u8::with_lane(v, lane, item.cast_unsigned())
@@ -1284,11 +1385,11 @@ pub mod simd {
         ///
         /// # Contract
         ///
-        /// <span></span><pre><code>ensures: result ≡ [vector.replace_lane] [w16] v [lane] item</code></pre>
+        /// ```text
+        /// ensures: result ≡ vector.replace_lane w16 v lane item
+        /// ```
         ///
-        /// [vector.replace_lane]: crate::specs::lanewise::VectorTable#replace_lane "one lane is the number modulo 2 to the width, and the others stay"
-        /// [w16]: crate::specs::library#w16 "the widths of integers in bits"
-        /// [lane]: crate::specs::lanes::Lane#lane "lane i of the vector v"
+        /// Definitions: [`replace_lane`](crate::specs::lanewise::VectorTable#replace_lane), [`lane`](crate::specs::lanes::Lane#lane).
         #[inline]
         pub fn i16x8_replace_lane(v: V128, lane: ImmLaneIdx8, item: i16) -> V128 {
             u16::with_lane(v, lane, item.cast_unsigned())
@@ -1298,11 +1399,11 @@ pub mod simd {
         ///
         /// # Contract
         ///
-        /// <span></span><pre><code>ensures: result ≡ [vector.replace_lane] [w32] v [lane] item</code></pre>
+        /// ```text
+        /// ensures: result ≡ vector.replace_lane w32 v lane item
+        /// ```
         ///
-        /// [vector.replace_lane]: crate::specs::lanewise::VectorTable#replace_lane "one lane is the number modulo 2 to the width, and the others stay"
-        /// [w32]: crate::specs::library#w32 "the widths of integers in bits"
-        /// [lane]: crate::specs::lanes::Lane#lane "lane i of the vector v"
+        /// Definitions: [`replace_lane`](crate::specs::lanewise::VectorTable#replace_lane), [`lane`](crate::specs::lanes::Lane#lane).
         #[inline]
         pub fn i32x4_replace_lane(v: V128, lane: ImmLaneIdx4, item: i32) -> V128 {
             u32::with_lane(v, lane, item.cast_unsigned())
@@ -1312,11 +1413,11 @@ pub mod simd {
         ///
         /// # Contract
         ///
-        /// <span></span><pre><code>ensures: result ≡ [vector.replace_lane] [w64] v [lane] item</code></pre>
+        /// ```text
+        /// ensures: result ≡ vector.replace_lane w64 v lane item
+        /// ```
         ///
-        /// [vector.replace_lane]: crate::specs::lanewise::VectorTable#replace_lane "one lane is the number modulo 2 to the width, and the others stay"
-        /// [w64]: crate::specs::library#w64 "the widths of integers in bits"
-        /// [lane]: crate::specs::lanes::Lane#lane "lane i of the vector v"
+        /// Definitions: [`replace_lane`](crate::specs::lanewise::VectorTable#replace_lane), [`lane`](crate::specs::lanes::Lane#lane).
         #[inline]
         pub fn i64x2_replace_lane(v: V128, lane: ImmLaneIdx2, item: i64) -> V128 {
             u64::with_lane(v, lane, item.cast_unsigned())
@@ -1334,10 +1435,11 @@ pub mod simd {
         ///
         /// # Contract
         ///
-        /// <span></span><pre><code>ensures: result ≡ [vector.lt_u] [T.width] lhs rhs</code></pre>
+        /// ```text
+        /// ensures: result ≡ vector.lt_u T.width lhs rhs
+        /// ```
         ///
-        /// [vector.lt_u]: crate::specs::lanewise::VectorTable#lt_u "all ones in the lanes that are less, read unsigned, else all zeros"
-        /// [T.width]: trait@SimdLane#contract
+        /// Definitions: [`lt_u`](crate::specs::lanewise::VectorTable#lt_u).
         #[inline(always)]
         pub(super) fn less_u<T: SimdLane>(lhs: V128, rhs: V128) -> V128 {
             ones_if_less::<T>(T::lanes_of(lhs), T::lanes_of(rhs))
@@ -1347,10 +1449,11 @@ pub mod simd {
         ///
         /// # Contract
         ///
-        /// <span></span><pre><code>ensures: result ≡ [vector.gt_u] [T.width] lhs rhs</code></pre>
+        /// ```text
+        /// ensures: result ≡ vector.gt_u T.width lhs rhs
+        /// ```
         ///
-        /// [vector.gt_u]: crate::specs::lanewise::VectorTable#gt_u "all ones in the lanes that are greater, read unsigned, else all zeros"
-        /// [T.width]: trait@SimdLane#contract
+        /// Definitions: [`gt_u`](crate::specs::lanewise::VectorTable#gt_u).
         #[inline(always)]
         pub(super) fn greater_u<T: SimdLane>(lhs: V128, rhs: V128) -> V128 {
             less_u::<T>(rhs, lhs)
@@ -1360,10 +1463,11 @@ pub mod simd {
         ///
         /// # Contract
         ///
-        /// <span></span><pre><code>ensures: result ≡ [vector.le_u] [T.width] lhs rhs</code></pre>
+        /// ```text
+        /// ensures: result ≡ vector.le_u T.width lhs rhs
+        /// ```
         ///
-        /// [vector.le_u]: crate::specs::lanewise::VectorTable#le_u "all ones in the lanes that are at most the other, read unsigned, else all zeros"
-        /// [T.width]: trait@SimdLane#contract
+        /// Definitions: [`le_u`](crate::specs::lanewise::VectorTable#le_u).
         #[inline(always)]
         pub(super) fn at_most_u<T: SimdLane>(lhs: V128, rhs: V128) -> V128 {
             zeros_if_less::<T>(T::lanes_of(rhs), T::lanes_of(lhs))
@@ -1373,10 +1477,11 @@ pub mod simd {
         ///
         /// # Contract
         ///
-        /// <span></span><pre><code>ensures: result ≡ [vector.ge_u] [T.width] lhs rhs</code></pre>
+        /// ```text
+        /// ensures: result ≡ vector.ge_u T.width lhs rhs
+        /// ```
         ///
-        /// [vector.ge_u]: crate::specs::lanewise::VectorTable#ge_u "all ones in the lanes that are at least the other, read unsigned, else all zeros"
-        /// [T.width]: trait@SimdLane#contract
+        /// Definitions: [`ge_u`](crate::specs::lanewise::VectorTable#ge_u).
         #[inline(always)]
         pub(super) fn at_least_u<T: SimdLane>(lhs: V128, rhs: V128) -> V128 {
             at_most_u::<T>(rhs, lhs)
@@ -1386,10 +1491,11 @@ pub mod simd {
         ///
         /// # Contract
         ///
-        /// <span></span><pre><code>ensures: result ≡ [vector.lt_s] [T.width] lhs rhs</code></pre>
+        /// ```text
+        /// ensures: result ≡ vector.lt_s T.width lhs rhs
+        /// ```
         ///
-        /// [vector.lt_s]: crate::specs::lanewise::VectorTable#lt_s "all ones in the lanes that are less, read signed, else all zeros"
-        /// [T.width]: trait@SimdLane#contract
+        /// Definitions: [`lt_s`](crate::specs::lanewise::VectorTable#lt_s).
         #[inline(always)]
         pub(super) fn less_s<T: SimdLane>(lhs: V128, rhs: V128) -> V128 {
             ones_if_less::<T>(T::biased(T::lanes_of(lhs)), T::biased(T::lanes_of(rhs)))
@@ -1399,10 +1505,11 @@ pub mod simd {
         ///
         /// # Contract
         ///
-        /// <span></span><pre><code>ensures: result ≡ [vector.gt_s] [T.width] lhs rhs</code></pre>
+        /// ```text
+        /// ensures: result ≡ vector.gt_s T.width lhs rhs
+        /// ```
         ///
-        /// [vector.gt_s]: crate::specs::lanewise::VectorTable#gt_s "all ones in the lanes that are greater, read signed, else all zeros"
-        /// [T.width]: trait@SimdLane#contract
+        /// Definitions: [`gt_s`](crate::specs::lanewise::VectorTable#gt_s).
         #[inline(always)]
         pub(super) fn greater_s<T: SimdLane>(lhs: V128, rhs: V128) -> V128 {
             less_s::<T>(rhs, lhs)
@@ -1412,10 +1519,11 @@ pub mod simd {
         ///
         /// # Contract
         ///
-        /// <span></span><pre><code>ensures: result ≡ [vector.le_s] [T.width] lhs rhs</code></pre>
+        /// ```text
+        /// ensures: result ≡ vector.le_s T.width lhs rhs
+        /// ```
         ///
-        /// [vector.le_s]: crate::specs::lanewise::VectorTable#le_s "all ones in the lanes that are at most the other, read signed, else all zeros"
-        /// [T.width]: trait@SimdLane#contract
+        /// Definitions: [`le_s`](crate::specs::lanewise::VectorTable#le_s).
         #[inline(always)]
         pub(super) fn at_most_s<T: SimdLane>(lhs: V128, rhs: V128) -> V128 {
             zeros_if_less::<T>(T::biased(T::lanes_of(rhs)), T::biased(T::lanes_of(lhs)))
@@ -1425,10 +1533,11 @@ pub mod simd {
         ///
         /// # Contract
         ///
-        /// <span></span><pre><code>ensures: result ≡ [vector.ge_s] [T.width] lhs rhs</code></pre>
+        /// ```text
+        /// ensures: result ≡ vector.ge_s T.width lhs rhs
+        /// ```
         ///
-        /// [vector.ge_s]: crate::specs::lanewise::VectorTable#ge_s "all ones in the lanes that are at least the other, read signed, else all zeros"
-        /// [T.width]: trait@SimdLane#contract
+        /// Definitions: [`ge_s`](crate::specs::lanewise::VectorTable#ge_s).
         #[inline(always)]
         pub(super) fn at_least_s<T: SimdLane>(lhs: V128, rhs: V128) -> V128 {
             at_most_s::<T>(rhs, lhs)
@@ -1438,10 +1547,11 @@ pub mod simd {
         ///
         /// # Contract
         ///
-        /// <span></span><pre><code>ensures: result ≡ [vector.min_u] [T.width] lhs rhs</code></pre>
+        /// ```text
+        /// ensures: result ≡ vector.min_u T.width lhs rhs
+        /// ```
         ///
-        /// [vector.min_u]: crate::specs::lanewise::VectorTable#min_u "the smaller of each two lanes read unsigned"
-        /// [T.width]: trait@SimdLane#contract
+        /// Definitions: [`min_u`](crate::specs::lanewise::VectorTable#min_u).
         #[inline(always)]
         pub(super) fn smaller_u<T: SimdLane>(lhs: V128, rhs: V128) -> V128 {
             let (a, b) = (T::lanes_of(lhs), T::lanes_of(rhs));
@@ -1452,10 +1562,11 @@ pub mod simd {
         ///
         /// # Contract
         ///
-        /// <span></span><pre><code>ensures: result ≡ [vector.max_u] [T.width] lhs rhs</code></pre>
+        /// ```text
+        /// ensures: result ≡ vector.max_u T.width lhs rhs
+        /// ```
         ///
-        /// [vector.max_u]: crate::specs::lanewise::VectorTable#max_u "the greater of each two lanes read unsigned"
-        /// [T.width]: trait@SimdLane#contract
+        /// Definitions: [`max_u`](crate::specs::lanewise::VectorTable#max_u).
         #[inline(always)]
         pub(super) fn larger_u<T: SimdLane>(lhs: V128, rhs: V128) -> V128 {
             let (a, b) = (T::lanes_of(lhs), T::lanes_of(rhs));
@@ -1466,10 +1577,11 @@ pub mod simd {
         ///
         /// # Contract
         ///
-        /// <span></span><pre><code>ensures: result ≡ [vector.min_s] [T.width] lhs rhs</code></pre>
+        /// ```text
+        /// ensures: result ≡ vector.min_s T.width lhs rhs
+        /// ```
         ///
-        /// [vector.min_s]: crate::specs::lanewise::VectorTable#min_s "the smaller of each two lanes read signed"
-        /// [T.width]: trait@SimdLane#contract
+        /// Definitions: [`min_s`](crate::specs::lanewise::VectorTable#min_s).
         #[inline(always)]
         pub(super) fn smaller_s<T: SimdLane>(lhs: V128, rhs: V128) -> V128 {
             let (a, b) = (T::lanes_of(lhs), T::lanes_of(rhs));
@@ -1480,10 +1592,11 @@ pub mod simd {
         ///
         /// # Contract
         ///
-        /// <span></span><pre><code>ensures: result ≡ [vector.max_s] [T.width] lhs rhs</code></pre>
+        /// ```text
+        /// ensures: result ≡ vector.max_s T.width lhs rhs
+        /// ```
         ///
-        /// [vector.max_s]: crate::specs::lanewise::VectorTable#max_s "the greater of each two lanes read signed"
-        /// [T.width]: trait@SimdLane#contract
+        /// Definitions: [`max_s`](crate::specs::lanewise::VectorTable#max_s).
         #[inline(always)]
         pub(super) fn larger_s<T: SimdLane>(lhs: V128, rhs: V128) -> V128 {
             let (a, b) = (T::lanes_of(lhs), T::lanes_of(rhs));
@@ -1492,18 +1605,14 @@ pub mod simd {
 
         /// # Contract
         ///
-        /// <span></span><pre><code>ensures lanes: (i : [ℕ]) → i < [lane_count] [T.width]
-        /// &#32;&#32;&#32;&#32;→ [lane] [T.width] result i
-        /// &#32;&#32;&#32;&#32;≡ (if [nat_lt] ([T.at] a i) ([T.at] b i) then 2 ^ [bits] [T.width] - 1 else 0)
-        /// ensures in_range: result < 2 ^ 128</code></pre>
+        /// ```text
+        /// ensures lanes: (i : ℕ) → i < lane_count T.width
+        ///     → lane T.width result i
+        ///     ≡ (if nat_lt (T.at a i) (T.at b i) then 2 ^ bits T.width - 1 else 0)
+        /// ensures in_range: result < 2 ^ 128
+        /// ```
         ///
-        /// [ℕ]: crate::specs::library#%E2%84%95 "the whole numbers from 0 on"
-        /// [lane_count]: crate::specs::lanes::Lane#lane_count "how many lanes of a width a vector has"
-        /// [T.width]: trait@SimdLane#contract
-        /// [lane]: crate::specs::lanes::Lane#lane "lane i of the vector v"
-        /// [nat_lt]: crate::specs::library#nat_lt "whether m is below n, as a Boolean"
-        /// [T.at]: trait@SimdLane#contract
-        /// [bits]: crate::specs::library#bits "the number of bits of a width"
+        /// Definitions: [`lane_count`](crate::specs::lanes::Lane#lane_count), [`lane`](crate::specs::lanes::Lane#lane).
         #[inline(always)]
         fn ones_if_less<T: SimdLane>(a: T::Vector, b: T::Vector) -> V128 {
             T::vector_of(T::choose_if_less(a, b, ones::<T>(), zeros::<T>()))
@@ -1511,18 +1620,14 @@ pub mod simd {
 
         /// # Contract
         ///
-        /// <span></span><pre><code>ensures lanes: (i : [ℕ]) → i < [lane_count] [T.width]
-        /// &#32;&#32;&#32;&#32;→ [lane] [T.width] result i
-        /// &#32;&#32;&#32;&#32;≡ (if [nat_lt] ([T.at] a i) ([T.at] b i) then 0 else 2 ^ [bits] [T.width] - 1)
-        /// ensures in_range: result < 2 ^ 128</code></pre>
+        /// ```text
+        /// ensures lanes: (i : ℕ) → i < lane_count T.width
+        ///     → lane T.width result i
+        ///     ≡ (if nat_lt (T.at a i) (T.at b i) then 0 else 2 ^ bits T.width - 1)
+        /// ensures in_range: result < 2 ^ 128
+        /// ```
         ///
-        /// [ℕ]: crate::specs::library#%E2%84%95 "the whole numbers from 0 on"
-        /// [lane_count]: crate::specs::lanes::Lane#lane_count "how many lanes of a width a vector has"
-        /// [T.width]: trait@SimdLane#contract
-        /// [lane]: crate::specs::lanes::Lane#lane "lane i of the vector v"
-        /// [nat_lt]: crate::specs::library#nat_lt "whether m is below n, as a Boolean"
-        /// [T.at]: trait@SimdLane#contract
-        /// [bits]: crate::specs::library#bits "the number of bits of a width"
+        /// Definitions: [`lane_count`](crate::specs::lanes::Lane#lane_count), [`lane`](crate::specs::lanes::Lane#lane).
         #[inline(always)]
         fn zeros_if_less<T: SimdLane>(a: T::Vector, b: T::Vector) -> V128 {
             T::vector_of(T::choose_if_less(a, b, zeros::<T>(), ones::<T>()))
@@ -1531,13 +1636,11 @@ pub mod simd {
         // All ones in each lane.
         /// # Contract
         ///
-        /// <span></span><pre><code>ensures lanes: (i : [ℕ]) → i < [lane_count] [T.width] → [T.at] result i ≡ 2 ^ [bits] [T.width] - 1</code></pre>
+        /// ```text
+        /// ensures lanes: (i : ℕ) → i < lane_count T.width → T.at result i ≡ 2 ^ bits T.width - 1
+        /// ```
         ///
-        /// [ℕ]: crate::specs::library#%E2%84%95 "the whole numbers from 0 on"
-        /// [lane_count]: crate::specs::lanes::Lane#lane_count "how many lanes of a width a vector has"
-        /// [T.width]: trait@SimdLane#contract
-        /// [T.at]: trait@SimdLane#contract
-        /// [bits]: crate::specs::library#bits "the number of bits of a width"
+        /// Definitions: [`lane_count`](crate::specs::lanes::Lane#lane_count).
         #[inline(always)]
         fn ones<T: SimdLane>() -> T::Vector {
             T::splat(T::ALL_ONES)
@@ -1546,12 +1649,11 @@ pub mod simd {
         // All zeros in each lane.
         /// # Contract
         ///
-        /// <span></span><pre><code>ensures lanes: (i : [ℕ]) → i < [lane_count] [T.width] → [T.at] result i ≡ 0</code></pre>
+        /// ```text
+        /// ensures lanes: (i : ℕ) → i < lane_count T.width → T.at result i ≡ 0
+        /// ```
         ///
-        /// [ℕ]: crate::specs::library#%E2%84%95 "the whole numbers from 0 on"
-        /// [lane_count]: crate::specs::lanes::Lane#lane_count "how many lanes of a width a vector has"
-        /// [T.width]: trait@SimdLane#contract
-        /// [T.at]: trait@SimdLane#contract
+        /// Definitions: [`lane_count`](crate::specs::lanes::Lane#lane_count).
         #[inline(always)]
         fn zeros<T: SimdLane>() -> T::Vector {
             T::splat(T::ALL_ZEROS)
@@ -1571,9 +1673,11 @@ pub mod simd {
         ///
         /// # Contract
         ///
-        /// <span></span><pre><code>ensures: result ≡ [vector.q15mulr_sat_s] a b</code></pre>
+        /// ```text
+        /// ensures: result ≡ vector.q15mulr_sat_s a b
+        /// ```
         ///
-        /// [vector.q15mulr_sat_s]: crate::specs::lanewise::VectorTable#q15mulr_sat_s "the rounded products of q15 numbers, clamped to the signed range"
+        /// Definitions: [`q15mulr_sat_s`](crate::specs::lanewise::VectorTable#q15mulr_sat_s).
         #[inline(always)]
         pub(super) fn rounded_products(a: V128, b: V128) -> V128 {
             let x = u16::lanes_of(a);
@@ -1585,15 +1689,10 @@ pub mod simd {
         // The lanes, read signed, at twice their width.
         /// # Contract
         ///
-        /// <span></span><pre><code>ensures lanes: (i : [ℕ]) → i < 8
-        /// &#32;&#32;&#32;&#32;→ [slice_index] result i ≡ [cast_unsigned] [w32] ([signed] [w16] ([slice_index] items i))</code></pre>
-        ///
-        /// [ℕ]: crate::specs::library#%E2%84%95 "the whole numbers from 0 on"
-        /// [slice_index]: crate::specs::library#slice_index "element i of a list of numbers; 0 past its end"
-        /// [cast_unsigned]: crate::specs::library#cast_unsigned "the signed number as one from 0 up to 2 ^ w, in two\'s complement"
-        /// [w32]: crate::specs::library#w32 "the widths of integers in bits"
-        /// [signed]: crate::specs::library#cast_signed "the number from 0 up to 2 ^ w read as signed, in two\'s complement"
-        /// [w16]: crate::specs::library#w16 "the widths of integers in bits"
+        /// ```text
+        /// ensures lanes: (i : ℕ) → i < 8
+        ///     → slice_index result i ≡ cast_unsigned w32 (signed w16 (slice_index items i))
+        /// ```
         #[inline(always)]
         fn sign_copied(items: u16x8) -> u32x8 {
             let tops = u32x8::splat(0x8000);
@@ -1603,16 +1702,11 @@ pub mod simd {
         // The upper halves of the products of lanes that are read signed.
         /// # Contract
         ///
-        /// <span></span><pre><code>ensures lanes: (i : [ℕ]) → i < 8 → [slice_index] result i
-        /// &#32;&#32;&#32;&#32;≡ [cast_unsigned] [w32] ([signed] [w16] ([slice_index] x i)) \* [cast_unsigned] [w32]
-        /// &#32;&#32;&#32;&#32;([signed] [w16] ([slice_index] y i)) % 2 ^ 32 / 2 ^ 16</code></pre>
-        ///
-        /// [ℕ]: crate::specs::library#%E2%84%95 "the whole numbers from 0 on"
-        /// [slice_index]: crate::specs::library#slice_index "element i of a list of numbers; 0 past its end"
-        /// [cast_unsigned]: crate::specs::library#cast_unsigned "the signed number as one from 0 up to 2 ^ w, in two\'s complement"
-        /// [w32]: crate::specs::library#w32 "the widths of integers in bits"
-        /// [signed]: crate::specs::library#cast_signed "the number from 0 up to 2 ^ w read as signed, in two\'s complement"
-        /// [w16]: crate::specs::library#w16 "the widths of integers in bits"
+        /// ```text
+        /// ensures lanes: (i : ℕ) → i < 8 → slice_index result i
+        ///     ≡ cast_unsigned w32 (signed w16 (slice_index x i)) * cast_unsigned w32
+        ///     (signed w16 (slice_index y i)) % 2 ^ 32 / 2 ^ 16
+        /// ```
         #[inline(always)]
         fn upper_halves(x: u16x8, y: u16x8) -> u16x8 {
             let products = sign_copied(x) * sign_copied(y);
@@ -1622,11 +1716,10 @@ pub mod simd {
         // The lower halves of the products of lanes, the same for signed and unsigned ones.
         /// # Contract
         ///
-        /// <span></span><pre><code>ensures lanes: (i : [ℕ]) → i < 8
-        /// &#32;&#32;&#32;&#32;→ [slice_index] result i ≡ [slice_index] x i \* [slice_index] y i % 2 ^ 16</code></pre>
-        ///
-        /// [ℕ]: crate::specs::library#%E2%84%95 "the whole numbers from 0 on"
-        /// [slice_index]: crate::specs::library#slice_index "element i of a list of numbers; 0 past its end"
+        /// ```text
+        /// ensures lanes: (i : ℕ) → i < 8
+        ///     → slice_index result i ≡ slice_index x i * slice_index y i % 2 ^ 16
+        /// ```
         #[inline(always)]
         fn lower_halves(x: u16x8, y: u16x8) -> u16x8 {
             x * y
@@ -1636,14 +1729,12 @@ pub mod simd {
         // fit, that of 2 to the power 14.
         /// # Contract
         ///
-        /// <span></span><pre><code>ensures lanes: (i : [ℕ]) → i < 8 → [slice_index] result i
-        /// &#32;&#32;&#32;&#32;≡ ([slice_index] items i +
-        /// &#32;&#32;&#32;&#32;(if [nat_lt] (([slice_index] items i + 0x8000) % 2 ^ 16) 0xbfff then [slice_index] items i
-        /// &#32;&#32;&#32;&#32;else 0x3fff)) % 2 ^ 16</code></pre>
-        ///
-        /// [ℕ]: crate::specs::library#%E2%84%95 "the whole numbers from 0 on"
-        /// [slice_index]: crate::specs::library#slice_index "element i of a list of numbers; 0 past its end"
-        /// [nat_lt]: crate::specs::library#nat_lt "whether m is below n, as a Boolean"
+        /// ```text
+        /// ensures lanes: (i : ℕ) → i < 8 → slice_index result i
+        ///     ≡ (slice_index items i +
+        ///     (if nat_lt ((slice_index items i + 0x8000) % 2 ^ 16) 0xbfff then slice_index items i
+        ///     else 0x3fff)) % 2 ^ 16
+        /// ```
         #[inline(always)]
         fn twice(items: u16x8) -> u16x8 {
             let most = u16::splat(0x3fff);
@@ -1653,11 +1744,10 @@ pub mod simd {
         // The lanes divided by 2 to the power 15, halves rounded up.
         /// # Contract
         ///
-        /// <span></span><pre><code>ensures lanes: (i : [ℕ]) → i < 8
-        /// &#32;&#32;&#32;&#32;→ [slice_index] result i ≡ ([slice_index] items i / 2 + 0x2000) % 2 ^ 16 / 2 ^ 14</code></pre>
-        ///
-        /// [ℕ]: crate::specs::library#%E2%84%95 "the whole numbers from 0 on"
-        /// [slice_index]: crate::specs::library#slice_index "element i of a list of numbers; 0 past its end"
+        /// ```text
+        /// ensures lanes: (i : ℕ) → i < 8
+        ///     → slice_index result i ≡ (slice_index items i / 2 + 0x2000) % 2 ^ 16 / 2 ^ 14
+        /// ```
         #[inline(always)]
         fn rounded_quotients(items: u16x8) -> u16x8 {
             ((items >> u16x8::splat(1)) + u16x8::splat(0x2000)) >> u16x8::splat(14)
@@ -1665,11 +1755,10 @@ pub mod simd {
 
         /// # Contract
         ///
-        /// <span></span><pre><code>ensures lanes: (i : [ℕ]) → i < 8
-        /// &#32;&#32;&#32;&#32;→ [slice_index] result i ≡ ([slice_index] x i + [slice_index] y i) % 2 ^ 16</code></pre>
-        ///
-        /// [ℕ]: crate::specs::library#%E2%84%95 "the whole numbers from 0 on"
-        /// [slice_index]: crate::specs::library#slice_index "element i of a list of numbers; 0 past its end"
+        /// ```text
+        /// ensures lanes: (i : ℕ) → i < 8
+        ///     → slice_index result i ≡ (slice_index x i + slice_index y i) % 2 ^ 16
+        /// ```
         #[inline(always)]
         fn sums(x: u16x8, y: u16x8) -> u16x8 {
             x + y
@@ -1688,24 +1777,24 @@ pub mod simd {
             ///
             /// # Contract
             ///
-            /// <span></span><pre><code>ensures lanes: (i : [ℕ]) → i < [lane_count] Self.width → Self.at result i
-            /// &#32;&#32;&#32;&#32;≡ [min] (Self.at a i + Self.at b i) (2 ^ [bits] Self.width - 1)</code></pre>
+            /// ```text
+            /// ensures lanes: (i : ℕ) → i < lane_count Self.width → Self.at result i
+            ///     ≡ min (Self.at a i + Self.at b i) (2 ^ bits Self.width - 1)
+            /// ```
             ///
-            /// [ℕ]: crate::specs::library#%E2%84%95 "the whole numbers from 0 on"
-            /// [lane_count]: crate::specs::lanes::Lane#lane_count "how many lanes of a width a vector has"
-            /// [min]: crate::specs::library#min "the greater and the smaller of two numbers"
-            /// [bits]: crate::specs::library#bits "the number of bits of a width"
+            /// Definitions: [`lane_count`](crate::specs::lanes::Lane#lane_count).
             fn clamped_sums(a: Self::Vector, b: Self::Vector) -> Self::Vector;
 
             /// The differences, 0 where that of `b` is greater.
             ///
             /// # Contract
             ///
-            /// <span></span><pre><code>ensures lanes: (i : [ℕ]) → i < [lane_count] Self.width → Self.at result i
-            /// &#32;&#32;&#32;&#32;≡ Self.at a i - Self.at b i</code></pre>
+            /// ```text
+            /// ensures lanes: (i : ℕ) → i < lane_count Self.width → Self.at result i
+            ///     ≡ Self.at a i - Self.at b i
+            /// ```
             ///
-            /// [ℕ]: crate::specs::library#%E2%84%95 "the whole numbers from 0 on"
-            /// [lane_count]: crate::specs::lanes::Lane#lane_count "how many lanes of a width a vector has"
+            /// Definitions: [`lane_count`](crate::specs::lanes::Lane#lane_count).
             fn clamped_differences(a: Self::Vector, b: Self::Vector) -> Self::Vector;
         }
 
@@ -1737,9 +1826,11 @@ pub mod simd {
         ///
         /// # Contract
         ///
-        /// <span></span><pre><code>ensures: result ≡ [vector.add_sat_u] T.width lhs rhs</code></pre>
+        /// ```text
+        /// ensures: result ≡ vector.add_sat_u T.width lhs rhs
+        /// ```
         ///
-        /// [vector.add_sat_u]: crate::specs::lanewise::VectorTable#add_sat_u "the sums of lanes read unsigned, clamped to the unsigned range"
+        /// Definitions: [`add_sat_u`](crate::specs::lanewise::VectorTable#add_sat_u).
         #[inline(always)]
         pub(super) fn sums_u<T: SaturatingLane>(lhs: V128, rhs: V128) -> V128 {
             T::vector_of(T::clamped_sums(T::lanes_of(lhs), T::lanes_of(rhs)))
@@ -1749,9 +1840,11 @@ pub mod simd {
         ///
         /// # Contract
         ///
-        /// <span></span><pre><code>ensures: result ≡ [vector.sub_sat_u] T.width lhs rhs</code></pre>
+        /// ```text
+        /// ensures: result ≡ vector.sub_sat_u T.width lhs rhs
+        /// ```
         ///
-        /// [vector.sub_sat_u]: crate::specs::lanewise::VectorTable#sub_sat_u "the differences of lanes read unsigned, clamped to the unsigned range"
+        /// Definitions: [`sub_sat_u`](crate::specs::lanewise::VectorTable#sub_sat_u).
         #[inline(always)]
         pub(super) fn differences_u<T: SaturatingLane>(lhs: V128, rhs: V128) -> V128 {
             T::vector_of(T::clamped_differences(T::lanes_of(lhs), T::lanes_of(rhs)))
@@ -1768,9 +1861,11 @@ pub mod simd {
         ///
         /// # Contract
         ///
-        /// <span></span><pre><code>ensures: result ≡ [vector.shuffle] a b s</code></pre>
+        /// ```text
+        /// ensures: result ≡ vector.shuffle a b s
+        /// ```
         ///
-        /// [vector.shuffle]: crate::specs::lanewise::VectorTable#shuffle "of the 32 bytes of a and b, those at the indices s"
+        /// Definitions: [`shuffle`](crate::specs::lanewise::VectorTable#shuffle).
         #[inline]
         pub fn i8x16_shuffle(a: V128, b: V128, s: [ImmLaneIdx32; 16]) -> V128 {
             let indices = bytes_of_indices(s);
@@ -1783,9 +1878,11 @@ pub mod simd {
         ///
         /// # Contract
         ///
-        /// <span></span><pre><code>ensures: result ≡ [vector.swizzle] a s</code></pre>
+        /// ```text
+        /// ensures: result ≡ vector.swizzle a s
+        /// ```
         ///
-        /// [vector.swizzle]: crate::specs::lanewise::VectorTable#swizzle "of the 16 bytes of a, those at the indices that the lanes of s are, and 0 where one is above 15"
+        /// Definitions: [`swizzle`](crate::specs::lanewise::VectorTable#swizzle).
         #[inline]
         pub fn i8x16_swizzle(a: V128, s: V128) -> V128 {
             from_bytes(picked_or_zero(bytes_of(a), bytes_of(s)))
@@ -1796,13 +1893,11 @@ pub mod simd {
         // instruction reads no other bits.
         /// # Contract
         ///
-        /// <span></span><pre><code>ensures lanes: (i : [ℕ]) → i < 16 → [slice_index] result i
-        /// &#32;&#32;&#32;&#32;≡ (if [nat_lt] ([slice_index] indices i) 16 then [slice_index] table
-        /// &#32;&#32;&#32;&#32;([slice_index] indices i) else 0)</code></pre>
-        ///
-        /// [ℕ]: crate::specs::library#%E2%84%95 "the whole numbers from 0 on"
-        /// [slice_index]: crate::specs::library#slice_index "element i of a list of numbers; 0 past its end"
-        /// [nat_lt]: crate::specs::library#nat_lt "whether m is below n, as a Boolean"
+        /// ```text
+        /// ensures lanes: (i : ℕ) → i < 16 → slice_index result i
+        ///     ≡ (if nat_lt (slice_index indices i) 16 then slice_index table
+        ///     (slice_index indices i) else 0)
+        /// ```
         #[inline(always)]
         fn picked_or_zero(table: u8x16, indices: u8x16) -> u8x16 {
             let biased = indices.simd_min(u8x16::splat(16)) + u8x16::splat(0x70);
@@ -1812,11 +1907,10 @@ pub mod simd {
         // The lanes of `table` at the low four bits of the indices.
         /// # Contract
         ///
-        /// <span></span><pre><code>ensures lanes: (i : [ℕ]) → i < 16
-        /// &#32;&#32;&#32;&#32;→ [slice_index] result i ≡ [slice_index] table ([slice_index] indices i % 16)</code></pre>
-        ///
-        /// [ℕ]: crate::specs::library#%E2%84%95 "the whole numbers from 0 on"
-        /// [slice_index]: crate::specs::library#slice_index "element i of a list of numbers; 0 past its end"
+        /// ```text
+        /// ensures lanes: (i : ℕ) → i < 16
+        ///     → slice_index result i ≡ slice_index table (slice_index indices i % 16)
+        /// ```
         #[inline(always)]
         fn picked(table: u8x16, indices: u8x16) -> u8x16 {
             table.swizzle_dyn_within::<16>(indices & u8x16::splat(15))
@@ -1825,12 +1919,10 @@ pub mod simd {
         // The lanes of `low` where the index is below 16, else those of `high`.
         /// # Contract
         ///
-        /// <span></span><pre><code>ensures lanes: (i : [ℕ]) → i < 16 → [slice_index] result i
-        /// &#32;&#32;&#32;&#32;≡ (if [nat_lt] ([slice_index] indices i) 16 then [slice_index] low i else [slice_index] high i)</code></pre>
-        ///
-        /// [ℕ]: crate::specs::library#%E2%84%95 "the whole numbers from 0 on"
-        /// [slice_index]: crate::specs::library#slice_index "element i of a list of numbers; 0 past its end"
-        /// [nat_lt]: crate::specs::library#nat_lt "whether m is below n, as a Boolean"
+        /// ```text
+        /// ensures lanes: (i : ℕ) → i < 16 → slice_index result i
+        ///     ≡ (if nat_lt (slice_index indices i) 16 then slice_index low i else slice_index high i)
+        /// ```
         #[inline(always)]
         fn low_or_high(indices: u8x16, low: u8x16, high: u8x16) -> u8x16 {
             indices.simd_lt(u8x16::splat(16)).select(low, high)
@@ -1838,11 +1930,10 @@ pub mod simd {
 
         /// # Contract
         ///
-        /// <span></span><pre><code>ensures lanes: (i : [ℕ]) → i < 16 → [slice_index] result i ≡ [slice_index] indices i
-        /// ensures inside: (i : [ℕ]) → i < 16 → [slice_index] result i < 32</code></pre>
-        ///
-        /// [ℕ]: crate::specs::library#%E2%84%95 "the whole numbers from 0 on"
-        /// [slice_index]: crate::specs::library#slice_index "element i of a list of numbers; 0 past its end"
+        /// ```text
+        /// ensures lanes: (i : ℕ) → i < 16 → slice_index result i ≡ slice_index indices i
+        /// ensures inside: (i : ℕ) → i < 16 → slice_index result i < 32
+        /// ```
         #[inline(always)]
         fn bytes_of_indices(indices: [ImmLaneIdx32; 16]) -> u8x16 {
             let mut bytes = [0; 16];
@@ -1863,10 +1954,11 @@ pub mod simd {
         ///
         /// # Contract
         ///
-        /// <span></span><pre><code>ensures: result ≡ [vector.neg] [w8] v</code></pre>
+        /// ```text
+        /// ensures: result ≡ vector.neg w8 v
+        /// ```
         ///
-        /// [vector.neg]: crate::specs::lanewise::VectorTable#neg "the negatives of the lanes modulo 2 to the width"
-        /// [w8]: crate::specs::library#w8 "the widths of integers in bits"
+        /// Definitions: [`neg`](crate::specs::lanewise::VectorTable#neg).
         #[inline]
         pub fn i8x16_neg(v: V128) -> V128 {
             words::negations::<u8>(v)
@@ -1876,10 +1968,11 @@ pub mod simd {
         ///
         /// # Contract
         ///
-        /// <span></span><pre><code>ensures: result ≡ [vector.neg] [w16] v</code></pre>
+        /// ```text
+        /// ensures: result ≡ vector.neg w16 v
+        /// ```
         ///
-        /// [vector.neg]: crate::specs::lanewise::VectorTable#neg "the negatives of the lanes modulo 2 to the width"
-        /// [w16]: crate::specs::library#w16 "the widths of integers in bits"
+        /// Definitions: [`neg`](crate::specs::lanewise::VectorTable#neg).
         #[inline]
         pub fn i16x8_neg(v: V128) -> V128 {
             words::negations::<u16>(v)
@@ -1889,10 +1982,11 @@ pub mod simd {
         ///
         /// # Contract
         ///
-        /// <span></span><pre><code>ensures: result ≡ [vector.neg] [w32] v</code></pre>
+        /// ```text
+        /// ensures: result ≡ vector.neg w32 v
+        /// ```
         ///
-        /// [vector.neg]: crate::specs::lanewise::VectorTable#neg "the negatives of the lanes modulo 2 to the width"
-        /// [w32]: crate::specs::library#w32 "the widths of integers in bits"
+        /// Definitions: [`neg`](crate::specs::lanewise::VectorTable#neg).
         #[inline]
         pub fn i32x4_neg(v: V128) -> V128 {
             words::negations::<u32>(v)
@@ -1902,10 +1996,11 @@ pub mod simd {
         ///
         /// # Contract
         ///
-        /// <span></span><pre><code>ensures: result ≡ [vector.neg] [w64] v</code></pre>
+        /// ```text
+        /// ensures: result ≡ vector.neg w64 v
+        /// ```
         ///
-        /// [vector.neg]: crate::specs::lanewise::VectorTable#neg "the negatives of the lanes modulo 2 to the width"
-        /// [w64]: crate::specs::library#w64 "the widths of integers in bits"
+        /// Definitions: [`neg`](crate::specs::lanewise::VectorTable#neg).
         #[inline]
         pub fn i64x2_neg(v: V128) -> V128 {
             words::negations::<u64>(v)
@@ -1916,10 +2011,11 @@ pub mod simd {
         ///
         /// # Contract
         ///
-        /// <span></span><pre><code>ensures: result ≡ [vector.abs] [w8] v</code></pre>
+        /// ```text
+        /// ensures: result ≡ vector.abs w8 v
+        /// ```
         ///
-        /// [vector.abs]: crate::specs::lanewise::VectorTable#abs "the absolute values of lanes read signed, modulo 2 to the width"
-        /// [w8]: crate::specs::library#w8 "the widths of integers in bits"
+        /// Definitions: [`abs`](crate::specs::lanewise::VectorTable#abs).
         #[inline]
         pub fn i8x16_abs(v: V128) -> V128 {
             on_vectors::unary::<I8x16, _>(v, |x| x.wrapping_abs())
@@ -1930,10 +2026,11 @@ pub mod simd {
         ///
         /// # Contract
         ///
-        /// <span></span><pre><code>ensures: result ≡ [vector.abs] [w16] v</code></pre>
+        /// ```text
+        /// ensures: result ≡ vector.abs w16 v
+        /// ```
         ///
-        /// [vector.abs]: crate::specs::lanewise::VectorTable#abs "the absolute values of lanes read signed, modulo 2 to the width"
-        /// [w16]: crate::specs::library#w16 "the widths of integers in bits"
+        /// Definitions: [`abs`](crate::specs::lanewise::VectorTable#abs).
         #[inline]
         pub fn i16x8_abs(v: V128) -> V128 {
             on_vectors::unary::<I16x8, _>(v, |x| x.wrapping_abs())
@@ -1944,10 +2041,11 @@ pub mod simd {
         ///
         /// # Contract
         ///
-        /// <span></span><pre><code>ensures: result ≡ [vector.abs] [w32] v</code></pre>
+        /// ```text
+        /// ensures: result ≡ vector.abs w32 v
+        /// ```
         ///
-        /// [vector.abs]: crate::specs::lanewise::VectorTable#abs "the absolute values of lanes read signed, modulo 2 to the width"
-        /// [w32]: crate::specs::library#w32 "the widths of integers in bits"
+        /// Definitions: [`abs`](crate::specs::lanewise::VectorTable#abs).
         #[inline]
         pub fn i32x4_abs(v: V128) -> V128 {
             on_vectors::unary::<I32x4, _>(v, |x| x.wrapping_abs())
@@ -1958,10 +2056,11 @@ pub mod simd {
         ///
         /// # Contract
         ///
-        /// <span></span><pre><code>ensures: result ≡ [vector.abs] [w64] v</code></pre>
+        /// ```text
+        /// ensures: result ≡ vector.abs w64 v
+        /// ```
         ///
-        /// [vector.abs]: crate::specs::lanewise::VectorTable#abs "the absolute values of lanes read signed, modulo 2 to the width"
-        /// [w64]: crate::specs::library#w64 "the widths of integers in bits"
+        /// Definitions: [`abs`](crate::specs::lanewise::VectorTable#abs).
         #[inline]
         pub fn i64x2_abs(v: V128) -> V128 {
             on_vectors::unary::<I64x2, _>(v, |x| x.wrapping_abs())
@@ -1971,10 +2070,11 @@ pub mod simd {
         ///
         /// # Contract
         ///
-        /// <span></span><pre><code>ensures: result ≡ [vector.popcnt] [w8] v</code></pre>
+        /// ```text
+        /// ensures: result ≡ vector.popcnt w8 v
+        /// ```
         ///
-        /// [vector.popcnt]: crate::specs::lanewise::VectorTable#popcnt "how many bits of each lane are set"
-        /// [w8]: crate::specs::library#w8 "the widths of integers in bits"
+        /// Definitions: [`popcnt`](crate::specs::lanewise::VectorTable#popcnt).
         #[inline]
         pub fn i8x16_popcnt(v: V128) -> V128 {
             words::counts_of_ones(v)
@@ -1995,11 +2095,11 @@ pub mod simd {
         // end of the word, and without it LLVM makes one step of it where a word is one lane.
         /// # Contract
         ///
-        /// <span></span><pre><code>ensures: result ≡ [in_each_lane] [T.width] (2 ^ ([bits] [T.width] - 1)) % 2 ^ 63</code></pre>
+        /// ```text
+        /// ensures: result ≡ in_each_lane T.width (2 ^ (bits T.width - 1)) % 2 ^ 63
+        /// ```
         ///
-        /// [in_each_lane]: crate::specs::lanes::Words#in_each_lane "the word with n in each lane of one width"
-        /// [T.width]: trait@WordLane#contract
-        /// [bits]: crate::specs::library#bits "the number of bits of a width"
+        /// Definitions: [`in_each_lane`](crate::specs::lanes::Words#in_each_lane).
         #[inline(always)]
         fn inner_tops<T: WordLane>() -> u64 {
             T::TOPS % (1 << 63)
@@ -2009,10 +2109,11 @@ pub mod simd {
         ///
         /// # Contract
         ///
-        /// <span></span><pre><code>ensures: result ≡ [vector.add] [T.width] lhs rhs</code></pre>
+        /// ```text
+        /// ensures: result ≡ vector.add T.width lhs rhs
+        /// ```
         ///
-        /// [vector.add]: crate::specs::lanewise::VectorTable#add "the sums of the lanes modulo 2 to the width"
-        /// [T.width]: trait@WordLane#contract
+        /// Definitions: [`add`](crate::specs::lanewise::VectorTable#add).
         #[inline(always)]
         pub(super) fn sums<T: WordLane>(lhs: V128, rhs: V128) -> V128 {
             let tops = inner_tops::<T>();
@@ -2028,10 +2129,11 @@ pub mod simd {
         ///
         /// # Contract
         ///
-        /// <span></span><pre><code>ensures: result ≡ [vector.sub] [T.width] lhs rhs</code></pre>
+        /// ```text
+        /// ensures: result ≡ vector.sub T.width lhs rhs
+        /// ```
         ///
-        /// [vector.sub]: crate::specs::lanewise::VectorTable#sub "the differences of the lanes modulo 2 to the width"
-        /// [T.width]: trait@WordLane#contract
+        /// Definitions: [`sub`](crate::specs::lanewise::VectorTable#sub).
         #[inline(always)]
         pub(super) fn differences<T: WordLane>(lhs: V128, rhs: V128) -> V128 {
             let tops = inner_tops::<T>();
@@ -2046,9 +2148,11 @@ pub mod simd {
         // The bits of a vector inverted, both words as one value of the processor's.
         /// # Contract
         ///
-        /// <span></span><pre><code>ensures: result ≡ [vector.v128_not] v</code></pre>
+        /// ```text
+        /// ensures: result ≡ vector.v128_not v
+        /// ```
         ///
-        /// [vector.v128_not]: crate::specs::lanewise::VectorTable#v128_not "each bit is inverted"
+        /// Definitions: [`v128_not`](crate::specs::lanewise::VectorTable#v128_not).
         #[inline(always)]
         fn inverted(v: V128) -> V128 {
             from_u64x2(!u64x2_of(v))
@@ -2060,10 +2164,11 @@ pub mod simd {
         ///
         /// # Contract
         ///
-        /// <span></span><pre><code>ensures: result ≡ [vector.neg] [T.width] v</code></pre>
+        /// ```text
+        /// ensures: result ≡ vector.neg T.width v
+        /// ```
         ///
-        /// [vector.neg]: crate::specs::lanewise::VectorTable#neg "the negatives of the lanes modulo 2 to the width"
-        /// [T.width]: trait@WordLane#contract
+        /// Definitions: [`neg`](crate::specs::lanewise::VectorTable#neg).
         #[inline(always)]
         pub(super) fn negations<T: WordLane>(v: V128) -> V128 {
             let tops = inner_tops::<T>();
@@ -2078,10 +2183,11 @@ pub mod simd {
         ///
         /// # Contract
         ///
-        /// <span></span><pre><code>ensures: result ≡ [vector.eq] [T.width] lhs rhs</code></pre>
+        /// ```text
+        /// ensures: result ≡ vector.eq T.width lhs rhs
+        /// ```
         ///
-        /// [vector.eq]: crate::specs::lanewise::VectorTable#eq "all ones in the lanes that are equal, else all zeros"
-        /// [T.width]: trait@WordLane#contract
+        /// Definitions: [`eq`](crate::specs::lanewise::VectorTable#eq).
         #[inline(always)]
         pub(super) fn equal<T: WordLane>(lhs: V128, rhs: V128) -> V128 {
             let tops = T::TOPS;
@@ -2097,10 +2203,11 @@ pub mod simd {
         ///
         /// # Contract
         ///
-        /// <span></span><pre><code>ensures: result ≡ [vector.ne] [T.width] lhs rhs</code></pre>
+        /// ```text
+        /// ensures: result ≡ vector.ne T.width lhs rhs
+        /// ```
         ///
-        /// [vector.ne]: crate::specs::lanewise::VectorTable#ne "all ones in the lanes that differ, else all zeros"
-        /// [T.width]: trait@WordLane#contract
+        /// Definitions: [`ne`](crate::specs::lanewise::VectorTable#ne).
         #[inline(always)]
         pub(super) fn different<T: WordLane>(lhs: V128, rhs: V128) -> V128 {
             let tops = T::TOPS;
@@ -2116,10 +2223,11 @@ pub mod simd {
         ///
         /// # Contract
         ///
-        /// <span></span><pre><code>ensures: result ≡ [vector.eq] [w64] lhs rhs</code></pre>
+        /// ```text
+        /// ensures: result ≡ vector.eq w64 lhs rhs
+        /// ```
         ///
-        /// [vector.eq]: crate::specs::lanewise::VectorTable#eq "all ones in the lanes that are equal, else all zeros"
-        /// [w64]: crate::specs::library#w64 "the widths of integers in bits"
+        /// Definitions: [`eq`](crate::specs::lanewise::VectorTable#eq).
         #[inline(always)]
         pub(super) fn equal_words(lhs: V128, rhs: V128) -> V128 {
             let (a_low, a_high) = lhs.words();
@@ -2131,10 +2239,11 @@ pub mod simd {
         ///
         /// # Contract
         ///
-        /// <span></span><pre><code>ensures: result ≡ [vector.ne] [w64] lhs rhs</code></pre>
+        /// ```text
+        /// ensures: result ≡ vector.ne w64 lhs rhs
+        /// ```
         ///
-        /// [vector.ne]: crate::specs::lanewise::VectorTable#ne "all ones in the lanes that differ, else all zeros"
-        /// [w64]: crate::specs::library#w64 "the widths of integers in bits"
+        /// Definitions: [`ne`](crate::specs::lanewise::VectorTable#ne).
         #[inline(always)]
         pub(super) fn different_words(lhs: V128, rhs: V128) -> V128 {
             let (a_low, a_high) = lhs.words();
@@ -2146,7 +2255,9 @@ pub mod simd {
         // `word_differ` masks nothing.
         /// # Contract
         ///
-        /// <span></span><pre><code>ensures: result ≡ (if a == b then 2 ^ 64 - 1 else 0)</code></pre>
+        /// ```text
+        /// ensures: result ≡ (if a == b then 2 ^ 64 - 1 else 0)
+        /// ```
         #[inline(always)]
         fn ones_if_equal(a: u64, b: u64) -> u64 {
             if word_differ(a, b, u64::MAX) == 0 {
@@ -2162,16 +2273,14 @@ pub mod simd {
         // after.
         /// # Contract
         ///
-        /// <span></span><pre><code>requires low: [AreMarks] [T.width] low
-        /// requires high: [AreMarks] [T.width] high
-        /// ensures words: (x : [ℕ]) × (y : [ℕ]) × (result ≡ [vector_of] x y) × (x < 2 ^ 64) × (y < 2 ^ 64)
-        /// &#32;&#32;&#32;&#32;× [AreFilled] [T.width] low x × [AreFilled] [T.width] high y</code></pre>
+        /// ```text
+        /// requires low: AreMarks T.width low
+        /// requires high: AreMarks T.width high
+        /// ensures words: (x : ℕ) × (y : ℕ) × (result ≡ vector_of x y) × (x < 2 ^ 64) × (y < 2 ^ 64)
+        ///     × AreFilled T.width low x × AreFilled T.width high y
+        /// ```
         ///
-        /// [AreMarks]: crate::specs::lanes::Words#AreMarks "each lane of w bits of a word is 0 or its highest bit alone"
-        /// [T.width]: trait@WordLane#contract
-        /// [ℕ]: crate::specs::library#%E2%84%95 "the whole numbers from 0 on"
-        /// [vector_of]: crate::specs::raw::Vector#vector_of "the vector whose words are low and high"
-        /// [AreFilled]: crate::specs::lanes::Words#AreFilled "the lanes that have their highest bit in marks are all ones in word, the others all zeros"
+        /// Definitions: [`AreMarks`](crate::specs::lanes::Words#AreMarks), [`vector_of`](crate::specs::raw::Vector#vector_of), [`AreFilled`](crate::specs::lanes::Words#AreFilled).
         #[inline(always)]
         fn filled<T: WordLane>(low: u64, high: u64) -> V128 {
             let marks = u64x2::from_array([low, high]);
@@ -2183,10 +2292,11 @@ pub mod simd {
         ///
         /// # Contract
         ///
-        /// <span></span><pre><code>ensures: result ≡ [vector.avgr_u] [T.width] lhs rhs</code></pre>
+        /// ```text
+        /// ensures: result ≡ vector.avgr_u T.width lhs rhs
+        /// ```
         ///
-        /// [vector.avgr_u]: crate::specs::lanewise::VectorTable#avgr_u "the averages of lanes read unsigned, rounded up"
-        /// [T.width]: trait@WordLane#contract
+        /// Definitions: [`avgr_u`](crate::specs::lanewise::VectorTable#avgr_u).
         #[inline(always)]
         pub(super) fn averages<T: WordLane>(lhs: V128, rhs: V128) -> V128 {
             let tops = T::TOPS;
@@ -2201,13 +2311,12 @@ pub mod simd {
         // Common bits and half of the others, which never borrow from the lane below.
         /// # Contract
         ///
-        /// <span></span><pre><code>ensures: (start width : [ℕ]) → [IsLane] tops start width
-        /// &#32;&#32;&#32;&#32;→ [field] start width result ≡ [vector.average] ([field] start width a) ([field] start width b)</code></pre>
+        /// ```text
+        /// ensures: (start width : ℕ) → IsLane tops start width
+        ///     → field start width result ≡ vector.average (field start width a) (field start width b)
+        /// ```
         ///
-        /// [ℕ]: crate::specs::library#%E2%84%95 "the whole numbers from 0 on"
-        /// [IsLane]: crate::specs::lanes::Words#IsLane "the bits from start to start + width - 1 are a lane of tops"
-        /// [field]: crate::specs::lanes::Words#field "the number in the bits of v from start to start + width - 1"
-        /// [vector.average]: crate::specs::lanewise::VectorTable#average "(x + y) / 2, halves rounded up"
+        /// Definitions: [`IsLane`](crate::specs::lanes::Words#IsLane), [`field`](crate::specs::lanes::Words#field), [`average`](crate::specs::lanewise::VectorTable#average).
         #[inline(always)]
         fn word_averages(a: u64, b: u64, tops: u64) -> u64 {
             (a | b) - (((a ^ b) >> 1) & !tops)
@@ -2220,10 +2329,11 @@ pub mod simd {
         ///
         /// # Contract
         ///
-        /// <span></span><pre><code>ensures: result ≡ [vector.popcnt] [w8] v</code></pre>
+        /// ```text
+        /// ensures: result ≡ vector.popcnt w8 v
+        /// ```
         ///
-        /// [vector.popcnt]: crate::specs::lanewise::VectorTable#popcnt "how many bits of each lane are set"
-        /// [w8]: crate::specs::library#w8 "the widths of integers in bits"
+        /// Definitions: [`popcnt`](crate::specs::lanewise::VectorTable#popcnt).
         #[inline(always)]
         pub(super) fn counts_of_ones(v: V128) -> V128 {
             let (low, high) = v.words();

@@ -14,13 +14,12 @@ mod laws {
     ///
     /// # Contract
     ///
-    /// <span></span><pre><code>ensures turns: [RunsAreCut] ([optional_rules] [L.rules])
-    /// ensures calls: [RunsOfCallsAreCut] ([optional_rules] [L.rules])</code></pre>
+    /// ```text
+    /// ensures turns: RunsAreCut (optional_rules L.rules)
+    /// ensures calls: RunsOfCallsAreCut (optional_rules L.rules)
+    /// ```
     ///
-    /// [RunsAreCut]: crate::specs::laws::Runs#RunsAreCut "a run of turns is, at each place, a run of those before it, and a run of the others from where these end"
-    /// [optional_rules]: crate::specs::meter::Limiter#optional_rules "the rules of a limiter that may be absent"
-    /// [L.rules]: trait@ResourceLimiter#contract
-    /// [RunsOfCallsAreCut]: crate::specs::laws::Runs#RunsOfCallsAreCut "a run of calls is, at each place, two runs in a row"
+    /// Definitions: [`RunsAreCut`](crate::specs::laws::Runs#RunsAreCut), [`optional_rules`](crate::specs::meter::Limiter#optional_rules), [`RunsOfCallsAreCut`](crate::specs::laws::Runs#RunsOfCallsAreCut).
     #[inline]
     pub fn runs_are_cut<L: ResourceLimiter>() {}
 
@@ -30,13 +29,12 @@ mod laws {
     ///
     /// # Contract
     ///
-    /// <span></span><pre><code>ensures sizes: [SizesNeverShrink] ([optional_rules] [L.rules])
-    /// ensures totals: [TotalsNeverShrink] ([optional_rules] [L.rules])</code></pre>
+    /// ```text
+    /// ensures sizes: SizesNeverShrink (optional_rules L.rules)
+    /// ensures totals: TotalsNeverShrink (optional_rules L.rules)
+    /// ```
     ///
-    /// [SizesNeverShrink]: crate::specs::laws::Runs#SizesNeverShrink "each size, of a memory in bytes or of a table in elements, stays at its index in a run and doesn\'t shrink"
-    /// [optional_rules]: crate::specs::meter::Limiter#optional_rules "the rules of a limiter that may be absent"
-    /// [L.rules]: trait@ResourceLimiter#contract
-    /// [TotalsNeverShrink]: crate::specs::laws::Runs#TotalsNeverShrink "the totals of a machine don\'t shrink in a run"
+    /// Definitions: [`SizesNeverShrink`](crate::specs::laws::Runs#SizesNeverShrink), [`optional_rules`](crate::specs::meter::Limiter#optional_rules), [`TotalsNeverShrink`](crate::specs::laws::Runs#TotalsNeverShrink).
     #[inline]
     pub fn sizes_never_shrink<L: ResourceLimiter>() {}
 
@@ -49,15 +47,13 @@ mod laws {
     ///
     /// # Contract
     ///
-    /// <span></span><pre><code>ensures turn: [PlainRefusalsChangeNothing] ([optional_rules] [L.rules])
-    /// ensures others: [OtherRefusalsChangeNothing] ([optional_rules] [L.rules])
-    /// ensures run: [PlainlyRefusedRunsChangeNothing] ([optional_rules] [L.rules])</code></pre>
+    /// ```text
+    /// ensures turn: PlainRefusalsChangeNothing (optional_rules L.rules)
+    /// ensures others: OtherRefusalsChangeNothing (optional_rules L.rules)
+    /// ensures run: PlainlyRefusedRunsChangeNothing (optional_rules L.rules)
+    /// ```
     ///
-    /// [PlainRefusalsChangeNothing]: crate::specs::laws::Runs#PlainRefusalsChangeNothing "a turn with a plain refusal leaves the machine, its meter and the limiter as they were"
-    /// [optional_rules]: crate::specs::meter::Limiter#optional_rules "the rules of a limiter that may be absent"
-    /// [L.rules]: trait@ResourceLimiter#contract
-    /// [OtherRefusalsChangeNothing]: crate::specs::laws::Runs#OtherRefusalsChangeNothing "a refused turn of a call that makes nothing and lets nothing grow leaves the machine, its meter and the limiter as they were"
-    /// [PlainlyRefusedRunsChangeNothing]: crate::specs::laws::Runs#PlainlyRefusedRunsChangeNothing "a run in which each reply is a plain refusal leaves the machine, its meter and the limiter as they were"
+    /// Definitions: [`PlainRefusalsChangeNothing`](crate::specs::laws::Runs#PlainRefusalsChangeNothing), [`optional_rules`](crate::specs::meter::Limiter#optional_rules), [`OtherRefusalsChangeNothing`](crate::specs::laws::Runs#OtherRefusalsChangeNothing), [`PlainlyRefusedRunsChangeNothing`](crate::specs::laws::Runs#PlainlyRefusedRunsChangeNothing).
     #[inline]
     pub fn plain_refusals_change_nothing<L: ResourceLimiter>() {}
 
@@ -66,9 +62,11 @@ mod laws {
     ///
     /// # Contract
     ///
-    /// <span></span><pre><code>ensures: [CapsHoldInRuns]</code></pre>
+    /// ```text
+    /// ensures: CapsHoldInRuns
+    /// ```
     ///
-    /// [CapsHoldInRuns]: crate::specs::laws::Runs#CapsHoldInRuns "under a quota that holds what a machine has, and no more than its caps, the machine is within these caps after each turn of a run"
+    /// Definitions: [`CapsHoldInRuns`](crate::specs::laws::Runs#CapsHoldInRuns).
     #[inline]
     pub fn caps_hold_in_runs() {
         laws::totals_are_held::<Quota>();
@@ -80,15 +78,13 @@ mod laws {
     ///
     /// # Contract
     ///
-    /// <span></span><pre><code>ensures costs: [CostsAreKept] ([optional_rules] [L.rules])
-    /// ensures switch: [SwitchIsKept] ([optional_rules] [L.rules])
-    /// ensures fuel: [FuelNeverRises] ([optional_rules] [L.rules])</code></pre>
+    /// ```text
+    /// ensures costs: CostsAreKept (optional_rules L.rules)
+    /// ensures switch: SwitchIsKept (optional_rules L.rules)
+    /// ensures fuel: FuelNeverRises (optional_rules L.rules)
+    /// ```
     ///
-    /// [CostsAreKept]: crate::specs::laws::Runs#CostsAreKept "a run keeps the costs of the meter"
-    /// [optional_rules]: crate::specs::meter::Limiter#optional_rules "the rules of a limiter that may be absent"
-    /// [L.rules]: trait@ResourceLimiter#contract
-    /// [SwitchIsKept]: crate::specs::laws::Runs#SwitchIsKept "a meter that is on is on after a run, and one that is off is off"
-    /// [FuelNeverRises]: crate::specs::laws::Runs#FuelNeverRises "a run of calls that don\'t set the fuel leaves no more than there was"
+    /// Definitions: [`CostsAreKept`](crate::specs::laws::Runs#CostsAreKept), [`optional_rules`](crate::specs::meter::Limiter#optional_rules), [`SwitchIsKept`](crate::specs::laws::Runs#SwitchIsKept), [`FuelNeverRises`](crate::specs::laws::Runs#FuelNeverRises).
     #[inline]
     pub fn meters_are_kept<L: ResourceLimiter>() {}
 
@@ -99,10 +95,11 @@ mod laws {
     ///
     /// # Contract
     ///
-    /// <span></span><pre><code>ensures: [MoreFuelChangesNothing] [L.rules]</code></pre>
+    /// ```text
+    /// ensures: MoreFuelChangesNothing L.rules
+    /// ```
     ///
-    /// [MoreFuelChangesNothing]: crate::specs::laws::Runs#MoreFuelChangesNothing "if the limiter accepts each notice, a run of calls that neither set the fuel nor ask for it, in which no reply says that fuel was wanting, is the same run with any more fuel, all of which is left then"
-    /// [L.rules]: trait@ResourceLimiter#contract
+    /// Definitions: [`MoreFuelChangesNothing`](crate::specs::laws::Runs#MoreFuelChangesNothing).
     #[inline]
     pub fn more_fuel_changes_nothing<L: ResourceLimiter>() {}
 
@@ -116,13 +113,12 @@ mod laws {
     ///
     /// # Contract
     ///
-    /// <span></span><pre><code>ensures turn: [OthersStay] ([optional_rules] [L.rules])
-    /// ensures run: [OthersStayInRuns] ([optional_rules] [L.rules])</code></pre>
+    /// ```text
+    /// ensures turn: OthersStay (optional_rules L.rules)
+    /// ensures run: OthersStayInRuns (optional_rules L.rules)
+    /// ```
     ///
-    /// [OthersStay]: crate::specs::laws::Places#OthersStay "a turn leaves what is at each index except the one that its call may change"
-    /// [optional_rules]: crate::specs::meter::Limiter#optional_rules "the rules of a limiter that may be absent"
-    /// [L.rules]: trait@ResourceLimiter#contract
-    /// [OthersStayInRuns]: crate::specs::laws::Places#OthersStayInRuns "a run leaves what is at each index that none of its calls may change"
+    /// Definitions: [`OthersStay`](crate::specs::laws::Places#OthersStay), [`optional_rules`](crate::specs::meter::Limiter#optional_rules), [`OthersStayInRuns`](crate::specs::laws::Places#OthersStayInRuns).
     #[inline]
     pub fn others_stay<L: ResourceLimiter>() {}
 
@@ -134,13 +130,12 @@ mod laws {
     ///
     /// # Contract
     ///
-    /// <span></span><pre><code>ensures later: [IndicesLast] ([optional_rules] [L.rules])
-    /// ensures live: [LiveUntilDropped] ([optional_rules] [L.rules])</code></pre>
+    /// ```text
+    /// ensures later: IndicesLast (optional_rules L.rules)
+    /// ensures live: LiveUntilDropped (optional_rules L.rules)
+    /// ```
     ///
-    /// [IndicesLast]: crate::specs::laws::Places#IndicesLast "after a run, what was at an index is there, as it may have become"
-    /// [optional_rules]: crate::specs::meter::Limiter#optional_rules "the rules of a limiter that may be absent"
-    /// [L.rules]: trait@ResourceLimiter#contract
-    /// [LiveUntilDropped]: crate::specs::laws::Places#LiveUntilDropped "after a run none of whose calls drops it, what was live at an index is live"
+    /// Definitions: [`IndicesLast`](crate::specs::laws::Places#IndicesLast), [`optional_rules`](crate::specs::meter::Limiter#optional_rules), [`LiveUntilDropped`](crate::specs::laws::Places#LiveUntilDropped).
     #[inline]
     pub fn indices_last<L: ResourceLimiter>() {}
 
@@ -150,13 +145,12 @@ mod laws {
     ///
     /// # Contract
     ///
-    /// <span></span><pre><code>ensures read: [StoresAreReadBack] ([optional_rules] [L.rules])
-    /// ensures others: [StoresKeepOtherBytes] ([optional_rules] [L.rules])</code></pre>
+    /// ```text
+    /// ensures read: StoresAreReadBack (optional_rules L.rules)
+    /// ensures others: StoresKeepOtherBytes (optional_rules L.rules)
+    /// ```
     ///
-    /// [StoresAreReadBack]: crate::specs::laws::Places#StoresAreReadBack "an accepted store to a memory is read back by the load of the same size, after whatever turns whose calls don\'t change that memory"
-    /// [optional_rules]: crate::specs::meter::Limiter#optional_rules "the rules of a limiter that may be absent"
-    /// [L.rules]: trait@ResourceLimiter#contract
-    /// [StoresKeepOtherBytes]: crate::specs::laws::Places#StoresKeepOtherBytes "an accepted store keeps all other bytes of its memory, and how many there are"
+    /// Definitions: [`StoresAreReadBack`](crate::specs::laws::Places#StoresAreReadBack), [`optional_rules`](crate::specs::meter::Limiter#optional_rules), [`StoresKeepOtherBytes`](crate::specs::laws::Places#StoresKeepOtherBytes).
     #[inline]
     pub fn stores_are_read_back<L: ResourceLimiter>() {}
 
@@ -166,11 +160,11 @@ mod laws {
     ///
     /// # Contract
     ///
-    /// <span></span><pre><code>ensures: [IndependentTurnsSwap] ([optional_rules] [L.rules])</code></pre>
+    /// ```text
+    /// ensures: IndependentTurnsSwap (optional_rules L.rules)
+    /// ```
     ///
-    /// [IndependentTurnsSwap]: crate::specs::laws::Places#IndependentTurnsSwap "two turns one after the other whose calls are local and independent may be exchanged"
-    /// [optional_rules]: crate::specs::meter::Limiter#optional_rules "the rules of a limiter that may be absent"
-    /// [L.rules]: trait@ResourceLimiter#contract
+    /// Definitions: [`IndependentTurnsSwap`](crate::specs::laws::Places#IndependentTurnsSwap), [`optional_rules`](crate::specs::meter::Limiter#optional_rules).
     #[inline]
     pub fn independent_calls_commute<L: ResourceLimiter>() {}
 
@@ -180,17 +174,14 @@ mod laws {
     ///
     /// # Contract
     ///
-    /// <span></span><pre><code>ensures memories_grow: [MemoriesGrowAlike] ([optional_rules] [L.rules])
-    /// ensures tables_grow: [TablesGrowAlike] ([optional_rules] [L.rules])
-    /// ensures memories_read: [MemoriesReadAlike] ([optional_rules] [L.rules])
-    /// ensures memories_write: [MemoriesWriteAlike] ([optional_rules] [L.rules])</code></pre>
+    /// ```text
+    /// ensures memories_grow: MemoriesGrowAlike (optional_rules L.rules)
+    /// ensures tables_grow: TablesGrowAlike (optional_rules L.rules)
+    /// ensures memories_read: MemoriesReadAlike (optional_rules L.rules)
+    /// ensures memories_write: MemoriesWriteAlike (optional_rules L.rules)
+    /// ```
     ///
-    /// [MemoriesGrowAlike]: crate::specs::laws::Places#MemoriesGrowAlike "a memory that grows by itself, under the meter and the limiter of a machine that has this memory at an index, grows as the machine\'s does: with the same reply, and with what it leaves at the index"
-    /// [optional_rules]: crate::specs::meter::Limiter#optional_rules "the rules of a limiter that may be absent"
-    /// [L.rules]: trait@ResourceLimiter#contract
-    /// [TablesGrowAlike]: crate::specs::laws::Places#TablesGrowAlike "a table that grows by itself grows as the one at an index of a machine does, with the same reply"
-    /// [MemoriesReadAlike]: crate::specs::laws::Places#MemoriesReadAlike "bytes that are read of a memory by itself are those that the machine answers, and a read past its end is refused"
-    /// [MemoriesWriteAlike]: crate::specs::laws::Places#MemoriesWriteAlike "bytes that are written over those of a memory by itself are written by the machine\'s call, or refused by it"
+    /// Definitions: [`MemoriesGrowAlike`](crate::specs::laws::Places#MemoriesGrowAlike), [`optional_rules`](crate::specs::meter::Limiter#optional_rules), [`TablesGrowAlike`](crate::specs::laws::Places#TablesGrowAlike), [`MemoriesReadAlike`](crate::specs::laws::Places#MemoriesReadAlike), [`MemoriesWriteAlike`](crate::specs::laws::Places#MemoriesWriteAlike).
     #[inline]
     pub fn machines_do_alike<L: ResourceLimiter>() {}
 }

@@ -16,7 +16,7 @@ mod calls {
     use crate::proved::types::{RefType, TrapCode};
     use crate::rattle::Vec;
     use core::fmt;
-    use core::fmt::{Debug, Formatter};
+    use core::fmt::{Debug, Formatter, Write};
 
     /// One call on a machine. Memories, tables, element segments and globals go by their indices, which
     /// count from 0 for each kind and aren't used again: there is no such memory or table once it is
@@ -25,480 +25,209 @@ mod calls {
     ///
     /// Replies are listed in the order of the tests: the first that applies is the reply. `Memory` and
     /// `Table` carry the error that the method of `Memory` or `Table` returns.
+    ///
+    /// Of the fields, `memory`, `table`, `segment` and `global` are indices, `a`, `b`, `c` and `item` registers of operands; `offset`
+    /// is added to `ptr`, or counts bytes itself; `len`, `pages` and `delta` are how many; `lanes` has the index of the byte for each lane.
+    #[allow(missing_docs)]
     pub enum Call {
-        /// Sets the fuel that is left: [`Done`], or [`Fuel`] if metering is off.
-        ///
-        /// [`Done`]: crate::proved::machine::Reply::Done
-        /// [`Fuel`]: crate::proved::machine::Reply::Fuel
+        /// Sets the fuel that is left: `Done`, or `Fuel` if metering is off.
         SetFuel(u64),
-        /// Returns the fuel that is left: [`Number`], or [`Fuel`] if metering is off.
-        ///
-        /// [`Number`]: crate::proved::machine::Reply::Number
-        /// [`Fuel`]: crate::proved::machine::Reply::Fuel
+        /// Returns the fuel that is left: `Number`, or `Fuel` if metering is off.
         GetFuel,
-        /// Makes a memory of zeros: [`Made`] with its index, [`NoRoom`] if there is no memory for its slot,
-        /// or [`Memory`].
-        ///
-        /// [`Made`]: crate::proved::machine::Reply::Made
-        /// [`NoRoom`]: crate::proved::machine::Reply::NoRoom
-        /// [`Memory`]: crate::proved::machine::Reply::Memory
+        /// Makes a memory of zeros: `Made` with its index, `NoRoom` if there is no memory for its slot,
+        /// or `Memory`.
         NewMemory(MemoryType),
-        /// Makes a memory of zeros at the front of the machine's spare region: [`Made`] with its index,
-        /// [`NoRegion`] if there is no spare region, [`NoRoom`] if there is no memory for its slot, or
-        /// [`Memory`]. Any reply except [`NoRegion`] and [`NoRoom`] uses up the region.
-        ///
-        /// [`Made`]: crate::proved::machine::Reply::Made
-        /// [`NoRegion`]: crate::proved::machine::Reply::NoRegion
-        /// [`NoRoom`]: crate::proved::machine::Reply::NoRoom
-        /// [`Memory`]: crate::proved::machine::Reply::Memory
+        /// Makes a memory of zeros at the front of the machine's spare region: `Made` with its index,
+        /// `NoRegion` if there is no spare region, `NoRoom` if there is no memory for its slot, or
+        /// `Memory`. Any reply except `NoRegion` and `NoRoom` uses up the region.
         NewLentMemory(MemoryType),
-        /// Grows a memory by `pages` pages: [`Number`] of the old size in pages, [`NoSuch`] if there is no
-        /// such memory, or [`Memory`].
-        ///
-        /// [`Number`]: crate::proved::machine::Reply::Number
-        /// [`NoSuch`]: crate::proved::machine::Reply::NoSuch
-        /// [`Memory`]: crate::proved::machine::Reply::Memory
-        GrowMemory {
-            /// The index of the memory.
-            memory: usize,
-            /// How many pages it grows by.
-            pages: u64,
-        },
+        /// Grows a memory by `pages` pages: `Number` of the old size in pages, `NoSuch` if there is no
+        /// such memory, or `Memory`.
+        GrowMemory { memory: usize, pages: u64 },
         /// Drops a memory, whose bytes are given back; its size still counts in the machine's total:
-        /// [`Done`], or [`NoSuch`] if there is no such memory.
-        ///
-        /// [`Done`]: crate::proved::machine::Reply::Done
-        /// [`NoSuch`]: crate::proved::machine::Reply::NoSuch
+        /// `Done`, or `NoSuch` if there is no such memory.
         DropMemory(usize),
-        /// Reads `len` bytes of a memory: [`Bytes`], [`NoSuch`] if there is no such memory, [`Memory`] if
-        /// they end past it, or then [`NoRoom`] if there is no memory for the reply.
-        ///
-        /// [`Bytes`]: crate::proved::machine::Reply::Bytes
-        /// [`NoSuch`]: crate::proved::machine::Reply::NoSuch
-        /// [`Memory`]: crate::proved::machine::Reply::Memory
-        /// [`NoRoom`]: crate::proved::machine::Reply::NoRoom
+        /// Reads `len` bytes of a memory: `Bytes`, `NoSuch` if there is no such memory, `Memory` if
+        /// they end past it, or then `NoRoom` if there is no memory for the reply.
         Read {
-            /// The index of the memory.
             memory: usize,
-            /// The offset in bytes.
             offset: usize,
-            /// How many there are.
             len: usize,
         },
-        /// Writes bytes over those of a memory from an offset on: [`Done`], [`NoSuch`] if there is no such
-        /// memory, or [`Memory`] if they would end past it.
-        ///
-        /// [`Done`]: crate::proved::machine::Reply::Done
-        /// [`NoSuch`]: crate::proved::machine::Reply::NoSuch
-        /// [`Memory`]: crate::proved::machine::Reply::Memory
+        /// Writes bytes over those of a memory from an offset on: `Done`, `NoSuch` if there is no such
+        /// memory, or `Memory` if they would end past it.
         Write {
-            /// The index of the memory.
             memory: usize,
-            /// The offset in bytes.
             offset: usize,
-            /// The bytes to be written.
             bytes: Vec<u8>,
         },
-        /// Loads a number from a memory at `ptr + offset`: [`Value`], [`NoSuch`] if there is no such
-        /// memory, or [`Trap`] if it ends past it.
-        ///
-        /// [`Value`]: crate::proved::machine::Reply::Value
-        /// [`NoSuch`]: crate::proved::machine::Reply::NoSuch
-        /// [`Trap`]: crate::proved::machine::Reply::Trap
+        /// Loads a number from a memory at `ptr + offset`: `Value`, `NoSuch` if there is no such
+        /// memory, or `Trap` if it ends past it.
         Load {
-            /// The instruction.
             op: LoadOp,
-            /// The index of the memory.
             memory: usize,
-            /// The address, to which the offset is added.
             ptr: u64,
-            /// The offset in bytes.
             offset: u64,
         },
-        /// Stores a number to a memory at `ptr + offset`: [`Done`], [`NoSuch`] if there is no such memory,
-        /// or [`Trap`] if it would end past it.
-        ///
-        /// [`Done`]: crate::proved::machine::Reply::Done
-        /// [`NoSuch`]: crate::proved::machine::Reply::NoSuch
-        /// [`Trap`]: crate::proved::machine::Reply::Trap
+        /// Stores a number to a memory at `ptr + offset`: `Done`, `NoSuch` if there is no such memory,
+        /// or `Trap` if it would end past it.
         Store {
-            /// The instruction.
             op: StoreOp,
-            /// The index of the memory.
             memory: usize,
-            /// The address, to which the offset is added.
             ptr: u64,
-            /// The offset in bytes.
             offset: u64,
-            /// The value that is written or set.
             value: RawVal,
         },
-        /// Makes a table of one reference: [`Made`] with its index, [`NoRoom`] if there is no memory for
-        /// its slot, or [`Table`].
-        ///
-        /// [`Made`]: crate::proved::machine::Reply::Made
-        /// [`NoRoom`]: crate::proved::machine::Reply::NoRoom
-        /// [`Table`]: crate::proved::machine::Reply::Table
-        NewTable {
-            /// The type.
-            ty: TableType,
-            /// The reference in each new element.
-            init: TypedRawRef,
-        },
-        /// Grows a table by `delta` elements: [`Number`] of the old size in elements, [`NoSuch`] if there
-        /// is no such table, or [`Table`].
-        ///
-        /// [`Number`]: crate::proved::machine::Reply::Number
-        /// [`NoSuch`]: crate::proved::machine::Reply::NoSuch
-        /// [`Table`]: crate::proved::machine::Reply::Table
+        /// Makes a table of one reference: `Made` with its index, `NoRoom` if there is no memory for
+        /// its slot, or `Table`.
+        NewTable { ty: TableType, init: TypedRawRef },
+        /// Grows a table by `delta` elements: `Number` of the old size in elements, `NoSuch` if there
+        /// is no such table, or `Table`.
         GrowTable {
-            /// The index of the table.
             table: usize,
-            /// How many elements it grows by.
             delta: u64,
-            /// The reference in each new element.
             init: TypedRawRef,
         },
         /// Drops a table, whose elements are given back; its size still counts in the machine's total:
-        /// [`Done`], or [`NoSuch`] if there is no such table.
-        ///
-        /// [`Done`]: crate::proved::machine::Reply::Done
-        /// [`NoSuch`]: crate::proved::machine::Reply::NoSuch
+        /// `Done`, or `NoSuch` if there is no such table.
         DropTable(usize),
-        /// Returns the element of a table, if there is one: [`Reference`], or [`NoSuch`] if there is no
+        /// Returns the element of a table, if there is one: `Reference`, or `NoSuch` if there is no
         /// such table.
-        ///
-        /// [`Reference`]: crate::proved::machine::Reply::Reference
-        /// [`NoSuch`]: crate::proved::machine::Reply::NoSuch
-        GetElement {
-            /// The index of the table.
-            table: usize,
-            /// The index of the element.
-            index: u64,
-        },
-        /// Sets an element of a table: [`Done`], [`NoSuch`] if there is no such table, or [`Table`] with
+        GetElement { table: usize, index: u64 },
+        /// Sets an element of a table: `Done`, `NoSuch` if there is no such table, or `Table` with
         /// `ElementTypeMismatch` if the reference isn't of the type of the elements, then
         /// `SetOutOfBounds` if the index is past the end.
-        ///
-        /// [`Done`]: crate::proved::machine::Reply::Done
-        /// [`NoSuch`]: crate::proved::machine::Reply::NoSuch
-        /// [`Table`]: crate::proved::machine::Reply::Table
         SetElement {
-            /// The index of the table.
             table: usize,
-            /// The index of the element.
             index: u64,
-            /// The value that is written or set.
             value: TypedRawRef,
         },
         /// Copies `len` items of an element segment, from `src` on, over the elements of a table from
-        /// `dst` on: [`Done`], [`NoSuch`] if there is no such segment or table, or [`Table`] with
+        /// `dst` on: `Done`, `NoSuch` if there is no such segment or table, or `Table` with
         /// `ElementTypeMismatch` if their types differ, then `InitOutOfBounds` if a range ends past the
         /// segment or the table, then `OutOfFuel`; copying no items costs no fuel.
-        ///
-        /// [`Done`]: crate::proved::machine::Reply::Done
-        /// [`NoSuch`]: crate::proved::machine::Reply::NoSuch
-        /// [`Table`]: crate::proved::machine::Reply::Table
         InitTable {
-            /// The index of the table.
             table: usize,
-            /// The index of the element segment.
             segment: usize,
-            /// Where the result goes.
             dst: u64,
-            /// Where the first of them stands.
             src: u32,
-            /// How many there are.
             len: u32,
         },
         /// Copies `len` elements of a table, from `src` on, over those of another or of itself from
-        /// `dst` on: [`Done`], [`NoSuch`] if there is no such table, or [`Table`] with `ElementTypeMismatch`
+        /// `dst` on: `Done`, `NoSuch` if there is no such table, or `Table` with `ElementTypeMismatch`
         /// if their types differ, then `CopyOutOfBounds` if a range ends past its table, then
         /// `OutOfFuel`, which is tested also for no element. If ranges of one table overlap, the old
         /// elements are copied.
-        ///
-        /// [`Done`]: crate::proved::machine::Reply::Done
-        /// [`NoSuch`]: crate::proved::machine::Reply::NoSuch
-        /// [`Table`]: crate::proved::machine::Reply::Table
         CopyTable {
-            /// The index of the table that is written.
             dst_table: usize,
-            /// Where the result goes.
             dst: u64,
-            /// The index of the table that is read.
             src_table: usize,
-            /// Where the first of them stands.
             src: u64,
-            /// How many there are.
             len: u64,
         },
-        /// Fills `len` elements of a table with a reference, from `dst` on: [`Done`], [`NoSuch`] if there
-        /// is no such table, or [`Table`] with `ElementTypeMismatch` if the reference isn't of the type
+        /// Fills `len` elements of a table with a reference, from `dst` on: `Done`, `NoSuch` if there
+        /// is no such table, or `Table` with `ElementTypeMismatch` if the reference isn't of the type
         /// of the elements, then `FillOutOfBounds` if they end past the table, then `OutOfFuel`, which
         /// is tested also for no element.
-        ///
-        /// [`Done`]: crate::proved::machine::Reply::Done
-        /// [`NoSuch`]: crate::proved::machine::Reply::NoSuch
-        /// [`Table`]: crate::proved::machine::Reply::Table
         FillTable {
-            /// The index of the table.
             table: usize,
-            /// Where the result goes.
             dst: u64,
-            /// The value that is written or set.
             value: TypedRawRef,
-            /// How many there are.
             len: u64,
         },
-        /// Makes an element segment: [`Made`] with its index, [`NoRoom`] if there is no memory for its
-        /// slot, or [`Segment`].
-        ///
-        /// [`Made`]: crate::proved::machine::Reply::Made
-        /// [`NoRoom`]: crate::proved::machine::Reply::NoRoom
-        /// [`Segment`]: crate::proved::machine::Reply::Segment
-        NewSegment {
-            /// The type.
-            ty: RefType,
-            /// The references.
-            items: Vec<RawRef>,
-        },
-        /// Drops the items of an element segment, which stays: [`Done`], or [`NoSuch`] if there is no such
+        /// Makes an element segment: `Made` with its index, `NoRoom` if there is no memory for its
+        /// slot, or `Segment`.
+        NewSegment { ty: RefType, items: Vec<RawRef> },
+        /// Drops the items of an element segment, which stays: `Done`, or `NoSuch` if there is no such
         /// segment.
-        ///
-        /// [`Done`]: crate::proved::machine::Reply::Done
-        /// [`NoSuch`]: crate::proved::machine::Reply::NoSuch
         DropItems(usize),
-        /// Makes a global: [`Made`] with its index, or [`NoRoom`] if there is no memory for its slot.
-        ///
-        /// [`Made`]: crate::proved::machine::Reply::Made
-        /// [`NoRoom`]: crate::proved::machine::Reply::NoRoom
-        NewGlobal {
-            /// The value that is written or set.
-            value: RawVal,
-            /// The type.
-            ty: GlobalType,
-        },
-        /// Sets a global: [`Done`], [`NoSuch`] if there is no such global, or [`Global`] with
+        /// Makes a global: `Made` with its index, or `NoRoom` if there is no memory for its slot.
+        NewGlobal { value: RawVal, ty: GlobalType },
+        /// Sets a global: `Done`, `NoSuch` if there is no such global, or `Global` with
         /// `ImmutableWrite` if it is a constant, then `TypeMismatch` if the value isn't of its type.
-        ///
-        /// [`Done`]: crate::proved::machine::Reply::Done
-        /// [`NoSuch`]: crate::proved::machine::Reply::NoSuch
-        /// [`Global`]: crate::proved::machine::Reply::Global
-        SetGlobal {
-            /// The index of the global.
-            global: usize,
-            /// The value that is written or set.
-            value: TypedRawVal,
-        },
-        /// Returns the value of a global: [`Value`], or [`NoSuch`] if there is no such global.
-        ///
-        /// [`Value`]: crate::proved::machine::Reply::Value
-        /// [`NoSuch`]: crate::proved::machine::Reply::NoSuch
+        SetGlobal { global: usize, value: TypedRawVal },
+        /// Returns the value of a global: `Value`, or `NoSuch` if there is no such global.
         GetGlobal(usize),
-        /// Sets a register: [`Done`], or [`NoSuch`] if there is no such register.
-        ///
-        /// [`Done`]: crate::proved::machine::Reply::Done
-        /// [`NoSuch`]: crate::proved::machine::Reply::NoSuch
-        SetRegister {
-            /// Where the result goes.
-            dst: u8,
-            /// The value that is written or set.
-            value: RawVal,
-        },
-        /// Returns the value of a register: [`Value`], or [`NoSuch`] if there is no such register.
-        ///
-        /// [`Value`]: crate::proved::machine::Reply::Value
-        /// [`NoSuch`]: crate::proved::machine::Reply::NoSuch
+        /// Sets a register: `Done`, or `NoSuch` if there is no such register.
+        SetRegister { dst: u8, value: RawVal },
+        /// Returns the value of a register: `Value`, or `NoSuch` if there is no such register.
         GetRegister(u8),
-        /// Makes a vector of the item in register `a`: [`Done`], or [`NoSuch`] if there is no such
+        /// Makes a vector of the item in register `a`: `Done`, or `NoSuch` if there is no such
         /// register.
-        ///
-        /// [`Done`]: crate::proved::machine::Reply::Done
-        /// [`NoSuch`]: crate::proved::machine::Reply::NoSuch
-        Make {
-            /// The instruction.
-            op: MakeOp,
-            /// Where the result goes.
-            dst: u8,
-            /// The register of the first operand.
-            a: u8,
-        },
-        /// Executes an instruction of one vector: [`Done`], or [`NoSuch`] if there is no such register.
-        ///
-        /// [`Done`]: crate::proved::machine::Reply::Done
-        /// [`NoSuch`]: crate::proved::machine::Reply::NoSuch
-        Unary {
-            /// The instruction.
-            op: UnaryOp,
-            /// Where the result goes.
-            dst: u8,
-            /// The register of the first operand.
-            a: u8,
-        },
-        /// Executes an instruction of two vectors: [`Done`], or [`NoSuch`] if there is no such register.
-        ///
-        /// [`Done`]: crate::proved::machine::Reply::Done
-        /// [`NoSuch`]: crate::proved::machine::Reply::NoSuch
-        Binary {
-            /// The instruction.
-            op: BinaryOp,
-            /// Where the result goes.
-            dst: u8,
-            /// The register of the first operand.
-            a: u8,
-            /// The register of the second operand.
-            b: u8,
-        },
-        /// Executes an instruction of three vectors: [`Done`], or [`NoSuch`] if there is no such register.
-        ///
-        /// [`Done`]: crate::proved::machine::Reply::Done
-        /// [`NoSuch`]: crate::proved::machine::Reply::NoSuch
+        Make { op: MakeOp, dst: u8, a: u8 },
+        /// Executes an instruction of one vector: `Done`, or `NoSuch` if there is no such register.
+        Unary { op: UnaryOp, dst: u8, a: u8 },
+        /// Executes an instruction of two vectors: `Done`, or `NoSuch` if there is no such register.
+        Binary { op: BinaryOp, dst: u8, a: u8, b: u8 },
+        /// Executes an instruction of three vectors: `Done`, or `NoSuch` if there is no such register.
         Ternary {
-            /// The instruction.
             op: TernaryOp,
-            /// Where the result goes.
             dst: u8,
-            /// The register of the first operand.
             a: u8,
-            /// The register of the second operand.
             b: u8,
-            /// The register of the third operand.
             c: u8,
         },
-        /// Shifts the lanes of a vector by `amount` modulo their width: [`Done`], or [`NoSuch`] if there is
+        /// Shifts the lanes of a vector by `amount` modulo their width: `Done`, or `NoSuch` if there is
         /// no such register.
-        ///
-        /// [`Done`]: crate::proved::machine::Reply::Done
-        /// [`NoSuch`]: crate::proved::machine::Reply::NoSuch
         Shift {
-            /// The instruction.
             op: ShiftOp,
-            /// Where the result goes.
             dst: u8,
-            /// The register of the first operand.
             a: u8,
-            /// By how many bits.
             amount: u32,
         },
-        /// Tests a vector, or takes its mask: [`Value`], or [`NoSuch`] if there is no such register.
-        ///
-        /// [`Value`]: crate::proved::machine::Reply::Value
-        /// [`NoSuch`]: crate::proved::machine::Reply::NoSuch
-        Test {
-            /// The instruction.
-            op: TestOp,
-            /// The register of the first operand.
-            a: u8,
-        },
-        /// Takes a lane from a vector: [`Value`], or [`NoSuch`] if there is no such register.
-        ///
-        /// [`Value`]: crate::proved::machine::Reply::Value
-        /// [`NoSuch`]: crate::proved::machine::Reply::NoSuch
-        Extract {
-            /// The instruction.
-            op: ExtractOp,
-            /// The register of the first operand.
-            a: u8,
-        },
-        /// Puts the item in register `item` into a lane of a vector: [`Done`], or [`NoSuch`] if there is no
+        /// Tests a vector, or takes its mask: `Value`, or `NoSuch` if there is no such register.
+        Test { op: TestOp, a: u8 },
+        /// Takes a lane from a vector: `Value`, or `NoSuch` if there is no such register.
+        Extract { op: ExtractOp, a: u8 },
+        /// Puts the item in register `item` into a lane of a vector: `Done`, or `NoSuch` if there is no
         /// such register.
-        ///
-        /// [`Done`]: crate::proved::machine::Reply::Done
-        /// [`NoSuch`]: crate::proved::machine::Reply::NoSuch
         Replace {
-            /// The instruction.
             op: ReplaceOp,
-            /// Where the result goes.
             dst: u8,
-            /// The register of the first operand.
             a: u8,
-            /// The register of the item.
             item: u8,
         },
-        /// Picks bytes of two vectors: [`Done`], or [`NoSuch`] if there is no such register.
-        ///
-        /// [`Done`]: crate::proved::machine::Reply::Done
-        /// [`NoSuch`]: crate::proved::machine::Reply::NoSuch
+        /// Picks bytes of two vectors: `Done`, or `NoSuch` if there is no such register.
         Shuffle {
-            /// Where the result goes.
             dst: u8,
-            /// The register of the first operand.
             a: u8,
-            /// The register of the second operand.
             b: u8,
-            /// The index of the byte for each lane.
             lanes: [ImmLaneIdx32; 16],
         },
-        /// Loads a vector from a memory at `ptr + offset`: [`Done`], [`NoSuch`] if there is no such memory
-        /// or register, or [`Trap`] if it ends past it.
-        ///
-        /// [`Done`]: crate::proved::machine::Reply::Done
-        /// [`NoSuch`]: crate::proved::machine::Reply::NoSuch
-        /// [`Trap`]: crate::proved::machine::Reply::Trap
+        /// Loads a vector from a memory at `ptr + offset`: `Done`, `NoSuch` if there is no such memory
+        /// or register, or `Trap` if it ends past it.
         VectorLoad {
-            /// The instruction.
             op: VectorLoadOp,
-            /// Where the result goes.
             dst: u8,
-            /// The index of the memory.
             memory: usize,
-            /// The address, to which the offset is added.
             ptr: u64,
-            /// The offset in bytes.
             offset: u64,
         },
-        /// Loads a lane of a vector from a memory at `ptr + offset`: [`Done`], [`NoSuch`] if there is no
-        /// such memory or register, or [`Trap`] if it ends past it.
-        ///
-        /// [`Done`]: crate::proved::machine::Reply::Done
-        /// [`NoSuch`]: crate::proved::machine::Reply::NoSuch
-        /// [`Trap`]: crate::proved::machine::Reply::Trap
+        /// Loads a lane of a vector from a memory at `ptr + offset`: `Done`, `NoSuch` if there is no
+        /// such memory or register, or `Trap` if it ends past it.
         LoadLane {
-            /// The instruction.
             op: LoadLaneOp,
-            /// Where the result goes.
             dst: u8,
-            /// The register of the first operand.
             a: u8,
-            /// The index of the memory.
             memory: usize,
-            /// The address, to which the offset is added.
             ptr: u64,
-            /// The offset in bytes.
             offset: u64,
         },
-        /// Stores a vector to a memory at `ptr + offset`: [`Done`], [`NoSuch`] if there is no such memory
-        /// or register, or [`Trap`] if it would end past it.
-        ///
-        /// [`Done`]: crate::proved::machine::Reply::Done
-        /// [`NoSuch`]: crate::proved::machine::Reply::NoSuch
-        /// [`Trap`]: crate::proved::machine::Reply::Trap
+        /// Stores a vector to a memory at `ptr + offset`: `Done`, `NoSuch` if there is no such memory
+        /// or register, or `Trap` if it would end past it.
         VectorStore {
-            /// The register of the first operand.
             a: u8,
-            /// The index of the memory.
             memory: usize,
-            /// The address, to which the offset is added.
             ptr: u64,
-            /// The offset in bytes.
             offset: u64,
         },
-        /// Stores a lane of a vector to a memory at `ptr + offset`: [`Done`], [`NoSuch`] if there is no
-        /// such memory or register, or [`Trap`] if it would end past it.
-        ///
-        /// [`Done`]: crate::proved::machine::Reply::Done
-        /// [`NoSuch`]: crate::proved::machine::Reply::NoSuch
-        /// [`Trap`]: crate::proved::machine::Reply::Trap
+        /// Stores a lane of a vector to a memory at `ptr + offset`: `Done`, `NoSuch` if there is no
+        /// such memory or register, or `Trap` if it would end past it.
         StoreLane {
-            /// The instruction.
             op: StoreLaneOp,
-            /// The register of the first operand.
             a: u8,
-            /// The index of the memory.
             memory: usize,
-            /// The address, to which the offset is added.
             ptr: u64,
-            /// The offset in bytes.
             offset: u64,
         },
     }
@@ -562,10 +291,11 @@ mod calls {
         ///
         /// # Contract
         ///
-        /// <span></span><pre><code>ensures: [MatchBool] result ([SetsNoFuel] self.now → ⊥) ([SetsNoFuel] self.now)</code></pre>
+        /// ```text
+        /// ensures: MatchBool result (SetsNoFuel self.now → ⊥) (SetsNoFuel self.now)
+        /// ```
         ///
-        /// [MatchBool]: crate::specs::library#MatchBool "P where b is true, else Q"
-        /// [SetsNoFuel]: crate::specs::machine::Account#SetsNoFuel "the call doesn\'t set the fuel"
+        /// Definitions: [`SetsNoFuel`](crate::specs::machine::Account#SetsNoFuel).
         #[inline]
         pub fn sets_fuel(&self) -> bool {
             matches!(self, Call::SetFuel(_))
@@ -575,9 +305,11 @@ mod calls {
         ///
         /// # Contract
         ///
-        /// <span></span><pre><code>ensures: [IsValidCall] self.now</code></pre>
+        /// ```text
+        /// ensures: IsValidCall self.now
+        /// ```
         ///
-        /// [IsValidCall]: crate::specs::machine::Validity#IsValidCall "a type that a call names is valid"
+        /// Definitions: [`IsValidCall`](crate::specs::machine::Validity#IsValidCall).
         #[inline(always)]
         pub(crate) fn tell_valid(&self) {
             match self {
@@ -635,11 +367,10 @@ mod calls {
     ///
     /// # Model
     ///
-    /// <span></span><pre><code>Value = [List] [ℕ]
-    /// view = λ b. b.bytes.items</code></pre>
-    ///
-    /// [List]: crate::specs::library#List "the finite lists"
-    /// [ℕ]: crate::specs::library#%E2%84%95 "the whole numbers from 0 on"
+    /// ```text
+    /// Value = List ℕ
+    /// view = λ b. b.bytes.items
+    /// ```
     #[derive(Debug)]
     pub struct ByteList {
         bytes: Vec<u8>,
@@ -647,7 +378,9 @@ mod calls {
 
     /// # Contract
     ///
-    /// <span></span><pre><code>from_gives = λ bytes list. list ≡ bytes.items</code></pre>
+    /// ```text
+    /// from_gives = λ bytes list. list ≡ bytes.items
+    /// ```
     impl From<Vec<u8>> for ByteList {
         #[inline]
         fn from(bytes: Vec<u8>) -> Self {
@@ -660,7 +393,9 @@ mod calls {
         ///
         /// # Contract
         ///
-        /// <span></span><pre><code>ensures: result.now ≡ self.now</code></pre>
+        /// ```text
+        /// ensures: result.now ≡ self.now
+        /// ```
         #[inline]
         pub fn as_slice(&self) -> &[u8] {
             self.bytes.as_slice()
@@ -669,10 +404,9 @@ mod calls {
 
     /// # Contract
     ///
-    /// <span></span><pre><code>eq = [pointwise] [nat_eq]</code></pre>
-    ///
-    /// [pointwise]: crate::specs::library#pointwise "the lists are as long, and eq of each two elements"
-    /// [nat_eq]: crate::specs::library#nat_eq "whether two numbers are equal, as a Boolean"
+    /// ```text
+    /// eq = pointwise nat_eq
+    /// ```
     impl PartialEq for ByteList {
         #[inline]
         fn eq(&self, other: &Self) -> bool {
@@ -697,13 +431,12 @@ pub mod laws {
     ///
     /// # Contract
     ///
-    /// <span></span><pre><code>ensures turns: [RunsJoin] ([optional_rules] [L.rules])
-    /// ensures calls: [RunsOfCallsJoin] ([optional_rules] [L.rules])</code></pre>
+    /// ```text
+    /// ensures turns: RunsJoin (optional_rules L.rules)
+    /// ensures calls: RunsOfCallsJoin (optional_rules L.rules)
+    /// ```
     ///
-    /// [RunsJoin]: crate::specs::machine::Laws#RunsJoin "turns of a run, and those of a run from where it ends, are one run"
-    /// [optional_rules]: crate::specs::meter::Limiter#optional_rules "the rules of a limiter that may be absent"
-    /// [L.rules]: trait@ResourceLimiter#contract
-    /// [RunsOfCallsJoin]: crate::specs::machine::Laws#RunsOfCallsJoin "a run of calls, and a run of calls from where it ends, are a run of all these calls, with the replies in turn"
+    /// Definitions: [`RunsJoin`](crate::specs::machine::Laws#RunsJoin), [`optional_rules`](crate::specs::meter::Limiter#optional_rules), [`RunsOfCallsJoin`](crate::specs::machine::Laws#RunsOfCallsJoin).
     #[inline]
     pub fn runs_join<L: ResourceLimiter>() {}
 
@@ -720,15 +453,13 @@ pub mod laws {
     ///
     /// # Contract
     ///
-    /// <span></span><pre><code>ensures turn: [RefusalsKeepContents] ([optional_rules] [L.rules])
-    /// ensures run: [RefusalsInRunsKeepContents] ([optional_rules] [L.rules])
-    /// ensures all_refused: [RefusedRunsKeepContents] ([optional_rules] [L.rules])</code></pre>
+    /// ```text
+    /// ensures turn: RefusalsKeepContents (optional_rules L.rules)
+    /// ensures run: RefusalsInRunsKeepContents (optional_rules L.rules)
+    /// ensures all_refused: RefusedRunsKeepContents (optional_rules L.rules)
+    /// ```
     ///
-    /// [RefusalsKeepContents]: crate::specs::machine::Laws#RefusalsKeepContents "in each turn that is refused the contents stay; the meter, unless it is a growth that fails after its charge; and the spare region, unless a memory was to be made in it"
-    /// [optional_rules]: crate::specs::meter::Limiter#optional_rules "the rules of a limiter that may be absent"
-    /// [L.rules]: trait@ResourceLimiter#contract
-    /// [RefusalsInRunsKeepContents]: crate::specs::machine::Laws#RefusalsInRunsKeepContents "in a run each turn that is refused keeps what a refused turn keeps (\`Keeps\`)"
-    /// [RefusedRunsKeepContents]: crate::specs::machine::Laws#RefusedRunsKeepContents "a run in which each turn is refused keeps the contents"
+    /// Definitions: [`RefusalsKeepContents`](crate::specs::machine::Laws#RefusalsKeepContents), [`optional_rules`](crate::specs::meter::Limiter#optional_rules), [`RefusalsInRunsKeepContents`](crate::specs::machine::Laws#RefusalsInRunsKeepContents), [`RefusedRunsKeepContents`](crate::specs::machine::Laws#RefusedRunsKeepContents).
     #[inline]
     pub fn refusals_keep_contents<L: ResourceLimiter>() {}
 
@@ -746,13 +477,12 @@ pub mod laws {
     ///
     /// # Contract
     ///
-    /// <span></span><pre><code>ensures turn: [GrowsAsPermitted] ([optional_rules] [L.rules])
-    /// ensures run: [RunsGrowAsPermitted] ([optional_rules] [L.rules])</code></pre>
+    /// ```text
+    /// ensures turn: GrowsAsPermitted (optional_rules L.rules)
+    /// ensures run: RunsGrowAsPermitted (optional_rules L.rules)
+    /// ```
     ///
-    /// [GrowsAsPermitted]: crate::specs::machine::Laws#GrowsAsPermitted "in each turn the limiter is asked what the call asks, or nothing if it asks nothing; a permission is followed by exactly the growth that was asked for, or by just one notice, and a denial by neither; a growth is charged only after a permission, and then its price; what is charged is taken from the meter"
-    /// [optional_rules]: crate::specs::meter::Limiter#optional_rules "the rules of a limiter that may be absent"
-    /// [L.rules]: trait@ResourceLimiter#contract
-    /// [RunsGrowAsPermitted]: crate::specs::machine::Laws#RunsGrowAsPermitted "in a run each turn asks, grows and is charged as a step does (\`Exchanges\`)"
+    /// Definitions: [`GrowsAsPermitted`](crate::specs::machine::Laws#GrowsAsPermitted), [`optional_rules`](crate::specs::meter::Limiter#optional_rules), [`RunsGrowAsPermitted`](crate::specs::machine::Laws#RunsGrowAsPermitted).
     #[inline]
     pub fn growths_are_permitted<L: ResourceLimiter>() {}
 
@@ -761,11 +491,11 @@ pub mod laws {
     ///
     /// # Contract
     ///
-    /// <span></span><pre><code>ensures: [FuelBalances] ([optional_rules] [L.rules])</code></pre>
+    /// ```text
+    /// ensures: FuelBalances (optional_rules L.rules)
+    /// ```
     ///
-    /// [FuelBalances]: crate::specs::machine::Laws#FuelBalances "while metering is on, what is left and the charges since the fuel was set last, or since the start, are what was set then, or left at the start"
-    /// [optional_rules]: crate::specs::meter::Limiter#optional_rules "the rules of a limiter that may be absent"
-    /// [L.rules]: trait@ResourceLimiter#contract
+    /// Definitions: [`FuelBalances`](crate::specs::machine::Laws#FuelBalances), [`optional_rules`](crate::specs::meter::Limiter#optional_rules).
     #[inline]
     pub fn fuel_balances<L: ResourceLimiter>() {}
 
@@ -776,11 +506,11 @@ pub mod laws {
     ///
     /// # Contract
     ///
-    /// <span></span><pre><code>ensures: [ChargesAreSpent] ([optional_rules] [L.rules])</code></pre>
+    /// ```text
+    /// ensures: ChargesAreSpent (optional_rules L.rules)
+    /// ```
     ///
-    /// [ChargesAreSpent]: crate::specs::machine::Laws#ChargesAreSpent "while metering is on, what calls that don\'t set the fuel were charged is what was left before and isn\'t left after, and it bounds what they have written"
-    /// [optional_rules]: crate::specs::meter::Limiter#optional_rules "the rules of a limiter that may be absent"
-    /// [L.rules]: trait@ResourceLimiter#contract
+    /// Definitions: [`ChargesAreSpent`](crate::specs::machine::Laws#ChargesAreSpent), [`optional_rules`](crate::specs::meter::Limiter#optional_rules).
     #[inline]
     pub fn charges_are_spent<L: ResourceLimiter>() {}
 
@@ -790,9 +520,11 @@ pub mod laws {
     ///
     /// # Contract
     ///
-    /// <span></span><pre><code>ensures: [IsValid] machine.now</code></pre>
+    /// ```text
+    /// ensures: IsValid machine.now
+    /// ```
     ///
-    /// [IsValid]: crate::specs::machine::Validity#IsValid "memories and tables have valid types and as many whole pages and elements as these allow, segments aren\'t too long, and there are 16 registers"
+    /// Definitions: [`IsValid`](crate::specs::machine::Validity#IsValid).
     #[inline]
     pub fn states_are_valid(machine: &Machine) {
         machine.tell_valid();
@@ -803,11 +535,11 @@ pub mod laws {
     ///
     /// # Contract
     ///
-    /// <span></span><pre><code>ensures: [RunsKeepValidity] ([optional_rules] [L.rules])</code></pre>
+    /// ```text
+    /// ensures: RunsKeepValidity (optional_rules L.rules)
+    /// ```
     ///
-    /// [RunsKeepValidity]: crate::specs::machine::Laws#RunsKeepValidity "a run of calls whose types are valid leads from a valid state to a valid one"
-    /// [optional_rules]: crate::specs::meter::Limiter#optional_rules "the rules of a limiter that may be absent"
-    /// [L.rules]: trait@ResourceLimiter#contract
+    /// Definitions: [`RunsKeepValidity`](crate::specs::machine::Laws#RunsKeepValidity), [`optional_rules`](crate::specs::meter::Limiter#optional_rules).
     #[inline]
     pub fn runs_keep_validity<L: ResourceLimiter>() {}
 
@@ -816,11 +548,11 @@ pub mod laws {
     ///
     /// # Contract
     ///
-    /// <span></span><pre><code>ensures: [RepliesPermit] ([optional_rules] [L.rules])</code></pre>
+    /// ```text
+    /// ensures: RepliesPermit (optional_rules L.rules)
+    /// ```
     ///
-    /// [RepliesPermit]: crate::specs::machine::Laws#RepliesPermit "a run in which no reply reports a denial is one in which each question was permitted"
-    /// [optional_rules]: crate::specs::meter::Limiter#optional_rules "the rules of a limiter that may be absent"
-    /// [L.rules]: trait@ResourceLimiter#contract
+    /// Definitions: [`RepliesPermit`](crate::specs::machine::Laws#RepliesPermit), [`optional_rules`](crate::specs::meter::Limiter#optional_rules).
     #[inline]
     pub fn replies_permit<L: ResourceLimiter>() {}
 
@@ -828,9 +560,11 @@ pub mod laws {
     ///
     /// # Contract
     ///
-    /// <span></span><pre><code>ensures: [QuotasStayWithin]</code></pre>
+    /// ```text
+    /// ensures: QuotasStayWithin
+    /// ```
     ///
-    /// [QuotasStayWithin]: crate::specs::machine::Laws#QuotasStayWithin "a quota that holds at most its caps before a run does so after it, and has the same caps"
+    /// Definitions: [`QuotasStayWithin`](crate::specs::machine::Laws#QuotasStayWithin).
     #[inline]
     pub fn quotas_stay_within() {}
 
@@ -839,13 +573,13 @@ pub mod laws {
     ///
     /// # Contract
     ///
-    /// <span></span><pre><code>ensures turns: [RunsKeepKind]
-    /// ensures calls: [RunsOfCallsKeepKind]
-    /// ensures reply: [RepliesKeepKind]</code></pre>
+    /// ```text
+    /// ensures turns: RunsKeepKind
+    /// ensures calls: RunsOfCallsKeepKind
+    /// ensures reply: RepliesKeepKind
+    /// ```
     ///
-    /// [RunsKeepKind]: crate::specs::machine::LimiterKinds#RunsKeepKind "a run under such a limiter is one by the rules of its kind"
-    /// [RunsOfCallsKeepKind]: crate::specs::machine::LimiterKinds#RunsOfCallsKeepKind "a run of calls with these replies under such a limiter is one by the rules of its kind"
-    /// [RepliesKeepKind]: crate::specs::machine::LimiterKinds#RepliesKeepKind "a reply to a call under such a limiter is one by the rules of its kind"
+    /// Definitions: [`RunsKeepKind`](crate::specs::machine::LimiterKinds#RunsKeepKind), [`RunsOfCallsKeepKind`](crate::specs::machine::LimiterKinds#RunsOfCallsKeepKind), [`RepliesKeepKind`](crate::specs::machine::LimiterKinds#RepliesKeepKind).
     #[inline]
     pub fn kinds_stay() {}
 
@@ -853,11 +587,11 @@ pub mod laws {
     ///
     /// # Contract
     ///
-    /// <span></span><pre><code>ensures: [HoldsTotalsAlways] [L.rules] [L.Reserving].holdings</code></pre>
+    /// ```text
+    /// ensures: HoldsTotalsAlways L.rules L.Reserving.holdings
+    /// ```
     ///
-    /// [HoldsTotalsAlways]: crate::specs::machine::Laws#HoldsTotalsAlways "a limiter that holds the totals before a run is there after it, and holds the totals then"
-    /// [L.rules]: trait@Reserving#contract
-    /// [L.Reserving]: trait@Reserving#contract
+    /// Definitions: [`HoldsTotalsAlways`](crate::specs::machine::Laws#HoldsTotalsAlways).
     #[inline]
     pub fn totals_are_held<L: Reserving>() {}
 
@@ -870,11 +604,11 @@ pub mod laws {
     ///
     /// # Contract
     ///
-    /// <span></span><pre><code>ensures: [FuelBoundsWriting] ([optional_rules] [L.rules])</code></pre>
+    /// ```text
+    /// ensures: FuelBoundsWriting (optional_rules L.rules)
+    /// ```
     ///
-    /// [FuelBoundsWriting]: crate::specs::machine::Laws#FuelBoundsWriting "while metering is on at a rate above 0, the bytes that a run writes by growing and copying are bounded by the fuel that is charged for them, and so by all the fuel that there was"
-    /// [optional_rules]: crate::specs::meter::Limiter#optional_rules "the rules of a limiter that may be absent"
-    /// [L.rules]: trait@ResourceLimiter#contract
+    /// Definitions: [`FuelBoundsWriting`](crate::specs::machine::Laws#FuelBoundsWriting), [`optional_rules`](crate::specs::meter::Limiter#optional_rules).
     #[inline]
     pub fn fuel_bounds_writing<L: ResourceLimiter>() {}
 
@@ -887,11 +621,11 @@ pub mod laws {
     ///
     /// # Contract
     ///
-    /// <span></span><pre><code>ensures: [LentRunsAreOwned] ([optional_rules] [L.rules])</code></pre>
+    /// ```text
+    /// ensures: LentRunsAreOwned (optional_rules L.rules)
+    /// ```
     ///
-    /// [LentRunsAreOwned]: crate::specs::machine::Laws#LentRunsAreOwned "a run that makes no memory in a region and grows none past its own is a run of the same machine with memories of their own"
-    /// [optional_rules]: crate::specs::meter::Limiter#optional_rules "the rules of a limiter that may be absent"
-    /// [L.rules]: trait@ResourceLimiter#contract
+    /// Definitions: [`LentRunsAreOwned`](crate::specs::machine::Laws#LentRunsAreOwned), [`optional_rules`](crate::specs::meter::Limiter#optional_rules).
     #[inline]
     pub fn lent_runs_are_owned<L: ResourceLimiter>() {}
 
@@ -900,11 +634,11 @@ pub mod laws {
     ///
     /// # Contract
     ///
-    /// <span></span><pre><code>ensures: [LentCreationsAreOwned] ([optional_rules] [L.rules])</code></pre>
+    /// ```text
+    /// ensures: LentCreationsAreOwned (optional_rules L.rules)
+    /// ```
     ///
-    /// [LentCreationsAreOwned]: crate::specs::machine::Laws#LentCreationsAreOwned "a creation in a spare region of at least the minimum is a creation of a memory of its own"
-    /// [optional_rules]: crate::specs::meter::Limiter#optional_rules "the rules of a limiter that may be absent"
-    /// [L.rules]: trait@ResourceLimiter#contract
+    /// Definitions: [`LentCreationsAreOwned`](crate::specs::machine::Laws#LentCreationsAreOwned), [`optional_rules`](crate::specs::meter::Limiter#optional_rules).
     #[inline]
     pub fn lent_creations_are_owned<L: ResourceLimiter>() {}
 
@@ -913,11 +647,11 @@ pub mod laws {
     ///
     /// # Contract
     ///
-    /// <span></span><pre><code>ensures: [LentGrowthsSucceed] ([optional_rules] [L.rules])</code></pre>
+    /// ```text
+    /// ensures: LentGrowthsSucceed (optional_rules L.rules)
+    /// ```
     ///
-    /// [LentGrowthsSucceed]: crate::specs::machine::Laws#LentGrowthsSucceed "a growth of a lent memory that its type and its region have place for, and that can be paid, is refused by the limiter alone"
-    /// [optional_rules]: crate::specs::meter::Limiter#optional_rules "the rules of a limiter that may be absent"
-    /// [L.rules]: trait@ResourceLimiter#contract
+    /// Definitions: [`LentGrowthsSucceed`](crate::specs::machine::Laws#LentGrowthsSucceed), [`optional_rules`](crate::specs::meter::Limiter#optional_rules).
     #[inline]
     pub fn lent_growths_succeed<L: ResourceLimiter>() {}
 
@@ -926,10 +660,11 @@ pub mod laws {
     ///
     /// # Contract
     ///
-    /// <span></span><pre><code>ensures: [RunsAreOne] [L.rules]</code></pre>
+    /// ```text
+    /// ensures: RunsAreOne L.rules
+    /// ```
     ///
-    /// [RunsAreOne]: crate::specs::machine::Laws#RunsAreOne "if the limiter is deterministic, two runs of one list of calls from one world, in which neither a reply nor a notice says out of memory, are one"
-    /// [L.rules]: trait@ResourceLimiter#contract
+    /// Definitions: [`RunsAreOne`](crate::specs::machine::Laws#RunsAreOne).
     #[inline]
     pub fn runs_are_one<L: ResourceLimiter>() {}
 
@@ -938,10 +673,11 @@ pub mod laws {
     ///
     /// # Contract
     ///
-    /// <span></span><pre><code>ensures: [RepliesTell] [L.rules]</code></pre>
+    /// ```text
+    /// ensures: RepliesTell L.rules
+    /// ```
     ///
-    /// [RepliesTell]: crate::specs::machine::Laws#RepliesTell "if the limiter accepts each notice, a run in which no reply says out of memory is one in which no notice does"
-    /// [L.rules]: trait@ResourceLimiter#contract
+    /// Definitions: [`RepliesTell`](crate::specs::machine::Laws#RepliesTell).
     #[inline]
     pub fn replies_tell<L: ResourceLimiter>() {}
 
@@ -951,10 +687,11 @@ pub mod laws {
     ///
     /// # Contract
     ///
-    /// <span></span><pre><code>ensures: [RepliesAreOne] [L.rules]</code></pre>
+    /// ```text
+    /// ensures: RepliesAreOne L.rules
+    /// ```
     ///
-    /// [RepliesAreOne]: crate::specs::machine::Laws#RepliesAreOne "if the limiter is deterministic and accepts each notice, two runs of one list of calls from one world, in which no reply says out of memory, have the same replies and end in one world"
-    /// [L.rules]: trait@ResourceLimiter#contract
+    /// Definitions: [`RepliesAreOne`](crate::specs::machine::Laws#RepliesAreOne).
     #[inline]
     pub fn replies_are_one<L: ResourceLimiter>() {}
 
@@ -962,11 +699,11 @@ pub mod laws {
     ///
     /// # Contract
     ///
-    /// <span></span><pre><code>ensures: [AcceptsNotices] ([unlimited_rules] {S = [NoLimits]})</code></pre>
+    /// ```text
+    /// ensures: AcceptsNotices (unlimited_rules {S = NoLimits})
+    /// ```
     ///
-    /// [AcceptsNotices]: crate::specs::machine::Determinism#AcceptsNotices "each notice is accepted"
-    /// [unlimited_rules]: crate::specs::meter::Limiter#unlimited_rules "the rules of a limiter that permits everything, accepts each notice, and stays the same"
-    /// [NoLimits]: crate::proved::meter::NoLimits
+    /// Definitions: [`AcceptsNotices`](crate::specs::machine::Determinism#AcceptsNotices), [`unlimited_rules`](crate::specs::meter::Limiter#unlimited_rules).
     #[inline]
     pub fn no_limits_accept_notices() {}
 
@@ -974,10 +711,11 @@ pub mod laws {
     ///
     /// # Contract
     ///
-    /// <span></span><pre><code>ensures: [AcceptsNotices] [quota_rules]</code></pre>
+    /// ```text
+    /// ensures: AcceptsNotices quota_rules
+    /// ```
     ///
-    /// [AcceptsNotices]: crate::specs::machine::Determinism#AcceptsNotices "each notice is accepted"
-    /// [quota_rules]: crate::specs::meter::Quota#quota_rules "the rules of a quota"
+    /// Definitions: [`AcceptsNotices`](crate::specs::machine::Determinism#AcceptsNotices), [`quota_rules`](crate::specs::meter::Quota#quota_rules).
     #[inline]
     pub fn quota_accepts_notices() {}
 
@@ -985,11 +723,11 @@ pub mod laws {
     ///
     /// # Contract
     ///
-    /// <span></span><pre><code>ensures: [IsDeterministic] ([unlimited_rules] {S = [NoLimits]})</code></pre>
+    /// ```text
+    /// ensures: IsDeterministic (unlimited_rules {S = NoLimits})
+    /// ```
     ///
-    /// [IsDeterministic]: crate::specs::machine::Determinism#IsDeterministic "each question and each notice has one answer, and leaves one state"
-    /// [unlimited_rules]: crate::specs::meter::Limiter#unlimited_rules "the rules of a limiter that permits everything, accepts each notice, and stays the same"
-    /// [NoLimits]: crate::proved::meter::NoLimits
+    /// Definitions: [`IsDeterministic`](crate::specs::machine::Determinism#IsDeterministic), [`unlimited_rules`](crate::specs::meter::Limiter#unlimited_rules).
     #[inline]
     pub fn no_limits_leave_no_choice() {}
 
@@ -997,10 +735,11 @@ pub mod laws {
     ///
     /// # Contract
     ///
-    /// <span></span><pre><code>ensures: [IsDeterministic] [quota_rules]</code></pre>
+    /// ```text
+    /// ensures: IsDeterministic quota_rules
+    /// ```
     ///
-    /// [IsDeterministic]: crate::specs::machine::Determinism#IsDeterministic "each question and each notice has one answer, and leaves one state"
-    /// [quota_rules]: crate::specs::meter::Quota#quota_rules "the rules of a quota"
+    /// Definitions: [`IsDeterministic`](crate::specs::machine::Determinism#IsDeterministic), [`quota_rules`](crate::specs::meter::Quota#quota_rules).
     #[inline]
     pub fn quota_leaves_no_choice() {}
 }
@@ -1027,40 +766,16 @@ mod machine {
     ///
     /// Own: upstream's interpreter has a store of its own.
     ///
-    /// # Examples
-    ///
-    /// ```
-    /// use wasmi_core_proved::RawVal;
-    /// use wasmi_core_proved::machine::{
-    ///     Call, Fuel, FuelCostsProvider, Machine, MemoryType, NoLimits, Reply, run_lending,
-    /// };
-    /// use wasmi_core_proved::ops::{LoadOp, StoreOp};
-    ///
-    /// let mut machine = Machine::new(Fuel::new(false, FuelCostsProvider::default()));
-    /// let mut builder = MemoryType::builder();
-    /// builder.min(1);
-    /// let value = RawVal::from(7_i32);
-    /// let calls = [
-    ///     Call::NewMemory(builder.build()?),
-    ///     Call::Store { op: StoreOp::Store32, memory: 0, ptr: 8, offset: 0, value },
-    ///     Call::Load { op: LoadOp::LoadU32, memory: 0, ptr: 4, offset: 4 },
-    ///     Call::DropMemory(0),
-    ///     Call::Load { op: LoadOp::LoadU32, memory: 0, ptr: 4, offset: 4 },
-    /// ];
-    /// let replies = run_lending(&mut machine, &calls, &mut NoLimits)?;
-    /// assert!(matches!(&replies[2], Reply::Value(raw) if raw.to_bits64() == 7));
-    /// assert!(matches!(replies[4], Reply::NoSuch));
-    /// # Ok::<(), Box<dyn std::error::Error>>(())
-    /// ```
-    ///
     /// # Model
     ///
-    /// <span></span><pre><code>Value = [State]
+    /// ```text
+    /// Value = State
     /// view = λ m. m.store
-    /// invariant = λ m. [IsValid] m.store</code></pre>
+    /// invariant = λ m. IsValid m.store
+    /// ```
     ///
-    /// [State]: crate::specs::machine::State#State "the memories, tables, element segments and globals that were made, each kind in its order, the registers, the meter, and the bytes of the spare region, if there is one"
-    /// [IsValid]: crate::specs::machine::Validity#IsValid "memories and tables have valid types and as many whole pages and elements as these allow, segments aren\'t too long, and there are 16 registers"
+    /// Definitions: [`State`](crate::specs::machine::State#State), [`IsValid`](crate::specs::machine::Validity#IsValid).
+    #[doc = examples!(machine Machine)]
     #[derive(Debug)]
     pub struct Machine<'r> {
         pub(crate) store: Store<'r>,
@@ -1071,9 +786,11 @@ mod machine {
         ///
         /// # Contract
         ///
-        /// <span></span><pre><code>ensures: result ≡ [new_state] fuel</code></pre>
+        /// ```text
+        /// ensures: result ≡ new_state fuel
+        /// ```
         ///
-        /// [new_state]: crate::specs::machine::State#new_state "a machine on which nothing was made yet, with 16 registers of zeros"
+        /// Definitions: [`new_state`](crate::specs::machine::State#new_state).
         #[inline]
         pub fn new(fuel: Fuel) -> Machine<'r> {
             Machine::empty(fuel, None)
@@ -1084,10 +801,11 @@ mod machine {
         ///
         /// # Contract
         ///
-        /// <span></span><pre><code>ensures: result ≡ [with_spare] ([new_state] fuel) region.entry.now</code></pre>
+        /// ```text
+        /// ensures: result ≡ with_spare (new_state fuel) region.entry.now
+        /// ```
         ///
-        /// [with_spare]: crate::specs::machine::State#with_spare "the state with this spare region"
-        /// [new_state]: crate::specs::machine::State#new_state "a machine on which nothing was made yet, with 16 registers of zeros"
+        /// Definitions: [`with_spare`](crate::specs::machine::State#with_spare), [`new_state`](crate::specs::machine::State#new_state).
         #[inline]
         pub fn with_region(fuel: Fuel, region: &'r mut [u8]) -> Machine<'r> {
             Machine::empty(fuel, Some(region))
@@ -1097,10 +815,11 @@ mod machine {
         ///
         /// # Contract
         ///
-        /// <span></span><pre><code>ensures: result ≡ record ([new_state] fuel) { spare = [option_copied_mut] spare.entry }</code></pre>
+        /// ```text
+        /// ensures: result ≡ record (new_state fuel) { spare = option_copied_mut spare.entry }
+        /// ```
         ///
-        /// [new_state]: crate::specs::machine::State#new_state "a machine on which nothing was made yet, with 16 registers of zeros"
-        /// [option_copied_mut]: crate::specs::library#option_copied_mut "the value behind an optional \`&mut\`, if there is one"
+        /// Definitions: [`new_state`](crate::specs::machine::State#new_state).
         #[inline]
         fn empty(fuel: Fuel, spare: Option<&'r mut [u8]>) -> Machine<'r> {
             let store = Store {
@@ -1119,14 +838,16 @@ mod machine {
         ///
         /// # Contract
         ///
-        /// <span></span><pre><code>ensures: result.now ≡ self.now.meter</code></pre>
+        /// ```text
+        /// ensures: result.now ≡ self.now.meter
+        /// ```
         #[inline]
         pub fn fuel(&self) -> &Fuel {
             &self.store.fuel
         }
 
-        /// Takes an amount of fuel, and returns what is left. The error is [`FuelMeteringDisabled`] if
-        /// the meter is off, and [`OutOfFuel`] with the amount if less is left; then nothing is taken.
+        /// Takes an amount of fuel, and returns what is left. The error is `FuelMeteringDisabled` if
+        /// the meter is off, and `OutOfFuel` with the amount if less is left; then nothing is taken.
         ///
         /// It isn't a call, so a run has no turn for it: an interpreter pays by it for the instructions
         /// that it executes between calls.
@@ -1135,29 +856,21 @@ mod machine {
         ///
         /// # Contract
         ///
-        /// <span></span><pre><code>ensures on: [IsSome] self.old.meter.left
-        /// &#32;&#32;&#32;&#32;→ [ConsumesFuel] self.old.meter amount ([amount_left] self.old.meter - amount) result
-        /// &#32;&#32;&#32;&#32;self.new.meter
-        /// ensures off: self.old.meter.left ≡ [None]
-        /// &#32;&#32;&#32;&#32;→ (result ≡ [Err] [FuelError.FuelMeteringDisabled]) × (self.new ≡ self.old)
+        /// ```text
+        /// ensures on: IsSome self.old.meter.left
+        ///     → ConsumesFuel self.old.meter amount (amount_left self.old.meter - amount) result
+        ///     self.new.meter
+        /// ensures off: self.old.meter.left ≡ None
+        ///     → (result ≡ Err FuelError.FuelMeteringDisabled) × (self.new ≡ self.old)
         /// ensures rest: self.new ≡ record self.old { meter = self.new.meter }
-        /// ensures balance: [MatchResult] result
-        /// &#32;&#32;&#32;&#32;(λ left. (self.new.meter.left ≡ [Some] left)
-        /// &#32;&#32;&#32;&#32;× (self.old.meter.left ≡ [Some] (left + amount))
-        /// &#32;&#32;&#32;&#32;× (self.new ≡ record self.old { meter = [meter_after] self.old.meter amount }))
-        /// &#32;&#32;&#32;&#32;(λ error. self.new ≡ self.old)</code></pre>
+        /// ensures balance: MatchResult result
+        ///     (λ left. (self.new.meter.left ≡ Some left)
+        ///     × (self.old.meter.left ≡ Some (left + amount))
+        ///     × (self.new ≡ record self.old { meter = meter_after self.old.meter amount }))
+        ///     (λ error. self.new ≡ self.old)
+        /// ```
         ///
-        /// [IsSome]: crate::specs::library#IsSome "there is a value"
-        /// [ConsumesFuel]: crate::specs::meter::Meter#ConsumesFuel "an amount is taken where that much is left, and is refused else"
-        /// [amount_left]: crate::specs::meter::Meter#amount_left "what is left; nothing where the meter is off"
-        /// [None]: crate::specs::library#None "no value, of an \`Option\`"
-        /// [Err]: crate::specs::library#Err "the error e, of a \`Result\`"
-        /// [FuelError.FuelMeteringDisabled]: crate::proved::meter::FuelError::FuelMeteringDisabled
-        /// [MatchResult]: crate::specs::library#MatchResult "P of the value, or Q of the error"
-        /// [Some]: crate::specs::library#Some "the value x, of an \`Option\`"
-        /// [meter_after]: crate::specs::meter::Meter#meter_after "the meter with an amount taken; one that is off stays"
-        /// [`FuelMeteringDisabled`]: crate::proved::meter::FuelError::FuelMeteringDisabled
-        /// [`OutOfFuel`]: crate::proved::meter::FuelError::OutOfFuel
+        /// Definitions: [`ConsumesFuel`](crate::specs::meter::Meter#ConsumesFuel), [`amount_left`](crate::specs::meter::Meter#amount_left), [`meter_after`](crate::specs::meter::Meter#meter_after).
         #[inline]
         pub fn consume_fuel(&mut self, amount: u64) -> Result<u64, FuelError> {
             self.store.fuel.get_fuel()?;
@@ -1168,33 +881,31 @@ mod machine {
         ///
         /// # Contract
         ///
-        /// <span></span><pre><code>ensures: [option_copied] result ≡ [live_at] self.now.memories index</code></pre>
+        /// ```text
+        /// ensures: option_copied result ≡ live_at self.now.memories index
+        /// ```
         ///
-        /// [option_copied]: crate::specs::library#option_copied "the value behind an optional reference, if there is one"
-        /// [live_at]: crate::specs::machine::State#live_at "the live value of an index, if there is one"
+        /// Definitions: [`live_at`](crate::specs::machine::State#live_at).
         #[inline]
         pub fn memory(&self, index: usize) -> Option<&Memory<'r>> {
             self.store.memories.live(index)
         }
 
         /// Stores an item to a memory at `ptr + offset`, as `Call::Store` does, which reaches no
-        /// limiter. The reply is [`Done`], [`NoSuch`] if there is no such memory, or [`Trap`] with
+        /// limiter. The reply is `Done`, `NoSuch` if there is no such memory, or `Trap` with
         /// `MemoryOutOfBounds`; after the last two nothing has changed.
         ///
         /// Own: upstream's interpreter has the memory itself.
         ///
         /// # Contract
         ///
-        /// <span></span><pre><code>ensures memories: [StoresMemoryAt] memory (ptr + offset) ([stored_bytes] op value)
-        /// &#32;&#32;&#32;&#32;self.old.memories result self.new.memories
-        /// ensures rest: self.new ≡ [with_memories] self.old self.new.memories</code></pre>
+        /// ```text
+        /// ensures memories: StoresMemoryAt memory (ptr + offset) (stored_bytes op value)
+        ///     self.old.memories result self.new.memories
+        /// ensures rest: self.new ≡ with_memories self.old self.new.memories
+        /// ```
         ///
-        /// [StoresMemoryAt]: crate::specs::machine::MemoryEffects#StoresMemoryAt "the memory of an index has the stored bytes at the address, or the store traps"
-        /// [stored_bytes]: crate::specs::ops::ScalarAccessOps#stored_bytes "the bytes that a store writes: the low ones of the value"
-        /// [with_memories]: crate::specs::machine::State#with_memories "the state with other memories"
-        /// [`Done`]: crate::proved::machine::Reply::Done
-        /// [`NoSuch`]: crate::proved::machine::Reply::NoSuch
-        /// [`Trap`]: crate::proved::machine::Reply::Trap
+        /// Definitions: [`StoresMemoryAt`](crate::specs::machine::MemoryEffects#StoresMemoryAt), [`stored_bytes`](crate::specs::ops::ScalarAccessOps#stored_bytes), [`with_memories`](crate::specs::machine::State#with_memories).
         #[inline(always)]
         pub fn store_item(
             &mut self,
@@ -1211,10 +922,11 @@ mod machine {
         ///
         /// # Contract
         ///
-        /// <span></span><pre><code>ensures: [option_copied] result ≡ [live_at] self.now.tables index</code></pre>
+        /// ```text
+        /// ensures: option_copied result ≡ live_at self.now.tables index
+        /// ```
         ///
-        /// [option_copied]: crate::specs::library#option_copied "the value behind an optional reference, if there is one"
-        /// [live_at]: crate::specs::machine::State#live_at "the live value of an index, if there is one"
+        /// Definitions: [`live_at`](crate::specs::machine::State#live_at).
         #[inline]
         pub fn table(&self, index: usize) -> Option<&Table> {
             self.store.tables.live(index)
@@ -1224,10 +936,9 @@ mod machine {
         ///
         /// # Contract
         ///
-        /// <span></span><pre><code>ensures: [option_copied] result ≡ [slice_get] self.now.segments index</code></pre>
-        ///
-        /// [option_copied]: crate::specs::library#option_copied "the value behind an optional reference, if there is one"
-        /// [slice_get]: crate::specs::library#slice_get "element i, if there is one"
+        /// ```text
+        /// ensures: option_copied result ≡ slice_get self.now.segments index
+        /// ```
         #[inline]
         pub fn segment(&self, index: usize) -> Option<&ElementSegment> {
             value_at(&self.store.segments, index)
@@ -1237,10 +948,9 @@ mod machine {
         ///
         /// # Contract
         ///
-        /// <span></span><pre><code>ensures: [option_copied] result ≡ [slice_get] self.now.globals index</code></pre>
-        ///
-        /// [option_copied]: crate::specs::library#option_copied "the value behind an optional reference, if there is one"
-        /// [slice_get]: crate::specs::library#slice_get "element i, if there is one"
+        /// ```text
+        /// ensures: option_copied result ≡ slice_get self.now.globals index
+        /// ```
         #[inline]
         pub fn global(&self, index: usize) -> Option<&Global> {
             value_at(&self.store.globals, index)
@@ -1250,13 +960,11 @@ mod machine {
         ///
         /// # Contract
         ///
-        /// <span></span><pre><code>ensures value: result ≡ [slice_get] self.now.registers register
-        /// ensures count: [length] self.now.registers ≡ 16
-        /// ensures there: [IsSome] result ↔ (register < 16)</code></pre>
-        ///
-        /// [slice_get]: crate::specs::library#slice_get "element i, if there is one"
-        /// [length]: crate::specs::library#length "the number of elements of a list"
-        /// [IsSome]: crate::specs::library#IsSome "there is a value"
+        /// ```text
+        /// ensures value: result ≡ slice_get self.now.registers register
+        /// ensures count: length self.now.registers ≡ 16
+        /// ensures there: IsSome result ↔ (register < 16)
+        /// ```
         #[inline]
         pub fn register(&self, register: u8) -> Option<RawVal> {
             self.store.registers.get(register)
@@ -1267,10 +975,11 @@ mod machine {
         ///
         /// # Contract
         ///
-        /// <span></span><pre><code>ensures: result ≡ [total] self.now [Bytes]</code></pre>
+        /// ```text
+        /// ensures: result ≡ total self.now Bytes
+        /// ```
         ///
-        /// [total]: crate::specs::machine::Totals#total "their sum"
-        /// [Bytes]: crate::proved::meter::Kind::Bytes
+        /// Definitions: [`total`](crate::specs::machine::Totals#total).
         #[inline]
         pub fn total_bytes(&self) -> u128 {
             self.store.memories.total()
@@ -1281,10 +990,11 @@ mod machine {
         ///
         /// # Contract
         ///
-        /// <span></span><pre><code>ensures: result ≡ [total] self.now [Elements]</code></pre>
+        /// ```text
+        /// ensures: result ≡ total self.now Elements
+        /// ```
         ///
-        /// [total]: crate::specs::machine::Totals#total "their sum"
-        /// [Elements]: crate::proved::meter::Kind::Elements
+        /// Definitions: [`total`](crate::specs::machine::Totals#total).
         #[inline]
         pub fn total_elements(&self) -> u128 {
             self.store.tables.total()
@@ -1294,9 +1004,11 @@ mod machine {
         ///
         /// # Contract
         ///
-        /// <span></span><pre><code>ensures: [IsValid] self.now</code></pre>
+        /// ```text
+        /// ensures: IsValid self.now
+        /// ```
         ///
-        /// [IsValid]: crate::specs::machine::Validity#IsValid "memories and tables have valid types and as many whole pages and elements as these allow, segments aren\'t too long, and there are 16 registers"
+        /// Definitions: [`IsValid`](crate::specs::machine::Validity#IsValid).
         #[inline(always)]
         pub(crate) fn tell_valid(&self) {
             let _ = &self.store;
@@ -1322,19 +1034,14 @@ mod memories {
         ///
         /// # Contract
         ///
-        /// <span></span><pre><code>ensures loan: [KeepsLoan] limiter.old limiter.new
-        /// ensures made: [Creates] [Reply.Memory]
-        /// &#32;&#32;&#32;&#32;([MakesMemory] ([optional_rules] [L.rules]) [Owned] ty) self.old.slots.items
-        /// &#32;&#32;&#32;&#32;([lent_limiter] limiter.old) result self.new.slots.items ([lent_limiter] limiter.new)</code></pre>
+        /// ```text
+        /// ensures loan: KeepsLoan limiter.old limiter.new
+        /// ensures made: Creates Reply.Memory
+        ///     (MakesMemory (optional_rules L.rules) Owned ty) self.old.slots.items
+        ///     (lent_limiter limiter.old) result self.new.slots.items (lent_limiter limiter.new)
+        /// ```
         ///
-        /// [KeepsLoan]: crate::specs::meter::LimiterRef#KeepsLoan "r\' leads to what r leads to"
-        /// [Creates]: crate::specs::machine::Effects#Creates "a creation under a limiter: without room for a slot nothing is asked"
-        /// [Reply.Memory]: crate::proved::machine::Reply::Memory
-        /// [MakesMemory]: crate::specs::store::Memory#MakesMemory "a memory of a type is made in a room"
-        /// [optional_rules]: crate::specs::meter::Limiter#optional_rules "the rules of a limiter that may be absent"
-        /// [L.rules]: trait@ResourceLimiter#contract
-        /// [Owned]: crate::specs::store::Buffer#Owned
-        /// [lent_limiter]: crate::specs::meter::LimiterRef#lent_limiter "the present value of the limiter that is lent, or none"
+        /// Definitions: [`KeepsLoan`](crate::specs::meter::LimiterRef#KeepsLoan), [`Creates`](crate::specs::machine::Effects#Creates), [`MakesMemory`](crate::specs::store::Memory#MakesMemory), [`optional_rules`](crate::specs::meter::Limiter#optional_rules), [`Owned`](crate::specs::store::Buffer#Owned), [`lent_limiter`](crate::specs::meter::LimiterRef#lent_limiter).
         #[inline(always)]
         pub(crate) fn create<L: ResourceLimiter>(
             &mut self,
@@ -1355,19 +1062,16 @@ mod memories {
         ///
         /// # Contract
         ///
-        /// <span></span><pre><code>ensures loan: [KeepsLoan] limiter.old limiter.new
-        /// ensures made: [CreatesLent] ([optional_rules] [L.rules]) ty
-        /// &#32;&#32;&#32;&#32;(record { slots = self.old.slots.items; spare = [option_copied_mut] spare.old })
-        /// &#32;&#32;&#32;&#32;([lent_limiter] limiter.old) result
-        /// &#32;&#32;&#32;&#32;(record { slots = self.new.slots.items; spare = [option_copied_mut] spare.new })
-        /// &#32;&#32;&#32;&#32;([lent_limiter] limiter.new)</code></pre>
+        /// ```text
+        /// ensures loan: KeepsLoan limiter.old limiter.new
+        /// ensures made: CreatesLent (optional_rules L.rules) ty
+        ///     (record { slots = self.old.slots.items; spare = option_copied_mut spare.old })
+        ///     (lent_limiter limiter.old) result
+        ///     (record { slots = self.new.slots.items; spare = option_copied_mut spare.new })
+        ///     (lent_limiter limiter.new)
+        /// ```
         ///
-        /// [KeepsLoan]: crate::specs::meter::LimiterRef#KeepsLoan "r\' leads to what r leads to"
-        /// [CreatesLent]: crate::specs::machine::MemoryEffects#CreatesLent "a creation in the spare region; without one nothing is asked"
-        /// [optional_rules]: crate::specs::meter::Limiter#optional_rules "the rules of a limiter that may be absent"
-        /// [L.rules]: trait@ResourceLimiter#contract
-        /// [option_copied_mut]: crate::specs::library#option_copied_mut "the value behind an optional \`&mut\`, if there is one"
-        /// [lent_limiter]: crate::specs::meter::LimiterRef#lent_limiter "the present value of the limiter that is lent, or none"
+        /// Definitions: [`KeepsLoan`](crate::specs::meter::LimiterRef#KeepsLoan), [`CreatesLent`](crate::specs::machine::MemoryEffects#CreatesLent), [`optional_rules`](crate::specs::meter::Limiter#optional_rules), [`lent_limiter`](crate::specs::meter::LimiterRef#lent_limiter).
         #[inline(always)]
         pub(crate) fn create_lent<L: ResourceLimiter>(
             &mut self,
@@ -1393,25 +1097,16 @@ mod memories {
         ///
         /// # Contract
         ///
-        /// <span></span><pre><code>ensures loan: [KeepsLoan] limiter.old limiter.new
-        /// ensures grown: [WithCharge]
-        /// &#32;&#32;&#32;&#32;([ActsAt] index ([reply_of] [Reply.Number] [Reply.Memory])
-        /// &#32;&#32;&#32;&#32;([GrowsMemoryCharging] ([optional_rules] [L.rules]) pages))
-        /// &#32;&#32;&#32;&#32;([metered_value] self.old.slots.items ([Some] fuel.old) ([lent_limiter] limiter.old)) result
-        /// &#32;&#32;&#32;&#32;([metered_value] self.new.slots.items ([Some] fuel.new) ([lent_limiter] limiter.new))</code></pre>
+        /// ```text
+        /// ensures loan: KeepsLoan limiter.old limiter.new
+        /// ensures grown: WithCharge
+        ///     (ActsAt index (reply_of Reply.Number Reply.Memory)
+        ///     (GrowsMemoryCharging (optional_rules L.rules) pages))
+        ///     (metered_value self.old.slots.items (Some fuel.old) (lent_limiter limiter.old)) result
+        ///     (metered_value self.new.slots.items (Some fuel.new) (lent_limiter limiter.new))
+        /// ```
         ///
-        /// [KeepsLoan]: crate::specs::meter::LimiterRef#KeepsLoan "r\' leads to what r leads to"
-        /// [WithCharge]: crate::specs::store::Growth#WithCharge "a call on a value takes place, with some charge"
-        /// [ActsAt]: crate::specs::machine::Effects#ActsAt "a call with a charge on the live value of an index, with the reply to each result"
-        /// [reply_of]: crate::specs::machine::Effects#reply_of "the reply to a call that returns a value or is refused"
-        /// [Reply.Number]: crate::proved::machine::Reply::Number
-        /// [Reply.Memory]: crate::proved::machine::Reply::Memory
-        /// [GrowsMemoryCharging]: crate::specs::store::Memory#GrowsMemoryCharging "a memory grows by so many pages, with this charge; it returns the old size in pages"
-        /// [optional_rules]: crate::specs::meter::Limiter#optional_rules "the rules of a limiter that may be absent"
-        /// [L.rules]: trait@ResourceLimiter#contract
-        /// [metered_value]: crate::specs::store::Growth#metered_value "a value with its meter, if there is one, and its limiter"
-        /// [Some]: crate::specs::library#Some "the value x, of an \`Option\`"
-        /// [lent_limiter]: crate::specs::meter::LimiterRef#lent_limiter "the present value of the limiter that is lent, or none"
+        /// Definitions: [`KeepsLoan`](crate::specs::meter::LimiterRef#KeepsLoan), [`WithCharge`](crate::specs::store::Growth#WithCharge), [`ActsAt`](crate::specs::machine::Effects#ActsAt), [`reply_of`](crate::specs::machine::Effects#reply_of), [`GrowsMemoryCharging`](crate::specs::store::Memory#GrowsMemoryCharging), [`optional_rules`](crate::specs::meter::Limiter#optional_rules), [`metered_value`](crate::specs::store::Growth#metered_value), [`lent_limiter`](crate::specs::meter::LimiterRef#lent_limiter).
         #[inline(always)]
         pub(crate) fn grow<L: ResourceLimiter>(
             &mut self,
@@ -1433,9 +1128,11 @@ mod memories {
         ///
         /// # Contract
         ///
-        /// <span></span><pre><code>ensures: [ReadsMemoryAt] index offset len self.now.slots.items result</code></pre>
+        /// ```text
+        /// ensures: ReadsMemoryAt index offset len self.now.slots.items result
+        /// ```
         ///
-        /// [ReadsMemoryAt]: crate::specs::machine::MemoryEffects#ReadsMemoryAt "the reply to a read of so many bytes from an offset on, by the memory of an index"
+        /// Definitions: [`ReadsMemoryAt`](crate::specs::machine::MemoryEffects#ReadsMemoryAt).
         #[inline(always)]
         pub(crate) fn read(&self, index: usize, offset: usize, len: usize) -> Reply {
             match self.live(index) {
@@ -1448,10 +1145,12 @@ mod memories {
         ///
         /// # Contract
         ///
-        /// <span></span><pre><code>ensures: [WritesMemoryAt] index offset bytes.now self.old.slots.items result
-        /// &#32;&#32;&#32;&#32;self.new.slots.items</code></pre>
+        /// ```text
+        /// ensures: WritesMemoryAt index offset bytes.now self.old.slots.items result
+        ///     self.new.slots.items
+        /// ```
         ///
-        /// [WritesMemoryAt]: crate::specs::machine::MemoryEffects#WritesMemoryAt "the memory of an index is written over with bytes from an offset on, or the write is refused"
+        /// Definitions: [`WritesMemoryAt`](crate::specs::machine::MemoryEffects#WritesMemoryAt).
         #[inline(always)]
         pub(crate) fn write(&mut self, index: usize, offset: usize, bytes: &[u8]) -> Reply {
             let Some(memory) = self.live_mut(index) else {
@@ -1467,9 +1166,11 @@ mod memories {
         ///
         /// # Contract
         ///
-        /// <span></span><pre><code>ensures: [LoadsMemoryAt] op index (ptr + offset) self.now.slots.items result</code></pre>
+        /// ```text
+        /// ensures: LoadsMemoryAt op index (ptr + offset) self.now.slots.items result
+        /// ```
         ///
-        /// [LoadsMemoryAt]: crate::specs::machine::MemoryEffects#LoadsMemoryAt "the reply to a load at an address of the memory of an index"
+        /// Definitions: [`LoadsMemoryAt`](crate::specs::machine::MemoryEffects#LoadsMemoryAt).
         #[inline(always)]
         pub(crate) fn load(&self, op: LoadOp, index: usize, ptr: u64, offset: u64) -> Reply {
             match self.live(index) {
@@ -1485,11 +1186,12 @@ mod memories {
         ///
         /// # Contract
         ///
-        /// <span></span><pre><code>ensures: [StoresMemoryAt] index (ptr + offset)
-        /// &#32;&#32;&#32;&#32;([stored_bytes] op value) self.old.slots.items result self.new.slots.items</code></pre>
+        /// ```text
+        /// ensures: StoresMemoryAt index (ptr + offset)
+        ///     (stored_bytes op value) self.old.slots.items result self.new.slots.items
+        /// ```
         ///
-        /// [StoresMemoryAt]: crate::specs::machine::MemoryEffects#StoresMemoryAt "the memory of an index has the stored bytes at the address, or the store traps"
-        /// [stored_bytes]: crate::specs::ops::ScalarAccessOps#stored_bytes "the bytes that a store writes: the low ones of the value"
+        /// Definitions: [`StoresMemoryAt`](crate::specs::machine::MemoryEffects#StoresMemoryAt), [`stored_bytes`](crate::specs::ops::ScalarAccessOps#stored_bytes).
         #[inline(always)]
         pub(crate) fn store(
             &mut self,
@@ -1512,12 +1214,12 @@ mod memories {
         ///
         /// # Contract
         ///
-        /// <span></span><pre><code>ensures: [StoresVectorAt] index (ptr + offset) ([option_map] ([le_bytes] 16) vector)
-        /// &#32;&#32;&#32;&#32;self.old.slots.items result self.new.slots.items</code></pre>
+        /// ```text
+        /// ensures: StoresVectorAt index (ptr + offset) (option_map (le_bytes 16) vector)
+        ///     self.old.slots.items result self.new.slots.items
+        /// ```
         ///
-        /// [StoresVectorAt]: crate::specs::machine::RegisterEffects#StoresVectorAt "a store of the bytes of a vector, if its register is there"
-        /// [option_map]: crate::specs::library#option_map "f of the value, if there is one"
-        /// [le_bytes]: crate::specs::types::Bytes#le_bytes "the k bytes of a number below 256 to the power k"
+        /// Definitions: [`StoresVectorAt`](crate::specs::machine::RegisterEffects#StoresVectorAt), [`le_bytes`](crate::specs::types::Bytes#le_bytes).
         #[inline(always)]
         pub(crate) fn store_vector(
             &mut self,
@@ -1539,12 +1241,12 @@ mod memories {
         ///
         /// # Contract
         ///
-        /// <span></span><pre><code>ensures: [StoresVectorAt] index (ptr + offset) ([option_map] ([stored_lane] op) vector)
-        /// &#32;&#32;&#32;&#32;self.old.slots.items result self.new.slots.items</code></pre>
+        /// ```text
+        /// ensures: StoresVectorAt index (ptr + offset) (option_map (stored_lane op) vector)
+        ///     self.old.slots.items result self.new.slots.items
+        /// ```
         ///
-        /// [StoresVectorAt]: crate::specs::machine::RegisterEffects#StoresVectorAt "a store of the bytes of a vector, if its register is there"
-        /// [option_map]: crate::specs::library#option_map "f of the value, if there is one"
-        /// [stored_lane]: crate::specs::ops::VectorAccessOps#stored_lane "the bytes that a store of a lane writes"
+        /// Definitions: [`StoresVectorAt`](crate::specs::machine::RegisterEffects#StoresVectorAt), [`stored_lane`](crate::specs::ops::VectorAccessOps#stored_lane).
         #[inline(always)]
         pub(crate) fn store_lane(
             &mut self,
@@ -1568,11 +1270,11 @@ mod memories {
     ///
     /// # Contract
     ///
-    /// <span></span><pre><code>ensures: result ≡ [reply_of] (λ \_. [Reply.Done]) [Reply.Trap] answer</code></pre>
+    /// ```text
+    /// ensures: result ≡ reply_of (λ _. Reply.Done) Reply.Trap answer
+    /// ```
     ///
-    /// [reply_of]: crate::specs::machine::Effects#reply_of "the reply to a call that returns a value or is refused"
-    /// [Reply.Done]: crate::proved::machine::Reply::Done
-    /// [Reply.Trap]: crate::proved::machine::Reply::Trap
+    /// Definitions: [`reply_of`](crate::specs::machine::Effects#reply_of).
     #[inline(always)]
     fn stored(answer: Result<(), TrapCode>) -> Reply {
         answer.map_or_else(Reply::Trap, |()| Reply::Done)
@@ -1582,10 +1284,11 @@ mod memories {
     ///
     /// # Contract
     ///
-    /// <span></span><pre><code>ensures: [ReadsBytes] ([at] memory.now offset len) result</code></pre>
+    /// ```text
+    /// ensures: ReadsBytes (at memory.now offset len) result
+    /// ```
     ///
-    /// [ReadsBytes]: crate::specs::machine::MemoryEffects#ReadsBytes "a read: its bounds are tested before memory for the reply is asked for"
-    /// [at]: crate::specs::types::Access#at "the items a to a + n - 1, or none where the list ends before them"
+    /// Definitions: [`ReadsBytes`](crate::specs::machine::MemoryEffects#ReadsBytes), [`at`](crate::specs::types::Access#at).
     #[inline(always)]
     fn read_bytes(memory: &[u8], offset: usize, len: usize) -> Reply {
         if !lies_within(memory, offset as u64, len as u64) {
@@ -1602,10 +1305,11 @@ mod memories {
     ///
     /// # Contract
     ///
-    /// <span></span><pre><code>ensures: [StoresMemory] memory.old (ptr + offset) ([stored_bytes] op value) result memory.new</code></pre>
+    /// ```text
+    /// ensures: StoresMemory memory.old (ptr + offset) (stored_bytes op value) result memory.new
+    /// ```
     ///
-    /// [StoresMemory]: crate::specs::machine::MemoryEffects#StoresMemory "a store: the memory has the bytes at the address, or the store traps and the memory is the same"
-    /// [stored_bytes]: crate::specs::ops::ScalarAccessOps#stored_bytes "the bytes that a store writes: the low ones of the value"
+    /// Definitions: [`StoresMemory`](crate::specs::machine::MemoryEffects#StoresMemory), [`stored_bytes`](crate::specs::ops::ScalarAccessOps#stored_bytes).
     #[inline(always)]
     fn store(
         memory: &mut Memory,
@@ -1621,10 +1325,11 @@ mod memories {
     ///
     /// # Contract
     ///
-    /// <span></span><pre><code>ensures: [StoresMemory] memory.old (ptr + offset) ([le_bytes] 16 vector) result memory.new</code></pre>
+    /// ```text
+    /// ensures: StoresMemory memory.old (ptr + offset) (le_bytes 16 vector) result memory.new
+    /// ```
     ///
-    /// [StoresMemory]: crate::specs::machine::MemoryEffects#StoresMemory "a store: the memory has the bytes at the address, or the store traps and the memory is the same"
-    /// [le_bytes]: crate::specs::types::Bytes#le_bytes "the k bytes of a number below 256 to the power k"
+    /// Definitions: [`StoresMemory`](crate::specs::machine::MemoryEffects#StoresMemory), [`le_bytes`](crate::specs::types::Bytes#le_bytes).
     #[inline]
     fn store_vector(
         memory: &mut Memory,
@@ -1639,10 +1344,11 @@ mod memories {
     ///
     /// # Contract
     ///
-    /// <span></span><pre><code>ensures: [StoresMemory] memory.old (ptr + offset) ([stored_lane] op vector) result memory.new</code></pre>
+    /// ```text
+    /// ensures: StoresMemory memory.old (ptr + offset) (stored_lane op vector) result memory.new
+    /// ```
     ///
-    /// [StoresMemory]: crate::specs::machine::MemoryEffects#StoresMemory "a store: the memory has the bytes at the address, or the store traps and the memory is the same"
-    /// [stored_lane]: crate::specs::ops::VectorAccessOps#stored_lane "the bytes that a store of a lane writes"
+    /// Definitions: [`StoresMemory`](crate::specs::machine::MemoryEffects#StoresMemory), [`stored_lane`](crate::specs::ops::VectorAccessOps#stored_lane).
     #[inline]
     fn store_lane(
         memory: &mut Memory,
@@ -1679,11 +1385,10 @@ mod registers {
         ///
         /// # Contract
         ///
-        /// <span></span><pre><code>ensures value: result ≡ [slice_get] self.now.values register
-        /// ensures count: [length] self.now.values ≡ 16</code></pre>
-        ///
-        /// [slice_get]: crate::specs::library#slice_get "element i, if there is one"
-        /// [length]: crate::specs::library#length "the number of elements of a list"
+        /// ```text
+        /// ensures value: result ≡ slice_get self.now.values register
+        /// ensures count: length self.now.values ≡ 16
+        /// ```
         #[inline]
         pub(crate) fn get(&self, register: u8) -> Option<RawVal> {
             self.values.get(usize::from(register)).copied()
@@ -1693,9 +1398,11 @@ mod registers {
         ///
         /// # Contract
         ///
-        /// <span></span><pre><code>ensures: result ≡ [vector_at] self.now.values register</code></pre>
+        /// ```text
+        /// ensures: result ≡ vector_at self.now.values register
+        /// ```
         ///
-        /// [vector_at]: crate::specs::machine::RegisterEffects#vector_at "the vector in a register, if there is one"
+        /// Definitions: [`vector_at`](crate::specs::machine::RegisterEffects#vector_at).
         #[inline]
         pub(crate) fn vector(&self, register: u8) -> Option<V128> {
             self.get(register).map(|raw| raw.read_as())
@@ -1705,11 +1412,11 @@ mod registers {
         ///
         /// # Contract
         ///
-        /// <span></span><pre><code>ensures: [SetsRegister] dst ([Some] ([Ok] value)) self.old.values result self.new.values</code></pre>
+        /// ```text
+        /// ensures: SetsRegister dst (Some (Ok value)) self.old.values result self.new.values
+        /// ```
         ///
-        /// [SetsRegister]: crate::specs::machine::RegisterEffects#SetsRegister "the register of an index takes what a call gives, if there is such a register"
-        /// [Some]: crate::specs::library#Some "the value x, of an \`Option\`"
-        /// [Ok]: crate::specs::library#Ok "the value x, of a \`Result\`"
+        /// Definitions: [`SetsRegister`](crate::specs::machine::RegisterEffects#SetsRegister).
         #[inline(always)]
         pub(crate) fn set(&mut self, dst: u8, value: RawVal) -> Reply {
             let index = usize::from(dst);
@@ -1724,13 +1431,12 @@ mod registers {
         ///
         /// # Contract
         ///
-        /// <span></span><pre><code>ensures: [SetsRegister] dst
-        /// &#32;&#32;&#32;&#32;([Some] ([as_raw] [raw_of_vector] vector)) self.old.values result self.new.values</code></pre>
+        /// ```text
+        /// ensures: SetsRegister dst
+        ///     (Some (as_raw raw_of_vector vector)) self.old.values result self.new.values
+        /// ```
         ///
-        /// [SetsRegister]: crate::specs::machine::RegisterEffects#SetsRegister "the register of an index takes what a call gives, if there is such a register"
-        /// [Some]: crate::specs::library#Some "the value x, of an \`Option\`"
-        /// [as_raw]: crate::specs::ops::RawResults#as_raw "an answer as a raw value; a trap stays"
-        /// [raw_of_vector]: crate::specs::raw::RawVal#raw_of_vector "the words of a vector"
+        /// Definitions: [`SetsRegister`](crate::specs::machine::RegisterEffects#SetsRegister), [`as_raw`](crate::specs::ops::RawResults#as_raw), [`raw_of_vector`](crate::specs::raw::RawVal#raw_of_vector).
         #[inline(always)]
         fn set_loaded(&mut self, dst: u8, vector: Result<V128, TrapCode>) -> Reply {
             match vector {
@@ -1744,10 +1450,11 @@ mod registers {
         ///
         /// # Contract
         ///
-        /// <span></span><pre><code>ensures: result ≡ [raw_reply] ([slice_get] self.now.values register)</code></pre>
+        /// ```text
+        /// ensures: result ≡ raw_reply (slice_get self.now.values register)
+        /// ```
         ///
-        /// [raw_reply]: crate::specs::machine::RegisterEffects#raw_reply "the raw value that is asked of a register, if it is there"
-        /// [slice_get]: crate::specs::library#slice_get "element i, if there is one"
+        /// Definitions: [`raw_reply`](crate::specs::machine::RegisterEffects#raw_reply).
         #[inline(always)]
         pub(crate) fn get_register(&self, register: u8) -> Reply {
             self.get(register).map_or(Reply::NoSuch, Reply::Value)
@@ -1757,15 +1464,13 @@ mod registers {
         ///
         /// # Contract
         ///
-        /// <span></span><pre><code>ensures: [SetsRegister] dst
-        /// &#32;&#32;&#32;&#32;([option_map] (λ raw. [given_vector] ([made_vector] op raw)) ([slice_get] self.old.values a))
-        /// &#32;&#32;&#32;&#32;self.old.values result self.new.values</code></pre>
+        /// ```text
+        /// ensures: SetsRegister dst
+        ///     (option_map (λ raw. given_vector (made_vector op raw)) (slice_get self.old.values a))
+        ///     self.old.values result self.new.values
+        /// ```
         ///
-        /// [SetsRegister]: crate::specs::machine::RegisterEffects#SetsRegister "the register of an index takes what a call gives, if there is such a register"
-        /// [option_map]: crate::specs::library#option_map "f of the value, if there is one"
-        /// [given_vector]: crate::specs::machine::RegisterEffects#given_vector "a vector as a register takes it"
-        /// [made_vector]: crate::specs::ops::MakeOps#made_vector "the vector that an instruction makes of an item in a raw value"
-        /// [slice_get]: crate::specs::library#slice_get "element i, if there is one"
+        /// Definitions: [`SetsRegister`](crate::specs::machine::RegisterEffects#SetsRegister), [`given_vector`](crate::specs::machine::RegisterEffects#given_vector), [`made_vector`](crate::specs::ops::MakeOps#made_vector).
         #[inline(always)]
         pub(crate) fn make(&mut self, op: MakeOp, dst: u8, a: u8) -> Reply {
             let Some(a) = self.get(a) else {
@@ -1778,14 +1483,13 @@ mod registers {
         ///
         /// # Contract
         ///
-        /// <span></span><pre><code>ensures: [SetsRegister] dst
-        /// &#32;&#32;&#32;&#32;([of_one] ([unary_vector] op) ([vector_at] self.old.values a)) self.old.values result
-        /// &#32;&#32;&#32;&#32;self.new.values</code></pre>
+        /// ```text
+        /// ensures: SetsRegister dst
+        ///     (of_one (unary_vector op) (vector_at self.old.values a)) self.old.values result
+        ///     self.new.values
+        /// ```
         ///
-        /// [SetsRegister]: crate::specs::machine::RegisterEffects#SetsRegister "the register of an index takes what a call gives, if there is such a register"
-        /// [of_one]: crate::specs::machine::RegisterEffects#of_one "what a function of one vector gives a register, if the vector is there"
-        /// [unary_vector]: crate::specs::ops::UnaryOps#unary_vector "what an instruction of one vector gives"
-        /// [vector_at]: crate::specs::machine::RegisterEffects#vector_at "the vector in a register, if there is one"
+        /// Definitions: [`SetsRegister`](crate::specs::machine::RegisterEffects#SetsRegister), [`of_one`](crate::specs::machine::RegisterEffects#of_one), [`unary_vector`](crate::specs::ops::UnaryOps#unary_vector), [`vector_at`](crate::specs::machine::RegisterEffects#vector_at).
         #[inline(always)]
         pub(crate) fn unary(&mut self, op: UnaryOp, dst: u8, a: u8) -> Reply {
             let Some(a) = self.vector(a) else {
@@ -1798,14 +1502,13 @@ mod registers {
         ///
         /// # Contract
         ///
-        /// <span></span><pre><code>ensures: [SetsRegister] dst
-        /// &#32;&#32;&#32;&#32;([of_two] ([binary_vector] op) ([vector_at] self.old.values a) ([vector_at] self.old.values b))
-        /// &#32;&#32;&#32;&#32;self.old.values result self.new.values</code></pre>
+        /// ```text
+        /// ensures: SetsRegister dst
+        ///     (of_two (binary_vector op) (vector_at self.old.values a) (vector_at self.old.values b))
+        ///     self.old.values result self.new.values
+        /// ```
         ///
-        /// [SetsRegister]: crate::specs::machine::RegisterEffects#SetsRegister "the register of an index takes what a call gives, if there is such a register"
-        /// [of_two]: crate::specs::machine::RegisterEffects#of_two "what a function of two vectors gives a register, if both are there"
-        /// [binary_vector]: crate::specs::ops::BinaryOps#binary_vector "what an instruction of two vectors gives"
-        /// [vector_at]: crate::specs::machine::RegisterEffects#vector_at "the vector in a register, if there is one"
+        /// Definitions: [`SetsRegister`](crate::specs::machine::RegisterEffects#SetsRegister), [`of_two`](crate::specs::machine::RegisterEffects#of_two), [`binary_vector`](crate::specs::ops::BinaryOps#binary_vector), [`vector_at`](crate::specs::machine::RegisterEffects#vector_at).
         #[inline(always)]
         pub(crate) fn binary(&mut self, op: BinaryOp, dst: u8, a: u8, b: u8) -> Reply {
             let (Some(a), Some(b)) = (self.vector(a), self.vector(b)) else {
@@ -1818,15 +1521,14 @@ mod registers {
         ///
         /// # Contract
         ///
-        /// <span></span><pre><code>ensures: [SetsRegister] dst
-        /// &#32;&#32;&#32;&#32;([of_three] ([ternary_vector] op) ([vector_at] self.old.values a)
-        /// &#32;&#32;&#32;&#32;([vector_at] self.old.values b) ([vector_at] self.old.values c)) self.old.values result
-        /// &#32;&#32;&#32;&#32;self.new.values</code></pre>
+        /// ```text
+        /// ensures: SetsRegister dst
+        ///     (of_three (ternary_vector op) (vector_at self.old.values a)
+        ///     (vector_at self.old.values b) (vector_at self.old.values c)) self.old.values result
+        ///     self.new.values
+        /// ```
         ///
-        /// [SetsRegister]: crate::specs::machine::RegisterEffects#SetsRegister "the register of an index takes what a call gives, if there is such a register"
-        /// [of_three]: crate::specs::machine::RegisterEffects#of_three "what a function of three vectors gives a register, if all three are there"
-        /// [ternary_vector]: crate::specs::ops::TernaryOps#ternary_vector "what an instruction of three vectors gives"
-        /// [vector_at]: crate::specs::machine::RegisterEffects#vector_at "the vector in a register, if there is one"
+        /// Definitions: [`SetsRegister`](crate::specs::machine::RegisterEffects#SetsRegister), [`of_three`](crate::specs::machine::RegisterEffects#of_three), [`ternary_vector`](crate::specs::ops::TernaryOps#ternary_vector), [`vector_at`](crate::specs::machine::RegisterEffects#vector_at).
         #[inline(always)]
         pub(crate) fn ternary(&mut self, op: TernaryOp, dst: u8, a: u8, b: u8, c: u8) -> Reply {
             let (Some(a), Some(b), Some(c)) = (self.vector(a), self.vector(b), self.vector(c))
@@ -1840,14 +1542,13 @@ mod registers {
         ///
         /// # Contract
         ///
-        /// <span></span><pre><code>ensures: [SetsRegister] dst
-        /// &#32;&#32;&#32;&#32;([of_one] (λ v. [shifted_vector] op v amount) ([vector_at] self.old.values a)) self.old.values
-        /// &#32;&#32;&#32;&#32;result self.new.values</code></pre>
+        /// ```text
+        /// ensures: SetsRegister dst
+        ///     (of_one (λ v. shifted_vector op v amount) (vector_at self.old.values a)) self.old.values
+        ///     result self.new.values
+        /// ```
         ///
-        /// [SetsRegister]: crate::specs::machine::RegisterEffects#SetsRegister "the register of an index takes what a call gives, if there is such a register"
-        /// [of_one]: crate::specs::machine::RegisterEffects#of_one "what a function of one vector gives a register, if the vector is there"
-        /// [shifted_vector]: crate::specs::ops::ShiftOps#shifted_vector "what a shift of a vector by an amount gives"
-        /// [vector_at]: crate::specs::machine::RegisterEffects#vector_at "the vector in a register, if there is one"
+        /// Definitions: [`SetsRegister`](crate::specs::machine::RegisterEffects#SetsRegister), [`of_one`](crate::specs::machine::RegisterEffects#of_one), [`shifted_vector`](crate::specs::ops::ShiftOps#shifted_vector), [`vector_at`](crate::specs::machine::RegisterEffects#vector_at).
         #[inline(always)]
         pub(crate) fn shift(&mut self, op: ShiftOp, dst: u8, a: u8, amount: u32) -> Reply {
             let Some(a) = self.vector(a) else {
@@ -1860,12 +1561,11 @@ mod registers {
         ///
         /// # Contract
         ///
-        /// <span></span><pre><code>ensures: result ≡ [raw_reply] ([option_map] ([tested_raw] op) ([vector_at] self.now.values a))</code></pre>
+        /// ```text
+        /// ensures: result ≡ raw_reply (option_map (tested_raw op) (vector_at self.now.values a))
+        /// ```
         ///
-        /// [raw_reply]: crate::specs::machine::RegisterEffects#raw_reply "the raw value that is asked of a register, if it is there"
-        /// [option_map]: crate::specs::library#option_map "f of the value, if there is one"
-        /// [tested_raw]: crate::specs::ops::TestOps#tested_raw "the Boolean or the mask that a test of a vector gives, as a raw value"
-        /// [vector_at]: crate::specs::machine::RegisterEffects#vector_at "the vector in a register, if there is one"
+        /// Definitions: [`raw_reply`](crate::specs::machine::RegisterEffects#raw_reply), [`tested_raw`](crate::specs::ops::TestOps#tested_raw), [`vector_at`](crate::specs::machine::RegisterEffects#vector_at).
         #[inline(always)]
         pub(crate) fn test(&self, op: TestOp, a: u8) -> Reply {
             let Some(a) = self.vector(a) else {
@@ -1878,12 +1578,11 @@ mod registers {
         ///
         /// # Contract
         ///
-        /// <span></span><pre><code>ensures: result ≡ [raw_reply] ([option_map] ([extracted_raw] op) ([vector_at] self.now.values a))</code></pre>
+        /// ```text
+        /// ensures: result ≡ raw_reply (option_map (extracted_raw op) (vector_at self.now.values a))
+        /// ```
         ///
-        /// [raw_reply]: crate::specs::machine::RegisterEffects#raw_reply "the raw value that is asked of a register, if it is there"
-        /// [option_map]: crate::specs::library#option_map "f of the value, if there is one"
-        /// [extracted_raw]: crate::specs::ops::LaneOps#extracted_raw "the lane that an instruction takes from a vector, as a raw value"
-        /// [vector_at]: crate::specs::machine::RegisterEffects#vector_at "the vector in a register, if there is one"
+        /// Definitions: [`raw_reply`](crate::specs::machine::RegisterEffects#raw_reply), [`extracted_raw`](crate::specs::ops::LaneOps#extracted_raw), [`vector_at`](crate::specs::machine::RegisterEffects#vector_at).
         #[inline(always)]
         pub(crate) fn extract(&self, op: ExtractOp, a: u8) -> Reply {
             let Some(a) = self.vector(a) else {
@@ -1896,17 +1595,14 @@ mod registers {
         ///
         /// # Contract
         ///
-        /// <span></span><pre><code>ensures: [SetsRegister] dst
-        /// &#32;&#32;&#32;&#32;([option_and_then]
-        /// &#32;&#32;&#32;&#32;(λ raw. [of_one] (λ v. [replaced_vector] op v raw) ([vector_at] self.old.values a))
-        /// &#32;&#32;&#32;&#32;([slice_get] self.old.values item)) self.old.values result self.new.values</code></pre>
+        /// ```text
+        /// ensures: SetsRegister dst
+        ///     (option_and_then
+        ///     (λ raw. of_one (λ v. replaced_vector op v raw) (vector_at self.old.values a))
+        ///     (slice_get self.old.values item)) self.old.values result self.new.values
+        /// ```
         ///
-        /// [SetsRegister]: crate::specs::machine::RegisterEffects#SetsRegister "the register of an index takes what a call gives, if there is such a register"
-        /// [option_and_then]: crate::specs::library#option_and_then "f of the value, if there is one"
-        /// [of_one]: crate::specs::machine::RegisterEffects#of_one "what a function of one vector gives a register, if the vector is there"
-        /// [replaced_vector]: crate::specs::ops::LaneOps#replaced_vector "the vector with an item of a raw value in a lane"
-        /// [vector_at]: crate::specs::machine::RegisterEffects#vector_at "the vector in a register, if there is one"
-        /// [slice_get]: crate::specs::library#slice_get "element i, if there is one"
+        /// Definitions: [`SetsRegister`](crate::specs::machine::RegisterEffects#SetsRegister), [`of_one`](crate::specs::machine::RegisterEffects#of_one), [`replaced_vector`](crate::specs::ops::LaneOps#replaced_vector), [`vector_at`](crate::specs::machine::RegisterEffects#vector_at).
         #[inline(always)]
         pub(crate) fn replace(&mut self, op: ReplaceOp, dst: u8, a: u8, item: u8) -> Reply {
             let (Some(a), Some(item)) = (self.vector(a), self.get(item)) else {
@@ -1919,14 +1615,13 @@ mod registers {
         ///
         /// # Contract
         ///
-        /// <span></span><pre><code>ensures: [SetsRegister] dst
-        /// &#32;&#32;&#32;&#32;([of_two] (λ x y. [shuffle] x y lanes) ([vector_at] self.old.values a)
-        /// &#32;&#32;&#32;&#32;([vector_at] self.old.values b)) self.old.values result self.new.values</code></pre>
+        /// ```text
+        /// ensures: SetsRegister dst
+        ///     (of_two (λ x y. shuffle x y lanes) (vector_at self.old.values a)
+        ///     (vector_at self.old.values b)) self.old.values result self.new.values
+        /// ```
         ///
-        /// [SetsRegister]: crate::specs::machine::RegisterEffects#SetsRegister "the register of an index takes what a call gives, if there is such a register"
-        /// [of_two]: crate::specs::machine::RegisterEffects#of_two "what a function of two vectors gives a register, if both are there"
-        /// [shuffle]: crate::specs::lanewise::VectorTable#shuffle "of the 32 bytes of a and b, those at the indices s"
-        /// [vector_at]: crate::specs::machine::RegisterEffects#vector_at "the vector in a register, if there is one"
+        /// Definitions: [`SetsRegister`](crate::specs::machine::RegisterEffects#SetsRegister), [`of_two`](crate::specs::machine::RegisterEffects#of_two), [`shuffle`](crate::specs::lanewise::VectorTable#shuffle), [`vector_at`](crate::specs::machine::RegisterEffects#vector_at).
         #[inline(always)]
         pub(crate) fn shuffle(
             &mut self,
@@ -1945,12 +1640,12 @@ mod registers {
         ///
         /// # Contract
         ///
-        /// <span></span><pre><code>ensures: [SetsRegister] dst ([vector_loaded] op (ptr + offset) ([option_copied] memory.entry))
-        /// &#32;&#32;&#32;&#32;self.old.values result self.new.values</code></pre>
+        /// ```text
+        /// ensures: SetsRegister dst (vector_loaded op (ptr + offset) (option_copied memory.entry))
+        ///     self.old.values result self.new.values
+        /// ```
         ///
-        /// [SetsRegister]: crate::specs::machine::RegisterEffects#SetsRegister "the register of an index takes what a call gives, if there is such a register"
-        /// [vector_loaded]: crate::specs::machine::RegisterEffects#vector_loaded "what a load of a vector from a memory gives a register, if the memory is there"
-        /// [option_copied]: crate::specs::library#option_copied "the value behind an optional reference, if there is one"
+        /// Definitions: [`SetsRegister`](crate::specs::machine::RegisterEffects#SetsRegister), [`vector_loaded`](crate::specs::machine::RegisterEffects#vector_loaded).
         #[inline(always)]
         pub(crate) fn load(
             &mut self,
@@ -1970,14 +1665,13 @@ mod registers {
         ///
         /// # Contract
         ///
-        /// <span></span><pre><code>ensures: [SetsRegister] dst
-        /// &#32;&#32;&#32;&#32;([lane_loaded] op (ptr + offset) ([vector_at] self.old.values a)
-        /// &#32;&#32;&#32;&#32;([option_copied] memory.entry)) self.old.values result self.new.values</code></pre>
+        /// ```text
+        /// ensures: SetsRegister dst
+        ///     (lane_loaded op (ptr + offset) (vector_at self.old.values a)
+        ///     (option_copied memory.entry)) self.old.values result self.new.values
+        /// ```
         ///
-        /// [SetsRegister]: crate::specs::machine::RegisterEffects#SetsRegister "the register of an index takes what a call gives, if there is such a register"
-        /// [lane_loaded]: crate::specs::machine::RegisterEffects#lane_loaded "what a load of one lane of a vector from a memory gives a register, if the vector and the memory are there"
-        /// [vector_at]: crate::specs::machine::RegisterEffects#vector_at "the vector in a register, if there is one"
-        /// [option_copied]: crate::specs::library#option_copied "the value behind an optional reference, if there is one"
+        /// Definitions: [`SetsRegister`](crate::specs::machine::RegisterEffects#SetsRegister), [`lane_loaded`](crate::specs::machine::RegisterEffects#lane_loaded), [`vector_at`](crate::specs::machine::RegisterEffects#vector_at).
         #[inline(always)]
         pub(crate) fn load_lane(
             &mut self,
@@ -2009,19 +1703,15 @@ mod running {
         ///
         /// # Contract
         ///
-        /// <span></span><pre><code>ensures loan: [KeepsLoan] limiter.old limiter.new
-        /// ensures step: [RepliesWith] ([optional_rules] [L.rules]) call.now
-        /// &#32;&#32;&#32;&#32;([world] self.old ([lent_limiter] limiter.old)) result
-        /// &#32;&#32;&#32;&#32;([world] self.new ([lent_limiter] limiter.new))
-        /// ensures valid: [IsValid] self.new</code></pre>
+        /// ```text
+        /// ensures loan: KeepsLoan limiter.old limiter.new
+        /// ensures step: RepliesWith (optional_rules L.rules) call.now
+        ///     (world self.old (lent_limiter limiter.old)) result
+        ///     (world self.new (lent_limiter limiter.new))
+        /// ensures valid: IsValid self.new
+        /// ```
         ///
-        /// [KeepsLoan]: crate::specs::meter::LimiterRef#KeepsLoan "r\' leads to what r leads to"
-        /// [RepliesWith]: crate::specs::machine::Steps#RepliesWith "a call is answered by a reply: there is a step by it, with some charge and some bytes written"
-        /// [optional_rules]: crate::specs::meter::Limiter#optional_rules "the rules of a limiter that may be absent"
-        /// [L.rules]: trait@ResourceLimiter#contract
-        /// [world]: crate::specs::machine::World#world "a machine in this state with this limiter"
-        /// [lent_limiter]: crate::specs::meter::LimiterRef#lent_limiter "the present value of the limiter that is lent, or none"
-        /// [IsValid]: crate::specs::machine::Validity#IsValid "memories and tables have valid types and as many whole pages and elements as these allow, segments aren\'t too long, and there are 16 registers"
+        /// Definitions: [`KeepsLoan`](crate::specs::meter::LimiterRef#KeepsLoan), [`RepliesWith`](crate::specs::machine::Steps#RepliesWith), [`optional_rules`](crate::specs::meter::Limiter#optional_rules), [`world`](crate::specs::machine::World#world), [`lent_limiter`](crate::specs::meter::LimiterRef#lent_limiter), [`IsValid`](crate::specs::machine::Validity#IsValid).
         #[inline(always)]
         pub fn step<L: ResourceLimiter>(
             &mut self,
@@ -2033,30 +1723,22 @@ mod running {
         }
 
         /// Grows a memory by so many pages, as `step` does for `Call::GrowMemory`. The reply is
-        /// [`Number`] with the old size in pages, [`NoSuch`] if there is no such memory, or [`Memory`] with
+        /// `Number` with the old size in pages, `NoSuch` if there is no such memory, or `Memory` with
         /// an error of [`LinearMemory::grow`](crate::proved::store::LinearMemory::grow).
         ///
         /// Own: upstream's interpreter has the memory itself.
         ///
         /// # Contract
         ///
-        /// <span></span><pre><code>ensures loan: [KeepsLoan] limiter.old limiter.new
-        /// ensures step: [RepliesWith] ([optional_rules] [L.rules]) ([GrowMemory] memory pages)
-        /// &#32;&#32;&#32;&#32;([world] self.old ([lent_limiter] limiter.old)) result
-        /// &#32;&#32;&#32;&#32;([world] self.new ([lent_limiter] limiter.new))
-        /// ensures valid: [IsValid] self.new</code></pre>
+        /// ```text
+        /// ensures loan: KeepsLoan limiter.old limiter.new
+        /// ensures step: RepliesWith (optional_rules L.rules) (GrowMemory memory pages)
+        ///     (world self.old (lent_limiter limiter.old)) result
+        ///     (world self.new (lent_limiter limiter.new))
+        /// ensures valid: IsValid self.new
+        /// ```
         ///
-        /// [KeepsLoan]: crate::specs::meter::LimiterRef#KeepsLoan "r\' leads to what r leads to"
-        /// [RepliesWith]: crate::specs::machine::Steps#RepliesWith "a call is answered by a reply: there is a step by it, with some charge and some bytes written"
-        /// [optional_rules]: crate::specs::meter::Limiter#optional_rules "the rules of a limiter that may be absent"
-        /// [L.rules]: trait@ResourceLimiter#contract
-        /// [GrowMemory]: crate::proved::machine::Call::GrowMemory
-        /// [world]: crate::specs::machine::World#world "a machine in this state with this limiter"
-        /// [lent_limiter]: crate::specs::meter::LimiterRef#lent_limiter "the present value of the limiter that is lent, or none"
-        /// [IsValid]: crate::specs::machine::Validity#IsValid "memories and tables have valid types and as many whole pages and elements as these allow, segments aren\'t too long, and there are 16 registers"
-        /// [`Number`]: crate::proved::machine::Reply::Number
-        /// [`NoSuch`]: crate::proved::machine::Reply::NoSuch
-        /// [`Memory`]: crate::proved::machine::Reply::Memory
+        /// Definitions: [`KeepsLoan`](crate::specs::meter::LimiterRef#KeepsLoan), [`RepliesWith`](crate::specs::machine::Steps#RepliesWith), [`optional_rules`](crate::specs::meter::Limiter#optional_rules), [`world`](crate::specs::machine::World#world), [`lent_limiter`](crate::specs::meter::LimiterRef#lent_limiter), [`IsValid`](crate::specs::machine::Validity#IsValid).
         #[inline(always)]
         pub fn grow_memory<L: ResourceLimiter>(
             &mut self,
@@ -2072,17 +1754,13 @@ mod running {
         ///
         /// # Contract
         ///
-        /// <span></span><pre><code>ensures step: [RepliesWith] ([optional_rules] [L.rules]) ([GrowMemory] memory pages)
-        /// &#32;&#32;&#32;&#32;([world] self.old ([Some] limiter.old)) result ([world] self.new ([Some] limiter.new))
-        /// ensures valid: [IsValid] self.new</code></pre>
+        /// ```text
+        /// ensures step: RepliesWith (optional_rules L.rules) (GrowMemory memory pages)
+        ///     (world self.old (Some limiter.old)) result (world self.new (Some limiter.new))
+        /// ensures valid: IsValid self.new
+        /// ```
         ///
-        /// [RepliesWith]: crate::specs::machine::Steps#RepliesWith "a call is answered by a reply: there is a step by it, with some charge and some bytes written"
-        /// [optional_rules]: crate::specs::meter::Limiter#optional_rules "the rules of a limiter that may be absent"
-        /// [L.rules]: trait@ResourceLimiter#contract
-        /// [GrowMemory]: crate::proved::machine::Call::GrowMemory
-        /// [world]: crate::specs::machine::World#world "a machine in this state with this limiter"
-        /// [Some]: crate::specs::library#Some "the value x, of an \`Option\`"
-        /// [IsValid]: crate::specs::machine::Validity#IsValid "memories and tables have valid types and as many whole pages and elements as these allow, segments aren\'t too long, and there are 16 registers"
+        /// Definitions: [`RepliesWith`](crate::specs::machine::Steps#RepliesWith), [`optional_rules`](crate::specs::meter::Limiter#optional_rules), [`world`](crate::specs::machine::World#world), [`IsValid`](crate::specs::machine::Validity#IsValid).
         #[inline(always)]
         pub fn grow_memory_lending<L: ResourceLimiter>(
             &mut self,
@@ -2103,16 +1781,13 @@ mod running {
         ///
         /// # Contract
         ///
-        /// <span></span><pre><code>ensures step: [RepliesWith] ([optional_rules] [L.rules]) call.now
-        /// &#32;&#32;&#32;&#32;([world] self.old ([Some] limiter.old)) result ([world] self.new ([Some] limiter.new))
-        /// ensures valid: [IsValid] self.new</code></pre>
+        /// ```text
+        /// ensures step: RepliesWith (optional_rules L.rules) call.now
+        ///     (world self.old (Some limiter.old)) result (world self.new (Some limiter.new))
+        /// ensures valid: IsValid self.new
+        /// ```
         ///
-        /// [RepliesWith]: crate::specs::machine::Steps#RepliesWith "a call is answered by a reply: there is a step by it, with some charge and some bytes written"
-        /// [optional_rules]: crate::specs::meter::Limiter#optional_rules "the rules of a limiter that may be absent"
-        /// [L.rules]: trait@ResourceLimiter#contract
-        /// [world]: crate::specs::machine::World#world "a machine in this state with this limiter"
-        /// [Some]: crate::specs::library#Some "the value x, of an \`Option\`"
-        /// [IsValid]: crate::specs::machine::Validity#IsValid "memories and tables have valid types and as many whole pages and elements as these allow, segments aren\'t too long, and there are 16 registers"
+        /// Definitions: [`RepliesWith`](crate::specs::machine::Steps#RepliesWith), [`optional_rules`](crate::specs::meter::Limiter#optional_rules), [`world`](crate::specs::machine::World#world), [`IsValid`](crate::specs::machine::Validity#IsValid).
         #[inline(always)]
         pub fn step_lending<L: ResourceLimiter>(&mut self, call: &Call, limiter: &mut L) -> Reply {
             let mut lent = ResourceLimiterRef::from(limiter);
@@ -2127,22 +1802,16 @@ mod running {
     ///
     /// # Contract
     ///
-    /// <span></span><pre><code>ensures loan: [KeepsLoan] limiter.old limiter.new
-    /// ensures run: [IfOk] result (λ replies. [IsRunOf] ([optional_rules] [L.rules]) calls.now
-    /// &#32;&#32;&#32;&#32;([world] machine.old ([lent_limiter] limiter.old)) replies.items
-    /// &#32;&#32;&#32;&#32;([world] machine.new ([lent_limiter] limiter.new)))
-    /// ensures err: [OnErr] result ((machine.new ≡ machine.old) × (limiter.new ≡ limiter.old))
-    /// ensures valid: [IsValid] machine.new</code></pre>
+    /// ```text
+    /// ensures loan: KeepsLoan limiter.old limiter.new
+    /// ensures run: IfOk result (λ replies. IsRunOf (optional_rules L.rules) calls.now
+    ///     (world machine.old (lent_limiter limiter.old)) replies.items
+    ///     (world machine.new (lent_limiter limiter.new)))
+    /// ensures err: OnErr result ((machine.new ≡ machine.old) × (limiter.new ≡ limiter.old))
+    /// ensures valid: IsValid machine.new
+    /// ```
     ///
-    /// [KeepsLoan]: crate::specs::meter::LimiterRef#KeepsLoan "r\' leads to what r leads to"
-    /// [IfOk]: crate::specs::library#IfOk "P of the value, if r is a value"
-    /// [IsRunOf]: crate::specs::machine::Runs#IsRunOf "the replies are those of a run of the calls, from one world to another"
-    /// [optional_rules]: crate::specs::meter::Limiter#optional_rules "the rules of a limiter that may be absent"
-    /// [L.rules]: trait@ResourceLimiter#contract
-    /// [world]: crate::specs::machine::World#world "a machine in this state with this limiter"
-    /// [lent_limiter]: crate::specs::meter::LimiterRef#lent_limiter "the present value of the limiter that is lent, or none"
-    /// [OnErr]: crate::specs::library#OnErr "P, if r is an error"
-    /// [IsValid]: crate::specs::machine::Validity#IsValid "memories and tables have valid types and as many whole pages and elements as these allow, segments aren\'t too long, and there are 16 registers"
+    /// Definitions: [`KeepsLoan`](crate::specs::meter::LimiterRef#KeepsLoan), [`IsRunOf`](crate::specs::machine::Runs#IsRunOf), [`optional_rules`](crate::specs::meter::Limiter#optional_rules), [`world`](crate::specs::machine::World#world), [`lent_limiter`](crate::specs::meter::LimiterRef#lent_limiter), [`IsValid`](crate::specs::machine::Validity#IsValid).
     #[inline]
     pub fn run<L: ResourceLimiter>(
         machine: &mut Machine,
@@ -2165,20 +1834,15 @@ mod running {
     ///
     /// # Contract
     ///
-    /// <span></span><pre><code>ensures run: [IfOk] result (λ replies. [IsRunOf] ([optional_rules] [L.rules]) calls.now
-    /// &#32;&#32;&#32;&#32;([world] machine.old ([Some] limiter.old)) replies.items
-    /// &#32;&#32;&#32;&#32;([world] machine.new ([Some] limiter.new)))
-    /// ensures err: [OnErr] result ((machine.new ≡ machine.old) × (limiter.new ≡ limiter.old))
-    /// ensures valid: [IsValid] machine.new</code></pre>
+    /// ```text
+    /// ensures run: IfOk result (λ replies. IsRunOf (optional_rules L.rules) calls.now
+    ///     (world machine.old (Some limiter.old)) replies.items
+    ///     (world machine.new (Some limiter.new)))
+    /// ensures err: OnErr result ((machine.new ≡ machine.old) × (limiter.new ≡ limiter.old))
+    /// ensures valid: IsValid machine.new
+    /// ```
     ///
-    /// [IfOk]: crate::specs::library#IfOk "P of the value, if r is a value"
-    /// [IsRunOf]: crate::specs::machine::Runs#IsRunOf "the replies are those of a run of the calls, from one world to another"
-    /// [optional_rules]: crate::specs::meter::Limiter#optional_rules "the rules of a limiter that may be absent"
-    /// [L.rules]: trait@ResourceLimiter#contract
-    /// [world]: crate::specs::machine::World#world "a machine in this state with this limiter"
-    /// [Some]: crate::specs::library#Some "the value x, of an \`Option\`"
-    /// [OnErr]: crate::specs::library#OnErr "P, if r is an error"
-    /// [IsValid]: crate::specs::machine::Validity#IsValid "memories and tables have valid types and as many whole pages and elements as these allow, segments aren\'t too long, and there are 16 registers"
+    /// Definitions: [`IsRunOf`](crate::specs::machine::Runs#IsRunOf), [`optional_rules`](crate::specs::meter::Limiter#optional_rules), [`world`](crate::specs::machine::World#world), [`IsValid`](crate::specs::machine::Validity#IsValid).
     #[inline]
     pub fn run_lending<L: ResourceLimiter>(
         machine: &mut Machine,
@@ -2200,24 +1864,17 @@ mod running {
     ///
     /// # Contract
     ///
-    /// <span></span><pre><code>requires totals: [HoldsTotals] ([L.Reserving].holdings limiter.old) machine.old
-    /// ensures run: [IfOk] result (λ replies. [IsRunOf] ([optional_rules] [L.rules]) calls.now
-    /// &#32;&#32;&#32;&#32;([world] machine.old ([Some] limiter.old)) replies.items
-    /// &#32;&#32;&#32;&#32;([world] machine.new ([Some] limiter.new)))
-    /// ensures err: [OnErr] result ((machine.new ≡ machine.old) × (limiter.new ≡ limiter.old))
-    /// ensures held: [HoldsTotals] ([L.Reserving].holdings limiter.new) machine.new
-    /// ensures valid: [IsValid] machine.new</code></pre>
+    /// ```text
+    /// requires totals: HoldsTotals (L.Reserving.holdings limiter.old) machine.old
+    /// ensures run: IfOk result (λ replies. IsRunOf (optional_rules L.rules) calls.now
+    ///     (world machine.old (Some limiter.old)) replies.items
+    ///     (world machine.new (Some limiter.new)))
+    /// ensures err: OnErr result ((machine.new ≡ machine.old) × (limiter.new ≡ limiter.old))
+    /// ensures held: HoldsTotals (L.Reserving.holdings limiter.new) machine.new
+    /// ensures valid: IsValid machine.new
+    /// ```
     ///
-    /// [HoldsTotals]: crate::specs::machine::Totals#HoldsTotals "exactly these totals are held"
-    /// [L.Reserving]: trait@Reserving#contract
-    /// [IfOk]: crate::specs::library#IfOk "P of the value, if r is a value"
-    /// [IsRunOf]: crate::specs::machine::Runs#IsRunOf "the replies are those of a run of the calls, from one world to another"
-    /// [optional_rules]: crate::specs::meter::Limiter#optional_rules "the rules of a limiter that may be absent"
-    /// [L.rules]: trait@Reserving#contract
-    /// [world]: crate::specs::machine::World#world "a machine in this state with this limiter"
-    /// [Some]: crate::specs::library#Some "the value x, of an \`Option\`"
-    /// [OnErr]: crate::specs::library#OnErr "P, if r is an error"
-    /// [IsValid]: crate::specs::machine::Validity#IsValid "memories and tables have valid types and as many whole pages and elements as these allow, segments aren\'t too long, and there are 16 registers"
+    /// Definitions: [`HoldsTotals`](crate::specs::machine::Totals#HoldsTotals), [`IsRunOf`](crate::specs::machine::Runs#IsRunOf), [`optional_rules`](crate::specs::meter::Limiter#optional_rules), [`world`](crate::specs::machine::World#world), [`IsValid`](crate::specs::machine::Validity#IsValid).
     #[inline]
     pub fn run_reserving<L: Reserving>(
         machine: &mut Machine,
@@ -2319,14 +1976,16 @@ mod slots {
     ///
     /// # Contract
     ///
-    /// <span></span><pre><code><i>\-\- How many it has.</i>
-    /// count: Self → [ℕ]</code></pre>
-    ///
-    /// [ℕ]: crate::specs::library#%E2%84%95 "the whole numbers from 0 on"
+    /// ```text
+    /// -- How many it has.
+    /// count: Self → ℕ
+    /// ```
     pub(crate) trait Counted {
         /// # Contract
         ///
-        /// <span></span><pre><code>ensures: result ≡ count self.now</code></pre>
+        /// ```text
+        /// ensures: result ≡ count self.now
+        /// ```
         fn count(&self) -> usize;
     }
 
@@ -2354,17 +2013,13 @@ mod slots {
     impl<T> Slot<T> {
         /// # Contract
         ///
-        /// <span></span><pre><code>requires live: [IsSome] ([live_value] self.old)
-        /// ensures\* writes_back: [sem] 𝓛 ([Lends] ([the_row] [T.row]) [T.row] self.entry result Live)
-        /// ensures value: [live_value] self.old ≡ [Some] result.now</code></pre>
+        /// ```text
+        /// requires live: IsSome (live_value self.old)
+        /// ensures* writes_back: sem 𝓛 (Lends (the_row T.row) T.row self.entry result Live)
+        /// ensures value: live_value self.old ≡ Some result.now
+        /// ```
         ///
-        /// [IsSome]: crate::specs::library#IsSome "there is a value"
-        /// [live_value]: crate::specs::machine::State#live_value "the value in a slot, if it wasn\'t dropped"
-        /// [sem]: crate::specs::library#sem "the fixed form of a clause on a loan"
-        /// [Lends]: crate::specs::library#Lends "the result r borrows from x: what is written through r last, w, makes x the value F w"
-        /// [the_row]: crate::specs::library#the_row "the type itself, in a clause on a loan"
-        /// [T.row]: crate::specs::library#row "a type, in a clause on a loan"
-        /// [Some]: crate::specs::library#Some "the value x, of an \`Option\`"
+        /// Definitions: [`live_value`](crate::specs::machine::State#live_value).
         #[inline]
         fn value_mut(&mut self) -> &mut T {
             match self {
@@ -2377,10 +2032,11 @@ mod slots {
         ///
         /// # Contract
         ///
-        /// <span></span><pre><code>ensures: result ≡ [slot_count] [T.Counted].count self.now</code></pre>
+        /// ```text
+        /// ensures: result ≡ slot_count T.Counted.count self.now
+        /// ```
         ///
-        /// [slot_count]: crate::specs::machine::Totals#slot_count "how many a slot\'s value has, or had when it was dropped"
-        /// [T.Counted]: trait@Counted#contract
+        /// Definitions: [`slot_count`](crate::specs::machine::Totals#slot_count).
         #[inline]
         fn count(&self) -> usize
         where
@@ -2404,7 +2060,9 @@ mod slots {
         ///
         /// # Contract
         ///
-        /// <span></span><pre><code>ensures: result.slots.items ≡ \[\]</code></pre>
+        /// ```text
+        /// ensures: result.slots.items ≡ []
+        /// ```
         #[inline]
         pub(crate) fn new() -> Self {
             Slots { slots: Vec::new() }
@@ -2414,10 +2072,11 @@ mod slots {
         ///
         /// # Contract
         ///
-        /// <span></span><pre><code>ensures: [option_copied] result ≡ [live_at] self.now.slots.items index</code></pre>
+        /// ```text
+        /// ensures: option_copied result ≡ live_at self.now.slots.items index
+        /// ```
         ///
-        /// [option_copied]: crate::specs::library#option_copied "the value behind an optional reference, if there is one"
-        /// [live_at]: crate::specs::machine::State#live_at "the live value of an index, if there is one"
+        /// Definitions: [`live_at`](crate::specs::machine::State#live_at).
         #[inline]
         pub(crate) fn live(&self, index: usize) -> Option<&T> {
             match self.slots.get(index) {
@@ -2430,17 +2089,13 @@ mod slots {
         ///
         /// # Contract
         ///
-        /// <span></span><pre><code>ensures\* writes_back: [sem] 𝓛 ([LendsIf] ([the_row] [T.row]) [T.row] self.entry result
-        /// &#32;&#32;&#32;&#32;([with_live] self.old index) self.old)
-        /// ensures value: [option_copied_mut] result ≡ [live_at] self.old.slots.items index</code></pre>
+        /// ```text
+        /// ensures* writes_back: sem 𝓛 (LendsIf (the_row T.row) T.row self.entry result
+        ///     (with_live self.old index) self.old)
+        /// ensures value: option_copied_mut result ≡ live_at self.old.slots.items index
+        /// ```
         ///
-        /// [sem]: crate::specs::library#sem "the fixed form of a clause on a loan"
-        /// [LendsIf]: crate::specs::library#LendsIf "as \`Lends\` where the result is a value; else x is v"
-        /// [the_row]: crate::specs::library#the_row "the type itself, in a clause on a loan"
-        /// [T.row]: crate::specs::library#row "a type, in a clause on a loan"
-        /// [with_live]: crate::specs::machine::State#with_live "the slots with this live value at an index"
-        /// [option_copied_mut]: crate::specs::library#option_copied_mut "the value behind an optional \`&mut\`, if there is one"
-        /// [live_at]: crate::specs::machine::State#live_at "the live value of an index, if there is one"
+        /// Definitions: [`with_live`](crate::specs::machine::State#with_live), [`live_at`](crate::specs::machine::State#live_at).
         #[inline]
         pub(crate) fn live_mut(&mut self, index: usize) -> Option<&mut T> {
             if self.live(index).is_some() {
@@ -2452,19 +2107,14 @@ mod slots {
 
         /// # Contract
         ///
-        /// <span></span><pre><code>requires live: [IsSome] ([live_at] self.old.slots.items index)
-        /// ensures\* writes_back: [sem] 𝓛
-        /// &#32;&#32;&#32;&#32;([Lends] ([the_row] [T.row]) [T.row] self.entry result ([with_live] self.old index))
-        /// ensures value: [live_at] self.old.slots.items index ≡ [Some] result.now</code></pre>
+        /// ```text
+        /// requires live: IsSome (live_at self.old.slots.items index)
+        /// ensures* writes_back: sem 𝓛
+        ///     (Lends (the_row T.row) T.row self.entry result (with_live self.old index))
+        /// ensures value: live_at self.old.slots.items index ≡ Some result.now
+        /// ```
         ///
-        /// [IsSome]: crate::specs::library#IsSome "there is a value"
-        /// [live_at]: crate::specs::machine::State#live_at "the live value of an index, if there is one"
-        /// [sem]: crate::specs::library#sem "the fixed form of a clause on a loan"
-        /// [Lends]: crate::specs::library#Lends "the result r borrows from x: what is written through r last, w, makes x the value F w"
-        /// [the_row]: crate::specs::library#the_row "the type itself, in a clause on a loan"
-        /// [T.row]: crate::specs::library#row "a type, in a clause on a loan"
-        /// [with_live]: crate::specs::machine::State#with_live "the slots with this live value at an index"
-        /// [Some]: crate::specs::library#Some "the value x, of an \`Option\`"
+        /// Definitions: [`live_at`](crate::specs::machine::State#live_at), [`with_live`](crate::specs::machine::State#with_live).
         #[inline]
         fn value_mut(&mut self, index: usize) -> &mut T {
             self.slots[index].value_mut()
@@ -2474,12 +2124,10 @@ mod slots {
         ///
         /// # Contract
         ///
-        /// <span></span><pre><code>ensures room: [IsTrue] result → [length] self.new.slots.items < [vec_capacity] self.new.slots
-        /// ensures same: self.new.slots.items ≡ self.old.slots.items</code></pre>
-        ///
-        /// [IsTrue]: crate::specs::library#IsTrue "b is true"
-        /// [length]: crate::specs::library#length "the number of elements of a list"
-        /// [vec_capacity]: crate::specs::library#vec_capacity "the capacity of a \`Vec\`"
+        /// ```text
+        /// ensures room: IsTrue result → length self.new.slots.items < vec_capacity self.new.slots
+        /// ensures same: self.new.slots.items ≡ self.old.slots.items
+        /// ```
         #[inline]
         pub(crate) fn reserve(&mut self) -> bool {
             self.slots.try_reserve(1).is_ok()
@@ -2489,15 +2137,13 @@ mod slots {
         ///
         /// # Contract
         ///
-        /// <span></span><pre><code>requires room: [length] self.old.slots.items < [vec_capacity] self.old.slots
-        /// ensures index: result ≡ [length] self.old.slots.items
-        /// ensures slots: self.new.slots.items ≡ self.old.slots.items ++ Live value ∷ \[\]</code></pre>
-        ///
-        /// [length]: crate::specs::library#length "the number of elements of a list"
-        /// [vec_capacity]: crate::specs::library#vec_capacity "the capacity of a \`Vec\`"
+        /// ```text
+        /// requires room: length self.old.slots.items < vec_capacity self.old.slots
+        /// ensures index: result ≡ length self.old.slots.items
+        /// ensures slots: self.new.slots.items ≡ self.old.slots.items ++ Live value ∷ []
+        /// ```
         #[inline]
-        pub(crate) fn push(&mut self, value: T) -> usize
-where {
+        pub(crate) fn push(&mut self, value: T) -> usize {
             let index = self.slots.len();
             self.slots.push_reserved(Slot::Live(value));
             index
@@ -2509,13 +2155,13 @@ where {
         ///
         /// # Contract
         ///
-        /// <span></span><pre><code>ensures: [DropsAt] [T.Counted].count index self.old.slots.items result self.new.slots.items</code></pre>
+        /// ```text
+        /// ensures: DropsAt T.Counted.count index self.old.slots.items result self.new.slots.items
+        /// ```
         ///
-        /// [DropsAt]: crate::specs::machine::Effects#DropsAt "the live value of an index is dropped, and its slot keeps how many it had; where the index names none it is \`NoSuch\`, and nothing has changed"
-        /// [T.Counted]: trait@Counted#contract
+        /// Definitions: [`DropsAt`](crate::specs::machine::Effects#DropsAt).
         #[inline]
-        pub(crate) fn drop_live(&mut self, index: usize) -> Reply
-where {
+        pub(crate) fn drop_live(&mut self, index: usize) -> Reply {
             let Some(value) = self.live(index) else {
                 return Reply::NoSuch;
             };
@@ -2528,12 +2174,11 @@ where {
         ///
         /// # Contract
         ///
-        /// <span></span><pre><code>ensures: result ≡ [sum] ([map] ([slot_count] [T.Counted].count) self.now.slots.items)</code></pre>
+        /// ```text
+        /// ensures: result ≡ sum (map (slot_count T.Counted.count) self.now.slots.items)
+        /// ```
         ///
-        /// [sum]: crate::specs::library#sum "the sum of a list of numbers"
-        /// [map]: crate::specs::library#map "f of each element"
-        /// [slot_count]: crate::specs::machine::Totals#slot_count "how many a slot\'s value has, or had when it was dropped"
-        /// [T.Counted]: trait@Counted#contract
+        /// Definitions: [`slot_count`](crate::specs::machine::Totals#slot_count).
         #[inline]
         pub(crate) fn total(&self) -> u128 {
             let mut total = 0;
@@ -2566,19 +2211,20 @@ mod store {
     ///
     /// # Model
     ///
-    /// <span></span><pre><code>Value = [State]
+    /// ```text
+    /// Value = State
     /// view = λ m. record {
-    /// &#32;&#32;&#32;&#32;memories = m.memories.slots.items;
-    /// &#32;&#32;&#32;&#32;tables = m.tables.slots.items;
-    /// &#32;&#32;&#32;&#32;segments = m.segments.items;
-    /// &#32;&#32;&#32;&#32;globals = m.globals.items;
-    /// &#32;&#32;&#32;&#32;registers = m.registers.values;
-    /// &#32;&#32;&#32;&#32;meter = m.fuel;
-    /// &#32;&#32;&#32;&#32;spare = [option_copied_mut] m.spare;
-    /// &#32;&#32;&#32;&#32;}</code></pre>
+    ///     memories = m.memories.slots.items;
+    ///     tables = m.tables.slots.items;
+    ///     segments = m.segments.items;
+    ///     globals = m.globals.items;
+    ///     registers = m.registers.values;
+    ///     meter = m.fuel;
+    ///     spare = option_copied_mut m.spare;
+    ///     }
+    /// ```
     ///
-    /// [State]: crate::specs::machine::State#State "the memories, tables, element segments and globals that were made, each kind in its order, the registers, the meter, and the bytes of the spare region, if there is one"
-    /// [option_copied_mut]: crate::specs::library#option_copied_mut "the value behind an optional \`&mut\`, if there is one"
+    /// Definitions: [`State`](crate::specs::machine::State#State).
     #[derive(Debug)]
     pub(crate) struct Store<'r> {
         pub(crate) memories: Slots<Memory<'r>>,
@@ -2593,9 +2239,11 @@ mod store {
     impl<'r> Store<'r> {
         /// # Contract
         ///
-        /// <span></span><pre><code>ensures: [SetsFuel] fuel self.old result self.new</code></pre>
+        /// ```text
+        /// ensures: SetsFuel fuel self.old result self.new
+        /// ```
         ///
-        /// [SetsFuel]: crate::specs::machine::FuelEffects#SetsFuel "the fuel that is left is set, where the meter is on"
+        /// Definitions: [`SetsFuel`](crate::specs::machine::FuelEffects#SetsFuel).
         #[inline(always)]
         fn set_fuel(&mut self, fuel: u64) -> Reply {
             match self.fuel.set_fuel(fuel) {
@@ -2606,9 +2254,11 @@ mod store {
 
         /// # Contract
         ///
-        /// <span></span><pre><code>ensures: result ≡ [get_fuel_reply] self.now.meter</code></pre>
+        /// ```text
+        /// ensures: result ≡ get_fuel_reply self.now.meter
+        /// ```
         ///
-        /// [get_fuel_reply]: crate::specs::machine::FuelEffects#get_fuel_reply "the fuel that is left is asked for"
+        /// Definitions: [`get_fuel_reply`](crate::specs::machine::FuelEffects#get_fuel_reply).
         #[inline(always)]
         fn get_fuel(&self) -> Reply {
             self.fuel.get_fuel().map_or_else(Reply::Fuel, Reply::Number)
@@ -2619,18 +2269,14 @@ mod store {
         ///
         /// # Contract
         ///
-        /// <span></span><pre><code>ensures loan: [KeepsLoan] limiter.old limiter.new
-        /// ensures step: [RepliesWith] ([optional_rules] [L.rules]) ([GrowMemory] memory pages)
-        /// &#32;&#32;&#32;&#32;([world] self.old ([lent_limiter] limiter.old)) result
-        /// &#32;&#32;&#32;&#32;([world] self.new ([lent_limiter] limiter.new))</code></pre>
+        /// ```text
+        /// ensures loan: KeepsLoan limiter.old limiter.new
+        /// ensures step: RepliesWith (optional_rules L.rules) (GrowMemory memory pages)
+        ///     (world self.old (lent_limiter limiter.old)) result
+        ///     (world self.new (lent_limiter limiter.new))
+        /// ```
         ///
-        /// [KeepsLoan]: crate::specs::meter::LimiterRef#KeepsLoan "r\' leads to what r leads to"
-        /// [RepliesWith]: crate::specs::machine::Steps#RepliesWith "a call is answered by a reply: there is a step by it, with some charge and some bytes written"
-        /// [optional_rules]: crate::specs::meter::Limiter#optional_rules "the rules of a limiter that may be absent"
-        /// [L.rules]: trait@ResourceLimiter#contract
-        /// [GrowMemory]: crate::proved::machine::Call::GrowMemory
-        /// [world]: crate::specs::machine::World#world "a machine in this state with this limiter"
-        /// [lent_limiter]: crate::specs::meter::LimiterRef#lent_limiter "the present value of the limiter that is lent, or none"
+        /// Definitions: [`KeepsLoan`](crate::specs::meter::LimiterRef#KeepsLoan), [`RepliesWith`](crate::specs::machine::Steps#RepliesWith), [`optional_rules`](crate::specs::meter::Limiter#optional_rules), [`world`](crate::specs::machine::World#world), [`lent_limiter`](crate::specs::meter::LimiterRef#lent_limiter).
         #[inline(always)]
         pub(crate) fn grow_memory<L: ResourceLimiter>(
             &mut self,
@@ -2645,17 +2291,14 @@ mod store {
         ///
         /// # Contract
         ///
-        /// <span></span><pre><code>ensures loan: [KeepsLoan] limiter.old limiter.new
-        /// ensures step: [RepliesWith] ([optional_rules] [L.rules]) call.now
-        /// &#32;&#32;&#32;&#32;([world] self.old ([lent_limiter] limiter.old)) result
-        /// &#32;&#32;&#32;&#32;([world] self.new ([lent_limiter] limiter.new))</code></pre>
+        /// ```text
+        /// ensures loan: KeepsLoan limiter.old limiter.new
+        /// ensures step: RepliesWith (optional_rules L.rules) call.now
+        ///     (world self.old (lent_limiter limiter.old)) result
+        ///     (world self.new (lent_limiter limiter.new))
+        /// ```
         ///
-        /// [KeepsLoan]: crate::specs::meter::LimiterRef#KeepsLoan "r\' leads to what r leads to"
-        /// [RepliesWith]: crate::specs::machine::Steps#RepliesWith "a call is answered by a reply: there is a step by it, with some charge and some bytes written"
-        /// [optional_rules]: crate::specs::meter::Limiter#optional_rules "the rules of a limiter that may be absent"
-        /// [L.rules]: trait@ResourceLimiter#contract
-        /// [world]: crate::specs::machine::World#world "a machine in this state with this limiter"
-        /// [lent_limiter]: crate::specs::meter::LimiterRef#lent_limiter "the present value of the limiter that is lent, or none"
+        /// Definitions: [`KeepsLoan`](crate::specs::meter::LimiterRef#KeepsLoan), [`RepliesWith`](crate::specs::machine::Steps#RepliesWith), [`optional_rules`](crate::specs::meter::Limiter#optional_rules), [`world`](crate::specs::machine::World#world), [`lent_limiter`](crate::specs::meter::LimiterRef#lent_limiter).
         #[inline(always)]
         pub(crate) fn step<L: ResourceLimiter>(
             &mut self,
@@ -2673,6 +2316,7 @@ mod store {
                 Call::Write { .. } => self.step_memory(call, limiter),
                 Call::Load { .. } => self.step_memory(call, limiter),
                 Call::Store { .. } => self.step_memory(call, limiter),
+
                 Call::NewSegment { ty, items } => create_segment(&mut self.segments, *ty, items),
                 Call::DropItems(segment) => drop_items(&mut self.segments, *segment),
                 Call::NewGlobal { value, ty } => create_global(&mut self.globals, *value, *ty),
@@ -2686,6 +2330,7 @@ mod store {
                 Call::InitTable { .. } => self.step_table(call, limiter),
                 Call::CopyTable { .. } => self.step_table(call, limiter),
                 Call::FillTable { .. } => self.step_table(call, limiter),
+
                 Call::VectorLoad { .. }
                 | Call::LoadLane { .. }
                 | Call::VectorStore { .. }
@@ -2708,20 +2353,15 @@ mod store {
         ///
         /// # Contract
         ///
-        /// <span></span><pre><code>requires subject: [subject_of] call.now ≡ [Memories]
-        /// ensures loan: [KeepsLoan] limiter.old limiter.new
-        /// ensures step: [RepliesWith] ([optional_rules] [L.rules]) call.now
-        /// &#32;&#32;&#32;&#32;([world] self.old ([lent_limiter] limiter.old)) result
-        /// &#32;&#32;&#32;&#32;([world] self.new ([lent_limiter] limiter.new))</code></pre>
+        /// ```text
+        /// requires subject: subject_of call.now ≡ Memories
+        /// ensures loan: KeepsLoan limiter.old limiter.new
+        /// ensures step: RepliesWith (optional_rules L.rules) call.now
+        ///     (world self.old (lent_limiter limiter.old)) result
+        ///     (world self.new (lent_limiter limiter.new))
+        /// ```
         ///
-        /// [subject_of]: crate::specs::machine::Steps#subject_of "what each call is about: a line for each"
-        /// [Memories]: crate::specs::machine::Steps#Memories
-        /// [KeepsLoan]: crate::specs::meter::LimiterRef#KeepsLoan "r\' leads to what r leads to"
-        /// [RepliesWith]: crate::specs::machine::Steps#RepliesWith "a call is answered by a reply: there is a step by it, with some charge and some bytes written"
-        /// [optional_rules]: crate::specs::meter::Limiter#optional_rules "the rules of a limiter that may be absent"
-        /// [L.rules]: trait@ResourceLimiter#contract
-        /// [world]: crate::specs::machine::World#world "a machine in this state with this limiter"
-        /// [lent_limiter]: crate::specs::meter::LimiterRef#lent_limiter "the present value of the limiter that is lent, or none"
+        /// Definitions: [`subject_of`](crate::specs::machine::Steps#subject_of), [`Memories`](crate::specs::machine::Steps#Memories), [`KeepsLoan`](crate::specs::meter::LimiterRef#KeepsLoan), [`RepliesWith`](crate::specs::machine::Steps#RepliesWith), [`optional_rules`](crate::specs::meter::Limiter#optional_rules), [`world`](crate::specs::machine::World#world), [`lent_limiter`](crate::specs::meter::LimiterRef#lent_limiter).
         #[inline(always)]
         fn step_memory<L: ResourceLimiter>(
             &mut self,
@@ -2764,20 +2404,15 @@ mod store {
         ///
         /// # Contract
         ///
-        /// <span></span><pre><code>requires subject: [subject_of] call.now ≡ [Tables]
-        /// ensures loan: [KeepsLoan] limiter.old limiter.new
-        /// ensures step: [RepliesWith] ([optional_rules] [L.rules]) call.now
-        /// &#32;&#32;&#32;&#32;([world] self.old ([lent_limiter] limiter.old)) result
-        /// &#32;&#32;&#32;&#32;([world] self.new ([lent_limiter] limiter.new))</code></pre>
+        /// ```text
+        /// requires subject: subject_of call.now ≡ Tables
+        /// ensures loan: KeepsLoan limiter.old limiter.new
+        /// ensures step: RepliesWith (optional_rules L.rules) call.now
+        ///     (world self.old (lent_limiter limiter.old)) result
+        ///     (world self.new (lent_limiter limiter.new))
+        /// ```
         ///
-        /// [subject_of]: crate::specs::machine::Steps#subject_of "what each call is about: a line for each"
-        /// [Tables]: crate::specs::machine::Steps#Tables
-        /// [KeepsLoan]: crate::specs::meter::LimiterRef#KeepsLoan "r\' leads to what r leads to"
-        /// [RepliesWith]: crate::specs::machine::Steps#RepliesWith "a call is answered by a reply: there is a step by it, with some charge and some bytes written"
-        /// [optional_rules]: crate::specs::meter::Limiter#optional_rules "the rules of a limiter that may be absent"
-        /// [L.rules]: trait@ResourceLimiter#contract
-        /// [world]: crate::specs::machine::World#world "a machine in this state with this limiter"
-        /// [lent_limiter]: crate::specs::meter::LimiterRef#lent_limiter "the present value of the limiter that is lent, or none"
+        /// Definitions: [`subject_of`](crate::specs::machine::Steps#subject_of), [`Tables`](crate::specs::machine::Steps#Tables), [`KeepsLoan`](crate::specs::meter::LimiterRef#KeepsLoan), [`RepliesWith`](crate::specs::machine::Steps#RepliesWith), [`optional_rules`](crate::specs::meter::Limiter#optional_rules), [`world`](crate::specs::machine::World#world), [`lent_limiter`](crate::specs::meter::LimiterRef#lent_limiter).
         #[inline(always)]
         fn step_table<L: ResourceLimiter>(
             &mut self,
@@ -2839,14 +2474,12 @@ mod store {
         ///
         /// # Contract
         ///
-        /// <span></span><pre><code>requires subject: [subject_of] call.now ≡ [RegisterFile]
-        /// ensures step: [RepliesWithoutLimiter] ([optional_rules] [L.rules]) call.now self.old result self.new</code></pre>
+        /// ```text
+        /// requires subject: subject_of call.now ≡ RegisterFile
+        /// ensures step: RepliesWithoutLimiter (optional_rules L.rules) call.now self.old result self.new
+        /// ```
         ///
-        /// [subject_of]: crate::specs::machine::Steps#subject_of "what each call is about: a line for each"
-        /// [RegisterFile]: crate::specs::machine::Steps#RegisterFile
-        /// [RepliesWithoutLimiter]: crate::specs::machine::Steps#RepliesWithoutLimiter "a call is answered by a reply without the limiter, whatever the limiter is, in a step that charges and writes nothing"
-        /// [optional_rules]: crate::specs::meter::Limiter#optional_rules "the rules of a limiter that may be absent"
-        /// [L.rules]: trait@ResourceLimiter#contract
+        /// Definitions: [`subject_of`](crate::specs::machine::Steps#subject_of), [`RegisterFile`](crate::specs::machine::Steps#RegisterFile), [`RepliesWithoutLimiter`](crate::specs::machine::Steps#RepliesWithoutLimiter), [`optional_rules`](crate::specs::meter::Limiter#optional_rules).
         #[inline(always)]
         fn step_register<L: ResourceLimiter>(&mut self, call: &Call) -> Reply {
             match call {
@@ -2870,14 +2503,12 @@ mod store {
         ///
         /// # Contract
         ///
-        /// <span></span><pre><code>requires subject: [subject_of] call.now ≡ [VectorAccesses]
-        /// ensures step: [RepliesWithoutLimiter] ([optional_rules] [L.rules]) call.now self.old result self.new</code></pre>
+        /// ```text
+        /// requires subject: subject_of call.now ≡ VectorAccesses
+        /// ensures step: RepliesWithoutLimiter (optional_rules L.rules) call.now self.old result self.new
+        /// ```
         ///
-        /// [subject_of]: crate::specs::machine::Steps#subject_of "what each call is about: a line for each"
-        /// [VectorAccesses]: crate::specs::machine::Steps#VectorAccesses
-        /// [RepliesWithoutLimiter]: crate::specs::machine::Steps#RepliesWithoutLimiter "a call is answered by a reply without the limiter, whatever the limiter is, in a step that charges and writes nothing"
-        /// [optional_rules]: crate::specs::meter::Limiter#optional_rules "the rules of a limiter that may be absent"
-        /// [L.rules]: trait@ResourceLimiter#contract
+        /// Definitions: [`subject_of`](crate::specs::machine::Steps#subject_of), [`VectorAccesses`](crate::specs::machine::Steps#VectorAccesses), [`RepliesWithoutLimiter`](crate::specs::machine::Steps#RepliesWithoutLimiter), [`optional_rules`](crate::specs::meter::Limiter#optional_rules).
         #[inline(always)]
         fn step_vector_access<L: ResourceLimiter>(&mut self, call: &Call) -> Reply {
             match call {
@@ -2941,18 +2572,14 @@ mod tables {
         ///
         /// # Contract
         ///
-        /// <span></span><pre><code>ensures loan: [KeepsLoan] limiter.old limiter.new
-        /// ensures made: [Creates] [Reply.Table]
-        /// &#32;&#32;&#32;&#32;([MakesTable] ([optional_rules] [L.rules]) ty init) self.old.slots.items
-        /// &#32;&#32;&#32;&#32;([lent_limiter] limiter.old) result self.new.slots.items ([lent_limiter] limiter.new)</code></pre>
+        /// ```text
+        /// ensures loan: KeepsLoan limiter.old limiter.new
+        /// ensures made: Creates Reply.Table
+        ///     (MakesTable (optional_rules L.rules) ty init) self.old.slots.items
+        ///     (lent_limiter limiter.old) result self.new.slots.items (lent_limiter limiter.new)
+        /// ```
         ///
-        /// [KeepsLoan]: crate::specs::meter::LimiterRef#KeepsLoan "r\' leads to what r leads to"
-        /// [Creates]: crate::specs::machine::Effects#Creates "a creation under a limiter: without room for a slot nothing is asked"
-        /// [Reply.Table]: crate::proved::machine::Reply::Table
-        /// [MakesTable]: crate::specs::store::Table#MakesTable "a table of a type is made of a reference"
-        /// [optional_rules]: crate::specs::meter::Limiter#optional_rules "the rules of a limiter that may be absent"
-        /// [L.rules]: trait@ResourceLimiter#contract
-        /// [lent_limiter]: crate::specs::meter::LimiterRef#lent_limiter "the present value of the limiter that is lent, or none"
+        /// Definitions: [`KeepsLoan`](crate::specs::meter::LimiterRef#KeepsLoan), [`Creates`](crate::specs::machine::Effects#Creates), [`MakesTable`](crate::specs::store::Table#MakesTable), [`optional_rules`](crate::specs::meter::Limiter#optional_rules), [`lent_limiter`](crate::specs::meter::LimiterRef#lent_limiter).
         #[inline(always)]
         pub(crate) fn create<L: ResourceLimiter>(
             &mut self,
@@ -2973,25 +2600,16 @@ mod tables {
         ///
         /// # Contract
         ///
-        /// <span></span><pre><code>ensures loan: [KeepsLoan] limiter.old limiter.new
-        /// ensures grown: [WithCharge]
-        /// &#32;&#32;&#32;&#32;([ActsAt] index ([reply_of] [Reply.Number] [Reply.Table])
-        /// &#32;&#32;&#32;&#32;([GrowsTableCharging] ([optional_rules] [L.rules]) delta init))
-        /// &#32;&#32;&#32;&#32;([metered_value] self.old.slots.items ([Some] fuel.old) ([lent_limiter] limiter.old)) result
-        /// &#32;&#32;&#32;&#32;([metered_value] self.new.slots.items ([Some] fuel.new) ([lent_limiter] limiter.new))</code></pre>
+        /// ```text
+        /// ensures loan: KeepsLoan limiter.old limiter.new
+        /// ensures grown: WithCharge
+        ///     (ActsAt index (reply_of Reply.Number Reply.Table)
+        ///     (GrowsTableCharging (optional_rules L.rules) delta init))
+        ///     (metered_value self.old.slots.items (Some fuel.old) (lent_limiter limiter.old)) result
+        ///     (metered_value self.new.slots.items (Some fuel.new) (lent_limiter limiter.new))
+        /// ```
         ///
-        /// [KeepsLoan]: crate::specs::meter::LimiterRef#KeepsLoan "r\' leads to what r leads to"
-        /// [WithCharge]: crate::specs::store::Growth#WithCharge "a call on a value takes place, with some charge"
-        /// [ActsAt]: crate::specs::machine::Effects#ActsAt "a call with a charge on the live value of an index, with the reply to each result"
-        /// [reply_of]: crate::specs::machine::Effects#reply_of "the reply to a call that returns a value or is refused"
-        /// [Reply.Number]: crate::proved::machine::Reply::Number
-        /// [Reply.Table]: crate::proved::machine::Reply::Table
-        /// [GrowsTableCharging]: crate::specs::store::Table#GrowsTableCharging "a growth by a reference that has a type, with this charge: the type is tested first, also for no element, and where it is another, nothing is touched"
-        /// [optional_rules]: crate::specs::meter::Limiter#optional_rules "the rules of a limiter that may be absent"
-        /// [L.rules]: trait@ResourceLimiter#contract
-        /// [metered_value]: crate::specs::store::Growth#metered_value "a value with its meter, if there is one, and its limiter"
-        /// [Some]: crate::specs::library#Some "the value x, of an \`Option\`"
-        /// [lent_limiter]: crate::specs::meter::LimiterRef#lent_limiter "the present value of the limiter that is lent, or none"
+        /// Definitions: [`KeepsLoan`](crate::specs::meter::LimiterRef#KeepsLoan), [`WithCharge`](crate::specs::store::Growth#WithCharge), [`ActsAt`](crate::specs::machine::Effects#ActsAt), [`reply_of`](crate::specs::machine::Effects#reply_of), [`GrowsTableCharging`](crate::specs::store::Table#GrowsTableCharging), [`optional_rules`](crate::specs::meter::Limiter#optional_rules), [`metered_value`](crate::specs::store::Growth#metered_value), [`lent_limiter`](crate::specs::meter::LimiterRef#lent_limiter).
         #[inline(always)]
         pub(crate) fn grow<L: ResourceLimiter>(
             &mut self,
@@ -3014,9 +2632,11 @@ mod tables {
         ///
         /// # Contract
         ///
-        /// <span></span><pre><code>ensures: [GetsElementAt] index element self.now.slots.items result</code></pre>
+        /// ```text
+        /// ensures: GetsElementAt index element self.now.slots.items result
+        /// ```
         ///
-        /// [GetsElementAt]: crate::specs::machine::TableEffects#GetsElementAt "the reply to a call for an element of the table of an index"
+        /// Definitions: [`GetsElementAt`](crate::specs::machine::TableEffects#GetsElementAt).
         #[inline(always)]
         pub(crate) fn get(&self, index: usize, element: u64) -> Reply {
             self.live(index)
@@ -3027,10 +2647,12 @@ mod tables {
         ///
         /// # Contract
         ///
-        /// <span></span><pre><code>ensures: [SetsElementAt] index element value self.old.slots.items result
-        /// &#32;&#32;&#32;&#32;self.new.slots.items</code></pre>
+        /// ```text
+        /// ensures: SetsElementAt index element value self.old.slots.items result
+        ///     self.new.slots.items
+        /// ```
         ///
-        /// [SetsElementAt]: crate::specs::machine::TableEffects#SetsElementAt "an element of the table of an index is set, or the call is refused"
+        /// Definitions: [`SetsElementAt`](crate::specs::machine::TableEffects#SetsElementAt).
         #[inline(always)]
         pub(crate) fn set(&mut self, index: usize, element: u64, value: TypedRawRef) -> Reply {
             let Some(table) = self.live_mut(index) else {
@@ -3043,15 +2665,13 @@ mod tables {
         ///
         /// # Contract
         ///
-        /// <span></span><pre><code>ensures: [WithCharge] ([WritesTableAt] index ([filling_of] dst value len))
-        /// &#32;&#32;&#32;&#32;([metered] self.old.slots.items ([Some] fuel.old)) result
-        /// &#32;&#32;&#32;&#32;([metered] self.new.slots.items ([Some] fuel.new))</code></pre>
+        /// ```text
+        /// ensures: WithCharge (WritesTableAt index (filling_of dst value len))
+        ///     (metered self.old.slots.items (Some fuel.old)) result
+        ///     (metered self.new.slots.items (Some fuel.new))
+        /// ```
         ///
-        /// [WithCharge]: crate::specs::store::Growth#WithCharge "a call on a value takes place, with some charge"
-        /// [WritesTableAt]: crate::specs::machine::TableEffects#WritesTableAt "a part of the table of an index is written over, with its charge"
-        /// [filling_of]: crate::specs::store::Table#filling_of "so many elements from dst on are filled with a reference, whose type is tested"
-        /// [metered]: crate::specs::store::Growth#metered "a value with its meter, if there is one, and no limiter to ask"
-        /// [Some]: crate::specs::library#Some "the value x, of an \`Option\`"
+        /// Definitions: [`WithCharge`](crate::specs::store::Growth#WithCharge), [`WritesTableAt`](crate::specs::machine::TableEffects#WritesTableAt), [`filling_of`](crate::specs::store::Table#filling_of), [`metered`](crate::specs::store::Growth#metered).
         #[inline(always)]
         pub(crate) fn fill(
             &mut self,
@@ -3071,17 +2691,14 @@ mod tables {
         ///
         /// # Contract
         ///
-        /// <span></span><pre><code>ensures: [WithCharge]
-        /// &#32;&#32;&#32;&#32;([WritesTableAt] index ([initialization_of] dst src len ([segment_of] segment.entry)))
-        /// &#32;&#32;&#32;&#32;([metered] self.old.slots.items ([Some] fuel.old)) result
-        /// &#32;&#32;&#32;&#32;([metered] self.new.slots.items ([Some] fuel.new))</code></pre>
+        /// ```text
+        /// ensures: WithCharge
+        ///     (WritesTableAt index (initialization_of dst src len (segment_of segment.entry)))
+        ///     (metered self.old.slots.items (Some fuel.old)) result
+        ///     (metered self.new.slots.items (Some fuel.new))
+        /// ```
         ///
-        /// [WithCharge]: crate::specs::store::Growth#WithCharge "a call on a value takes place, with some charge"
-        /// [WritesTableAt]: crate::specs::machine::TableEffects#WritesTableAt "a part of the table of an index is written over, with its charge"
-        /// [initialization_of]: crate::specs::store::Table#initialization_of "so many items from src on of an element segment are copied over the elements from dst on; no item is free"
-        /// [segment_of]: crate::specs::store::Segment#segment_of "the segment that is shared"
-        /// [metered]: crate::specs::store::Growth#metered "a value with its meter, if there is one, and no limiter to ask"
-        /// [Some]: crate::specs::library#Some "the value x, of an \`Option\`"
+        /// Definitions: [`WithCharge`](crate::specs::store::Growth#WithCharge), [`WritesTableAt`](crate::specs::machine::TableEffects#WritesTableAt), [`initialization_of`](crate::specs::store::Table#initialization_of), [`segment_of`](crate::specs::store::Segment#segment_of), [`metered`](crate::specs::store::Growth#metered).
         #[inline(always)]
         pub(crate) fn init(
             &mut self,
@@ -3102,18 +2719,15 @@ mod tables {
         ///
         /// # Contract
         ///
-        /// <span></span><pre><code>ensures: [WithCharge]
-        /// &#32;&#32;&#32;&#32;([WritesTableFrom] ([live_at] self.old.slots.items src_index) dst_index
-        /// &#32;&#32;&#32;&#32;([copy_of] dst src len))
-        /// &#32;&#32;&#32;&#32;([metered] self.old.slots.items ([Some] fuel.old)) result
-        /// &#32;&#32;&#32;&#32;([metered] self.new.slots.items ([Some] fuel.new))</code></pre>
+        /// ```text
+        /// ensures: WithCharge
+        ///     (WritesTableFrom (live_at self.old.slots.items src_index) dst_index
+        ///     (copy_of dst src len))
+        ///     (metered self.old.slots.items (Some fuel.old)) result
+        ///     (metered self.new.slots.items (Some fuel.new))
+        /// ```
         ///
-        /// [WithCharge]: crate::specs::store::Growth#WithCharge "a call on a value takes place, with some charge"
-        /// [WritesTableFrom]: crate::specs::machine::TableEffects#WritesTableFrom "a part of the table of an index is written over with what a source has, with its charge; without a source the reply is \`NoSuch\`, and nothing has changed"
-        /// [live_at]: crate::specs::machine::State#live_at "the live value of an index, if there is one"
-        /// [copy_of]: crate::specs::store::Table#copy_of "so many elements from src on of a table, perhaps the same one, are copied over those from dst on"
-        /// [metered]: crate::specs::store::Growth#metered "a value with its meter, if there is one, and no limiter to ask"
-        /// [Some]: crate::specs::library#Some "the value x, of an \`Option\`"
+        /// Definitions: [`WithCharge`](crate::specs::store::Growth#WithCharge), [`WritesTableFrom`](crate::specs::machine::TableEffects#WritesTableFrom), [`live_at`](crate::specs::machine::State#live_at), [`copy_of`](crate::specs::store::Table#copy_of), [`metered`](crate::specs::store::Growth#metered).
         #[inline(always)]
         pub(crate) fn copy(
             &mut self,
@@ -3138,17 +2752,14 @@ mod tables {
         ///
         /// # Contract
         ///
-        /// <span></span><pre><code>ensures: [WithCharge]
-        /// &#32;&#32;&#32;&#32;([WritesTableFrom] ([live_at] self.old.slots.items index) index ([copy_of] dst src len))
-        /// &#32;&#32;&#32;&#32;([metered] self.old.slots.items ([Some] fuel.old)) result
-        /// &#32;&#32;&#32;&#32;([metered] self.new.slots.items ([Some] fuel.new))</code></pre>
+        /// ```text
+        /// ensures: WithCharge
+        ///     (WritesTableFrom (live_at self.old.slots.items index) index (copy_of dst src len))
+        ///     (metered self.old.slots.items (Some fuel.old)) result
+        ///     (metered self.new.slots.items (Some fuel.new))
+        /// ```
         ///
-        /// [WithCharge]: crate::specs::store::Growth#WithCharge "a call on a value takes place, with some charge"
-        /// [WritesTableFrom]: crate::specs::machine::TableEffects#WritesTableFrom "a part of the table of an index is written over with what a source has, with its charge; without a source the reply is \`NoSuch\`, and nothing has changed"
-        /// [live_at]: crate::specs::machine::State#live_at "the live value of an index, if there is one"
-        /// [copy_of]: crate::specs::store::Table#copy_of "so many elements from src on of a table, perhaps the same one, are copied over those from dst on"
-        /// [metered]: crate::specs::store::Growth#metered "a value with its meter, if there is one, and no limiter to ask"
-        /// [Some]: crate::specs::library#Some "the value x, of an \`Option\`"
+        /// Definitions: [`WithCharge`](crate::specs::store::Growth#WithCharge), [`WritesTableFrom`](crate::specs::machine::TableEffects#WritesTableFrom), [`live_at`](crate::specs::machine::State#live_at), [`copy_of`](crate::specs::store::Table#copy_of), [`metered`](crate::specs::store::Growth#metered).
         #[inline(always)]
         fn copy_in_one(
             &mut self,
@@ -3177,21 +2788,17 @@ mod tables {
     ///
     /// # Contract
     ///
-    /// <span></span><pre><code>requires dst: dst_index < [length] slots.old
-    /// requires src: src_index < [length] slots.old
+    /// ```text
+    /// requires dst: dst_index < length slots.old
+    /// requires src: src_index < length slots.old
     /// requires other: dst_index ≢ src_index
-    /// ensures copied: [WithCharge]
-    /// &#32;&#32;&#32;&#32;([WritesTableFrom] ([live_at] slots.old src_index) dst_index
-    /// &#32;&#32;&#32;&#32;([copy_of] range.dst range.src range.len))
-    /// &#32;&#32;&#32;&#32;([metered] slots.old ([Some] fuel.old)) result ([metered] slots.new ([Some] fuel.new))</code></pre>
+    /// ensures copied: WithCharge
+    ///     (WritesTableFrom (live_at slots.old src_index) dst_index
+    ///     (copy_of range.dst range.src range.len))
+    ///     (metered slots.old (Some fuel.old)) result (metered slots.new (Some fuel.new))
+    /// ```
     ///
-    /// [length]: crate::specs::library#length "the number of elements of a list"
-    /// [WithCharge]: crate::specs::store::Growth#WithCharge "a call on a value takes place, with some charge"
-    /// [WritesTableFrom]: crate::specs::machine::TableEffects#WritesTableFrom "a part of the table of an index is written over with what a source has, with its charge; without a source the reply is \`NoSuch\`, and nothing has changed"
-    /// [live_at]: crate::specs::machine::State#live_at "the live value of an index, if there is one"
-    /// [copy_of]: crate::specs::store::Table#copy_of "so many elements from src on of a table, perhaps the same one, are copied over those from dst on"
-    /// [metered]: crate::specs::store::Growth#metered "a value with its meter, if there is one, and no limiter to ask"
-    /// [Some]: crate::specs::library#Some "the value x, of an \`Option\`"
+    /// Definitions: [`WithCharge`](crate::specs::store::Growth#WithCharge), [`WritesTableFrom`](crate::specs::machine::TableEffects#WritesTableFrom), [`live_at`](crate::specs::machine::State#live_at), [`copy_of`](crate::specs::store::Table#copy_of), [`metered`](crate::specs::store::Growth#metered).
     #[inline(always)]
     fn copy_to_other(
         slots: &mut [Slot<Table>],
@@ -3213,14 +2820,12 @@ mod tables {
     ///
     /// # Contract
     ///
-    /// <span></span><pre><code>ensures: [WithCharge] ([CopiesSlot] ([copy_of] range.dst range.src range.len) source.now)
-    /// &#32;&#32;&#32;&#32;([metered] slot.old ([Some] fuel.old)) result ([metered] slot.new ([Some] fuel.new))</code></pre>
+    /// ```text
+    /// ensures: WithCharge (CopiesSlot (copy_of range.dst range.src range.len) source.now)
+    ///     (metered slot.old (Some fuel.old)) result (metered slot.new (Some fuel.new))
+    /// ```
     ///
-    /// [WithCharge]: crate::specs::store::Growth#WithCharge "a call on a value takes place, with some charge"
-    /// [CopiesSlot]: crate::specs::machine::TableEffects#CopiesSlot "a slot\'s table is written over with what another slot\'s table has"
-    /// [copy_of]: crate::specs::store::Table#copy_of "so many elements from src on of a table, perhaps the same one, are copied over those from dst on"
-    /// [metered]: crate::specs::store::Growth#metered "a value with its meter, if there is one, and no limiter to ask"
-    /// [Some]: crate::specs::library#Some "the value x, of an \`Option\`"
+    /// Definitions: [`WithCharge`](crate::specs::store::Growth#WithCharge), [`CopiesSlot`](crate::specs::machine::TableEffects#CopiesSlot), [`copy_of`](crate::specs::store::Table#copy_of), [`metered`](crate::specs::store::Growth#metered).
     #[inline(always)]
     fn copy_from_slot(
         slot: &mut Slot<Table>,
@@ -3241,11 +2846,11 @@ mod tables {
     ///
     /// # Contract
     ///
-    /// <span></span><pre><code>ensures: result ≡ [reply_of] (λ \_. [Reply.Done]) [Reply.Table] answer</code></pre>
+    /// ```text
+    /// ensures: result ≡ reply_of (λ _. Reply.Done) Reply.Table answer
+    /// ```
     ///
-    /// [reply_of]: crate::specs::machine::Effects#reply_of "the reply to a call that returns a value or is refused"
-    /// [Reply.Done]: crate::proved::machine::Reply::Done
-    /// [Reply.Table]: crate::proved::machine::Reply::Table
+    /// Definitions: [`reply_of`](crate::specs::machine::Effects#reply_of).
     #[inline(always)]
     fn done(answer: Result<(), TableError>) -> Reply {
         answer.map_or_else(Reply::Table, |()| Reply::Done)
@@ -3266,10 +2871,9 @@ mod values {
     ///
     /// # Contract
     ///
-    /// <span></span><pre><code>ensures: [option_copied] result ≡ [slice_get] values.now index</code></pre>
-    ///
-    /// [option_copied]: crate::specs::library#option_copied "the value behind an optional reference, if there is one"
-    /// [slice_get]: crate::specs::library#slice_get "element i, if there is one"
+    /// ```text
+    /// ensures: option_copied result ≡ slice_get values.now index
+    /// ```
     #[inline]
     pub(crate) fn value_at<T>(values: &[T], index: usize) -> Option<&T> {
         values.get(index)
@@ -3279,9 +2883,11 @@ mod values {
     ///
     /// # Contract
     ///
-    /// <span></span><pre><code>ensures: [CreatesSegment] ty items.now segments.old.items result segments.new.items</code></pre>
+    /// ```text
+    /// ensures: CreatesSegment ty items.now segments.old.items result segments.new.items
+    /// ```
     ///
-    /// [CreatesSegment]: crate::specs::machine::ValueEffects#CreatesSegment "an element segment is made"
+    /// Definitions: [`CreatesSegment`](crate::specs::machine::ValueEffects#CreatesSegment).
     #[inline(always)]
     pub(crate) fn create_segment(
         segments: &mut Vec<ElementSegment>,
@@ -3305,9 +2911,11 @@ mod values {
     ///
     /// # Contract
     ///
-    /// <span></span><pre><code>ensures: [IsSegmentOf] ty items.now result</code></pre>
+    /// ```text
+    /// ensures: IsSegmentOf ty items.now result
+    /// ```
     ///
-    /// [IsSegmentOf]: crate::specs::machine::ValueEffects#IsSegmentOf "the segment of these items, unless there are too many, or memory is refused for some"
+    /// Definitions: [`IsSegmentOf`](crate::specs::machine::ValueEffects#IsSegmentOf).
     #[inline]
     fn segment(ty: RefType, items: &[RawRef]) -> Result<ElementSegment, SegmentError> {
         ElementSegment::new(ty, items.iter().copied())
@@ -3317,9 +2925,11 @@ mod values {
     ///
     /// # Contract
     ///
-    /// <span></span><pre><code>ensures: [DropsItemsAt] index segments.old.items result segments.new.items</code></pre>
+    /// ```text
+    /// ensures: DropsItemsAt index segments.old.items result segments.new.items
+    /// ```
     ///
-    /// [DropsItemsAt]: crate::specs::machine::ValueEffects#DropsItemsAt "the items of the element segment of an index are dropped"
+    /// Definitions: [`DropsItemsAt`](crate::specs::machine::ValueEffects#DropsItemsAt).
     #[inline(always)]
     pub(crate) fn drop_items(segments: &mut Vec<ElementSegment>, index: usize) -> Reply {
         let Some(segment) = segments.get_mut(index) else {
@@ -3333,10 +2943,12 @@ mod values {
     ///
     /// # Contract
     ///
-    /// <span></span><pre><code>ensures: [CreatesGlobal]
-    /// &#32;&#32;&#32;&#32;(record { value = value; ty = ty }) globals.old.items result globals.new.items</code></pre>
+    /// ```text
+    /// ensures: CreatesGlobal
+    ///     (record { value = value; ty = ty }) globals.old.items result globals.new.items
+    /// ```
     ///
-    /// [CreatesGlobal]: crate::specs::machine::ValueEffects#CreatesGlobal "a global is made"
+    /// Definitions: [`CreatesGlobal`](crate::specs::machine::ValueEffects#CreatesGlobal).
     #[inline(always)]
     pub(crate) fn create_global(globals: &mut Vec<Global>, value: RawVal, ty: GlobalType) -> Reply {
         if globals.try_reserve(1).is_err() {
@@ -3351,9 +2963,11 @@ mod values {
     ///
     /// # Contract
     ///
-    /// <span></span><pre><code>ensures: [SetsGlobalAt] index value globals.old.items result globals.new.items</code></pre>
+    /// ```text
+    /// ensures: SetsGlobalAt index value globals.old.items result globals.new.items
+    /// ```
     ///
-    /// [SetsGlobalAt]: crate::specs::machine::ValueEffects#SetsGlobalAt "the global of an index is set, or the call is refused"
+    /// Definitions: [`SetsGlobalAt`](crate::specs::machine::ValueEffects#SetsGlobalAt).
     #[inline(always)]
     pub(crate) fn set_global(globals: &mut Vec<Global>, index: usize, value: TypedRawVal) -> Reply {
         let Some(global) = globals.get_mut(index) else {
@@ -3369,9 +2983,11 @@ mod values {
     ///
     /// # Contract
     ///
-    /// <span></span><pre><code>ensures: [GetsGlobalAt] index globals.now result</code></pre>
+    /// ```text
+    /// ensures: GetsGlobalAt index globals.now result
+    /// ```
     ///
-    /// [GetsGlobalAt]: crate::specs::machine::ValueEffects#GetsGlobalAt "the reply to a call for the value of the global of an index"
+    /// Definitions: [`GetsGlobalAt`](crate::specs::machine::ValueEffects#GetsGlobalAt).
     #[inline(always)]
     pub(crate) fn get_global(globals: &[Global], index: usize) -> Reply {
         match globals.get(index) {
@@ -3415,10 +3031,6 @@ pub mod wasm {
 }
 
 pub use crate::proved::accesses::access;
-#[cfg(any(doc, test))]
-pub use crate::proved::accesses::laws as access_laws;
-#[cfg(any(doc, test))]
-pub use crate::proved::lanes::laws as lane_laws;
 pub use crate::proved::lanes::{on_vectors, words};
 pub use crate::proved::meter::{
     Amounts, AnswerList, AnyLimiter, CustomFuelCosts, Fuel, FuelCosts, FuelCostsProvider,
@@ -3430,12 +3042,8 @@ pub use crate::proved::ops::{
     BinaryOp, ExtractOp, LoadLaneOp, LoadOp, MakeOp, ReplaceOp, ScalarBinaryOp, ScalarUnaryOp,
     ShiftOp, StoreLaneOp, StoreOp, TernaryOp, TestOp, UnaryOp, VectorLoadOp,
 };
-#[cfg(any(doc, test))]
-pub use crate::proved::raw::laws as raw_laws;
 pub use crate::proved::raw::{F32, F64, Number, RawRef, RawVal, ReadAs, ReadBack, V128, WriteAs};
 pub use crate::proved::scalar::value::{Integer, SignExtendFrom, Unsigned};
-#[cfg(any(doc, test))]
-pub use crate::proved::store::laws as store_laws;
 pub use crate::proved::store::{
     Buffer, ByteBuffer, ElementSegment, ElementSegmentRef, LinearMemory, Memory, MemoryType,
     MemoryTypeBuilder, Region, SegmentError, Table, TableType,
@@ -3448,8 +3056,6 @@ pub use crate::proved::types::{
     FuncType, FuncTypeError, HostError, IndexType, InvalidTrapCode, RefType, Trap, TrapCode,
     ValType, hint,
 };
-#[cfg(any(doc, test))]
-pub use crate::proved::widening::laws as widening_laws;
 pub use calls::{ByteList, Call, Reply};
 pub use machine::Machine;
 pub use running::{run, run_lending, run_reserving};

@@ -20,9 +20,11 @@ mod amounts {
         ///
         /// # Contract
         ///
-        /// <span></span><pre><code>ensures: result ≡ [amount_of] self.now kind</code></pre>
+        /// ```text
+        /// ensures: result ≡ amount_of self.now kind
+        /// ```
         ///
-        /// [amount_of]: crate::specs::meter::Amounts#amount_of "the amount of a kind"
+        /// Definitions: [`amount_of`](crate::specs::meter::Amounts#amount_of).
         #[inline]
         pub fn of(&self, kind: Kind) -> u64 {
             match kind {
@@ -59,9 +61,11 @@ mod answer_list {
         ///
         /// # Contract
         ///
-        /// <span></span><pre><code>ensures: result ≡ [answer_by] self</code></pre>
+        /// ```text
+        /// ensures: result ≡ answer_by self
+        /// ```
         ///
-        /// [answer_by]: crate::specs::meter::AnswerList#answer_by "what a question is answered"
+        /// Definitions: [`answer_by`](crate::specs::meter::AnswerList#answer_by).
         #[inline]
         pub fn to_question(self) -> Result<bool, LimiterError> {
             match self {
@@ -75,9 +79,11 @@ mod answer_list {
         ///
         /// # Contract
         ///
-        /// <span></span><pre><code>ensures: result ≡ [notice_answer_by] self</code></pre>
+        /// ```text
+        /// ensures: result ≡ notice_answer_by self
+        /// ```
         ///
-        /// [notice_answer_by]: crate::specs::meter::AnswerList#notice_answer_by "what a notice is answered after a question that was answered so"
+        /// Definitions: [`notice_answer_by`](crate::specs::meter::AnswerList#notice_answer_by).
         #[inline]
         pub fn to_notice(self) -> Result<(), LimiterError> {
             match self {
@@ -95,12 +101,13 @@ mod answer_list {
     ///
     /// # Model
     ///
-    /// <span></span><pre><code>Value = [AnswersAhead]
+    /// ```text
+    /// Value = AnswersAhead
     /// view = λ list.
-    /// &#32;&#32;&#32;&#32;record { ahead = [drop] list.taken list.answers.items; last = list.last }</code></pre>
+    ///     record { ahead = drop list.taken list.answers.items; last = list.last }
+    /// ```
     ///
-    /// [AnswersAhead]: crate::specs::meter::AnswerList#AnswersAhead "the answers to the next questions, in order, and the one to the last question"
-    /// [drop]: crate::specs::library#drop "all but the first n elements"
+    /// Definitions: [`AnswersAhead`](crate::specs::meter::AnswerList#AnswersAhead).
     #[derive(Debug)]
     pub struct AnswerList {
         /// The answers, one for each question.
@@ -116,9 +123,11 @@ mod answer_list {
         ///
         /// # Contract
         ///
-        /// <span></span><pre><code>ensures: result ≡ [new_answers] answers.items</code></pre>
+        /// ```text
+        /// ensures: result ≡ new_answers answers.items
+        /// ```
         ///
-        /// [new_answers]: crate::specs::meter::AnswerList#new_answers "a limiter with these answers that was asked nothing yet"
+        /// Definitions: [`new_answers`](crate::specs::meter::AnswerList#new_answers).
         #[inline]
         pub fn new(answers: Vec<LimiterAnswer>) -> Self {
             AnswerList {
@@ -132,9 +141,11 @@ mod answer_list {
         ///
         /// # Contract
         ///
-        /// <span></span><pre><code>ensures: [TakesAnswer] self.old result self.new</code></pre>
+        /// ```text
+        /// ensures: TakesAnswer self.old result self.new
+        /// ```
         ///
-        /// [TakesAnswer]: crate::specs::meter::AnswerList#TakesAnswer "a question takes the next answer, and is answered by it"
+        /// Definitions: [`TakesAnswer`](crate::specs::meter::AnswerList#TakesAnswer).
         #[inline]
         fn answer(&mut self) -> Result<bool, LimiterError> {
             self.last = match self.answers.get(self.taken) {
@@ -150,9 +161,11 @@ mod answer_list {
 
     /// # Contract
     ///
-    /// <span></span><pre><code>kind_rules = [answer_list_rules]</code></pre>
+    /// ```text
+    /// kind_rules = answer_list_rules
+    /// ```
     ///
-    /// [answer_list_rules]: crate::specs::meter::AnswerList#answer_list_rules "the rules of such a limiter, whatever is asked: a notice is answered as the last question\'s answer says, and takes none"
+    /// Definitions: [`answer_list_rules`](crate::specs::meter::AnswerList#answer_list_rules).
     impl LimiterByKind for AnswerList {
         #[inline]
         fn growing(&mut self, _: Kind, _: usize, _: usize) -> Result<bool, LimiterError> {
@@ -189,9 +202,11 @@ mod any_limiter {
 
     /// # Contract
     ///
-    /// <span></span><pre><code>kind_rules = [any_limiter_rules]</code></pre>
+    /// ```text
+    /// kind_rules = any_limiter_rules
+    /// ```
     ///
-    /// [any_limiter_rules]: crate::specs::meter::AnyLimiter#any_limiter_rules "the rules of such a limiter"
+    /// Definitions: [`any_limiter_rules`](crate::specs::meter::AnyLimiter#any_limiter_rules).
     impl LimiterByKind for AnyLimiter {
         #[inline]
         fn growing(
@@ -237,16 +252,20 @@ mod capped {
     ///
     /// # Contract
     ///
-    /// <span></span><pre><code><i>\-\- What it holds, what others hold beside it, and its caps.</i>
-    /// capped: [Capped] Self</code></pre>
+    /// ```text
+    /// -- What it holds, what others hold beside it, and its caps.
+    /// capped: Capped Self
+    /// ```
     ///
-    /// [Capped]: crate::specs::meter::Capped#Capped "limiters with caps: what one holds, the same one with other holdings, what others hold of a kind beside it, and the most that all of them together may hold of a kind"
+    /// Definitions: [`Capped`](crate::specs::meter::Capped#Capped).
     pub trait CappedLimiter {
         /// What it holds of each kind, with the last difference that it permitted.
         ///
         /// # Contract
         ///
-        /// <span></span><pre><code>ensures: result ≡ capped.holdings self.now</code></pre>
+        /// ```text
+        /// ensures: result ≡ capped.holdings self.now
+        /// ```
         fn holdings(&self) -> Holdings;
 
         /// Takes `difference` more of a kind, if all that is held of it stays within the cap. Returns
@@ -254,28 +273,33 @@ mod capped {
         ///
         /// # Contract
         ///
-        /// <span></span><pre><code>ensures: [HoldsMore] capped self.old kind difference result self.new</code></pre>
+        /// ```text
+        /// ensures: HoldsMore capped self.old kind difference result self.new
+        /// ```
         ///
-        /// [HoldsMore]: crate::specs::meter::Capped#HoldsMore "so many more of a kind are taken, or not, and all but the holdings stays"
+        /// Definitions: [`HoldsMore`](crate::specs::meter::Capped#HoldsMore).
         fn take(&mut self, kind: Kind, difference: u64) -> bool;
 
         /// Gives back what was taken last, if that is of this kind.
         ///
         /// # Contract
         ///
-        /// <span></span><pre><code>ensures back: capped.holdings self.new ≡ [without_last] kind (capped.holdings self.old)
-        /// ensures rest: self.new ≡ capped.with_holdings self.old (capped.holdings self.new)</code></pre>
+        /// ```text
+        /// ensures back: capped.holdings self.new ≡ without_last kind (capped.holdings self.old)
+        /// ensures rest: self.new ≡ capped.with_holdings self.old (capped.holdings self.new)
+        /// ```
         ///
-        /// [without_last]: crate::specs::meter::Holdings#without_last "what is held after a notice of a kind"
+        /// Definitions: [`without_last`](crate::specs::meter::Holdings#without_last).
         fn give_back(&mut self, kind: Kind);
     }
 
     /// # Contract
     ///
-    /// <span></span><pre><code>kind_rules = [capped_rules] [L.capped]</code></pre>
+    /// ```text
+    /// kind_rules = capped_rules L.capped
+    /// ```
     ///
-    /// [capped_rules]: crate::specs::meter::Capped#capped_rules "the rules of such limiters"
-    /// [L.capped]: trait@CappedLimiter#contract
+    /// Definitions: [`capped_rules`](crate::specs::meter::Capped#capped_rules).
     impl<L: CappedLimiter> LimiterByKind for L {
         #[inline]
         fn growing(
@@ -300,9 +324,9 @@ mod capped {
 
     /// # Contract
     ///
-    /// <span></span><pre><code>holdings = [L.capped].holdings</code></pre>
-    ///
-    /// [L.capped]: trait@CappedLimiter#contract
+    /// ```text
+    /// holdings = L.capped.holdings
+    /// ```
     impl<L: CappedLimiter> Reserving for L {
         #[inline]
         fn held_bytes(&self) -> u64 {
@@ -332,10 +356,11 @@ mod error {
 
     /// # Contract
     ///
-    /// <span></span><pre><code>output = λ error. [Some] ([limiter_error_text] error)</code></pre>
+    /// ```text
+    /// output = λ error. Some (limiter_error_text error)
+    /// ```
     ///
-    /// [Some]: crate::specs::library#Some "the value x, of an \`Option\`"
-    /// [limiter_error_text]: crate::specs::meter::Texts#limiter_error_text "the text of a limiter\'s error"
+    /// Definitions: [`limiter_error_text`](crate::specs::meter::Texts#limiter_error_text).
     impl fmt::Display for LimiterError {
         #[inline]
         fn fmt(&self, f: &mut fmt::Formatter<'_>) -> fmt::Result {
@@ -376,10 +401,11 @@ mod error {
 
     /// # Contract
     ///
-    /// <span></span><pre><code>output = λ error. [Some] ([memory_error_text] error)</code></pre>
+    /// ```text
+    /// output = λ error. Some (memory_error_text error)
+    /// ```
     ///
-    /// [Some]: crate::specs::library#Some "the value x, of an \`Option\`"
-    /// [memory_error_text]: crate::specs::meter::Texts#memory_error_text "the text of an error of a memory"
+    /// Definitions: [`memory_error_text`](crate::specs::meter::Texts#memory_error_text).
     impl fmt::Display for MemoryError {
         #[inline]
         fn fmt(&self, f: &mut fmt::Formatter<'_>) -> fmt::Result {
@@ -446,10 +472,11 @@ mod error {
 
     /// # Contract
     ///
-    /// <span></span><pre><code>output = λ error. [Some] ([table_error_text] error)</code></pre>
+    /// ```text
+    /// output = λ error. Some (table_error_text error)
+    /// ```
     ///
-    /// [Some]: crate::specs::library#Some "the value x, of an \`Option\`"
-    /// [table_error_text]: crate::specs::meter::Texts#table_error_text "the text of an error of a table"
+    /// Definitions: [`table_error_text`](crate::specs::meter::Texts#table_error_text).
     impl fmt::Display for TableError {
         #[inline]
         fn fmt(&self, f: &mut fmt::Formatter<'_>) -> fmt::Result {
@@ -480,9 +507,9 @@ mod error {
 
     /// # Contract
     ///
-    /// <span></span><pre><code>from_gives = λ \_ error. error ≡ [memory.ResourceLimiterDeniedAllocation]</code></pre>
-    ///
-    /// [memory.ResourceLimiterDeniedAllocation]: crate::proved::meter::MemoryError::ResourceLimiterDeniedAllocation
+    /// ```text
+    /// from_gives = λ _ error. error ≡ memory.ResourceLimiterDeniedAllocation
+    /// ```
     impl From<LimiterError> for MemoryError {
         #[inline]
         fn from(_: LimiterError) -> Self {
@@ -492,9 +519,9 @@ mod error {
 
     /// # Contract
     ///
-    /// <span></span><pre><code>from_gives = λ \_ error. error ≡ [table.ResourceLimiterDeniedAllocation]</code></pre>
-    ///
-    /// [table.ResourceLimiterDeniedAllocation]: crate::proved::meter::TableError::ResourceLimiterDeniedAllocation
+    /// ```text
+    /// from_gives = λ _ error. error ≡ table.ResourceLimiterDeniedAllocation
+    /// ```
     impl From<LimiterError> for TableError {
         #[inline]
         fn from(_: LimiterError) -> Self {
@@ -504,9 +531,11 @@ mod error {
 
     /// # Contract
     ///
-    /// <span></span><pre><code>try_from_gives = [IsOfFuel]</code></pre>
+    /// ```text
+    /// try_from_gives = IsOfFuel
+    /// ```
     ///
-    /// [IsOfFuel]: crate::specs::meter::Meter#IsOfFuel "too little fuel is an error of a table; that a meter is off is none, and is handed back"
+    /// Definitions: [`IsOfFuel`](crate::specs::meter::Meter#IsOfFuel).
     impl TableError {
         // The error of a meter that is off is handed back. Upstream panics there.
         #[inline]
@@ -532,10 +561,10 @@ mod fuel {
     ///
     /// # Contract
     ///
-    /// <span></span><pre><code><i>\-\- The number of bytes, in contracts.</i>
-    /// SIZE: [ℕ]</code></pre>
-    ///
-    /// [ℕ]: crate::specs::library#%E2%84%95 "the whole numbers from 0 on"
+    /// ```text
+    /// -- The number of bytes, in contracts.
+    /// SIZE: ℕ
+    /// ```
     pub trait ValueSize {
         /// The number of bytes.
         const SIZE: u64;
@@ -552,30 +581,36 @@ mod fuel {
     ///
     /// # Contract
     ///
-    /// <span></span><pre><code><i>\-\- The three costs as one value.</i>
-    /// costs: Self → [CustomFuelCosts]</code></pre>
-    ///
-    /// [CustomFuelCosts]: crate::proved::meter::CustomFuelCosts
+    /// ```text
+    /// -- The three costs as one value.
+    /// costs: Self → CustomFuelCosts
+    /// ```
     pub trait FuelCosts {
         /// How many bytes are copied for one unit of fuel; at 0 each copy costs `u64::MAX`.
         ///
         /// # Contract
         ///
-        /// <span></span><pre><code>ensures: result ≡ (costs self.now).bytes_copied_per_fuel</code></pre>
+        /// ```text
+        /// ensures: result ≡ (costs self.now).bytes_copied_per_fuel
+        /// ```
         fn bytes_copied_per_fuel(&self) -> u32;
 
         /// The fuel for translating one byte.
         ///
         /// # Contract
         ///
-        /// <span></span><pre><code>ensures: result ≡ (costs self.now).fuel_per_bytes_translated</code></pre>
+        /// ```text
+        /// ensures: result ≡ (costs self.now).fuel_per_bytes_translated
+        /// ```
         fn fuel_per_bytes_translated(&self) -> u32;
 
         /// The fuel for validating one byte.
         ///
         /// # Contract
         ///
-        /// <span></span><pre><code>ensures: result ≡ (costs self.now).fuel_per_bytes_validated</code></pre>
+        /// ```text
+        /// ensures: result ≡ (costs self.now).fuel_per_bytes_validated
+        /// ```
         fn fuel_per_bytes_validated(&self) -> u32;
     }
 
@@ -594,7 +629,9 @@ mod fuel {
 
     /// # Contract
     ///
-    /// <span></span><pre><code>costs = λ c. c</code></pre>
+    /// ```text
+    /// costs = λ c. c
+    /// ```
     impl FuelCosts for CustomFuelCosts {
         #[inline]
         fn bytes_copied_per_fuel(&self) -> u32 {
@@ -633,9 +670,11 @@ mod fuel {
         ///
         /// # Contract
         ///
-        /// <span></span><pre><code>ensures: [costs_of] result ≡ custom</code></pre>
+        /// ```text
+        /// ensures: costs_of result ≡ custom
+        /// ```
         ///
-        /// [costs_of]: crate::specs::meter::Costs#costs_of "the costs that are chosen, or the default ones"
+        /// Definitions: [`costs_of`](crate::specs::meter::Costs#costs_of).
         #[inline]
         pub fn custom(custom: CustomFuelCosts) -> Self {
             FuelCostsProvider {
@@ -647,9 +686,11 @@ mod fuel {
         ///
         /// # Contract
         ///
-        /// <span></span><pre><code>ensures: result ≡ [costs_of] self.now</code></pre>
+        /// ```text
+        /// ensures: result ≡ costs_of self.now
+        /// ```
         ///
-        /// [costs_of]: crate::specs::meter::Costs#costs_of "the costs that are chosen, or the default ones"
+        /// Definitions: [`costs_of`](crate::specs::meter::Costs#costs_of).
         #[inline]
         pub(crate) fn costs(&self) -> CustomFuelCosts {
             self.custom.unwrap_or(DEFAULT_COSTS)
@@ -659,10 +700,11 @@ mod fuel {
         ///
         /// # Contract
         ///
-        /// <span></span><pre><code>ensures: result ≡ [cut_product] len_bytes ([costs_of] self.now).fuel_per_bytes_translated</code></pre>
+        /// ```text
+        /// ensures: result ≡ cut_product len_bytes (costs_of self.now).fuel_per_bytes_translated
+        /// ```
         ///
-        /// [cut_product]: crate::specs::meter::Costs#cut_product "a product cut at the greatest number of 64 bits"
-        /// [costs_of]: crate::specs::meter::Costs#costs_of "the costs that are chosen, or the default ones"
+        /// Definitions: [`cut_product`](crate::specs::meter::Costs#cut_product), [`costs_of`](crate::specs::meter::Costs#costs_of).
         #[inline]
         pub fn fuel_for_translating_bytes(&self, len_bytes: u64) -> u64 {
             len_bytes.saturating_mul(u64::from(self.costs().fuel_per_bytes_translated))
@@ -672,10 +714,11 @@ mod fuel {
         ///
         /// # Contract
         ///
-        /// <span></span><pre><code>ensures: result ≡ [cut_product] len_bytes ([costs_of] self.now).fuel_per_bytes_validated</code></pre>
+        /// ```text
+        /// ensures: result ≡ cut_product len_bytes (costs_of self.now).fuel_per_bytes_validated
+        /// ```
         ///
-        /// [cut_product]: crate::specs::meter::Costs#cut_product "a product cut at the greatest number of 64 bits"
-        /// [costs_of]: crate::specs::meter::Costs#costs_of "the costs that are chosen, or the default ones"
+        /// Definitions: [`cut_product`](crate::specs::meter::Costs#cut_product), [`costs_of`](crate::specs::meter::Costs#costs_of).
         #[inline]
         pub fn fuel_for_validating_bytes(&self, len_bytes: u64) -> u64 {
             len_bytes.saturating_mul(u64::from(self.costs().fuel_per_bytes_validated))
@@ -686,11 +729,11 @@ mod fuel {
         ///
         /// # Contract
         ///
-        /// <span></span><pre><code>ensures: result ≡ [copy_cost] ([costs_of] self.now) len_values [T.SIZE]</code></pre>
+        /// ```text
+        /// ensures: result ≡ copy_cost (costs_of self.now) len_values T.SIZE
+        /// ```
         ///
-        /// [copy_cost]: crate::specs::meter::Costs#copy_cost "the fuel for copying so many values of so many bytes each"
-        /// [costs_of]: crate::specs::meter::Costs#costs_of "the costs that are chosen, or the default ones"
-        /// [T.SIZE]: trait@ValueSize#contract
+        /// Definitions: [`copy_cost`](crate::specs::meter::Costs#copy_cost), [`costs_of`](crate::specs::meter::Costs#costs_of).
         #[inline]
         pub fn fuel_for_copying_values<T>(&self, len_values: u64) -> u64 {
             let len_bytes = len_values.saturating_mul(T::SIZE);
@@ -720,9 +763,9 @@ mod fuel {
         ///
         /// # Contract
         ///
-        /// <span></span><pre><code>ensures: result ≡ [FuelError.FuelMeteringDisabled]</code></pre>
-        ///
-        /// [FuelError.FuelMeteringDisabled]: crate::proved::meter::FuelError::FuelMeteringDisabled
+        /// ```text
+        /// ensures: result ≡ FuelError.FuelMeteringDisabled
+        /// ```
         #[cold]
         pub fn fuel_metering_disabled() -> Self {
             FuelError::FuelMeteringDisabled
@@ -732,9 +775,9 @@ mod fuel {
         ///
         /// # Contract
         ///
-        /// <span></span><pre><code>ensures: result ≡ [FuelError.OutOfFuel] required_fuel</code></pre>
-        ///
-        /// [FuelError.OutOfFuel]: crate::proved::meter::FuelError::OutOfFuel
+        /// ```text
+        /// ensures: result ≡ FuelError.OutOfFuel required_fuel
+        /// ```
         #[cold]
         pub fn out_of_fuel(required_fuel: u64) -> Self {
             FuelError::OutOfFuel { required_fuel }
@@ -743,10 +786,11 @@ mod fuel {
 
     /// # Contract
     ///
-    /// <span></span><pre><code>output = λ error. [Some] ([fuel_error_text] error)</code></pre>
+    /// ```text
+    /// output = λ error. Some (fuel_error_text error)
+    /// ```
     ///
-    /// [Some]: crate::specs::library#Some "the value x, of an \`Option\`"
-    /// [fuel_error_text]: crate::specs::meter::Texts#fuel_error_text "the text of an error of the meter"
+    /// Definitions: [`fuel_error_text`](crate::specs::meter::Texts#fuel_error_text).
     impl fmt::Display for FuelError {
         #[inline]
         fn fmt(&self, f: &mut fmt::Formatter<'_>) -> fmt::Result {
@@ -765,36 +809,17 @@ mod fuel {
     ///
     /// Upstream: `wasmi_core::Fuel`.
     ///
-    /// # Examples
-    ///
-    /// ```
-    /// use wasmi_core_proved::{Fuel, FuelCostsProvider, FuelError};
-    ///
-    /// let mut fuel = Fuel::new(true, FuelCostsProvider::default());
-    /// fuel.set_fuel(10)?;
-    /// assert_eq!(fuel.consume_fuel(|costs| costs.fuel_for_copying_values::<u8>(256))?, 6);
-    /// let refused = fuel.consume_fuel(|_| 7);
-    /// assert!(matches!(refused, Err(FuelError::OutOfFuel { required_fuel: 7 })));
-    /// assert_eq!(fuel.get_fuel()?, 6);
-    ///
-    /// // A meter that is off: nothing is charged.
-    /// let mut off = Fuel::new(false, FuelCostsProvider::default());
-    /// assert!(matches!(off.get_fuel(), Err(FuelError::FuelMeteringDisabled)));
-    /// # Ok::<(), FuelError>(())
-    /// ```
-    ///
     /// # Model
     ///
-    /// <span></span><pre><code>Value = [Meter]
+    /// ```text
+    /// Value = Meter
     /// view = λ f. record
-    /// &#32;&#32;&#32;&#32;{ left = (if f.enabled then [Some] f.remaining else [None]); costs = [costs_of] f.costs }
-    /// invariant = λ f. f.enabled ≡ [false] → f.remaining ≡ 0</code></pre>
+    ///     { left = (if f.enabled then Some f.remaining else None); costs = costs_of f.costs }
+    /// invariant = λ f. f.enabled ≡ false → f.remaining ≡ 0
+    /// ```
     ///
-    /// [Meter]: crate::specs::meter::Meter#Meter "a meter is off, or on with an amount left, at these costs"
-    /// [Some]: crate::specs::library#Some "the value x, of an \`Option\`"
-    /// [None]: crate::specs::library#None "no value, of an \`Option\`"
-    /// [costs_of]: crate::specs::meter::Costs#costs_of "the costs that are chosen, or the default ones"
-    /// [false]: crate::specs::library#false "the Boolean"
+    /// Definitions: [`Meter`](crate::specs::meter::Meter#Meter), [`costs_of`](crate::specs::meter::Costs#costs_of).
+    #[doc = examples!(meter Fuel)]
     #[derive(Debug)]
     pub struct Fuel {
         remaining: u64,
@@ -807,12 +832,12 @@ mod fuel {
         ///
         /// # Contract
         ///
-        /// <span></span><pre><code>ensures: result
-        /// &#32;&#32;&#32;&#32;≡ record { left = (if enabled then [Some] 0 else [None]); costs = [costs_of] costs }</code></pre>
+        /// ```text
+        /// ensures: result
+        ///     ≡ record { left = (if enabled then Some 0 else None); costs = costs_of costs }
+        /// ```
         ///
-        /// [Some]: crate::specs::library#Some "the value x, of an \`Option\`"
-        /// [None]: crate::specs::library#None "no value, of an \`Option\`"
-        /// [costs_of]: crate::specs::meter::Costs#costs_of "the costs that are chosen, or the default ones"
+        /// Definitions: [`costs_of`](crate::specs::meter::Costs#costs_of).
         #[inline]
         pub fn new(enabled: bool, costs: FuelCostsProvider) -> Self {
             Fuel {
@@ -828,10 +853,11 @@ mod fuel {
         ///
         /// # Contract
         ///
-        /// <span></span><pre><code>ensures: result ≡ record { left = [None]; costs = [default_costs] }</code></pre>
+        /// ```text
+        /// ensures: result ≡ record { left = None; costs = default_costs }
+        /// ```
         ///
-        /// [None]: crate::specs::library#None "no value, of an \`Option\`"
-        /// [default_costs]: crate::specs::meter::Costs#default_costs "the costs that stand where none are chosen"
+        /// Definitions: [`default_costs`](crate::specs::meter::Costs#default_costs).
         #[inline]
         pub(crate) fn unmetered() -> Self {
             Fuel::new(false, FuelCostsProvider::default())
@@ -839,15 +865,10 @@ mod fuel {
 
         /// # Contract
         ///
-        /// <span></span><pre><code>ensures on: [IsSome] self.now.left → result ≡ [Ok] [tt]
-        /// ensures off: self.now.left ≡ [None] → result ≡ [Err] [FuelError.FuelMeteringDisabled]</code></pre>
-        ///
-        /// [IsSome]: crate::specs::library#IsSome "there is a value"
-        /// [Ok]: crate::specs::library#Ok "the value x, of a \`Result\`"
-        /// [tt]: crate::specs::library#tt "the value \`()\`"
-        /// [None]: crate::specs::library#None "no value, of an \`Option\`"
-        /// [Err]: crate::specs::library#Err "the error e, of a \`Result\`"
-        /// [FuelError.FuelMeteringDisabled]: crate::proved::meter::FuelError::FuelMeteringDisabled
+        /// ```text
+        /// ensures on: IsSome self.now.left → result ≡ Ok tt
+        /// ensures off: self.now.left ≡ None → result ≡ Err FuelError.FuelMeteringDisabled
+        /// ```
         #[inline]
         fn check_fuel_metering_enabled(&self) -> Result<(), FuelError> {
             if !self.enabled {
@@ -856,23 +877,18 @@ mod fuel {
             Ok(())
         }
 
-        /// Sets the fuel that is left. The error is [`FuelMeteringDisabled`] if the meter is off.
+        /// Sets the fuel that is left. The error is `FuelMeteringDisabled` if the meter is off.
         ///
         /// # Contract
         ///
-        /// <span></span><pre><code>ensures on: [IsSome] self.old.left
-        /// &#32;&#32;&#32;&#32;→ (result ≡ [Ok] [tt]) × (self.new ≡ [meter_set] self.old fuel)
-        /// ensures off: self.old.left ≡ [None]
-        /// &#32;&#32;&#32;&#32;→ (result ≡ [Err] [FuelError.FuelMeteringDisabled]) × (self.new ≡ self.old)</code></pre>
+        /// ```text
+        /// ensures on: IsSome self.old.left
+        ///     → (result ≡ Ok tt) × (self.new ≡ meter_set self.old fuel)
+        /// ensures off: self.old.left ≡ None
+        ///     → (result ≡ Err FuelError.FuelMeteringDisabled) × (self.new ≡ self.old)
+        /// ```
         ///
-        /// [IsSome]: crate::specs::library#IsSome "there is a value"
-        /// [Ok]: crate::specs::library#Ok "the value x, of a \`Result\`"
-        /// [tt]: crate::specs::library#tt "the value \`()\`"
-        /// [meter_set]: crate::specs::meter::Meter#meter_set "the meter set to an amount; one that is off stays"
-        /// [None]: crate::specs::library#None "no value, of an \`Option\`"
-        /// [Err]: crate::specs::library#Err "the error e, of a \`Result\`"
-        /// [FuelError.FuelMeteringDisabled]: crate::proved::meter::FuelError::FuelMeteringDisabled
-        /// [`FuelMeteringDisabled`]: crate::proved::meter::FuelError::FuelMeteringDisabled
+        /// Definitions: [`meter_set`](crate::specs::meter::Meter#meter_set).
         #[inline]
         pub fn set_fuel(&mut self, fuel: u64) -> Result<(), FuelError> {
             self.check_fuel_metering_enabled()?;
@@ -880,37 +896,33 @@ mod fuel {
             Ok(())
         }
 
-        /// Returns the fuel that is left. The error is [`FuelMeteringDisabled`] if the meter is off.
+        /// Returns the fuel that is left. The error is `FuelMeteringDisabled` if the meter is off.
         ///
         /// # Contract
         ///
-        /// <span></span><pre><code>ensures on: [IsSome] self.now.left → result ≡ [Ok] ([amount_left] self.now)
-        /// ensures off: self.now.left ≡ [None] → result ≡ [Err] [FuelError.FuelMeteringDisabled]</code></pre>
+        /// ```text
+        /// ensures on: IsSome self.now.left → result ≡ Ok (amount_left self.now)
+        /// ensures off: self.now.left ≡ None → result ≡ Err FuelError.FuelMeteringDisabled
+        /// ```
         ///
-        /// [IsSome]: crate::specs::library#IsSome "there is a value"
-        /// [Ok]: crate::specs::library#Ok "the value x, of a \`Result\`"
-        /// [amount_left]: crate::specs::meter::Meter#amount_left "what is left; nothing where the meter is off"
-        /// [None]: crate::specs::library#None "no value, of an \`Option\`"
-        /// [Err]: crate::specs::library#Err "the error e, of a \`Result\`"
-        /// [FuelError.FuelMeteringDisabled]: crate::proved::meter::FuelError::FuelMeteringDisabled
-        /// [`FuelMeteringDisabled`]: crate::proved::meter::FuelError::FuelMeteringDisabled
+        /// Definitions: [`amount_left`](crate::specs::meter::Meter#amount_left).
         #[inline]
         pub fn get_fuel(&self) -> Result<u64, FuelError> {
             self.check_fuel_metering_enabled()?;
             Ok(self.remaining)
         }
 
-        /// Consumes `delta` fuel, and returns what is left. If less is left, the error is [`OutOfFuel`]
+        /// Consumes `delta` fuel, and returns what is left. If less is left, the error is `OutOfFuel`
         /// with `delta`, and nothing is consumed. It doesn't test whether the meter is on: one that is
         /// off has no fuel left.
         ///
         /// # Contract
         ///
-        /// <span></span><pre><code>ensures: [ConsumesFuel] self.old delta ([amount_left] self.old - delta) result self.new</code></pre>
+        /// ```text
+        /// ensures: ConsumesFuel self.old delta (amount_left self.old - delta) result self.new
+        /// ```
         ///
-        /// [ConsumesFuel]: crate::specs::meter::Meter#ConsumesFuel "an amount is taken where that much is left, and is refused else"
-        /// [amount_left]: crate::specs::meter::Meter#amount_left "what is left; nothing where the meter is off"
-        /// [`OutOfFuel`]: crate::proved::meter::FuelError::OutOfFuel
+        /// Definitions: [`ConsumesFuel`](crate::specs::meter::Meter#ConsumesFuel), [`amount_left`](crate::specs::meter::Meter#amount_left).
         #[inline]
         pub fn consume_fuel_unchecked(&mut self, delta: u64) -> Result<u64, FuelError> {
             let Some(left) = self.remaining.checked_sub(delta) else {
@@ -921,30 +933,21 @@ mod fuel {
         }
 
         /// Consumes the fuel that `f` computes from the costs, and returns what is left. If the meter
-        /// is off, the error is [`FuelMeteringDisabled`], and `f` isn't called. If less is left, the
-        /// error is [`OutOfFuel`], and nothing is consumed.
+        /// is off, the error is `FuelMeteringDisabled`, and `f` isn't called. If less is left, the
+        /// error is `OutOfFuel`, and nothing is consumed.
         ///
         /// # Contract
         ///
-        /// <span></span><pre><code>requires callable: [IsSome] self.old.left → [C.IsAlwaysCallable] f
-        /// ensures on: [IsSome] self.old.left
-        /// &#32;&#32;&#32;&#32;→ (amount : [ℕ]) × [Computes] [C.FnOnce] f self.old.costs amount
-        /// &#32;&#32;&#32;&#32;× [ConsumesFuel] self.old amount ([amount_left] self.old - amount) result self.new
-        /// ensures off: self.old.left ≡ [None]
-        /// &#32;&#32;&#32;&#32;→ (result ≡ [Err] [FuelError.FuelMeteringDisabled]) × (self.new ≡ self.old)</code></pre>
+        /// ```text
+        /// requires callable: IsSome self.old.left → C.IsAlwaysCallable f
+        /// ensures on: IsSome self.old.left
+        ///     → (amount : ℕ) × Computes C.FnOnce f self.old.costs amount
+        ///     × ConsumesFuel self.old amount (amount_left self.old - amount) result self.new
+        /// ensures off: self.old.left ≡ None
+        ///     → (result ≡ Err FuelError.FuelMeteringDisabled) × (self.new ≡ self.old)
+        /// ```
         ///
-        /// [IsSome]: crate::specs::library#IsSome "there is a value"
-        /// [C.IsAlwaysCallable]: crate::specs::library#IsAlwaysCallable "the closure may be called on all arguments"
-        /// [ℕ]: crate::specs::library#%E2%84%95 "the whole numbers from 0 on"
-        /// [Computes]: crate::specs::meter::Costs#Computes "f, called with a provider of these costs, returns the amount"
-        /// [C.FnOnce]: crate::specs::library#FnOnce "the calls of a closure"
-        /// [ConsumesFuel]: crate::specs::meter::Meter#ConsumesFuel "an amount is taken where that much is left, and is refused else"
-        /// [amount_left]: crate::specs::meter::Meter#amount_left "what is left; nothing where the meter is off"
-        /// [None]: crate::specs::library#None "no value, of an \`Option\`"
-        /// [Err]: crate::specs::library#Err "the error e, of a \`Result\`"
-        /// [FuelError.FuelMeteringDisabled]: crate::proved::meter::FuelError::FuelMeteringDisabled
-        /// [`FuelMeteringDisabled`]: crate::proved::meter::FuelError::FuelMeteringDisabled
-        /// [`OutOfFuel`]: crate::proved::meter::FuelError::OutOfFuel
+        /// Definitions: [`Computes`](crate::specs::meter::Costs#Computes), [`ConsumesFuel`](crate::specs::meter::Meter#ConsumesFuel), [`amount_left`](crate::specs::meter::Meter#amount_left).
         #[inline]
         pub fn consume_fuel(
             &mut self,
@@ -956,26 +959,19 @@ mod fuel {
         }
 
         /// Consumes the fuel that `f` computes from the costs if the meter is on. If it is off, `f`
-        /// isn't called. If less is left, the error is [`OutOfFuel`], and nothing is consumed.
+        /// isn't called. If less is left, the error is `OutOfFuel`, and nothing is consumed.
         ///
         /// # Contract
         ///
-        /// <span></span><pre><code>requires callable: [IsSome] self.old.left → [C.IsAlwaysCallable] f
-        /// ensures on: [IsSome] self.old.left
-        /// &#32;&#32;&#32;&#32;→ (amount : [ℕ]) × [Computes] [C.FnOnce] f self.old.costs amount
-        /// &#32;&#32;&#32;&#32;× [ConsumesFuel] self.old amount [tt] result self.new
-        /// ensures off: self.old.left ≡ [None] → (result ≡ [Ok] [tt]) × (self.new ≡ self.old)</code></pre>
+        /// ```text
+        /// requires callable: IsSome self.old.left → C.IsAlwaysCallable f
+        /// ensures on: IsSome self.old.left
+        ///     → (amount : ℕ) × Computes C.FnOnce f self.old.costs amount
+        ///     × ConsumesFuel self.old amount tt result self.new
+        /// ensures off: self.old.left ≡ None → (result ≡ Ok tt) × (self.new ≡ self.old)
+        /// ```
         ///
-        /// [IsSome]: crate::specs::library#IsSome "there is a value"
-        /// [C.IsAlwaysCallable]: crate::specs::library#IsAlwaysCallable "the closure may be called on all arguments"
-        /// [ℕ]: crate::specs::library#%E2%84%95 "the whole numbers from 0 on"
-        /// [Computes]: crate::specs::meter::Costs#Computes "f, called with a provider of these costs, returns the amount"
-        /// [C.FnOnce]: crate::specs::library#FnOnce "the calls of a closure"
-        /// [ConsumesFuel]: crate::specs::meter::Meter#ConsumesFuel "an amount is taken where that much is left, and is refused else"
-        /// [tt]: crate::specs::library#tt "the value \`()\`"
-        /// [None]: crate::specs::library#None "no value, of an \`Option\`"
-        /// [Ok]: crate::specs::library#Ok "the value x, of a \`Result\`"
-        /// [`OutOfFuel`]: crate::proved::meter::FuelError::OutOfFuel
+        /// Definitions: [`Computes`](crate::specs::meter::Costs#Computes), [`ConsumesFuel`](crate::specs::meter::Meter#ConsumesFuel).
         #[inline]
         pub fn consume_fuel_if(
             &mut self,
@@ -1006,9 +1002,11 @@ pub mod growth {
     ///
     /// # Contract
     ///
-    /// <span></span><pre><code>ensures: [Permits] denial refusal answer result</code></pre>
+    /// ```text
+    /// ensures: Permits denial refusal answer result
+    /// ```
     ///
-    /// [Permits]: crate::specs::meter::Attempt#Permits "the result of a limiter\'s answer: no error if it permits, else the error"
+    /// Definitions: [`Permits`](crate::specs::meter::Attempt#Permits).
     #[inline]
     pub fn permission<E>(
         answer: Result<bool, LimiterError>,
@@ -1028,25 +1026,26 @@ pub mod growth {
     ///
     /// # Contract
     ///
-    /// <span></span><pre><code><i>\-\- The notice that a limiter gets of it.</i>
-    /// notice: Self → [Failure]</code></pre>
+    /// ```text
+    /// -- The notice that a limiter gets of it.
+    /// notice: Self → Failure
+    /// ```
     ///
-    /// [Failure]: crate::specs::meter::Limiter#Failure "why a growth failed that was permitted"
+    /// Definitions: [`Failure`](crate::specs::meter::Limiter#Failure).
     pub trait GrowthError {
         /// Notifies the limiter, if there is one, that a growth which it permitted failed with this
         /// error.
         ///
         /// # Contract
         ///
-        /// <span></span><pre><code>ensures loan: [KeepsLoan] limiter.old limiter.new
-        /// ensures noticed: ([optional_rules] [L.rules]).noticed ([lent_limiter] limiter.old)
-        /// &#32;&#32;&#32;&#32;(notice self.now) result
-        /// &#32;&#32;&#32;&#32;([lent_limiter] limiter.new)</code></pre>
+        /// ```text
+        /// ensures loan: KeepsLoan limiter.old limiter.new
+        /// ensures noticed: (optional_rules L.rules).noticed (lent_limiter limiter.old)
+        ///     (notice self.now) result
+        ///     (lent_limiter limiter.new)
+        /// ```
         ///
-        /// [KeepsLoan]: crate::specs::meter::LimiterRef#KeepsLoan "r\' leads to what r leads to"
-        /// [optional_rules]: crate::specs::meter::Limiter#optional_rules "the rules of a limiter that may be absent"
-        /// [L.rules]: trait@ResourceLimiter#contract
-        /// [lent_limiter]: crate::specs::meter::LimiterRef#lent_limiter "the present value of the limiter that is lent, or none"
+        /// Definitions: [`KeepsLoan`](crate::specs::meter::LimiterRef#KeepsLoan), [`optional_rules`](crate::specs::meter::Limiter#optional_rules), [`lent_limiter`](crate::specs::meter::LimiterRef#lent_limiter).
         fn notify<L: ResourceLimiter>(
             &self,
             limiter: &mut ResourceLimiterRef<L>,
@@ -1055,9 +1054,11 @@ pub mod growth {
 
     /// # Contract
     ///
-    /// <span></span><pre><code>notice = [MemoryFailure]</code></pre>
+    /// ```text
+    /// notice = MemoryFailure
+    /// ```
     ///
-    /// [MemoryFailure]: crate::specs::meter::Limiter#MemoryFailure
+    /// Definitions: [`MemoryFailure`](crate::specs::meter::Limiter#MemoryFailure).
     impl GrowthError for MemoryError {
         #[inline]
         fn notify<L: ResourceLimiter>(
@@ -1070,9 +1071,11 @@ pub mod growth {
 
     /// # Contract
     ///
-    /// <span></span><pre><code>notice = [TableFailure]</code></pre>
+    /// ```text
+    /// notice = TableFailure
+    /// ```
     ///
-    /// [TableFailure]: crate::specs::meter::Limiter#TableFailure
+    /// Definitions: [`TableFailure`](crate::specs::meter::Limiter#TableFailure).
     impl GrowthError for TableError {
         #[inline]
         fn notify<L: ResourceLimiter>(
@@ -1088,19 +1091,15 @@ pub mod growth {
     ///
     /// # Contract
     ///
-    /// <span></span><pre><code>ensures loan: [KeepsLoan] limiter.old limiter.new
-    /// ensures told: (notice_answer : [NoticeAnswer])
-    /// &#32;&#32;&#32;&#32;× ([optional_rules] [L.rules]).noticed ([lent_limiter] limiter.old) ([E.notice] cause) notice_answer
-    /// &#32;&#32;&#32;&#32;([lent_limiter] limiter.new)
-    /// &#32;&#32;&#32;&#32;× (result ≡ [error_of_failure] refusal cause notice_answer)</code></pre>
+    /// ```text
+    /// ensures loan: KeepsLoan limiter.old limiter.new
+    /// ensures told: (notice_answer : NoticeAnswer)
+    ///     × (optional_rules L.rules).noticed (lent_limiter limiter.old) (E.notice cause) notice_answer
+    ///     (lent_limiter limiter.new)
+    ///     × (result ≡ error_of_failure refusal cause notice_answer)
+    /// ```
     ///
-    /// [KeepsLoan]: crate::specs::meter::LimiterRef#KeepsLoan "r\' leads to what r leads to"
-    /// [NoticeAnswer]: crate::specs::meter::Limiter#NoticeAnswer "what a limiter answers to a notice: it accepts it, or returns an error"
-    /// [optional_rules]: crate::specs::meter::Limiter#optional_rules "the rules of a limiter that may be absent"
-    /// [L.rules]: trait@ResourceLimiter#contract
-    /// [lent_limiter]: crate::specs::meter::LimiterRef#lent_limiter "the present value of the limiter that is lent, or none"
-    /// [E.notice]: trait@GrowthError#contract
-    /// [error_of_failure]: crate::specs::meter::Attempt#error_of_failure "the error of a failure, by the answer to its notice"
+    /// Definitions: [`KeepsLoan`](crate::specs::meter::LimiterRef#KeepsLoan), [`NoticeAnswer`](crate::specs::meter::Limiter#NoticeAnswer), [`optional_rules`](crate::specs::meter::Limiter#optional_rules), [`lent_limiter`](crate::specs::meter::LimiterRef#lent_limiter), [`error_of_failure`](crate::specs::meter::Attempt#error_of_failure).
     #[inline]
     pub fn tell<L: ResourceLimiter, E: GrowthError>(
         limiter: &mut ResourceLimiterRef<L>,
@@ -1119,13 +1118,12 @@ pub mod growth {
     ///
     /// # Contract
     ///
-    /// <span></span><pre><code>ensures: [Charges] fuel.old
-    /// &#32;&#32;&#32;&#32;([due] fuel.old (λ costs. [copy_cost] costs values [T.SIZE])) result fuel.new</code></pre>
+    /// ```text
+    /// ensures: Charges fuel.old
+    ///     (due fuel.old (λ costs. copy_cost costs values T.SIZE)) result fuel.new
+    /// ```
     ///
-    /// [Charges]: crate::specs::meter::Meter#Charges "a charge is taken where that much is left, and refused else with what it needs"
-    /// [due]: crate::specs::meter::Meter#due "what a meter is due for a price by its costs: nothing where it is off"
-    /// [copy_cost]: crate::specs::meter::Costs#copy_cost "the fuel for copying so many values of so many bytes each"
-    /// [T.SIZE]: trait@ValueSize#contract
+    /// Definitions: [`Charges`](crate::specs::meter::Meter#Charges), [`due`](crate::specs::meter::Meter#due), [`copy_cost`](crate::specs::meter::Costs#copy_cost).
     #[inline]
     pub fn charge<T: ValueSize>(fuel: &mut Fuel, values: u64) -> Result<(), u64> {
         match fuel.consume_fuel_if(|costs| costs.fuel_for_copying_values::<T>(values)) {
@@ -1155,9 +1153,9 @@ mod holdings {
         ///
         /// # Contract
         ///
-        /// <span></span><pre><code>ensures: result ≡ record { held = held; last = [None] }</code></pre>
-        ///
-        /// [None]: crate::specs::library#None "no value, of an \`Option\`"
+        /// ```text
+        /// ensures: result ≡ record { held = held; last = None }
+        /// ```
         #[inline]
         pub fn new(held: Amounts) -> Self {
             Holdings { held, last: None }
@@ -1168,7 +1166,9 @@ mod holdings {
         ///
         /// # Contract
         ///
-        /// <span></span><pre><code>ensures: result ≡ record { held = held; last = last }</code></pre>
+        /// ```text
+        /// ensures: result ≡ record { held = held; last = last }
+        /// ```
         #[inline]
         pub fn resume(held: Amounts, last: Option<(Kind, u64)>) -> Self {
             Holdings { held, last }
@@ -1178,7 +1178,9 @@ mod holdings {
         ///
         /// # Contract
         ///
-        /// <span></span><pre><code>ensures: result ≡ self.now.last</code></pre>
+        /// ```text
+        /// ensures: result ≡ self.now.last
+        /// ```
         #[inline]
         pub fn last(&self) -> Option<(Kind, u64)> {
             self.last
@@ -1188,7 +1190,9 @@ mod holdings {
         ///
         /// # Contract
         ///
-        /// <span></span><pre><code>ensures: result ≡ self.now.held</code></pre>
+        /// ```text
+        /// ensures: result ≡ self.now.held
+        /// ```
         #[inline]
         pub fn held(&self) -> Amounts {
             self.held
@@ -1199,9 +1203,11 @@ mod holdings {
         ///
         /// # Contract
         ///
-        /// <span></span><pre><code>ensures: [Takes] others cap self.old kind difference result self.new</code></pre>
+        /// ```text
+        /// ensures: Takes others cap self.old kind difference result self.new
+        /// ```
         ///
-        /// [Takes]: crate::specs::meter::Holdings#Takes "so many more of a kind are taken exactly where they stay, with what is held and what others hold, within the cap, and nothing changes otherwise"
+        /// Definitions: [`Takes`](crate::specs::meter::Holdings#Takes).
         #[inline]
         pub fn take(&mut self, kind: Kind, difference: u64, others: u64, cap: u64) -> bool {
             let together = others as u128 + self.held.of(kind) as u128;
@@ -1220,9 +1226,11 @@ mod holdings {
         ///
         /// # Contract
         ///
-        /// <span></span><pre><code>ensures: self.new ≡ [without_last] kind self.old</code></pre>
+        /// ```text
+        /// ensures: self.new ≡ without_last kind self.old
+        /// ```
         ///
-        /// [without_last]: crate::specs::meter::Holdings#without_last "what is held after a notice of a kind"
+        /// Definitions: [`without_last`](crate::specs::meter::Holdings#without_last).
         #[inline]
         pub fn give_back(&mut self, kind: Kind) {
             match (kind, self.last) {
@@ -1277,22 +1285,24 @@ mod limiter {
     ///
     /// # Contract
     ///
-    /// <span></span><pre><code><i>\-\- The answers that it may give to a question and to a notice, and its state afterwards.</i>
-    /// rules: [Rules] Self</code></pre>
+    /// ```text
+    /// -- The answers that it may give to a question and to a notice, and its state afterwards.
+    /// rules: Rules Self
+    /// ```
     ///
-    /// [Rules]: crate::specs::meter::Limiter#Rules "what a limiter may answer in each of its states, and the state after it"
+    /// Definitions: [`Rules`](crate::specs::meter::Limiter#Rules).
     pub trait ResourceLimiter {
         /// May a memory grow from `current` to `desired` bytes? `maximum`, in bytes, is the most that
         /// its type allows. `Ok(true)` permits; `Ok(false)` and `Err` deny.
         ///
         /// # Contract
         ///
-        /// <span></span><pre><code>requires grows: current ≤ desired
+        /// ```text
+        /// requires grows: current ≤ desired
         /// ensures asked: rules.asked self.old
-        /// &#32;&#32;&#32;&#32;(record { kind = [Bytes]; current = current; desired = desired; maximum = maximum })
-        /// &#32;&#32;&#32;&#32;result self.new</code></pre>
-        ///
-        /// [Bytes]: crate::proved::meter::Kind::Bytes
+        ///     (record { kind = Bytes; current = current; desired = desired; maximum = maximum })
+        ///     result self.new
+        /// ```
         fn memory_growing(
             &mut self,
             current: usize,
@@ -1305,12 +1315,12 @@ mod limiter {
         ///
         /// # Contract
         ///
-        /// <span></span><pre><code>requires grows: current ≤ desired
+        /// ```text
+        /// requires grows: current ≤ desired
         /// ensures asked: rules.asked self.old
-        /// &#32;&#32;&#32;&#32;(record { kind = [Elements]; current = current; desired = desired; maximum = maximum })
-        /// &#32;&#32;&#32;&#32;result self.new</code></pre>
-        ///
-        /// [Elements]: crate::proved::meter::Kind::Elements
+        ///     (record { kind = Elements; current = current; desired = desired; maximum = maximum })
+        ///     result self.new
+        /// ```
         fn table_growing(
             &mut self,
             current: usize,
@@ -1323,9 +1333,11 @@ mod limiter {
         ///
         /// # Contract
         ///
-        /// <span></span><pre><code>ensures: rules.noticed self.old ([MemoryFailure] error.now) result self.new</code></pre>
+        /// ```text
+        /// ensures: rules.noticed self.old (MemoryFailure error.now) result self.new
+        /// ```
         ///
-        /// [MemoryFailure]: crate::specs::meter::Limiter#MemoryFailure
+        /// Definitions: [`MemoryFailure`](crate::specs::meter::Limiter#MemoryFailure).
         fn memory_grow_failed(&mut self, error: &MemoryError) -> Result<(), LimiterError>;
 
         /// A table was permitted to grow and did not, because of this error. After `Ok(())` the call
@@ -1333,9 +1345,11 @@ mod limiter {
         ///
         /// # Contract
         ///
-        /// <span></span><pre><code>ensures: rules.noticed self.old ([TableFailure] error.now) result self.new</code></pre>
+        /// ```text
+        /// ensures: rules.noticed self.old (TableFailure error.now) result self.new
+        /// ```
         ///
-        /// [TableFailure]: crate::specs::meter::Limiter#TableFailure
+        /// Definitions: [`TableFailure`](crate::specs::meter::Limiter#TableFailure).
         fn table_grow_failed(&mut self, error: &TableError) -> Result<(), LimiterError>;
 
         /// The greatest number of instances of a store. Nothing in this library calls it.
@@ -1353,37 +1367,15 @@ mod limiter {
     ///
     /// Own: upstream has no such trait.
     ///
-    /// # Examples
-    ///
-    /// ```
-    /// use wasmi_core_proved::machine::{Kind, LimiterByKind, LimiterError, Memory, MemoryType};
-    ///
-    /// /// Permits each memory up to so many bytes, and no table.
-    /// struct AtMost(usize);
-    ///
-    /// impl LimiterByKind for AtMost {
-    ///     fn growing(&mut self, kind: Kind, _from: usize, to: usize) -> Result<bool, LimiterError> {
-    ///         Ok(kind == Kind::Bytes && to <= self.0)
-    ///     }
-    ///     fn grow_failed(&mut self, _kind: Kind) -> Result<(), LimiterError> {
-    ///         Ok(())
-    ///     }
-    /// }
-    ///
-    /// let mut builder = MemoryType::builder();
-    /// builder.min(2);
-    /// let ty = builder.build()?;
-    /// assert!(Memory::new_lending(ty, &mut AtMost(131_072)).is_ok());
-    /// assert!(Memory::new_lending(ty, &mut AtMost(131_071)).is_err());
-    /// # Ok::<(), wasmi_core_proved::MemoryError>(())
-    /// ```
-    ///
     /// # Contract
     ///
-    /// <span></span><pre><code><i>\-\- The answers that it may give to a question and to a notice, and its state afterwards.</i>
-    /// kind_rules: [Rules] Self</code></pre>
+    /// ```text
+    /// -- The answers that it may give to a question and to a notice, and its state afterwards.
+    /// kind_rules: Rules Self
+    /// ```
     ///
-    /// [Rules]: crate::specs::meter::Limiter#Rules "what a limiter may answer in each of its states, and the state after it"
+    /// Definitions: [`Rules`](crate::specs::meter::Limiter#Rules).
+    #[doc = examples!(meter LimiterByKind)]
     pub trait LimiterByKind {
         /// May something of this kind grow from `current` to `desired`, in bytes or elements? The
         /// answers have the meaning that they have for a [`ResourceLimiter`]: `Ok(true)` permits, and
@@ -1391,13 +1383,12 @@ mod limiter {
         ///
         /// # Contract
         ///
-        /// <span></span><pre><code>requires grows: current ≤ desired
-        /// ensures asked: (maximum : [Option] [ℕ]) → kind_rules.asked self.old
-        /// &#32;&#32;&#32;&#32;(record { kind = kind; current = current; desired = desired; maximum = maximum })
-        /// &#32;&#32;&#32;&#32;result self.new</code></pre>
-        ///
-        /// [Option]: crate::specs::library#Option "a value, or none"
-        /// [ℕ]: crate::specs::library#%E2%84%95 "the whole numbers from 0 on"
+        /// ```text
+        /// requires grows: current ≤ desired
+        /// ensures asked: (maximum : Option ℕ) → kind_rules.asked self.old
+        ///     (record { kind = kind; current = current; desired = desired; maximum = maximum })
+        ///     result self.new
+        /// ```
         fn growing(
             &mut self,
             kind: Kind,
@@ -1406,24 +1397,24 @@ mod limiter {
         ) -> Result<bool, LimiterError>;
 
         /// Something of this kind was permitted to grow and did not. After `Err` the call returns
-        /// [`ResourceLimiterDeniedAllocation`] instead of its error.
+        /// `ResourceLimiterDeniedAllocation` instead of its error.
         ///
         /// # Contract
         ///
-        /// <span></span><pre><code>ensures: (failure : [Failure]) → [kind_of] failure ≡ kind
-        /// &#32;&#32;&#32;&#32;→ kind_rules.noticed self.old failure result self.new</code></pre>
+        /// ```text
+        /// ensures: (failure : Failure) → kind_of failure ≡ kind
+        ///     → kind_rules.noticed self.old failure result self.new
+        /// ```
         ///
-        /// [Failure]: crate::specs::meter::Limiter#Failure "why a growth failed that was permitted"
-        /// [kind_of]: crate::specs::meter::Limiter#kind_of "the kind of what failed to grow"
-        /// [`ResourceLimiterDeniedAllocation`]: crate::proved::meter::LimiterError::ResourceLimiterDeniedAllocation
+        /// Definitions: [`Failure`](crate::specs::meter::Limiter#Failure), [`kind_of`](crate::specs::meter::Limiter#kind_of).
         fn grow_failed(&mut self, kind: Kind) -> Result<(), LimiterError>;
     }
 
     /// # Contract
     ///
-    /// <span></span><pre><code>rules = [L.kind_rules]</code></pre>
-    ///
-    /// [L.kind_rules]: trait@LimiterByKind#contract
+    /// ```text
+    /// rules = L.kind_rules
+    /// ```
     impl<L: LimiterByKind> ResourceLimiter for L {
         #[inline]
         fn memory_growing(
@@ -1457,9 +1448,9 @@ mod limiter {
 
         /// # Contract
         ///
-        /// <span></span><pre><code>ensures: result ≡ [usize.MAX]</code></pre>
-        ///
-        /// [usize.MAX]: crate::specs::library#MAX "the greatest value of an integer type"
+        /// ```text
+        /// ensures: result ≡ usize.MAX
+        /// ```
         #[inline]
         fn instances(&self) -> usize {
             usize::MAX
@@ -1467,9 +1458,9 @@ mod limiter {
 
         /// # Contract
         ///
-        /// <span></span><pre><code>ensures: result ≡ [usize.MAX]</code></pre>
-        ///
-        /// [usize.MAX]: crate::specs::library#MAX "the greatest value of an integer type"
+        /// ```text
+        /// ensures: result ≡ usize.MAX
+        /// ```
         #[inline]
         fn tables(&self) -> usize {
             usize::MAX
@@ -1477,9 +1468,9 @@ mod limiter {
 
         /// # Contract
         ///
-        /// <span></span><pre><code>ensures: result ≡ [usize.MAX]</code></pre>
-        ///
-        /// [usize.MAX]: crate::specs::library#MAX "the greatest value of an integer type"
+        /// ```text
+        /// ensures: result ≡ usize.MAX
+        /// ```
         #[inline]
         fn memories(&self) -> usize {
             usize::MAX
@@ -1494,9 +1485,11 @@ mod limiter {
 
     /// # Contract
     ///
-    /// <span></span><pre><code>kind_rules = [unlimited_rules]</code></pre>
+    /// ```text
+    /// kind_rules = unlimited_rules
+    /// ```
     ///
-    /// [unlimited_rules]: crate::specs::meter::Limiter#unlimited_rules "the rules of a limiter that permits everything, accepts each notice, and stays the same"
+    /// Definitions: [`unlimited_rules`](crate::specs::meter::Limiter#unlimited_rules).
     impl LimiterByKind for NoLimits {
         #[inline]
         fn growing(
@@ -1533,12 +1526,14 @@ mod limiter_ref {
     ///
     /// # Contract
     ///
-    /// <span></span><pre><code><i>\-\- The present value of what is lent.</i>
-    /// shown: Self → [Self.Lent]
-    /// <i>\-\- The lender after a loan that left this value.</i>
-    /// last: Self → [Self.Lent] → Self</code></pre>
+    /// ```text
+    /// -- The present value of what is lent.
+    /// shown: Self → Self.Lent
+    /// -- The lender after a loan that left this value.
+    /// last: Self → Self.Lent → Self
+    /// ```
     ///
-    /// [Self.Lent]: trait@Lender#contract
+    /// Definitions: [`loan`](crate::specs::meter::LimiterRef#loan).
     pub trait Lender: sealed::Sealed {
         /// The type of what is lent.
         type Lent;
@@ -1547,23 +1542,20 @@ mod limiter_ref {
         ///
         /// # Contract
         ///
-        /// <span></span><pre><code>ensures\* writes_back: [sem] 𝓛
-        /// &#32;&#32;&#32;&#32;([Lends] [Self.row] [Self.Lent].row self.entry result (last self.old))
-        /// ensures value: result.now ≡ shown self.old</code></pre>
-        ///
-        /// [sem]: crate::specs::library#sem "the fixed form of a clause on a loan"
-        /// [Lends]: crate::specs::library#Lends "the result r borrows from x: what is written through r last, w, makes x the value F w"
-        /// [Self.row]: crate::specs::library#row "a type, in a clause on a loan"
-        /// [Self.Lent]: trait@Lender#contract
+        /// ```text
+        /// ensures* writes_back: sem 𝓛
+        ///     (Lends Self.row Self.Lent.row self.entry result (last self.old))
+        /// ensures value: result.now ≡ shown self.old
+        /// ```
         fn lend(&mut self) -> &mut Self::Lent;
     }
 
     /// # Contract
     ///
-    /// <span></span><pre><code>shown = λ l. l.now
-    /// last = [at_last]</code></pre>
-    ///
-    /// [at_last]: crate::specs::library#at_last "the reference r, whose last value is x"
+    /// ```text
+    /// shown = λ l. l.now
+    /// last = at_last
+    /// ```
     impl<'a, L> Lender for &'a mut L {
         type Lent = L;
 
@@ -1598,10 +1590,11 @@ mod limiter_ref {
 
     /// # Contract
     ///
-    /// <span></span><pre><code>is_default = λ r. [loan] r ≡ [None]</code></pre>
+    /// ```text
+    /// is_default = λ r. loan r ≡ None
+    /// ```
     ///
-    /// [loan]: crate::specs::meter::LimiterRef#loan "what is lent, if anything"
-    /// [None]: crate::specs::library#None "no value, of an \`Option\`"
+    /// Definitions: [`loan`](crate::specs::meter::LimiterRef#loan).
     impl<'a, L> Default for LimiterRef<&'a mut L> {
         #[inline]
         fn default() -> Self {
@@ -1611,10 +1604,11 @@ mod limiter_ref {
 
     /// # Contract
     ///
-    /// <span></span><pre><code>from_gives = λ l r. [loan] r ≡ [Some] l</code></pre>
+    /// ```text
+    /// from_gives = λ l r. loan r ≡ Some l
+    /// ```
     ///
-    /// [loan]: crate::specs::meter::LimiterRef#loan "what is lent, if anything"
-    /// [Some]: crate::specs::library#Some "the value x, of an \`Option\`"
+    /// Definitions: [`loan`](crate::specs::meter::LimiterRef#loan).
     impl<'a, L> From<&'a mut L> for LimiterRef<&'a mut L> {
         #[inline]
         fn from(limiter: &'a mut L) -> Self {
@@ -1626,9 +1620,11 @@ mod limiter_ref {
 
     /// # Contract
     ///
-    /// <span></span><pre><code>from_gives = λ limiter r. [loan] r ≡ limiter</code></pre>
+    /// ```text
+    /// from_gives = λ limiter r. loan r ≡ limiter
+    /// ```
     ///
-    /// [loan]: crate::specs::meter::LimiterRef#loan "what is lent, if anything"
+    /// Definitions: [`loan`](crate::specs::meter::LimiterRef#loan).
     impl<'a, L> From<Option<&'a mut L>> for LimiterRef<&'a mut L> {
         #[inline]
         fn from(limiter: Option<&'a mut L>) -> Self {
@@ -1642,9 +1638,11 @@ mod limiter_ref {
         ///
         /// # Contract
         ///
-        /// <span></span><pre><code>ensures: result ≡ [loan] self</code></pre>
+        /// ```text
+        /// ensures: result ≡ loan self
+        /// ```
         ///
-        /// [loan]: crate::specs::meter::LimiterRef#loan "what is lent, if anything"
+        /// Definitions: [`loan`](crate::specs::meter::LimiterRef#loan).
         #[inline]
         pub fn into_resource_limiter(self) -> Option<R> {
             let LimiterRef { limiter } = self;
@@ -1661,12 +1659,12 @@ mod limiter_ref {
         ///
         /// # Contract
         ///
-        /// <span></span><pre><code>requires lent: [IsSome] ([loan] self)
-        /// ensures value: [loan] self ≡ [Some] result</code></pre>
+        /// ```text
+        /// requires lent: IsSome (loan self)
+        /// ensures value: loan self ≡ Some result
+        /// ```
         ///
-        /// [IsSome]: crate::specs::library#IsSome "there is a value"
-        /// [loan]: crate::specs::meter::LimiterRef#loan "what is lent, if anything"
-        /// [Some]: crate::specs::library#Some "the value x, of an \`Option\`"
+        /// Definitions: [`loan`](crate::specs::meter::LimiterRef#loan).
         #[inline]
         pub fn into_limiter(self) -> R {
             assert!(self.limiter.is_some(), "the reference lends no limiter");
@@ -1680,18 +1678,13 @@ mod limiter_ref {
         ///
         /// # Contract
         ///
-        /// <span></span><pre><code>ensures\* writes_back: [sem] 𝓛
-        /// &#32;&#32;&#32;&#32;([LendsLimiter] [R.row] [R.Lent].row [R.Lender].last self.entry result)
-        /// ensures value: [option_copied_mut] result ≡ [shown_of] [R.Lender].shown ([loan] self.old)</code></pre>
+        /// ```text
+        /// ensures* writes_back: sem 𝓛
+        ///     (LendsLimiter R.row R.Lent.row R.Lender.last self.entry result)
+        /// ensures value: option_copied_mut result ≡ shown_of R.Lender.shown (loan self.old)
+        /// ```
         ///
-        /// [sem]: crate::specs::library#sem "the fixed form of a clause on a loan"
-        /// [LendsLimiter]: crate::specs::meter::LimiterRef#LendsLimiter "r lends the limiter out of s, and s ends with the last value that was written through it"
-        /// [R.row]: crate::specs::library#row "a type, in a clause on a loan"
-        /// [R.Lent]: trait@Lender#contract
-        /// [R.Lender]: trait@Lender#contract
-        /// [option_copied_mut]: crate::specs::library#option_copied_mut "the value behind an optional \`&mut\`, if there is one"
-        /// [shown_of]: crate::specs::meter::LimiterRef#shown_of "what a reference shows, if there is one"
-        /// [loan]: crate::specs::meter::LimiterRef#loan "what is lent, if anything"
+        /// Definitions: [`LendsLimiter`](crate::specs::meter::LimiterRef#LendsLimiter), [`shown_of`](crate::specs::meter::LimiterRef#shown_of), [`loan`](crate::specs::meter::LimiterRef#loan).
         #[inline]
         pub fn as_resource_limiter(&mut self) -> Option<&mut R::Lent>
         where
@@ -1714,17 +1707,15 @@ mod limiter_ref {
         ///
         /// # Contract
         ///
-        /// <span></span><pre><code>requires grows: current ≤ desired
-        /// ensures loan: [KeepsLoan] self.old self.new
-        /// ensures asked: ([optional_rules] [L.rules]).asked ([lent_limiter] self.old)
-        /// &#32;&#32;&#32;&#32;(record { kind = [Bytes]; current = current; desired = desired; maximum = maximum })
-        /// &#32;&#32;&#32;&#32;result ([lent_limiter] self.new)</code></pre>
+        /// ```text
+        /// requires grows: current ≤ desired
+        /// ensures loan: KeepsLoan self.old self.new
+        /// ensures asked: (optional_rules L.rules).asked (lent_limiter self.old)
+        ///     (record { kind = Bytes; current = current; desired = desired; maximum = maximum })
+        ///     result (lent_limiter self.new)
+        /// ```
         ///
-        /// [KeepsLoan]: crate::specs::meter::LimiterRef#KeepsLoan "r\' leads to what r leads to"
-        /// [optional_rules]: crate::specs::meter::Limiter#optional_rules "the rules of a limiter that may be absent"
-        /// [L.rules]: trait@ResourceLimiter#contract
-        /// [lent_limiter]: crate::specs::meter::LimiterRef#lent_limiter "the present value of the limiter that is lent, or none"
-        /// [Bytes]: crate::proved::meter::Kind::Bytes
+        /// Definitions: [`loan`](crate::specs::meter::LimiterRef#loan), [`KeepsLoan`](crate::specs::meter::LimiterRef#KeepsLoan), [`optional_rules`](crate::specs::meter::Limiter#optional_rules), [`lent_limiter`](crate::specs::meter::LimiterRef#lent_limiter).
         #[inline]
         pub fn memory_growing(
             &mut self,
@@ -1751,17 +1742,15 @@ mod limiter_ref {
         ///
         /// # Contract
         ///
-        /// <span></span><pre><code>requires grows: current ≤ desired
-        /// ensures loan: [KeepsLoan] self.old self.new
-        /// ensures asked: ([optional_rules] [L.rules]).asked ([lent_limiter] self.old)
-        /// &#32;&#32;&#32;&#32;(record { kind = [Elements]; current = current; desired = desired; maximum = maximum })
-        /// &#32;&#32;&#32;&#32;result ([lent_limiter] self.new)</code></pre>
+        /// ```text
+        /// requires grows: current ≤ desired
+        /// ensures loan: KeepsLoan self.old self.new
+        /// ensures asked: (optional_rules L.rules).asked (lent_limiter self.old)
+        ///     (record { kind = Elements; current = current; desired = desired; maximum = maximum })
+        ///     result (lent_limiter self.new)
+        /// ```
         ///
-        /// [KeepsLoan]: crate::specs::meter::LimiterRef#KeepsLoan "r\' leads to what r leads to"
-        /// [optional_rules]: crate::specs::meter::Limiter#optional_rules "the rules of a limiter that may be absent"
-        /// [L.rules]: trait@ResourceLimiter#contract
-        /// [lent_limiter]: crate::specs::meter::LimiterRef#lent_limiter "the present value of the limiter that is lent, or none"
-        /// [Elements]: crate::proved::meter::Kind::Elements
+        /// Definitions: [`loan`](crate::specs::meter::LimiterRef#loan), [`KeepsLoan`](crate::specs::meter::LimiterRef#KeepsLoan), [`optional_rules`](crate::specs::meter::Limiter#optional_rules), [`lent_limiter`](crate::specs::meter::LimiterRef#lent_limiter).
         #[inline]
         pub fn table_growing(
             &mut self,
@@ -1784,15 +1773,13 @@ mod limiter_ref {
         ///
         /// # Contract
         ///
-        /// <span></span><pre><code>ensures loan: [KeepsLoan] self.old self.new
-        /// ensures noticed: ([optional_rules] [L.rules]).noticed ([lent_limiter] self.old)
-        /// &#32;&#32;&#32;&#32;([MemoryFailure] error.now) result ([lent_limiter] self.new)</code></pre>
+        /// ```text
+        /// ensures loan: KeepsLoan self.old self.new
+        /// ensures noticed: (optional_rules L.rules).noticed (lent_limiter self.old)
+        ///     (MemoryFailure error.now) result (lent_limiter self.new)
+        /// ```
         ///
-        /// [KeepsLoan]: crate::specs::meter::LimiterRef#KeepsLoan "r\' leads to what r leads to"
-        /// [optional_rules]: crate::specs::meter::Limiter#optional_rules "the rules of a limiter that may be absent"
-        /// [L.rules]: trait@ResourceLimiter#contract
-        /// [lent_limiter]: crate::specs::meter::LimiterRef#lent_limiter "the present value of the limiter that is lent, or none"
-        /// [MemoryFailure]: crate::specs::meter::Limiter#MemoryFailure
+        /// Definitions: [`loan`](crate::specs::meter::LimiterRef#loan), [`KeepsLoan`](crate::specs::meter::LimiterRef#KeepsLoan), [`optional_rules`](crate::specs::meter::Limiter#optional_rules), [`lent_limiter`](crate::specs::meter::LimiterRef#lent_limiter), [`MemoryFailure`](crate::specs::meter::Limiter#MemoryFailure).
         #[inline]
         pub fn memory_grow_failed(&mut self, error: &MemoryError) -> Result<(), LimiterError> {
             match &mut self.limiter {
@@ -1806,15 +1793,13 @@ mod limiter_ref {
         ///
         /// # Contract
         ///
-        /// <span></span><pre><code>ensures loan: [KeepsLoan] self.old self.new
-        /// ensures noticed: ([optional_rules] [L.rules]).noticed ([lent_limiter] self.old)
-        /// &#32;&#32;&#32;&#32;([TableFailure] error.now) result ([lent_limiter] self.new)</code></pre>
+        /// ```text
+        /// ensures loan: KeepsLoan self.old self.new
+        /// ensures noticed: (optional_rules L.rules).noticed (lent_limiter self.old)
+        ///     (TableFailure error.now) result (lent_limiter self.new)
+        /// ```
         ///
-        /// [KeepsLoan]: crate::specs::meter::LimiterRef#KeepsLoan "r\' leads to what r leads to"
-        /// [optional_rules]: crate::specs::meter::Limiter#optional_rules "the rules of a limiter that may be absent"
-        /// [L.rules]: trait@ResourceLimiter#contract
-        /// [lent_limiter]: crate::specs::meter::LimiterRef#lent_limiter "the present value of the limiter that is lent, or none"
-        /// [TableFailure]: crate::specs::meter::Limiter#TableFailure
+        /// Definitions: [`loan`](crate::specs::meter::LimiterRef#loan), [`KeepsLoan`](crate::specs::meter::LimiterRef#KeepsLoan), [`optional_rules`](crate::specs::meter::Limiter#optional_rules), [`lent_limiter`](crate::specs::meter::LimiterRef#lent_limiter), [`TableFailure`](crate::specs::meter::Limiter#TableFailure).
         #[inline]
         pub fn table_grow_failed(&mut self, error: &TableError) -> Result<(), LimiterError> {
             match &mut self.limiter {
@@ -1833,10 +1818,11 @@ mod optional_limiter {
 
     /// # Contract
     ///
-    /// <span></span><pre><code>rules = [optional_rules] [L.rules]</code></pre>
+    /// ```text
+    /// rules = optional_rules L.rules
+    /// ```
     ///
-    /// [optional_rules]: crate::specs::meter::Limiter#optional_rules "the rules of a limiter that may be absent"
-    /// [L.rules]: trait@ResourceLimiter#contract
+    /// Definitions: [`optional_rules`](crate::specs::meter::Limiter#optional_rules).
     impl<L: ResourceLimiter> ResourceLimiter for Option<L> {
         #[inline]
         fn memory_growing(
@@ -1882,10 +1868,9 @@ mod optional_limiter {
 
         /// # Contract
         ///
-        /// <span></span><pre><code>ensures absent: self.now ≡ [None] → result ≡ [usize.MAX]</code></pre>
-        ///
-        /// [None]: crate::specs::library#None "no value, of an \`Option\`"
-        /// [usize.MAX]: crate::specs::library#MAX "the greatest value of an integer type"
+        /// ```text
+        /// ensures absent: self.now ≡ None → result ≡ usize.MAX
+        /// ```
         #[inline]
         fn instances(&self) -> usize {
             match self {
@@ -1896,10 +1881,9 @@ mod optional_limiter {
 
         /// # Contract
         ///
-        /// <span></span><pre><code>ensures absent: self.now ≡ [None] → result ≡ [usize.MAX]</code></pre>
-        ///
-        /// [None]: crate::specs::library#None "no value, of an \`Option\`"
-        /// [usize.MAX]: crate::specs::library#MAX "the greatest value of an integer type"
+        /// ```text
+        /// ensures absent: self.now ≡ None → result ≡ usize.MAX
+        /// ```
         #[inline]
         fn tables(&self) -> usize {
             match self {
@@ -1910,10 +1894,9 @@ mod optional_limiter {
 
         /// # Contract
         ///
-        /// <span></span><pre><code>ensures absent: self.now ≡ [None] → result ≡ [usize.MAX]</code></pre>
-        ///
-        /// [None]: crate::specs::library#None "no value, of an \`Option\`"
-        /// [usize.MAX]: crate::specs::library#MAX "the greatest value of an integer type"
+        /// ```text
+        /// ensures absent: self.now ≡ None → result ≡ usize.MAX
+        /// ```
         #[inline]
         fn memories(&self) -> usize {
             match self {
@@ -1936,26 +1919,7 @@ mod quota {
     /// kind, once. It can't be copied, since a copy would count on its own.
     ///
     /// Own: upstream implements no limiter.
-    ///
-    /// # Examples
-    ///
-    /// ```
-    /// use wasmi_core_proved::machine::{Memory, MemoryType, Quota};
-    ///
-    /// // A page for all memories together, and no tables.
-    /// let mut quota = Quota::new(65_536, 0);
-    /// let mut builder = MemoryType::builder();
-    /// builder.min(1);
-    /// let ty = builder.build()?;
-    /// let memory = Memory::new_lending(ty, &mut quota)?;
-    /// assert_eq!(quota.held_bytes(), 65_536);
-    /// assert!(Memory::new_lending(ty, &mut quota).is_err());
-    ///
-    /// // What was dropped still counts.
-    /// drop(memory);
-    /// assert!(Memory::new_lending(ty, &mut quota).is_err());
-    /// # Ok::<(), wasmi_core_proved::MemoryError>(())
-    /// ```
+    #[doc = examples!(meter Quota)]
     #[derive(Debug)]
     pub struct Quota {
         caps: Amounts,
@@ -1967,18 +1931,14 @@ mod quota {
         ///
         /// # Contract
         ///
-        /// <span></span><pre><code>ensures bytes: [cap_of] result [Bytes] ≡ bytes
-        /// ensures elements: [cap_of] result [Elements] ≡ elements
-        /// ensures nothing_held: [holdings] result ≡ record { held = [nothing]; last = [None] }
-        /// ensures within: [IsWithinCaps] result</code></pre>
+        /// ```text
+        /// ensures bytes: cap_of result Bytes ≡ bytes
+        /// ensures elements: cap_of result Elements ≡ elements
+        /// ensures nothing_held: holdings result ≡ record { held = nothing; last = None }
+        /// ensures within: IsWithinCaps result
+        /// ```
         ///
-        /// [cap_of]: crate::specs::meter::Quota#cap_of "the most that it may hold of a kind"
-        /// [Bytes]: crate::proved::meter::Kind::Bytes
-        /// [Elements]: crate::proved::meter::Kind::Elements
-        /// [holdings]: crate::specs::meter::Quota#holdings "what a quota holds"
-        /// [nothing]: crate::specs::meter::Amounts#nothing "nothing of either kind"
-        /// [None]: crate::specs::library#None "no value, of an \`Option\`"
-        /// [IsWithinCaps]: crate::specs::meter::Quota#IsWithinCaps "no more of a kind is held than its cap"
+        /// Definitions: [`cap_of`](crate::specs::meter::Quota#cap_of), [`holdings`](crate::specs::meter::Quota#holdings), [`nothing`](crate::specs::meter::Amounts#nothing), [`IsWithinCaps`](crate::specs::meter::Quota#IsWithinCaps).
         #[inline]
         pub fn new(bytes: u64, elements: u64) -> Self {
             Quota {
@@ -1992,9 +1952,11 @@ mod quota {
         ///
         /// # Contract
         ///
-        /// <span></span><pre><code>ensures: result ≡ record { caps = caps; [holdings] = [holdings] }</code></pre>
+        /// ```text
+        /// ensures: result ≡ record { caps = caps; holdings = holdings }
+        /// ```
         ///
-        /// [holdings]: crate::specs::meter::Quota#holdings "what a quota holds"
+        /// Definitions: [`holdings`](crate::specs::meter::Quota#holdings).
         #[inline]
         pub fn resume(caps: Amounts, holdings: Holdings) -> Self {
             Quota { caps, holdings }
@@ -2004,7 +1966,9 @@ mod quota {
         ///
         /// # Contract
         ///
-        /// <span></span><pre><code>ensures: result ≡ self.now.caps</code></pre>
+        /// ```text
+        /// ensures: result ≡ self.now.caps
+        /// ```
         #[inline]
         pub fn caps(&self) -> Amounts {
             self.caps
@@ -2014,9 +1978,11 @@ mod quota {
         ///
         /// # Contract
         ///
-        /// <span></span><pre><code>ensures: result ≡ [holdings] self.now</code></pre>
+        /// ```text
+        /// ensures: result ≡ holdings self.now
+        /// ```
         ///
-        /// [holdings]: crate::specs::meter::Quota#holdings "what a quota holds"
+        /// Definitions: [`holdings`](crate::specs::meter::Quota#holdings).
         #[inline]
         pub fn holdings(&self) -> Holdings {
             self.holdings
@@ -2026,9 +1992,11 @@ mod quota {
         ///
         /// # Contract
         ///
-        /// <span></span><pre><code>ensures: result ≡ ([holdings] self.now).held.bytes</code></pre>
+        /// ```text
+        /// ensures: result ≡ (holdings self.now).held.bytes
+        /// ```
         ///
-        /// [holdings]: crate::specs::meter::Quota#holdings "what a quota holds"
+        /// Definitions: [`holdings`](crate::specs::meter::Quota#holdings).
         #[inline]
         pub fn held_bytes(&self) -> u64 {
             self.holdings.held().bytes
@@ -2038,9 +2006,11 @@ mod quota {
         ///
         /// # Contract
         ///
-        /// <span></span><pre><code>ensures: result ≡ ([holdings] self.now).held.elements</code></pre>
+        /// ```text
+        /// ensures: result ≡ (holdings self.now).held.elements
+        /// ```
         ///
-        /// [holdings]: crate::specs::meter::Quota#holdings "what a quota holds"
+        /// Definitions: [`holdings`](crate::specs::meter::Quota#holdings).
         #[inline]
         pub fn held_elements(&self) -> u64 {
             self.holdings.held().elements
@@ -2049,9 +2019,11 @@ mod quota {
 
     /// # Contract
     ///
-    /// <span></span><pre><code>capped = [capped_quota]</code></pre>
+    /// ```text
+    /// capped = capped_quota
+    /// ```
     ///
-    /// [capped_quota]: crate::specs::meter::Quota#capped_quota "quotas as limiters with caps"
+    /// Definitions: [`capped_quota`](crate::specs::meter::Quota#capped_quota).
     impl CappedLimiter for Quota {
         #[inline]
         fn holdings(&self) -> Holdings {
@@ -2081,39 +2053,37 @@ mod reserving {
     ///
     /// # Contract
     ///
-    /// <span></span><pre><code><i>\-\- What it holds of each kind, and the last difference that it permitted and that wasn\'t given back.</i>
-    /// holdings: Self → [Holdings]
-    /// <i>\-\- A permission adds the difference that was asked for; any other answer leaves what is held.</i>
-    /// reserves: (l l\' : Self) (question : [Question]) (answer : [Answer])
-    /// &#32;&#32;&#32;&#32;→ [Self.rules].asked l question answer l\'
-    /// &#32;&#32;&#32;&#32;→ [Reserves] question answer (holdings l) (holdings l\')
-    /// <i>\-\- A notice takes back the last permitted difference of its kind, once, whatever the answer to it is. If there is none of its kind, what is held stays.</i>
-    /// gives_back: (l l\' : Self) (failure : [Failure]) (notice_answer : [NoticeAnswer])
-    /// &#32;&#32;&#32;&#32;→ [Self.rules].noticed l failure notice_answer l\'
-    /// &#32;&#32;&#32;&#32;→ [GivesBack] ([kind_of] failure) (holdings l) (holdings l\')</code></pre>
+    /// ```text
+    /// -- What it holds of each kind, and the last difference that it permitted and that wasn't given back.
+    /// holdings: Self → Holdings
+    /// -- A permission adds the difference that was asked for; any other answer leaves what is held.
+    /// reserves: (l l' : Self) (question : Question) (answer : Answer)
+    ///     → Self.rules.asked l question answer l'
+    ///     → Reserves question answer (holdings l) (holdings l')
+    /// -- A notice takes back the last permitted difference of its kind, once, whatever the answer to it is. If there is none of its kind, what is held stays.
+    /// gives_back: (l l' : Self) (failure : Failure) (notice_answer : NoticeAnswer)
+    ///     → Self.rules.noticed l failure notice_answer l'
+    ///     → GivesBack (kind_of failure) (holdings l) (holdings l')
+    /// ```
     ///
-    /// [Holdings]: crate::proved::meter::Holdings
-    /// [Question]: crate::specs::meter::Limiter#Question "May this grow from current to desired, where maximum is the most that its type allows?"
-    /// [Answer]: crate::specs::meter::Limiter#Answer "what a limiter answers to a question: it permits, says no, or returns an error"
-    /// [Self.rules]: trait@Reserving#contract
-    /// [Reserves]: crate::specs::meter::Holdings#Reserves "a permission adds the difference that was asked for, and another answer keeps what is held"
-    /// [Failure]: crate::specs::meter::Limiter#Failure "why a growth failed that was permitted"
-    /// [NoticeAnswer]: crate::specs::meter::Limiter#NoticeAnswer "what a limiter answers to a notice: it accepts it, or returns an error"
-    /// [GivesBack]: crate::specs::meter::Holdings#GivesBack "a notice takes back the last difference of its kind, once, and changes nothing that is held otherwise"
-    /// [kind_of]: crate::specs::meter::Limiter#kind_of "the kind of what failed to grow"
+    /// Definitions: [`Question`](crate::specs::meter::Limiter#Question), [`Answer`](crate::specs::meter::Limiter#Answer), [`Reserves`](crate::specs::meter::Holdings#Reserves), [`Failure`](crate::specs::meter::Limiter#Failure), [`NoticeAnswer`](crate::specs::meter::Limiter#NoticeAnswer), [`GivesBack`](crate::specs::meter::Holdings#GivesBack), [`kind_of`](crate::specs::meter::Limiter#kind_of).
     pub trait Reserving: ResourceLimiter {
         /// The bytes that it permitted and that weren't given back.
         ///
         /// # Contract
         ///
-        /// <span></span><pre><code>ensures: result ≡ (holdings self.now).held.bytes</code></pre>
+        /// ```text
+        /// ensures: result ≡ (holdings self.now).held.bytes
+        /// ```
         fn held_bytes(&self) -> u64;
 
         /// The elements that it permitted and that weren't given back.
         ///
         /// # Contract
         ///
-        /// <span></span><pre><code>ensures: result ≡ (holdings self.now).held.elements</code></pre>
+        /// ```text
+        /// ensures: result ≡ (holdings self.now).held.elements
+        /// ```
         fn held_elements(&self) -> u64;
     }
 }

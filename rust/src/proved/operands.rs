@@ -9,24 +9,17 @@ mod decimal {
     ///
     /// # Contract
     ///
-    /// <span></span><pre><code>ensures digits: [IfOk] result (λ \_. [IsDecimal] word.now)
-    /// ensures value: [IfOk] result (λ number. [T.try_from_gives] ([decimal_value] word.now) ([Ok] number))
-    /// ensures refused: [IfErr] result (λ error. error ≡ [LineError.BadCommand])
-    /// ensures unfit: [IfErr] result (λ \_. [IsDecimal] word.now → [decimal_value] word.now < 2 ^ 64
-    /// &#32;&#32;&#32;&#32;→ (error : T.Error) × [T.try_from_gives] ([decimal_value] word.now) ([Err] error))</code></pre>
+    /// ```text
+    /// ensures digits: IfOk result (λ _. IsDecimal word.now)
+    /// ensures value: IfOk result (λ number. T.try_from_gives (decimal_value word.now) (Ok number))
+    /// ensures refused: IfErr result (λ error. error ≡ LineError.BadCommand)
+    /// ensures unfit: IfErr result (λ _. IsDecimal word.now → decimal_value word.now < 2 ^ 64
+    ///     → (error : T.Error) × T.try_from_gives (decimal_value word.now) (Err error))
+    /// ```
     ///
-    /// [IfOk]: crate::specs::library#IfOk "P of the value, if r is a value"
-    /// [IsDecimal]: crate::specs::operands::Decimal#IsDecimal "a word of one decimal digit or more, and nothing else"
-    /// [T.try_from_gives]: crate::specs::library#try_from_gives "what \`TryFrom\` gives for x may be r"
-    /// [decimal_value]: crate::specs::operands::Decimal#decimal_value "the number that the digits of a word write"
-    /// [Ok]: crate::specs::library#Ok "the value x, of a \`Result\`"
-    /// [IfErr]: crate::specs::library#IfErr "P of the error, if r is an error"
-    /// [LineError.BadCommand]: crate::proved::operands::LineError::BadCommand
-    /// [Err]: crate::specs::library#Err "the error e, of a \`Result\`"
+    /// Definitions: [`IsDecimal`](crate::specs::operands::Decimal#IsDecimal), [`decimal_value`](crate::specs::operands::Decimal#decimal_value).
     #[inline]
-    pub fn number<T: TryFrom<u64>>(word: &str) -> Result<T, LineError>
-where
-    {
+    pub fn number<T: TryFrom<u64>>(word: &str) -> Result<T, LineError> {
         T::try_from(decimal(word)?).map_err(|_| LineError::BadCommand)
     }
 
@@ -34,10 +27,11 @@ where
     ///
     /// # Contract
     ///
-    /// <span></span><pre><code>ensures: [Accepts] result ([WritesLimit] word.now)</code></pre>
+    /// ```text
+    /// ensures: Accepts result (WritesLimit word.now)
+    /// ```
     ///
-    /// [Accepts]: crate::specs::operands::Acceptance#Accepts "what is accepted is meant, and what is refused is a bad command: nothing is meant"
-    /// [WritesLimit]: crate::specs::operands::Decimal#WritesLimit "the word \`none\`, or a word that writes the number"
+    /// Definitions: [`Accepts`](crate::specs::operands::Acceptance#Accepts), [`WritesLimit`](crate::specs::operands::Decimal#WritesLimit).
     #[inline]
     pub fn number_or_none(word: &str) -> Result<Option<u64>, LineError> {
         match word {
@@ -50,15 +44,13 @@ where
     ///
     /// # Contract
     ///
-    /// <span></span><pre><code>ensures value: [OkIff] result ([IsDecimal] word.now × ([decimal_value] word.now < 2 ^ 64))
-    /// &#32;&#32;&#32;&#32;([decimal_value] word.now)
-    /// ensures refused: [IfErr] result (λ error. error ≡ [LineError.BadCommand])</code></pre>
+    /// ```text
+    /// ensures value: OkIff result (IsDecimal word.now × (decimal_value word.now < 2 ^ 64))
+    ///     (decimal_value word.now)
+    /// ensures refused: IfErr result (λ error. error ≡ LineError.BadCommand)
+    /// ```
     ///
-    /// [OkIff]: crate::specs::library#OkIff "if P, r is the value x; else it is an error"
-    /// [IsDecimal]: crate::specs::operands::Decimal#IsDecimal "a word of one decimal digit or more, and nothing else"
-    /// [decimal_value]: crate::specs::operands::Decimal#decimal_value "the number that the digits of a word write"
-    /// [IfErr]: crate::specs::library#IfErr "P of the error, if r is an error"
-    /// [LineError.BadCommand]: crate::proved::operands::LineError::BadCommand
+    /// Definitions: [`IsDecimal`](crate::specs::operands::Decimal#IsDecimal), [`decimal_value`](crate::specs::operands::Decimal#decimal_value).
     #[inline]
     fn decimal(word: &str) -> Result<u64, LineError> {
         if word.is_empty() {
@@ -78,13 +70,13 @@ where
     ///
     /// # Contract
     ///
-    /// <span></span><pre><code>ensures: [SomeIff] result
-    /// &#32;&#32;&#32;&#32;([IsInRange] 48 57 byte × (number \* 10 + [digit_value] byte < 2 ^ 64))
-    /// &#32;&#32;&#32;&#32;(number \* 10 + [digit_value] byte)</code></pre>
+    /// ```text
+    /// ensures: SomeIff result
+    ///     (IsInRange 48 57 byte × (number * 10 + digit_value byte < 2 ^ 64))
+    ///     (number * 10 + digit_value byte)
+    /// ```
     ///
-    /// [SomeIff]: crate::specs::library#SomeIff "if P, o is the value x; else there is none"
-    /// [IsInRange]: crate::specs::library#IsInRange "n is from a to b"
-    /// [digit_value]: crate::specs::library#digit_value "the value of a character as a digit of a base up to 36; 36 if it is none"
+    /// Definitions: [`IsInRange`](crate::specs::raw::Number#IsInRange).
     #[inline(always)]
     fn appended(number: u64, byte: u8) -> Option<u64> {
         let digit = byte.wrapping_sub(b'0');
@@ -110,9 +102,9 @@ mod error {
 
     /// # Contract
     ///
-    /// <span></span><pre><code>from_gives = λ \_ error. error ≡ [OutOfMemory]</code></pre>
-    ///
-    /// [OutOfMemory]: crate::proved::operands::LineError::OutOfMemory
+    /// ```text
+    /// from_gives = λ _ error. error ≡ OutOfMemory
+    /// ```
     impl From<AllocError> for LineError {
         #[inline]
         fn from(_: AllocError) -> Self {
@@ -122,9 +114,9 @@ mod error {
 
     /// # Contract
     ///
-    /// <span></span><pre><code>from_gives = λ \_ error. error ≡ [OutOfMemory]</code></pre>
-    ///
-    /// [OutOfMemory]: crate::proved::operands::LineError::OutOfMemory
+    /// ```text
+    /// from_gives = λ _ error. error ≡ OutOfMemory
+    /// ```
     impl<T> From<AllocFailed<T>> for LineError {
         #[inline]
         fn from(_: AllocFailed<T>) -> Self {
@@ -150,10 +142,11 @@ pub mod names {
         ///
         /// # Contract
         ///
-        /// <span></span><pre><code>ensures: [Accepts] result ([NamesExtract] name.now lane.now)</code></pre>
+        /// ```text
+        /// ensures: Accepts result (NamesExtract name.now lane.now)
+        /// ```
         ///
-        /// [Accepts]: crate::specs::operands::Acceptance#Accepts "what is accepted is meant, and what is refused is a bad command: nothing is meant"
-        /// [NamesExtract]: crate::specs::operands::LaneNames#NamesExtract "two words name the extraction of a lane"
+        /// Definitions: [`Accepts`](crate::specs::operands::Acceptance#Accepts), [`NamesExtract`](crate::specs::operands::LaneNames#NamesExtract).
         #[inline]
         pub fn extract_op(name: &str, lane: &str) -> Result<ExtractOp, LineError> {
             let kind = ExtractKind::from_word(name)?;
@@ -165,10 +158,11 @@ pub mod names {
         ///
         /// # Contract
         ///
-        /// <span></span><pre><code>ensures: [Accepts] result ([NamesReplace] name.now lane.now)</code></pre>
+        /// ```text
+        /// ensures: Accepts result (NamesReplace name.now lane.now)
+        /// ```
         ///
-        /// [Accepts]: crate::specs::operands::Acceptance#Accepts "what is accepted is meant, and what is refused is a bad command: nothing is meant"
-        /// [NamesReplace]: crate::specs::operands::LaneNames#NamesReplace "two words name the replacement of a lane"
+        /// Definitions: [`Accepts`](crate::specs::operands::Acceptance#Accepts), [`NamesReplace`](crate::specs::operands::LaneNames#NamesReplace).
         #[inline]
         pub fn replace_op(name: &str, lane: &str) -> Result<ReplaceOp, LineError> {
             let kind = ReplaceKind::from_word(name)?;
@@ -180,10 +174,11 @@ pub mod names {
         ///
         /// # Contract
         ///
-        /// <span></span><pre><code>ensures: [Accepts] result ([NamesLoadLane] name.now lane.now)</code></pre>
+        /// ```text
+        /// ensures: Accepts result (NamesLoadLane name.now lane.now)
+        /// ```
         ///
-        /// [Accepts]: crate::specs::operands::Acceptance#Accepts "what is accepted is meant, and what is refused is a bad command: nothing is meant"
-        /// [NamesLoadLane]: crate::specs::operands::LaneNames#NamesLoadLane "two words name the load of a lane"
+        /// Definitions: [`Accepts`](crate::specs::operands::Acceptance#Accepts), [`NamesLoadLane`](crate::specs::operands::LaneNames#NamesLoadLane).
         #[inline]
         pub fn load_lane_op(name: &str, lane: &str) -> Result<LoadLaneOp, LineError> {
             let kind = LoadLaneKind::from_word(name)?;
@@ -195,10 +190,11 @@ pub mod names {
         ///
         /// # Contract
         ///
-        /// <span></span><pre><code>ensures: [Accepts] result ([NamesStoreLane] name.now lane.now)</code></pre>
+        /// ```text
+        /// ensures: Accepts result (NamesStoreLane name.now lane.now)
+        /// ```
         ///
-        /// [Accepts]: crate::specs::operands::Acceptance#Accepts "what is accepted is meant, and what is refused is a bad command: nothing is meant"
-        /// [NamesStoreLane]: crate::specs::operands::LaneNames#NamesStoreLane "two words name the store of a lane"
+        /// Definitions: [`Accepts`](crate::specs::operands::Acceptance#Accepts), [`NamesStoreLane`](crate::specs::operands::LaneNames#NamesStoreLane).
         #[inline]
         pub fn store_lane_op(name: &str, lane: &str) -> Result<StoreLaneOp, LineError> {
             let kind = StoreLaneKind::from_word(name)?;
@@ -210,24 +206,17 @@ pub mod names {
         ///
         /// # Contract
         ///
-        /// <span></span><pre><code>ensures digits: [IfOk] result (λ \_. [IsDecimal] word.now)
-        /// ensures value: [IfOk] result (λ lane. [L.try_from_gives] ([decimal_value] word.now) ([Ok] lane))
-        /// ensures refused: [IfErr] result (λ error. error ≡ [LineError.BadCommand])
-        /// ensures unfit: [IfErr] result (λ \_. [IsDecimal] word.now → [decimal_value] word.now < 2 ^ 8
-        /// &#32;&#32;&#32;&#32;→ (error : L.Error) × [L.try_from_gives] ([decimal_value] word.now) ([Err] error))</code></pre>
+        /// ```text
+        /// ensures digits: IfOk result (λ _. IsDecimal word.now)
+        /// ensures value: IfOk result (λ lane. L.try_from_gives (decimal_value word.now) (Ok lane))
+        /// ensures refused: IfErr result (λ error. error ≡ LineError.BadCommand)
+        /// ensures unfit: IfErr result (λ _. IsDecimal word.now → decimal_value word.now < 2 ^ 8
+        ///     → (error : L.Error) × L.try_from_gives (decimal_value word.now) (Err error))
+        /// ```
         ///
-        /// [IfOk]: crate::specs::library#IfOk "P of the value, if r is a value"
-        /// [IsDecimal]: crate::specs::operands::Decimal#IsDecimal "a word of one decimal digit or more, and nothing else"
-        /// [L.try_from_gives]: crate::specs::library#try_from_gives "what \`TryFrom\` gives for x may be r"
-        /// [decimal_value]: crate::specs::operands::Decimal#decimal_value "the number that the digits of a word write"
-        /// [Ok]: crate::specs::library#Ok "the value x, of a \`Result\`"
-        /// [IfErr]: crate::specs::library#IfErr "P of the error, if r is an error"
-        /// [LineError.BadCommand]: crate::proved::operands::LineError::BadCommand
-        /// [Err]: crate::specs::library#Err "the error e, of a \`Result\`"
+        /// Definitions: [`IsDecimal`](crate::specs::operands::Decimal#IsDecimal), [`decimal_value`](crate::specs::operands::Decimal#decimal_value).
         #[inline]
-        pub fn index<L: TryFrom<u8>>(word: &str) -> Result<L, LineError>
-where
-        {
+        pub fn index<L: TryFrom<u8>>(word: &str) -> Result<L, LineError> {
             let number: u8 = number(word)?;
             L::try_from(number).map_err(|_| LineError::BadCommand)
         }
@@ -239,11 +228,11 @@ where
     ///
     /// # Contract
     ///
-    /// <span></span><pre><code>ensures: [Accepts] result ([IsNamed] ([map] (λ entry. (entry.0.now, entry.1)) names.now) name.now)</code></pre>
+    /// ```text
+    /// ensures: Accepts result (IsNamed (map (λ entry. (entry.0.now, entry.1)) names.now) name.now)
+    /// ```
     ///
-    /// [Accepts]: crate::specs::operands::Acceptance#Accepts "what is accepted is meant, and what is refused is a bad command: nothing is meant"
-    /// [IsNamed]: crate::specs::operands::Names#IsNamed "a list gives a name this op"
-    /// [map]: crate::specs::library#map "f of each element"
+    /// Definitions: [`Accepts`](crate::specs::operands::Acceptance#Accepts), [`IsNamed`](crate::specs::operands::Names#IsNamed).
     #[inline]
     pub(crate) fn op_named<T: Copy>(names: &[(&str, T)], name: &str) -> Result<T, LineError> {
         let entry = names.iter().find(|(known, _)| *known == name);
@@ -273,27 +262,30 @@ pub mod operand {
     ///
     /// # Contract
     ///
-    /// <span></span><pre><code><i>\-\- The word writes this value.</i>
-    /// writes: [List] [ℕ] → Self → Type 0</code></pre>
-    ///
-    /// [List]: crate::specs::library#List "the finite lists"
-    /// [ℕ]: crate::specs::library#%E2%84%95 "the whole numbers from 0 on"
+    /// ```text
+    /// -- The word writes this value.
+    /// writes: List ℕ → Self → Type 0
+    /// ```
     pub trait Operand: Sized + Copy {
         /// What the word writes.
         ///
         /// # Contract
         ///
-        /// <span></span><pre><code>ensures: [Accepts] result (writes word.now)</code></pre>
+        /// ```text
+        /// ensures: Accepts result (writes word.now)
+        /// ```
         ///
-        /// [Accepts]: crate::specs::operands::Acceptance#Accepts "what is accepted is meant, and what is refused is a bad command: nothing is meant"
+        /// Definitions: [`Accepts`](crate::specs::operands::Acceptance#Accepts).
         fn from_word(word: &str) -> Result<Self, LineError>;
     }
 
     /// # Contract
     ///
-    /// <span></span><pre><code>writes = [WritesNumber] 64</code></pre>
+    /// ```text
+    /// writes = WritesNumber 64
+    /// ```
     ///
-    /// [WritesNumber]: crate::specs::operands::Decimal#WritesNumber "the word writes this number, which fits so many bits"
+    /// Definitions: [`WritesNumber`](crate::specs::operands::Decimal#WritesNumber).
     impl Operand for u64 {
         #[inline]
         fn from_word(word: &str) -> Result<Self, LineError> {
@@ -303,9 +295,11 @@ pub mod operand {
 
     /// # Contract
     ///
-    /// <span></span><pre><code>writes = [WritesNumber] 64</code></pre>
+    /// ```text
+    /// writes = WritesNumber 64
+    /// ```
     ///
-    /// [WritesNumber]: crate::specs::operands::Decimal#WritesNumber "the word writes this number, which fits so many bits"
+    /// Definitions: [`WritesNumber`](crate::specs::operands::Decimal#WritesNumber).
     impl Operand for usize {
         #[inline]
         fn from_word(word: &str) -> Result<Self, LineError> {
@@ -315,9 +309,11 @@ pub mod operand {
 
     /// # Contract
     ///
-    /// <span></span><pre><code>writes = [WritesNumber] 32</code></pre>
+    /// ```text
+    /// writes = WritesNumber 32
+    /// ```
     ///
-    /// [WritesNumber]: crate::specs::operands::Decimal#WritesNumber "the word writes this number, which fits so many bits"
+    /// Definitions: [`WritesNumber`](crate::specs::operands::Decimal#WritesNumber).
     impl Operand for u32 {
         #[inline]
         fn from_word(word: &str) -> Result<Self, LineError> {
@@ -327,9 +323,11 @@ pub mod operand {
 
     /// # Contract
     ///
-    /// <span></span><pre><code>writes = [WritesNumber] 8</code></pre>
+    /// ```text
+    /// writes = WritesNumber 8
+    /// ```
     ///
-    /// [WritesNumber]: crate::specs::operands::Decimal#WritesNumber "the word writes this number, which fits so many bits"
+    /// Definitions: [`WritesNumber`](crate::specs::operands::Decimal#WritesNumber).
     impl Operand for u8 {
         #[inline]
         fn from_word(word: &str) -> Result<Self, LineError> {
@@ -339,9 +337,11 @@ pub mod operand {
 
     /// # Contract
     ///
-    /// <span></span><pre><code>writes = [WritesNumber] 32</code></pre>
+    /// ```text
+    /// writes = WritesNumber 32
+    /// ```
     ///
-    /// [WritesNumber]: crate::specs::operands::Decimal#WritesNumber "the word writes this number, which fits so many bits"
+    /// Definitions: [`WritesNumber`](crate::specs::operands::Decimal#WritesNumber).
     impl Operand for RawRef {
         #[inline]
         fn from_word(word: &str) -> Result<Self, LineError> {
@@ -352,9 +352,11 @@ pub mod operand {
 
     /// # Contract
     ///
-    /// <span></span><pre><code>writes = λ word ty. word ≡ [reference_word] ty</code></pre>
+    /// ```text
+    /// writes = λ word ty. word ≡ reference_word ty
+    /// ```
     ///
-    /// [reference_word]: crate::specs::operands::TypeWords#reference_word "the word of a reference type"
+    /// Definitions: [`reference_word`](crate::specs::operands::TypeWords#reference_word).
     impl Operand for RefType {
         #[inline]
         fn from_word(word: &str) -> Result<Self, LineError> {
@@ -364,9 +366,11 @@ pub mod operand {
 
     /// # Contract
     ///
-    /// <span></span><pre><code>writes = λ word ty. word ≡ [value_word] ty</code></pre>
+    /// ```text
+    /// writes = λ word ty. word ≡ value_word ty
+    /// ```
     ///
-    /// [value_word]: crate::specs::operands::TypeWords#value_word "the word of a value type"
+    /// Definitions: [`value_word`](crate::specs::operands::TypeWords#value_word).
     impl Operand for ValType {
         #[inline]
         fn from_word(word: &str) -> Result<Self, LineError> {
@@ -385,9 +389,11 @@ pub mod operand {
 
     /// # Contract
     ///
-    /// <span></span><pre><code>writes = λ word mutability. word ≡ [mutability_word] mutability</code></pre>
+    /// ```text
+    /// writes = λ word mutability. word ≡ mutability_word mutability
+    /// ```
     ///
-    /// [mutability_word]: crate::specs::operands::TypeWords#mutability_word "whether a global can be written"
+    /// Definitions: [`mutability_word`](crate::specs::operands::TypeWords#mutability_word).
     impl Operand for Mutability {
         #[inline]
         fn from_word(word: &str) -> Result<Self, LineError> {
@@ -401,9 +407,11 @@ pub mod operand {
 
     /// # Contract
     ///
-    /// <span></span><pre><code>writes = [WritesAnswer]</code></pre>
+    /// ```text
+    /// writes = WritesAnswer
+    /// ```
     ///
-    /// [WritesAnswer]: crate::specs::operands::Answers#WritesAnswer "the word stands for this answer"
+    /// Definitions: [`WritesAnswer`](crate::specs::operands::Answers#WritesAnswer).
     impl Operand for LimiterAnswer {
         #[inline]
         fn from_word(word: &str) -> Result<Self, LineError> {
@@ -419,10 +427,11 @@ pub mod operand {
 
     /// # Contract
     ///
-    /// <span></span><pre><code>writes = [IsName] [scalar_unary_name]</code></pre>
+    /// ```text
+    /// writes = IsName scalar_unary_name
+    /// ```
     ///
-    /// [IsName]: crate::specs::operands::Names#IsName "a word is the name of this op"
-    /// [scalar_unary_name]: crate::specs::ops::ScalarUnaryOps#scalar_unary_name "the name of a scalar instruction of one operand"
+    /// Definitions: [`IsName`](crate::specs::operands::Names#IsName), [`scalar_unary_name`](crate::specs::ops::ScalarUnaryOps#scalar_unary_name).
     impl Operand for ScalarUnaryOp {
         #[inline]
         fn from_word(word: &str) -> Result<Self, LineError> {
@@ -432,10 +441,11 @@ pub mod operand {
 
     /// # Contract
     ///
-    /// <span></span><pre><code>writes = [IsName] [scalar_binary_name]</code></pre>
+    /// ```text
+    /// writes = IsName scalar_binary_name
+    /// ```
     ///
-    /// [IsName]: crate::specs::operands::Names#IsName "a word is the name of this op"
-    /// [scalar_binary_name]: crate::specs::ops::ScalarBinaryOps#scalar_binary_name "the name of a scalar instruction of two operands"
+    /// Definitions: [`IsName`](crate::specs::operands::Names#IsName), [`scalar_binary_name`](crate::specs::ops::ScalarBinaryOps#scalar_binary_name).
     impl Operand for ScalarBinaryOp {
         #[inline]
         fn from_word(word: &str) -> Result<Self, LineError> {
@@ -445,10 +455,11 @@ pub mod operand {
 
     /// # Contract
     ///
-    /// <span></span><pre><code>writes = [IsName] [load_name]</code></pre>
+    /// ```text
+    /// writes = IsName load_name
+    /// ```
     ///
-    /// [IsName]: crate::specs::operands::Names#IsName "a word is the name of this op"
-    /// [load_name]: crate::specs::ops::ScalarAccessOps#load_name "the name of a scalar load"
+    /// Definitions: [`IsName`](crate::specs::operands::Names#IsName), [`load_name`](crate::specs::ops::ScalarAccessOps#load_name).
     impl Operand for LoadOp {
         #[inline]
         fn from_word(word: &str) -> Result<Self, LineError> {
@@ -458,10 +469,11 @@ pub mod operand {
 
     /// # Contract
     ///
-    /// <span></span><pre><code>writes = [IsName] [store_name]</code></pre>
+    /// ```text
+    /// writes = IsName store_name
+    /// ```
     ///
-    /// [IsName]: crate::specs::operands::Names#IsName "a word is the name of this op"
-    /// [store_name]: crate::specs::ops::ScalarAccessOps#store_name "the name of a scalar store"
+    /// Definitions: [`IsName`](crate::specs::operands::Names#IsName), [`store_name`](crate::specs::ops::ScalarAccessOps#store_name).
     impl Operand for StoreOp {
         #[inline]
         fn from_word(word: &str) -> Result<Self, LineError> {
@@ -471,10 +483,11 @@ pub mod operand {
 
     /// # Contract
     ///
-    /// <span></span><pre><code>writes = [IsName] [make_name]</code></pre>
+    /// ```text
+    /// writes = IsName make_name
+    /// ```
     ///
-    /// [IsName]: crate::specs::operands::Names#IsName "a word is the name of this op"
-    /// [make_name]: crate::specs::ops::MakeOps#make_name "the name of what makes a vector of an item"
+    /// Definitions: [`IsName`](crate::specs::operands::Names#IsName), [`make_name`](crate::specs::ops::MakeOps#make_name).
     impl Operand for MakeOp {
         #[inline]
         fn from_word(word: &str) -> Result<Self, LineError> {
@@ -484,10 +497,11 @@ pub mod operand {
 
     /// # Contract
     ///
-    /// <span></span><pre><code>writes = [IsName] [unary_name]</code></pre>
+    /// ```text
+    /// writes = IsName unary_name
+    /// ```
     ///
-    /// [IsName]: crate::specs::operands::Names#IsName "a word is the name of this op"
-    /// [unary_name]: crate::specs::ops::UnaryOps#unary_name "the name of an instruction of one vector"
+    /// Definitions: [`IsName`](crate::specs::operands::Names#IsName), [`unary_name`](crate::specs::ops::UnaryOps#unary_name).
     impl Operand for UnaryOp {
         #[inline]
         fn from_word(word: &str) -> Result<Self, LineError> {
@@ -497,10 +511,11 @@ pub mod operand {
 
     /// # Contract
     ///
-    /// <span></span><pre><code>writes = [IsName] [binary_name]</code></pre>
+    /// ```text
+    /// writes = IsName binary_name
+    /// ```
     ///
-    /// [IsName]: crate::specs::operands::Names#IsName "a word is the name of this op"
-    /// [binary_name]: crate::specs::ops::BinaryOps#binary_name "the name of an instruction of two vectors"
+    /// Definitions: [`IsName`](crate::specs::operands::Names#IsName), [`binary_name`](crate::specs::ops::BinaryOps#binary_name).
     impl Operand for BinaryOp {
         #[inline]
         fn from_word(word: &str) -> Result<Self, LineError> {
@@ -510,10 +525,11 @@ pub mod operand {
 
     /// # Contract
     ///
-    /// <span></span><pre><code>writes = [IsName] [ternary_name]</code></pre>
+    /// ```text
+    /// writes = IsName ternary_name
+    /// ```
     ///
-    /// [IsName]: crate::specs::operands::Names#IsName "a word is the name of this op"
-    /// [ternary_name]: crate::specs::ops::TernaryOps#ternary_name "the name of an instruction of three vectors"
+    /// Definitions: [`IsName`](crate::specs::operands::Names#IsName), [`ternary_name`](crate::specs::ops::TernaryOps#ternary_name).
     impl Operand for TernaryOp {
         #[inline]
         fn from_word(word: &str) -> Result<Self, LineError> {
@@ -523,10 +539,11 @@ pub mod operand {
 
     /// # Contract
     ///
-    /// <span></span><pre><code>writes = [IsName] [shift_name]</code></pre>
+    /// ```text
+    /// writes = IsName shift_name
+    /// ```
     ///
-    /// [IsName]: crate::specs::operands::Names#IsName "a word is the name of this op"
-    /// [shift_name]: crate::specs::ops::ShiftOps#shift_name "the name of a shift of lanes"
+    /// Definitions: [`IsName`](crate::specs::operands::Names#IsName), [`shift_name`](crate::specs::ops::ShiftOps#shift_name).
     impl Operand for ShiftOp {
         #[inline]
         fn from_word(word: &str) -> Result<Self, LineError> {
@@ -536,10 +553,11 @@ pub mod operand {
 
     /// # Contract
     ///
-    /// <span></span><pre><code>writes = [IsName] [test_name]</code></pre>
+    /// ```text
+    /// writes = IsName test_name
+    /// ```
     ///
-    /// [IsName]: crate::specs::operands::Names#IsName "a word is the name of this op"
-    /// [test_name]: crate::specs::ops::TestOps#test_name "the name of a test of a vector, or of its mask"
+    /// Definitions: [`IsName`](crate::specs::operands::Names#IsName), [`test_name`](crate::specs::ops::TestOps#test_name).
     impl Operand for TestOp {
         #[inline]
         fn from_word(word: &str) -> Result<Self, LineError> {
@@ -549,10 +567,11 @@ pub mod operand {
 
     /// # Contract
     ///
-    /// <span></span><pre><code>writes = [IsName] [extract_name]</code></pre>
+    /// ```text
+    /// writes = IsName extract_name
+    /// ```
     ///
-    /// [IsName]: crate::specs::operands::Names#IsName "a word is the name of this op"
-    /// [extract_name]: crate::specs::ops::LaneKinds#extract_name "the name of an extraction of a lane"
+    /// Definitions: [`IsName`](crate::specs::operands::Names#IsName), [`extract_name`](crate::specs::ops::LaneKinds#extract_name).
     impl Operand for ExtractKind {
         #[inline]
         fn from_word(word: &str) -> Result<Self, LineError> {
@@ -562,10 +581,11 @@ pub mod operand {
 
     /// # Contract
     ///
-    /// <span></span><pre><code>writes = [IsName] [replace_name]</code></pre>
+    /// ```text
+    /// writes = IsName replace_name
+    /// ```
     ///
-    /// [IsName]: crate::specs::operands::Names#IsName "a word is the name of this op"
-    /// [replace_name]: crate::specs::ops::LaneKinds#replace_name "the name of a replacement of a lane"
+    /// Definitions: [`IsName`](crate::specs::operands::Names#IsName), [`replace_name`](crate::specs::ops::LaneKinds#replace_name).
     impl Operand for ReplaceKind {
         #[inline]
         fn from_word(word: &str) -> Result<Self, LineError> {
@@ -575,10 +595,11 @@ pub mod operand {
 
     /// # Contract
     ///
-    /// <span></span><pre><code>writes = [IsName] [vector_load_name]</code></pre>
+    /// ```text
+    /// writes = IsName vector_load_name
+    /// ```
     ///
-    /// [IsName]: crate::specs::operands::Names#IsName "a word is the name of this op"
-    /// [vector_load_name]: crate::specs::ops::VectorAccessOps#vector_load_name "the name of a load of a vector"
+    /// Definitions: [`IsName`](crate::specs::operands::Names#IsName), [`vector_load_name`](crate::specs::ops::VectorAccessOps#vector_load_name).
     impl Operand for VectorLoadOp {
         #[inline]
         fn from_word(word: &str) -> Result<Self, LineError> {
@@ -588,10 +609,11 @@ pub mod operand {
 
     /// # Contract
     ///
-    /// <span></span><pre><code>writes = [IsName] [load_lane_name]</code></pre>
+    /// ```text
+    /// writes = IsName load_lane_name
+    /// ```
     ///
-    /// [IsName]: crate::specs::operands::Names#IsName "a word is the name of this op"
-    /// [load_lane_name]: crate::specs::ops::LaneKinds#load_lane_name "the name of a load of a lane"
+    /// Definitions: [`IsName`](crate::specs::operands::Names#IsName), [`load_lane_name`](crate::specs::ops::LaneKinds#load_lane_name).
     impl Operand for LoadLaneKind {
         #[inline]
         fn from_word(word: &str) -> Result<Self, LineError> {
@@ -601,10 +623,11 @@ pub mod operand {
 
     /// # Contract
     ///
-    /// <span></span><pre><code>writes = [IsName] [store_lane_name]</code></pre>
+    /// ```text
+    /// writes = IsName store_lane_name
+    /// ```
     ///
-    /// [IsName]: crate::specs::operands::Names#IsName "a word is the name of this op"
-    /// [store_lane_name]: crate::specs::ops::LaneKinds#store_lane_name "the name of a store of a lane"
+    /// Definitions: [`IsName`](crate::specs::operands::Names#IsName), [`store_lane_name`](crate::specs::ops::LaneKinds#store_lane_name).
     impl Operand for StoreLaneKind {
         #[inline]
         fn from_word(word: &str) -> Result<Self, LineError> {
@@ -616,14 +639,12 @@ pub mod operand {
     ///
     /// # Contract
     ///
-    /// <span></span><pre><code>ensures: [Accepts] result (λ all. ([length] words.now ≡ 2) × [A.writes] ([word_at] words.now 0) all.0
-    /// &#32;&#32;&#32;&#32;× [B.writes] ([word_at] words.now 1) all.1)</code></pre>
+    /// ```text
+    /// ensures: Accepts result (λ all. (length words.now ≡ 2) × A.writes (word_at words.now 0) all.0
+    ///     × B.writes (word_at words.now 1) all.1)
+    /// ```
     ///
-    /// [Accepts]: crate::specs::operands::Acceptance#Accepts "what is accepted is meant, and what is refused is a bad command: nothing is meant"
-    /// [length]: crate::specs::library#length "the number of elements of a list"
-    /// [A.writes]: trait@Operand#contract
-    /// [word_at]: crate::specs::operands::LineWords#word_at "the text of the word at this place"
-    /// [B.writes]: trait@Operand#contract
+    /// Definitions: [`Accepts`](crate::specs::operands::Acceptance#Accepts), [`word_at`](crate::specs::operands::LineWords#word_at).
     #[inline]
     pub fn two<A: Operand, B: Operand>(words: &[&str]) -> Result<(A, B), LineError> {
         let [a, b] = words else {
@@ -636,15 +657,12 @@ pub mod operand {
     ///
     /// # Contract
     ///
-    /// <span></span><pre><code>ensures: [Accepts] result (λ all. ([length] words.now ≡ 3) × [A.writes] ([word_at] words.now 0) all.0
-    /// &#32;&#32;&#32;&#32;× [B.writes] ([word_at] words.now 1) all.1 × [C.writes] ([word_at] words.now 2) all.2)</code></pre>
+    /// ```text
+    /// ensures: Accepts result (λ all. (length words.now ≡ 3) × A.writes (word_at words.now 0) all.0
+    ///     × B.writes (word_at words.now 1) all.1 × C.writes (word_at words.now 2) all.2)
+    /// ```
     ///
-    /// [Accepts]: crate::specs::operands::Acceptance#Accepts "what is accepted is meant, and what is refused is a bad command: nothing is meant"
-    /// [length]: crate::specs::library#length "the number of elements of a list"
-    /// [A.writes]: trait@Operand#contract
-    /// [word_at]: crate::specs::operands::LineWords#word_at "the text of the word at this place"
-    /// [B.writes]: trait@Operand#contract
-    /// [C.writes]: trait@Operand#contract
+    /// Definitions: [`Accepts`](crate::specs::operands::Acceptance#Accepts), [`word_at`](crate::specs::operands::LineWords#word_at).
     #[inline]
     pub fn three<A: Operand, B: Operand, C: Operand>(
         words: &[&str],
@@ -660,17 +678,13 @@ pub mod operand {
     ///
     /// # Contract
     ///
-    /// <span></span><pre><code>ensures: [Accepts] result (λ all. ([length] words.now ≡ 4) × [A.writes] ([word_at] words.now 0) all.0
-    /// &#32;&#32;&#32;&#32;× [B.writes] ([word_at] words.now 1) all.1 × [C.writes] ([word_at] words.now 2) all.2
-    /// &#32;&#32;&#32;&#32;× [D.writes] ([word_at] words.now 3) all.3)</code></pre>
+    /// ```text
+    /// ensures: Accepts result (λ all. (length words.now ≡ 4) × A.writes (word_at words.now 0) all.0
+    ///     × B.writes (word_at words.now 1) all.1 × C.writes (word_at words.now 2) all.2
+    ///     × D.writes (word_at words.now 3) all.3)
+    /// ```
     ///
-    /// [Accepts]: crate::specs::operands::Acceptance#Accepts "what is accepted is meant, and what is refused is a bad command: nothing is meant"
-    /// [length]: crate::specs::library#length "the number of elements of a list"
-    /// [A.writes]: trait@Operand#contract
-    /// [word_at]: crate::specs::operands::LineWords#word_at "the text of the word at this place"
-    /// [B.writes]: trait@Operand#contract
-    /// [C.writes]: trait@Operand#contract
-    /// [D.writes]: trait@Operand#contract
+    /// Definitions: [`Accepts`](crate::specs::operands::Acceptance#Accepts), [`word_at`](crate::specs::operands::LineWords#word_at).
     #[inline]
     pub fn four<A: Operand, B: Operand, C: Operand, D: Operand>(
         words: &[&str],
@@ -686,18 +700,13 @@ pub mod operand {
     ///
     /// # Contract
     ///
-    /// <span></span><pre><code>ensures: [Accepts] result (λ all. ([length] words.now ≡ 5) × [A.writes] ([word_at] words.now 0) all.0
-    /// &#32;&#32;&#32;&#32;× [B.writes] ([word_at] words.now 1) all.1 × [C.writes] ([word_at] words.now 2) all.2
-    /// &#32;&#32;&#32;&#32;× [D.writes] ([word_at] words.now 3) all.3 × [E.writes] ([word_at] words.now 4) all.4)</code></pre>
+    /// ```text
+    /// ensures: Accepts result (λ all. (length words.now ≡ 5) × A.writes (word_at words.now 0) all.0
+    ///     × B.writes (word_at words.now 1) all.1 × C.writes (word_at words.now 2) all.2
+    ///     × D.writes (word_at words.now 3) all.3 × E.writes (word_at words.now 4) all.4)
+    /// ```
     ///
-    /// [Accepts]: crate::specs::operands::Acceptance#Accepts "what is accepted is meant, and what is refused is a bad command: nothing is meant"
-    /// [length]: crate::specs::library#length "the number of elements of a list"
-    /// [A.writes]: trait@Operand#contract
-    /// [word_at]: crate::specs::operands::LineWords#word_at "the text of the word at this place"
-    /// [B.writes]: trait@Operand#contract
-    /// [C.writes]: trait@Operand#contract
-    /// [D.writes]: trait@Operand#contract
-    /// [E.writes]: trait@Operand#contract
+    /// Definitions: [`Accepts`](crate::specs::operands::Acceptance#Accepts), [`word_at`](crate::specs::operands::LineWords#word_at).
     #[inline]
     pub fn five<A: Operand, B: Operand, C: Operand, D: Operand, E: Operand>(
         words: &[&str],
@@ -713,11 +722,11 @@ pub mod operand {
     ///
     /// # Contract
     ///
-    /// <span></span><pre><code>ensures: [AcceptsWithMemory] result (λ list. [WritesEach] [T.writes] words.now list.items)</code></pre>
+    /// ```text
+    /// ensures: AcceptsWithMemory result (λ list. WritesEach T.writes words.now list.items)
+    /// ```
     ///
-    /// [AcceptsWithMemory]: crate::specs::operands::Acceptance#AcceptsWithMemory "the words are read as a value that means this, or they mean nothing of the kind, or memory was refused"
-    /// [WritesEach]: crate::specs::operands::LineWords#WritesEach "each word writes one of these, in order"
-    /// [T.writes]: trait@Operand#contract
+    /// Definitions: [`AcceptsWithMemory`](crate::specs::operands::Acceptance#AcceptsWithMemory), [`WritesEach`](crate::specs::operands::LineWords#WritesEach).
     #[inline]
     pub fn list_of<T: Operand>(words: &[&str]) -> Result<Vec<T>, LineError> {
         let mut list = Vec::with_capacity(words.len())?;
@@ -740,10 +749,11 @@ mod types {
     ///
     /// # Contract
     ///
-    /// <span></span><pre><code>ensures: [Accepts] result (λ index. width.now ≡ [width_word] index)</code></pre>
+    /// ```text
+    /// ensures: Accepts result (λ index. width.now ≡ width_word index)
+    /// ```
     ///
-    /// [Accepts]: crate::specs::operands::Acceptance#Accepts "what is accepted is meant, and what is refused is a bad command: nothing is meant"
-    /// [width_word]: crate::specs::operands::TypeWords#width_word "the bits of an address or of an index"
+    /// Definitions: [`Accepts`](crate::specs::operands::Acceptance#Accepts), [`width_word`](crate::specs::operands::TypeWords#width_word).
     #[inline]
     pub fn index_ty(width: &str) -> Result<IndexType, LineError> {
         match width {
@@ -757,10 +767,11 @@ mod types {
     ///
     /// # Contract
     ///
-    /// <span></span><pre><code>ensures: [Accepts] result (λ ty. word.now ≡ [reference_word] ty)</code></pre>
+    /// ```text
+    /// ensures: Accepts result (λ ty. word.now ≡ reference_word ty)
+    /// ```
     ///
-    /// [Accepts]: crate::specs::operands::Acceptance#Accepts "what is accepted is meant, and what is refused is a bad command: nothing is meant"
-    /// [reference_word]: crate::specs::operands::TypeWords#reference_word "the word of a reference type"
+    /// Definitions: [`Accepts`](crate::specs::operands::Acceptance#Accepts), [`reference_word`](crate::specs::operands::TypeWords#reference_word).
     #[inline]
     pub fn ref_type(word: &str) -> Result<RefType, LineError> {
         match word {
@@ -774,10 +785,11 @@ mod types {
     ///
     /// # Contract
     ///
-    /// <span></span><pre><code>ensures: [Accepts] result ([WritesReference] ty.now raw.now)</code></pre>
+    /// ```text
+    /// ensures: Accepts result (WritesReference ty.now raw.now)
+    /// ```
     ///
-    /// [Accepts]: crate::specs::operands::Acceptance#Accepts "what is accepted is meant, and what is refused is a bad command: nothing is meant"
-    /// [WritesReference]: crate::specs::operands::TypeWords#WritesReference "two words write a reference: its type, and a number of 32 bits"
+    /// Definitions: [`Accepts`](crate::specs::operands::Acceptance#Accepts), [`WritesReference`](crate::specs::operands::TypeWords#WritesReference).
     #[inline]
     pub fn reference(ty: &str, raw: &str) -> Result<TypedRawRef, LineError> {
         let ty = ref_type(ty)?;
@@ -794,11 +806,11 @@ mod words {
     ///
     /// # Contract
     ///
-    /// <span></span><pre><code>ensures: [OnOk] result ([map] (λ word. word.now) words.new.items ≡ [words_in] line.now)</code></pre>
+    /// ```text
+    /// ensures: OnOk result (map (λ word. word.now) words.new.items ≡ words_in line.now)
+    /// ```
     ///
-    /// [OnOk]: crate::specs::library#OnOk "P, if r is a value"
-    /// [map]: crate::specs::library#map "f of each element"
-    /// [words_in]: crate::specs::operands::LineWords#words_in "the words of a line: what stands between its spaces"
+    /// Definitions: [`words_in`](crate::specs::operands::LineWords#words_in).
     #[inline]
     pub fn read_words<'a>(line: &'a str, words: &mut Vec<&'a str>) -> Result<(), AllocError> {
         words.clear();
@@ -814,14 +826,13 @@ mod words {
     ///
     /// # Contract
     ///
-    /// <span></span><pre><code>ensures word: [MatchOption] result ([words_in] line.now ≡ \[\])
-    /// &#32;&#32;&#32;&#32;(λ parts. [words_in] line.now ≡ parts.0.now ∷ [words_in] parts.1.now)
-    /// ensures shorter: [IfSome] result (λ parts. [length] parts.1.now < [length] line.now)</code></pre>
+    /// ```text
+    /// ensures word: MatchOption result (words_in line.now ≡ [])
+    ///     (λ parts. words_in line.now ≡ parts.0.now ∷ words_in parts.1.now)
+    /// ensures shorter: IfSome result (λ parts. length parts.1.now < length line.now)
+    /// ```
     ///
-    /// [MatchOption]: crate::specs::library#MatchOption "P where there is no value, else Q of the value"
-    /// [words_in]: crate::specs::operands::LineWords#words_in "the words of a line: what stands between its spaces"
-    /// [IfSome]: crate::specs::library#IfSome "P of the value, if there is one"
-    /// [length]: crate::specs::library#length "the number of elements of a list"
+    /// Definitions: [`words_in`](crate::specs::operands::LineWords#words_in).
     #[inline]
     fn first_word(line: &str) -> Option<(&str, &str)> {
         let line = without_spaces(line);
@@ -835,13 +846,13 @@ mod words {
     ///
     /// # Contract
     ///
-    /// <span></span><pre><code>ensures words: [words_in] result.now ≡ [words_in] line.now
-    /// ensures word: 0 < [length] result.now → [slice_index] result.now 0 ≢ 32
-    /// ensures len: [length] result.now ≤ [length] line.now</code></pre>
+    /// ```text
+    /// ensures words: words_in result.now ≡ words_in line.now
+    /// ensures word: 0 < length result.now → slice_index result.now 0 ≢ 32
+    /// ensures len: length result.now ≤ length line.now
+    /// ```
     ///
-    /// [words_in]: crate::specs::operands::LineWords#words_in "the words of a line: what stands between its spaces"
-    /// [length]: crate::specs::library#length "the number of elements of a list"
-    /// [slice_index]: crate::specs::library#slice_index "element i of a list of numbers; 0 past its end"
+    /// Definitions: [`words_in`](crate::specs::operands::LineWords#words_in).
     #[inline]
     fn without_spaces(line: &str) -> &str {
         let bytes = line.as_bytes();
@@ -856,18 +867,15 @@ mod words {
     ///
     /// # Contract
     ///
-    /// <span></span><pre><code>requires some: 0 < [length] line.now
-    /// requires word: [slice_index] line.now 0 ≢ 32
-    /// ensures boundary: [IsCharBoundary] line.now result
+    /// ```text
+    /// requires some: 0 < length line.now
+    /// requires word: slice_index line.now 0 ≢ 32
+    /// ensures boundary: IsCharBoundary line.now result
     /// ensures nonzero: 0 < result
-    /// ensures words: [words_in] line.now ≡ [take] result line.now ∷ [words_in] ([drop] result line.now)</code></pre>
+    /// ensures words: words_in line.now ≡ take result line.now ∷ words_in (drop result line.now)
+    /// ```
     ///
-    /// [length]: crate::specs::library#length "the number of elements of a list"
-    /// [slice_index]: crate::specs::library#slice_index "element i of a list of numbers; 0 past its end"
-    /// [IsCharBoundary]: crate::specs::library#IsCharBoundary "a character of the text begins at byte i, or the text ends there"
-    /// [words_in]: crate::specs::operands::LineWords#words_in "the words of a line: what stands between its spaces"
-    /// [take]: crate::specs::library#take "the first n elements"
-    /// [drop]: crate::specs::library#drop "all but the first n elements"
+    /// Definitions: [`words_in`](crate::specs::operands::LineWords#words_in).
     #[inline]
     fn word_len(line: &str) -> usize {
         let bytes = line.as_bytes();

@@ -77,29 +77,29 @@ mod scalar {
         /// A scalar load.
         #[derive(Clone, Copy, Debug, PartialEq, Eq)]
         pub enum LoadOp {
-            /// [`i32_load8_s`](crate::wasm::i32_load8_s): `i32.load8_s`: 8 bits, read signed.
+            /// [`i32_load8_s`](crate::wasm::i32_load8_s)
             I32Load8S,
-            /// [`i32_load8_u`](crate::wasm::i32_load8_u): `i32.load8_u`: 8 bits, read unsigned.
+            /// [`i32_load8_u`](crate::wasm::i32_load8_u)
             I32Load8U,
-            /// [`i32_load16_s`](crate::wasm::i32_load16_s): `i32.load16_s`: 16 bits, read signed.
+            /// [`i32_load16_s`](crate::wasm::i32_load16_s)
             I32Load16S,
-            /// [`i32_load16_u`](crate::wasm::i32_load16_u): `i32.load16_u`: 16 bits, read unsigned.
+            /// [`i32_load16_u`](crate::wasm::i32_load16_u)
             I32Load16U,
-            /// [`i64_load8_s`](crate::wasm::i64_load8_s): `i64.load8_s`: 8 bits, read signed.
+            /// [`i64_load8_s`](crate::wasm::i64_load8_s)
             I64Load8S,
-            /// [`i64_load8_u`](crate::wasm::i64_load8_u): `i64.load8_u`: 8 bits, read unsigned.
+            /// [`i64_load8_u`](crate::wasm::i64_load8_u)
             I64Load8U,
-            /// [`i64_load16_s`](crate::wasm::i64_load16_s): `i64.load16_s`: 16 bits, read signed.
+            /// [`i64_load16_s`](crate::wasm::i64_load16_s)
             I64Load16S,
-            /// [`i64_load16_u`](crate::wasm::i64_load16_u): `i64.load16_u`: 16 bits, read unsigned.
+            /// [`i64_load16_u`](crate::wasm::i64_load16_u)
             I64Load16U,
-            /// [`i64_load32_s`](crate::wasm::i64_load32_s): `i64.load32_s`: 32 bits, read signed.
+            /// [`i64_load32_s`](crate::wasm::i64_load32_s)
             I64Load32S,
-            /// [`i64_load32_u`](crate::wasm::i64_load32_u): `i64.load32_u`: 32 bits, read unsigned.
+            /// [`i64_load32_u`](crate::wasm::i64_load32_u)
             I64Load32U,
-            /// [`load_u32`](crate::wasm::load_u32): `i32.load`: 32 bits, read unsigned.
+            /// [`load_u32`](crate::wasm::load_u32)
             LoadU32,
-            /// [`load_u64`](crate::wasm::load_u64): `i64.load`: 64 bits, read unsigned.
+            /// [`load_u64`](crate::wasm::load_u64)
             LoadU64,
         }
 
@@ -123,9 +123,11 @@ mod scalar {
             ///
             /// # Contract
             ///
-            /// <span></span><pre><code>ensures: result ≡ [loaded_raw] self memory.now (ptr + offset)</code></pre>
+            /// ```text
+            /// ensures: result ≡ loaded_raw self memory.now (ptr + offset)
+            /// ```
             ///
-            /// [loaded_raw]: crate::specs::ops::ScalarAccessOps#loaded_raw "the load of each instruction"
+            /// Definitions: [`loaded_raw`](crate::specs::ops::ScalarAccessOps#loaded_raw).
             #[inline(always)]
             pub fn load(self, memory: &[u8], ptr: u64, offset: u64) -> Result<RawVal, TrapCode> {
                 // The address is tested once, and not in the arm of each load.
@@ -140,9 +142,11 @@ mod scalar {
             ///
             /// # Contract
             ///
-            /// <span></span><pre><code>ensures: result ≡ [loaded_raw] self bytes.now 0</code></pre>
+            /// ```text
+            /// ensures: result ≡ loaded_raw self bytes.now 0
+            /// ```
             ///
-            /// [loaded_raw]: crate::specs::ops::ScalarAccessOps#loaded_raw "the load of each instruction"
+            /// Definitions: [`loaded_raw`](crate::specs::ops::ScalarAccessOps#loaded_raw).
             #[inline(always)]
             fn load_front(self, bytes: &[u8]) -> Result<RawVal, TrapCode> {
                 Ok(loads!(calls! self(bytes, 0, 0)))
@@ -152,19 +156,19 @@ mod scalar {
         /// A scalar store.
         #[derive(Clone, Copy, Debug, PartialEq, Eq)]
         pub enum StoreOp {
-            /// [`i32_store8`](crate::wasm::i32_store8): `i32.store8`: the value modulo 2 to the power 8.
+            /// [`i32_store8`](crate::wasm::i32_store8)
             I32Store8,
-            /// [`i32_store16`](crate::wasm::i32_store16): `i32.store16`: the value modulo 2 to the power 16.
+            /// [`i32_store16`](crate::wasm::i32_store16)
             I32Store16,
-            /// [`i64_store8`](crate::wasm::i64_store8): `i64.store8`: the value modulo 2 to the power 8.
+            /// [`i64_store8`](crate::wasm::i64_store8)
             I64Store8,
-            /// [`i64_store16`](crate::wasm::i64_store16): `i64.store16`: the value modulo 2 to the power 16.
+            /// [`i64_store16`](crate::wasm::i64_store16)
             I64Store16,
-            /// [`i64_store32`](crate::wasm::i64_store32): `i64.store32`: the value modulo 2 to the power 32.
+            /// [`i64_store32`](crate::wasm::i64_store32)
             I64Store32,
-            /// [`store32`](crate::wasm::store32): `i32.store`: the 32 bits of the value.
+            /// [`store32`](crate::wasm::store32)
             Store32,
-            /// [`store64`](crate::wasm::store64): `i64.store`: the 64 bits of the value.
+            /// [`store64`](crate::wasm::store64)
             Store64,
         }
 
@@ -186,10 +190,11 @@ mod scalar {
             ///
             /// # Contract
             ///
-            /// <span></span><pre><code>ensures: [IsStore] memory.old (ptr + offset) ([stored_bytes] self value) memory.new result</code></pre>
+            /// ```text
+            /// ensures: IsStore memory.old (ptr + offset) (stored_bytes self value) memory.new result
+            /// ```
             ///
-            /// [IsStore]: crate::specs::accesses::LoadStore#IsStore "a store of ys at a: the memory has them there, or the store traps and the memory is the same"
-            /// [stored_bytes]: crate::specs::ops::ScalarAccessOps#stored_bytes "the bytes that a store writes: the low ones of the value"
+            /// Definitions: [`IsStore`](crate::specs::accesses::LoadStore#IsStore), [`stored_bytes`](crate::specs::ops::ScalarAccessOps#stored_bytes).
             #[inline(always)]
             pub fn store(
                 self,
@@ -215,113 +220,113 @@ mod scalar {
         /// A scalar instruction of two operands.
         #[derive(Clone, Copy, Debug, PartialEq, Eq)]
         pub enum ScalarBinaryOp {
-            /// [`i32_add`](crate::wasm::i32_add): The sum modulo 2 to the power 32.
+            /// [`i32_add`](crate::wasm::i32_add)
             I32Add,
-            /// [`i32_sub`](crate::wasm::i32_sub): The difference modulo 2 to the power 32.
+            /// [`i32_sub`](crate::wasm::i32_sub)
             I32Sub,
-            /// [`i32_mul`](crate::wasm::i32_mul): The product modulo 2 to the power 32.
+            /// [`i32_mul`](crate::wasm::i32_mul)
             I32Mul,
-            /// [`i32_bitand`](crate::wasm::i32_bitand): Bitwise and.
+            /// [`i32_bitand`](crate::wasm::i32_bitand)
             I32Bitand,
-            /// [`i32_bitor`](crate::wasm::i32_bitor): Bitwise or.
+            /// [`i32_bitor`](crate::wasm::i32_bitor)
             I32Bitor,
-            /// [`i32_bitxor`](crate::wasm::i32_bitxor): Bitwise exclusive or.
+            /// [`i32_bitxor`](crate::wasm::i32_bitxor)
             I32Bitxor,
-            /// [`i32_shl`](crate::wasm::i32_shl): Shifts to the left; the amount is taken modulo 32.
+            /// [`i32_shl`](crate::wasm::i32_shl)
             I32Shl,
-            /// [`i32_shr_s`](crate::wasm::i32_shr_s): Shifts to the right and fills with the highest bit; the amount is taken modulo 32.
+            /// [`i32_shr_s`](crate::wasm::i32_shr_s)
             I32ShrS,
-            /// [`i32_shr_u`](crate::wasm::i32_shr_u): Shifts to the right and fills with zeros; the amount is taken modulo 32.
+            /// [`i32_shr_u`](crate::wasm::i32_shr_u)
             I32ShrU,
-            /// [`i32_rotl`](crate::wasm::i32_rotl): Rotates to the left; the amount is taken modulo 32.
+            /// [`i32_rotl`](crate::wasm::i32_rotl)
             I32Rotl,
-            /// [`i32_rotr`](crate::wasm::i32_rotr): Rotates to the right; the amount is taken modulo 32.
+            /// [`i32_rotr`](crate::wasm::i32_rotr)
             I32Rotr,
-            /// [`i32_div_s`](crate::wasm::i32_div_s): The quotient towards zero.
+            /// [`i32_div_s`](crate::wasm::i32_div_s)
             I32DivS,
-            /// [`i32_div_u`](crate::wasm::i32_div_u): The quotient.
+            /// [`i32_div_u`](crate::wasm::i32_div_u)
             I32DivU,
-            /// [`i32_rem_s`](crate::wasm::i32_rem_s): The remainder, with the sign of `lhs`; 0 for the least number by -1.
+            /// [`i32_rem_s`](crate::wasm::i32_rem_s)
             I32RemS,
-            /// [`i32_rem_u`](crate::wasm::i32_rem_u): The remainder.
+            /// [`i32_rem_u`](crate::wasm::i32_rem_u)
             I32RemU,
-            /// [`i32_eq`](crate::wasm::i32_eq): Whether `lhs` is `rhs`.
+            /// [`i32_eq`](crate::wasm::i32_eq)
             I32Eq,
-            /// [`i32_ne`](crate::wasm::i32_ne): Whether `lhs` isn't `rhs`.
+            /// [`i32_ne`](crate::wasm::i32_ne)
             I32Ne,
-            /// [`i32_lt_s`](crate::wasm::i32_lt_s): Whether `lhs` is below `rhs`, read signed.
+            /// [`i32_lt_s`](crate::wasm::i32_lt_s)
             I32LtS,
-            /// [`i32_lt_u`](crate::wasm::i32_lt_u): Whether `lhs` is below `rhs`, read unsigned.
+            /// [`i32_lt_u`](crate::wasm::i32_lt_u)
             I32LtU,
-            /// [`i32_le_s`](crate::wasm::i32_le_s): Whether `lhs` is at most `rhs`, read signed.
+            /// [`i32_le_s`](crate::wasm::i32_le_s)
             I32LeS,
-            /// [`i32_le_u`](crate::wasm::i32_le_u): Whether `lhs` is at most `rhs`, read unsigned.
+            /// [`i32_le_u`](crate::wasm::i32_le_u)
             I32LeU,
-            /// [`i32_gt_s`](crate::wasm::i32_gt_s): Whether `lhs` is above `rhs`, read signed.
+            /// [`i32_gt_s`](crate::wasm::i32_gt_s)
             I32GtS,
-            /// [`i32_gt_u`](crate::wasm::i32_gt_u): Whether `lhs` is above `rhs`, read unsigned.
+            /// [`i32_gt_u`](crate::wasm::i32_gt_u)
             I32GtU,
-            /// [`i32_ge_s`](crate::wasm::i32_ge_s): Whether `lhs` is at least `rhs`, read signed.
+            /// [`i32_ge_s`](crate::wasm::i32_ge_s)
             I32GeS,
-            /// [`i32_ge_u`](crate::wasm::i32_ge_u): Whether `lhs` is at least `rhs`, read unsigned.
+            /// [`i32_ge_u`](crate::wasm::i32_ge_u)
             I32GeU,
-            /// [`i64_add`](crate::wasm::i64_add): The sum modulo 2 to the power 64.
+            /// [`i64_add`](crate::wasm::i64_add)
             I64Add,
-            /// [`i64_sub`](crate::wasm::i64_sub): The difference modulo 2 to the power 64.
+            /// [`i64_sub`](crate::wasm::i64_sub)
             I64Sub,
-            /// [`i64_mul`](crate::wasm::i64_mul): The product modulo 2 to the power 64.
+            /// [`i64_mul`](crate::wasm::i64_mul)
             I64Mul,
-            /// [`i64_bitand`](crate::wasm::i64_bitand): Bitwise and.
+            /// [`i64_bitand`](crate::wasm::i64_bitand)
             I64Bitand,
-            /// [`i64_bitor`](crate::wasm::i64_bitor): Bitwise or.
+            /// [`i64_bitor`](crate::wasm::i64_bitor)
             I64Bitor,
-            /// [`i64_bitxor`](crate::wasm::i64_bitxor): Bitwise exclusive or.
+            /// [`i64_bitxor`](crate::wasm::i64_bitxor)
             I64Bitxor,
-            /// [`i64_shl`](crate::wasm::i64_shl): Shifts to the left; the amount is taken modulo 64.
+            /// [`i64_shl`](crate::wasm::i64_shl)
             I64Shl,
-            /// [`i64_shr_s`](crate::wasm::i64_shr_s): Shifts to the right and fills with the highest bit; the amount is taken modulo 64.
+            /// [`i64_shr_s`](crate::wasm::i64_shr_s)
             I64ShrS,
-            /// [`i64_shr_u`](crate::wasm::i64_shr_u): Shifts to the right and fills with zeros; the amount is taken modulo 64.
+            /// [`i64_shr_u`](crate::wasm::i64_shr_u)
             I64ShrU,
-            /// [`i64_rotl`](crate::wasm::i64_rotl): Rotates to the left; the amount is taken modulo 64.
+            /// [`i64_rotl`](crate::wasm::i64_rotl)
             I64Rotl,
-            /// [`i64_rotr`](crate::wasm::i64_rotr): Rotates to the right; the amount is taken modulo 64.
+            /// [`i64_rotr`](crate::wasm::i64_rotr)
             I64Rotr,
-            /// [`i64_div_s`](crate::wasm::i64_div_s): The quotient towards zero.
+            /// [`i64_div_s`](crate::wasm::i64_div_s)
             I64DivS,
-            /// [`i64_div_u`](crate::wasm::i64_div_u): The quotient.
+            /// [`i64_div_u`](crate::wasm::i64_div_u)
             I64DivU,
-            /// [`i64_rem_s`](crate::wasm::i64_rem_s): The remainder, with the sign of `lhs`; 0 for the least number by -1.
+            /// [`i64_rem_s`](crate::wasm::i64_rem_s)
             I64RemS,
-            /// [`i64_rem_u`](crate::wasm::i64_rem_u): The remainder.
+            /// [`i64_rem_u`](crate::wasm::i64_rem_u)
             I64RemU,
-            /// [`i64_eq`](crate::wasm::i64_eq): Whether `lhs` is `rhs`.
+            /// [`i64_eq`](crate::wasm::i64_eq)
             I64Eq,
-            /// [`i64_ne`](crate::wasm::i64_ne): Whether `lhs` isn't `rhs`.
+            /// [`i64_ne`](crate::wasm::i64_ne)
             I64Ne,
-            /// [`i64_lt_s`](crate::wasm::i64_lt_s): Whether `lhs` is below `rhs`, read signed.
+            /// [`i64_lt_s`](crate::wasm::i64_lt_s)
             I64LtS,
-            /// [`i64_lt_u`](crate::wasm::i64_lt_u): Whether `lhs` is below `rhs`, read unsigned.
+            /// [`i64_lt_u`](crate::wasm::i64_lt_u)
             I64LtU,
-            /// [`i64_le_s`](crate::wasm::i64_le_s): Whether `lhs` is at most `rhs`, read signed.
+            /// [`i64_le_s`](crate::wasm::i64_le_s)
             I64LeS,
-            /// [`i64_le_u`](crate::wasm::i64_le_u): Whether `lhs` is at most `rhs`, read unsigned.
+            /// [`i64_le_u`](crate::wasm::i64_le_u)
             I64LeU,
-            /// [`i64_gt_s`](crate::wasm::i64_gt_s): Whether `lhs` is above `rhs`, read signed.
+            /// [`i64_gt_s`](crate::wasm::i64_gt_s)
             I64GtS,
-            /// [`i64_gt_u`](crate::wasm::i64_gt_u): Whether `lhs` is above `rhs`, read unsigned.
+            /// [`i64_gt_u`](crate::wasm::i64_gt_u)
             I64GtU,
-            /// [`i64_ge_s`](crate::wasm::i64_ge_s): Whether `lhs` is at least `rhs`, read signed.
+            /// [`i64_ge_s`](crate::wasm::i64_ge_s)
             I64GeS,
-            /// [`i64_ge_u`](crate::wasm::i64_ge_u): Whether `lhs` is at least `rhs`, read unsigned.
+            /// [`i64_ge_u`](crate::wasm::i64_ge_u)
             I64GeU,
-            /// [`i64_add128`](crate::wasm::i64_add128): The sum of two numbers modulo 2 to the power 128, as the words `(lo, hi)`.
+            /// [`i64_add128`](crate::wasm::i64_add128)
             I64Add128,
-            /// [`i64_sub128`](crate::wasm::i64_sub128): The difference of two numbers modulo 2 to the power 128, as the words `(lo, hi)`.
+            /// [`i64_sub128`](crate::wasm::i64_sub128)
             I64Sub128,
-            /// [`i64_mul_wide_s`](crate::wasm::i64_mul_wide_s): The whole product of two numbers read signed, as the words `(lo, hi)` of a signed number.
+            /// [`i64_mul_wide_s`](crate::wasm::i64_mul_wide_s)
             I64MulWideS,
-            /// [`i64_mul_wide_u`](crate::wasm::i64_mul_wide_u): The whole product of two numbers read unsigned, as the words `(lo, hi)` of an unsigned number.
+            /// [`i64_mul_wide_u`](crate::wasm::i64_mul_wide_u)
             I64MulWideU,
         }
 
@@ -372,9 +377,11 @@ mod scalar {
             ///
             /// # Contract
             ///
-            /// <span></span><pre><code>ensures: result ≡ [binary_raw] self lhs rhs</code></pre>
+            /// ```text
+            /// ensures: result ≡ binary_raw self lhs rhs
+            /// ```
             ///
-            /// [binary_raw]: crate::specs::ops::ScalarBinaryOps#binary_raw "the operation of each instruction"
+            /// Definitions: [`binary_raw`](crate::specs::ops::ScalarBinaryOps#binary_raw).
             #[inline]
             pub fn apply(self, lhs: RawVal, rhs: RawVal) -> Result<RawVal, TrapCode> {
                 Ok(scalar_binaries!(calls! self(lhs.read_as(), rhs.read_as())))
@@ -391,37 +398,37 @@ mod scalar {
         /// A scalar instruction of one operand.
         #[derive(Clone, Copy, Debug, PartialEq, Eq)]
         pub enum ScalarUnaryOp {
-            /// [`i32_clz`](crate::wasm::i32_clz): The zeros above the highest bit that is set, 32 for 0.
+            /// [`i32_clz`](crate::wasm::i32_clz)
             I32Clz,
-            /// [`i32_ctz`](crate::wasm::i32_ctz): The zeros below the lowest bit that is set, 32 for 0.
+            /// [`i32_ctz`](crate::wasm::i32_ctz)
             I32Ctz,
-            /// [`i32_popcnt`](crate::wasm::i32_popcnt): The bits that are set.
+            /// [`i32_popcnt`](crate::wasm::i32_popcnt)
             I32Popcnt,
-            /// [`i32_eqz`](crate::wasm::i32_eqz): Whether the number is 0.
+            /// [`i32_eqz`](crate::wasm::i32_eqz)
             I32Eqz,
-            /// [`i64_clz`](crate::wasm::i64_clz): The zeros above the highest bit that is set, 64 for 0.
+            /// [`i64_clz`](crate::wasm::i64_clz)
             I64Clz,
-            /// [`i64_ctz`](crate::wasm::i64_ctz): The zeros below the lowest bit that is set, 64 for 0.
+            /// [`i64_ctz`](crate::wasm::i64_ctz)
             I64Ctz,
-            /// [`i64_popcnt`](crate::wasm::i64_popcnt): The bits that are set.
+            /// [`i64_popcnt`](crate::wasm::i64_popcnt)
             I64Popcnt,
-            /// [`i64_eqz`](crate::wasm::i64_eqz): Whether the number is 0.
+            /// [`i64_eqz`](crate::wasm::i64_eqz)
             I64Eqz,
-            /// [`i32_wrap_i64`](crate::wasm::i32_wrap_i64): The low 32 bits.
+            /// [`i32_wrap_i64`](crate::wasm::i32_wrap_i64)
             I32WrapI64,
-            /// [`i64_extend_i32_s`](crate::wasm::i64_extend_i32_s): The same number.
+            /// [`i64_extend_i32_s`](crate::wasm::i64_extend_i32_s)
             I64ExtendI32S,
-            /// [`i64_extend_i32_u`](crate::wasm::i64_extend_i32_u): The same number.
+            /// [`i64_extend_i32_u`](crate::wasm::i64_extend_i32_u)
             I64ExtendI32U,
-            /// [`i32_extend8_s`](crate::wasm::i32_extend8_s): The low 8 bits, extended by their sign.
+            /// [`i32_extend8_s`](crate::wasm::i32_extend8_s)
             I32Extend8S,
-            /// [`i32_extend16_s`](crate::wasm::i32_extend16_s): The low 16 bits, extended by their sign.
+            /// [`i32_extend16_s`](crate::wasm::i32_extend16_s)
             I32Extend16S,
-            /// [`i64_extend8_s`](crate::wasm::i64_extend8_s): The low 8 bits, extended by their sign.
+            /// [`i64_extend8_s`](crate::wasm::i64_extend8_s)
             I64Extend8S,
-            /// [`i64_extend16_s`](crate::wasm::i64_extend16_s): The low 16 bits, extended by their sign.
+            /// [`i64_extend16_s`](crate::wasm::i64_extend16_s)
             I64Extend16S,
-            /// [`i64_extend32_s`](crate::wasm::i64_extend32_s): The low 32 bits, extended by their sign.
+            /// [`i64_extend32_s`](crate::wasm::i64_extend32_s)
             I64Extend32S,
         }
 
@@ -445,9 +452,11 @@ mod scalar {
             ///
             /// # Contract
             ///
-            /// <span></span><pre><code>ensures: result ≡ [unary_raw] self raw</code></pre>
+            /// ```text
+            /// ensures: result ≡ unary_raw self raw
+            /// ```
             ///
-            /// [unary_raw]: crate::specs::ops::ScalarUnaryOps#unary_raw "what an instruction of one raw value gives"
+            /// Definitions: [`unary_raw`](crate::specs::ops::ScalarUnaryOps#unary_raw).
             #[inline]
             pub fn apply(self, raw: RawVal) -> RawVal {
                 scalar_unaries!(calls! self(raw.read_as()))
@@ -464,11 +473,11 @@ mod scalar {
         ///
         /// # Contract
         ///
-        /// <span></span><pre><code>ensures: result ≡ [raw_of_vector] ([add128] ([vector_in] lhs) ([vector_in] rhs))</code></pre>
+        /// ```text
+        /// ensures: result ≡ raw_of_vector (add128 (vector_in lhs) (vector_in rhs))
+        /// ```
         ///
-        /// [raw_of_vector]: crate::specs::raw::RawVal#raw_of_vector "the words of a vector"
-        /// [add128]: crate::specs::scalar::Wide#add128 "the sum modulo 2 to the power 128"
-        /// [vector_in]: crate::specs::raw::RawVal#vector_in "the vector of both words"
+        /// Definitions: [`raw_of_vector`](crate::specs::raw::RawVal#raw_of_vector), [`add128`](crate::specs::scalar::Wide#add128), [`vector_in`](crate::specs::raw::RawVal#vector_in).
         #[inline]
         pub fn i64_add128(lhs: RawVal, rhs: RawVal) -> RawVal {
             let (lhs_lo, lhs_hi) = words(lhs);
@@ -481,11 +490,11 @@ mod scalar {
         ///
         /// # Contract
         ///
-        /// <span></span><pre><code>ensures: result ≡ [raw_of_vector] ([sub128] ([vector_in] lhs) ([vector_in] rhs))</code></pre>
+        /// ```text
+        /// ensures: result ≡ raw_of_vector (sub128 (vector_in lhs) (vector_in rhs))
+        /// ```
         ///
-        /// [raw_of_vector]: crate::specs::raw::RawVal#raw_of_vector "the words of a vector"
-        /// [sub128]: crate::specs::scalar::Wide#sub128 "the difference modulo 2 to the power 128"
-        /// [vector_in]: crate::specs::raw::RawVal#vector_in "the vector of both words"
+        /// Definitions: [`raw_of_vector`](crate::specs::raw::RawVal#raw_of_vector), [`sub128`](crate::specs::scalar::Wide#sub128), [`vector_in`](crate::specs::raw::RawVal#vector_in).
         #[inline]
         pub fn i64_sub128(lhs: RawVal, rhs: RawVal) -> RawVal {
             let (lhs_lo, lhs_hi) = words(lhs);
@@ -498,11 +507,11 @@ mod scalar {
         ///
         /// # Contract
         ///
-        /// <span></span><pre><code>ensures: result ≡ [raw_of_vector] ([cast_unsigned] [w128] (lhs \*ℤ rhs))</code></pre>
+        /// ```text
+        /// ensures: result ≡ raw_of_vector (cast_unsigned w128 (lhs *ℤ rhs))
+        /// ```
         ///
-        /// [raw_of_vector]: crate::specs::raw::RawVal#raw_of_vector "the words of a vector"
-        /// [cast_unsigned]: crate::specs::library#cast_unsigned "the signed number as one from 0 up to 2 ^ w, in two\'s complement"
-        /// [w128]: crate::specs::library#w128 "the widths of integers in bits"
+        /// Definitions: [`raw_of_vector`](crate::specs::raw::RawVal#raw_of_vector).
         #[inline]
         pub fn i64_mul_wide_s(lhs: i64, rhs: i64) -> RawVal {
             let (lo, hi) = wasm::i64_mul_wide_s(lhs, rhs);
@@ -513,11 +522,11 @@ mod scalar {
         ///
         /// # Contract
         ///
-        /// <span></span><pre><code>ensures: result ≡ [raw_of_vector] ([cast_unsigned] [w64] lhs \* [cast_unsigned] [w64] rhs)</code></pre>
+        /// ```text
+        /// ensures: result ≡ raw_of_vector (cast_unsigned w64 lhs * cast_unsigned w64 rhs)
+        /// ```
         ///
-        /// [raw_of_vector]: crate::specs::raw::RawVal#raw_of_vector "the words of a vector"
-        /// [cast_unsigned]: crate::specs::library#cast_unsigned "the signed number as one from 0 up to 2 ^ w, in two\'s complement"
-        /// [w64]: crate::specs::library#w64 "the widths of integers in bits"
+        /// Definitions: [`raw_of_vector`](crate::specs::raw::RawVal#raw_of_vector).
         #[inline]
         pub fn i64_mul_wide_u(lhs: i64, rhs: i64) -> RawVal {
             let (lo, hi) = wasm::i64_mul_wide_u(lhs, rhs);
@@ -528,10 +537,11 @@ mod scalar {
         ///
         /// # Contract
         ///
-        /// <span></span><pre><code>ensures: [unsigned_of] result.0 result.1 ≡ [vector_in] raw</code></pre>
+        /// ```text
+        /// ensures: unsigned_of result.0 result.1 ≡ vector_in raw
+        /// ```
         ///
-        /// [unsigned_of]: crate::specs::scalar::Wide#unsigned_of "the number of a low and a high word, read unsigned"
-        /// [vector_in]: crate::specs::raw::RawVal#vector_in "the vector of both words"
+        /// Definitions: [`unsigned_of`](crate::specs::scalar::Wide#unsigned_of), [`vector_in`](crate::specs::raw::RawVal#vector_in).
         #[inline]
         fn words(raw: RawVal) -> (i64, i64) {
             (raw.lo.cast_signed(), raw.hi.cast_signed())
@@ -541,10 +551,11 @@ mod scalar {
         ///
         /// # Contract
         ///
-        /// <span></span><pre><code>ensures: result ≡ [raw_of_vector] ([unsigned_of] lo hi)</code></pre>
+        /// ```text
+        /// ensures: result ≡ raw_of_vector (unsigned_of lo hi)
+        /// ```
         ///
-        /// [raw_of_vector]: crate::specs::raw::RawVal#raw_of_vector "the words of a vector"
-        /// [unsigned_of]: crate::specs::scalar::Wide#unsigned_of "the number of a low and a high word, read unsigned"
+        /// Definitions: [`raw_of_vector`](crate::specs::raw::RawVal#raw_of_vector), [`unsigned_of`](crate::specs::scalar::Wide#unsigned_of).
         #[inline]
         fn of_words(lo: i64, hi: i64) -> RawVal {
             RawVal::from(V128::from_word_pair(lo.cast_unsigned(), hi.cast_unsigned()))
@@ -566,31 +577,31 @@ mod vector {
         /// A load of a vector.
         #[derive(Clone, Copy, Debug, PartialEq, Eq)]
         pub enum VectorLoadOp {
-            /// [`v128_load`](crate::simd::v128_load): `v128.load`: 128 bits.
+            /// [`v128_load`](crate::simd::v128_load)
             V128Load,
-            /// [`v128_load8x8_s`](crate::simd::v128_load8x8_s): `v128.load8x8_s`: 8 lanes of 8 bits, read signed and extended to 16.
+            /// [`v128_load8x8_s`](crate::simd::v128_load8x8_s)
             V128Load8x8S,
-            /// [`v128_load8x8_u`](crate::simd::v128_load8x8_u): `v128.load8x8_u`: 8 lanes of 8 bits, read unsigned and extended to 16.
+            /// [`v128_load8x8_u`](crate::simd::v128_load8x8_u)
             V128Load8x8U,
-            /// [`v128_load16x4_s`](crate::simd::v128_load16x4_s): `v128.load16x4_s`: 4 lanes of 16 bits, read signed and extended to 32.
+            /// [`v128_load16x4_s`](crate::simd::v128_load16x4_s)
             V128Load16x4S,
-            /// [`v128_load16x4_u`](crate::simd::v128_load16x4_u): `v128.load16x4_u`: 4 lanes of 16 bits, read unsigned and extended to 32.
+            /// [`v128_load16x4_u`](crate::simd::v128_load16x4_u)
             V128Load16x4U,
-            /// [`v128_load32x2_s`](crate::simd::v128_load32x2_s): `v128.load32x2_s`: 2 lanes of 32 bits, read signed and extended to 64.
+            /// [`v128_load32x2_s`](crate::simd::v128_load32x2_s)
             V128Load32x2S,
-            /// [`v128_load32x2_u`](crate::simd::v128_load32x2_u): `v128.load32x2_u`: 2 lanes of 32 bits, read unsigned and extended to 64.
+            /// [`v128_load32x2_u`](crate::simd::v128_load32x2_u)
             V128Load32x2U,
-            /// [`v128_load8_splat`](crate::simd::v128_load8_splat): `v128.load8_splat`: 8 bits, in each lane.
+            /// [`v128_load8_splat`](crate::simd::v128_load8_splat)
             V128Load8Splat,
-            /// [`v128_load16_splat`](crate::simd::v128_load16_splat): `v128.load16_splat`: 16 bits, in each lane.
+            /// [`v128_load16_splat`](crate::simd::v128_load16_splat)
             V128Load16Splat,
-            /// [`v128_load32_splat`](crate::simd::v128_load32_splat): `v128.load32_splat`: 32 bits, in each lane.
+            /// [`v128_load32_splat`](crate::simd::v128_load32_splat)
             V128Load32Splat,
-            /// [`v128_load64_splat`](crate::simd::v128_load64_splat): `v128.load64_splat`: 64 bits, in each lane.
+            /// [`v128_load64_splat`](crate::simd::v128_load64_splat)
             V128Load64Splat,
-            /// [`v128_load32_zero`](crate::simd::v128_load32_zero): `v128.load32_zero`: 32 bits in lane 0, and 0 in the others.
+            /// [`v128_load32_zero`](crate::simd::v128_load32_zero)
             V128Load32Zero,
-            /// [`v128_load64_zero`](crate::simd::v128_load64_zero): `v128.load64_zero`: 64 bits in lane 0, and 0 in the others.
+            /// [`v128_load64_zero`](crate::simd::v128_load64_zero)
             V128Load64Zero,
         }
 
@@ -614,9 +625,11 @@ mod vector {
             ///
             /// # Contract
             ///
-            /// <span></span><pre><code>ensures: result ≡ [loaded_vector] self memory.now (ptr + offset)</code></pre>
+            /// ```text
+            /// ensures: result ≡ loaded_vector self memory.now (ptr + offset)
+            /// ```
             ///
-            /// [loaded_vector]: crate::specs::ops::VectorAccessOps#loaded_vector "the vector that a load from an address gives, or the trap"
+            /// Definitions: [`loaded_vector`](crate::specs::ops::VectorAccessOps#loaded_vector).
             #[inline]
             pub fn load(self, memory: &[u8], ptr: u64, offset: u64) -> Result<V128, TrapCode> {
                 vector_loads!(calls! self(memory, ptr, offset))
@@ -626,13 +639,13 @@ mod vector {
         /// A load of one lane of a vector, with its index.
         #[derive(Clone, Copy, Debug, PartialEq, Eq)]
         pub enum LoadLaneOp {
-            /// [`v128_load8_lane`](crate::simd::v128_load8_lane): `v128.load8_lane`: `v` with 8 bits in one lane.
+            /// [`v128_load8_lane`](crate::simd::v128_load8_lane)
             V128Load8Lane(ImmLaneIdx16),
-            /// [`v128_load16_lane`](crate::simd::v128_load16_lane): `v128.load16_lane`: `v` with 16 bits in one lane.
+            /// [`v128_load16_lane`](crate::simd::v128_load16_lane)
             V128Load16Lane(ImmLaneIdx8),
-            /// [`v128_load32_lane`](crate::simd::v128_load32_lane): `v128.load32_lane`: `v` with 32 bits in one lane.
+            /// [`v128_load32_lane`](crate::simd::v128_load32_lane)
             V128Load32Lane(ImmLaneIdx4),
-            /// [`v128_load64_lane`](crate::simd::v128_load64_lane): `v128.load64_lane`: `v` with 64 bits in one lane.
+            /// [`v128_load64_lane`](crate::simd::v128_load64_lane)
             V128Load64Lane(ImmLaneIdx2),
         }
 
@@ -649,9 +662,11 @@ mod vector {
             ///
             /// # Contract
             ///
-            /// <span></span><pre><code>ensures: result ≡ [loaded_lane] self vector memory.now (ptr + offset)</code></pre>
+            /// ```text
+            /// ensures: result ≡ loaded_lane self vector memory.now (ptr + offset)
+            /// ```
             ///
-            /// [loaded_lane]: crate::specs::ops::VectorAccessOps#loaded_lane "the vector with a lane that is loaded from an address, or the trap"
+            /// Definitions: [`loaded_lane`](crate::specs::ops::VectorAccessOps#loaded_lane).
             #[inline]
             pub fn load(
                 self,
@@ -667,13 +682,13 @@ mod vector {
         /// A store of one lane of a vector, with its index.
         #[derive(Clone, Copy, Debug, PartialEq, Eq)]
         pub enum StoreLaneOp {
-            /// [`v128_store8_lane`](crate::simd::v128_store8_lane): `v128.store8_lane`: the 8 bits of one lane of `v`.
+            /// [`v128_store8_lane`](crate::simd::v128_store8_lane)
             V128Store8Lane(ImmLaneIdx16),
-            /// [`v128_store16_lane`](crate::simd::v128_store16_lane): `v128.store16_lane`: the 16 bits of one lane of `v`.
+            /// [`v128_store16_lane`](crate::simd::v128_store16_lane)
             V128Store16Lane(ImmLaneIdx8),
-            /// [`v128_store32_lane`](crate::simd::v128_store32_lane): `v128.store32_lane`: the 32 bits of one lane of `v`.
+            /// [`v128_store32_lane`](crate::simd::v128_store32_lane)
             V128Store32Lane(ImmLaneIdx4),
-            /// [`v128_store64_lane`](crate::simd::v128_store64_lane): `v128.store64_lane`: the 64 bits of one lane of `v`.
+            /// [`v128_store64_lane`](crate::simd::v128_store64_lane)
             V128Store64Lane(ImmLaneIdx2),
         }
 
@@ -691,10 +706,11 @@ mod vector {
             ///
             /// # Contract
             ///
-            /// <span></span><pre><code>ensures: [IsStore] memory.old (ptr + offset) ([stored_lane] self vector) memory.new result</code></pre>
+            /// ```text
+            /// ensures: IsStore memory.old (ptr + offset) (stored_lane self vector) memory.new result
+            /// ```
             ///
-            /// [IsStore]: crate::specs::accesses::LoadStore#IsStore "a store of ys at a: the memory has them there, or the store traps and the memory is the same"
-            /// [stored_lane]: crate::specs::ops::VectorAccessOps#stored_lane "the bytes that a store of a lane writes"
+            /// Definitions: [`IsStore`](crate::specs::accesses::LoadStore#IsStore), [`stored_lane`](crate::specs::ops::VectorAccessOps#stored_lane).
             #[inline]
             pub fn store(
                 self,
@@ -721,197 +737,197 @@ mod vector {
         /// A vector instruction of two operands.
         #[derive(Clone, Copy, Debug, PartialEq, Eq)]
         pub enum BinaryOp {
-            /// [`i8x16_add`](crate::simd::i8x16_add): The sums of the lanes, modulo 2 to the power 8.
+            /// [`i8x16_add`](crate::simd::i8x16_add)
             I8x16Add,
-            /// [`i16x8_add`](crate::simd::i16x8_add): The sums of the lanes, modulo 2 to the power 16.
+            /// [`i16x8_add`](crate::simd::i16x8_add)
             I16x8Add,
-            /// [`i32x4_add`](crate::simd::i32x4_add): The sums of the lanes, modulo 2 to the power 32.
+            /// [`i32x4_add`](crate::simd::i32x4_add)
             I32x4Add,
-            /// [`i64x2_add`](crate::simd::i64x2_add): The sums of the lanes, modulo 2 to the power 64.
+            /// [`i64x2_add`](crate::simd::i64x2_add)
             I64x2Add,
-            /// [`i8x16_sub`](crate::simd::i8x16_sub): The differences of the lanes, modulo 2 to the power 8.
+            /// [`i8x16_sub`](crate::simd::i8x16_sub)
             I8x16Sub,
-            /// [`i16x8_sub`](crate::simd::i16x8_sub): The differences of the lanes, modulo 2 to the power 16.
+            /// [`i16x8_sub`](crate::simd::i16x8_sub)
             I16x8Sub,
-            /// [`i32x4_sub`](crate::simd::i32x4_sub): The differences of the lanes, modulo 2 to the power 32.
+            /// [`i32x4_sub`](crate::simd::i32x4_sub)
             I32x4Sub,
-            /// [`i64x2_sub`](crate::simd::i64x2_sub): The differences of the lanes, modulo 2 to the power 64.
+            /// [`i64x2_sub`](crate::simd::i64x2_sub)
             I64x2Sub,
-            /// [`i8x16_mul`](crate::simd::i8x16_mul): The products of the lanes, modulo 2 to the power 8: upstream's alone, no instruction of WebAssembly.
+            /// [`i8x16_mul`](crate::simd::i8x16_mul)
             I8x16Mul,
-            /// [`i16x8_mul`](crate::simd::i16x8_mul): The products of the lanes, modulo 2 to the power 16.
+            /// [`i16x8_mul`](crate::simd::i16x8_mul)
             I16x8Mul,
-            /// [`i32x4_mul`](crate::simd::i32x4_mul): The products of the lanes, modulo 2 to the power 32.
+            /// [`i32x4_mul`](crate::simd::i32x4_mul)
             I32x4Mul,
-            /// [`i64x2_mul`](crate::simd::i64x2_mul): The products of the lanes, modulo 2 to the power 64.
+            /// [`i64x2_mul`](crate::simd::i64x2_mul)
             I64x2Mul,
-            /// [`i8x16_add_sat_s`](crate::simd::i8x16_add_sat_s): The sums of the lanes, read signed and clamped to the signed range of 8 bits.
+            /// [`i8x16_add_sat_s`](crate::simd::i8x16_add_sat_s)
             I8x16AddSatS,
-            /// [`i8x16_add_sat_u`](crate::simd::i8x16_add_sat_u): The sums of the lanes, read unsigned and clamped to the unsigned range of 8 bits.
+            /// [`i8x16_add_sat_u`](crate::simd::i8x16_add_sat_u)
             I8x16AddSatU,
-            /// [`i16x8_add_sat_s`](crate::simd::i16x8_add_sat_s): The sums of the lanes, read signed and clamped to the signed range of 16 bits.
+            /// [`i16x8_add_sat_s`](crate::simd::i16x8_add_sat_s)
             I16x8AddSatS,
-            /// [`i16x8_add_sat_u`](crate::simd::i16x8_add_sat_u): The sums of the lanes, read unsigned and clamped to the unsigned range of 16 bits.
+            /// [`i16x8_add_sat_u`](crate::simd::i16x8_add_sat_u)
             I16x8AddSatU,
-            /// [`i8x16_sub_sat_s`](crate::simd::i8x16_sub_sat_s): The differences of the lanes, read signed and clamped to the signed range of 8 bits.
+            /// [`i8x16_sub_sat_s`](crate::simd::i8x16_sub_sat_s)
             I8x16SubSatS,
-            /// [`i8x16_sub_sat_u`](crate::simd::i8x16_sub_sat_u): The differences of the lanes, read unsigned and clamped to the unsigned range of 8 bits.
+            /// [`i8x16_sub_sat_u`](crate::simd::i8x16_sub_sat_u)
             I8x16SubSatU,
-            /// [`i16x8_sub_sat_s`](crate::simd::i16x8_sub_sat_s): The differences of the lanes, read signed and clamped to the signed range of 16 bits.
+            /// [`i16x8_sub_sat_s`](crate::simd::i16x8_sub_sat_s)
             I16x8SubSatS,
-            /// [`i16x8_sub_sat_u`](crate::simd::i16x8_sub_sat_u): The differences of the lanes, read unsigned and clamped to the unsigned range of 16 bits.
+            /// [`i16x8_sub_sat_u`](crate::simd::i16x8_sub_sat_u)
             I16x8SubSatU,
-            /// [`i16x8_q15mulr_sat_s`](crate::simd::i16x8_q15mulr_sat_s): The products of the lanes as q15 numbers (signed, over 2 to the power 15), rounded and clamped to the signed range.
+            /// [`i16x8_q15mulr_sat_s`](crate::simd::i16x8_q15mulr_sat_s)
             I16x8Q15mulrSatS,
-            /// [`i8x16_min_s`](crate::simd::i8x16_min_s): The smaller ones of the lanes, read signed.
+            /// [`i8x16_min_s`](crate::simd::i8x16_min_s)
             I8x16MinS,
-            /// [`i8x16_min_u`](crate::simd::i8x16_min_u): The smaller ones of the lanes, read unsigned.
+            /// [`i8x16_min_u`](crate::simd::i8x16_min_u)
             I8x16MinU,
-            /// [`i16x8_min_s`](crate::simd::i16x8_min_s): The smaller ones of the lanes, read signed.
+            /// [`i16x8_min_s`](crate::simd::i16x8_min_s)
             I16x8MinS,
-            /// [`i16x8_min_u`](crate::simd::i16x8_min_u): The smaller ones of the lanes, read unsigned.
+            /// [`i16x8_min_u`](crate::simd::i16x8_min_u)
             I16x8MinU,
-            /// [`i32x4_min_s`](crate::simd::i32x4_min_s): The smaller ones of the lanes, read signed.
+            /// [`i32x4_min_s`](crate::simd::i32x4_min_s)
             I32x4MinS,
-            /// [`i32x4_min_u`](crate::simd::i32x4_min_u): The smaller ones of the lanes, read unsigned.
+            /// [`i32x4_min_u`](crate::simd::i32x4_min_u)
             I32x4MinU,
-            /// [`i8x16_max_s`](crate::simd::i8x16_max_s): The larger ones of the lanes, read signed.
+            /// [`i8x16_max_s`](crate::simd::i8x16_max_s)
             I8x16MaxS,
-            /// [`i8x16_max_u`](crate::simd::i8x16_max_u): The larger ones of the lanes, read unsigned.
+            /// [`i8x16_max_u`](crate::simd::i8x16_max_u)
             I8x16MaxU,
-            /// [`i16x8_max_s`](crate::simd::i16x8_max_s): The larger ones of the lanes, read signed.
+            /// [`i16x8_max_s`](crate::simd::i16x8_max_s)
             I16x8MaxS,
-            /// [`i16x8_max_u`](crate::simd::i16x8_max_u): The larger ones of the lanes, read unsigned.
+            /// [`i16x8_max_u`](crate::simd::i16x8_max_u)
             I16x8MaxU,
-            /// [`i32x4_max_s`](crate::simd::i32x4_max_s): The larger ones of the lanes, read signed.
+            /// [`i32x4_max_s`](crate::simd::i32x4_max_s)
             I32x4MaxS,
-            /// [`i32x4_max_u`](crate::simd::i32x4_max_u): The larger ones of the lanes, read unsigned.
+            /// [`i32x4_max_u`](crate::simd::i32x4_max_u)
             I32x4MaxU,
-            /// [`i8x16_avgr_u`](crate::simd::i8x16_avgr_u): The averages of the lanes, read unsigned, halves rounded up.
+            /// [`i8x16_avgr_u`](crate::simd::i8x16_avgr_u)
             I8x16AvgrU,
-            /// [`i16x8_avgr_u`](crate::simd::i16x8_avgr_u): The averages of the lanes, read unsigned, halves rounded up.
+            /// [`i16x8_avgr_u`](crate::simd::i16x8_avgr_u)
             I16x8AvgrU,
-            /// [`v128_and`](crate::simd::v128_and): Bitwise and.
+            /// [`v128_and`](crate::simd::v128_and)
             V128And,
-            /// [`v128_or`](crate::simd::v128_or): Bitwise or.
+            /// [`v128_or`](crate::simd::v128_or)
             V128Or,
-            /// [`v128_xor`](crate::simd::v128_xor): Bitwise exclusive or.
+            /// [`v128_xor`](crate::simd::v128_xor)
             V128Xor,
-            /// [`v128_andnot`](crate::simd::v128_andnot): The bits of `lhs` where `rhs` has zeros.
+            /// [`v128_andnot`](crate::simd::v128_andnot)
             V128Andnot,
-            /// [`i8x16_eq`](crate::simd::i8x16_eq): All ones in the lanes that are equal, else all zeros.
+            /// [`i8x16_eq`](crate::simd::i8x16_eq)
             I8x16Eq,
-            /// [`i16x8_eq`](crate::simd::i16x8_eq): All ones in the lanes that are equal, else all zeros.
+            /// [`i16x8_eq`](crate::simd::i16x8_eq)
             I16x8Eq,
-            /// [`i32x4_eq`](crate::simd::i32x4_eq): All ones in the lanes that are equal, else all zeros.
+            /// [`i32x4_eq`](crate::simd::i32x4_eq)
             I32x4Eq,
-            /// [`i64x2_eq`](crate::simd::i64x2_eq): All ones in the lanes that are equal, else all zeros.
+            /// [`i64x2_eq`](crate::simd::i64x2_eq)
             I64x2Eq,
-            /// [`i8x16_ne`](crate::simd::i8x16_ne): All ones in the lanes that are different, else all zeros.
+            /// [`i8x16_ne`](crate::simd::i8x16_ne)
             I8x16Ne,
-            /// [`i16x8_ne`](crate::simd::i16x8_ne): All ones in the lanes that are different, else all zeros.
+            /// [`i16x8_ne`](crate::simd::i16x8_ne)
             I16x8Ne,
-            /// [`i32x4_ne`](crate::simd::i32x4_ne): All ones in the lanes that are different, else all zeros.
+            /// [`i32x4_ne`](crate::simd::i32x4_ne)
             I32x4Ne,
-            /// [`i64x2_ne`](crate::simd::i64x2_ne): All ones in the lanes that are different, else all zeros.
+            /// [`i64x2_ne`](crate::simd::i64x2_ne)
             I64x2Ne,
-            /// [`i8x16_lt_s`](crate::simd::i8x16_lt_s): All ones where the lane of `lhs` is less than that of `rhs`, both read signed, else all zeros.
+            /// [`i8x16_lt_s`](crate::simd::i8x16_lt_s)
             I8x16LtS,
-            /// [`i16x8_lt_s`](crate::simd::i16x8_lt_s): All ones where the lane of `lhs` is less than that of `rhs`, both read signed, else all zeros.
+            /// [`i16x8_lt_s`](crate::simd::i16x8_lt_s)
             I16x8LtS,
-            /// [`i32x4_lt_s`](crate::simd::i32x4_lt_s): All ones where the lane of `lhs` is less than that of `rhs`, both read signed, else all zeros.
+            /// [`i32x4_lt_s`](crate::simd::i32x4_lt_s)
             I32x4LtS,
-            /// [`i64x2_lt_s`](crate::simd::i64x2_lt_s): All ones where the lane of `lhs` is less than that of `rhs`, both read signed, else all zeros.
+            /// [`i64x2_lt_s`](crate::simd::i64x2_lt_s)
             I64x2LtS,
-            /// [`i8x16_lt_u`](crate::simd::i8x16_lt_u): All ones where the lane of `lhs` is less than that of `rhs`, both read unsigned, else all zeros.
+            /// [`i8x16_lt_u`](crate::simd::i8x16_lt_u)
             I8x16LtU,
-            /// [`i16x8_lt_u`](crate::simd::i16x8_lt_u): All ones where the lane of `lhs` is less than that of `rhs`, both read unsigned, else all zeros.
+            /// [`i16x8_lt_u`](crate::simd::i16x8_lt_u)
             I16x8LtU,
-            /// [`i32x4_lt_u`](crate::simd::i32x4_lt_u): All ones where the lane of `lhs` is less than that of `rhs`, both read unsigned, else all zeros.
+            /// [`i32x4_lt_u`](crate::simd::i32x4_lt_u)
             I32x4LtU,
-            /// [`i8x16_le_s`](crate::simd::i8x16_le_s): All ones where the lane of `lhs` is at most that of `rhs`, both read signed, else all zeros.
+            /// [`i8x16_le_s`](crate::simd::i8x16_le_s)
             I8x16LeS,
-            /// [`i16x8_le_s`](crate::simd::i16x8_le_s): All ones where the lane of `lhs` is at most that of `rhs`, both read signed, else all zeros.
+            /// [`i16x8_le_s`](crate::simd::i16x8_le_s)
             I16x8LeS,
-            /// [`i32x4_le_s`](crate::simd::i32x4_le_s): All ones where the lane of `lhs` is at most that of `rhs`, both read signed, else all zeros.
+            /// [`i32x4_le_s`](crate::simd::i32x4_le_s)
             I32x4LeS,
-            /// [`i64x2_le_s`](crate::simd::i64x2_le_s): All ones where the lane of `lhs` is at most that of `rhs`, both read signed, else all zeros.
+            /// [`i64x2_le_s`](crate::simd::i64x2_le_s)
             I64x2LeS,
-            /// [`i8x16_le_u`](crate::simd::i8x16_le_u): All ones where the lane of `lhs` is at most that of `rhs`, both read unsigned, else all zeros.
+            /// [`i8x16_le_u`](crate::simd::i8x16_le_u)
             I8x16LeU,
-            /// [`i16x8_le_u`](crate::simd::i16x8_le_u): All ones where the lane of `lhs` is at most that of `rhs`, both read unsigned, else all zeros.
+            /// [`i16x8_le_u`](crate::simd::i16x8_le_u)
             I16x8LeU,
-            /// [`i32x4_le_u`](crate::simd::i32x4_le_u): All ones where the lane of `lhs` is at most that of `rhs`, both read unsigned, else all zeros.
+            /// [`i32x4_le_u`](crate::simd::i32x4_le_u)
             I32x4LeU,
-            /// [`i8x16_gt_s`](crate::simd::i8x16_gt_s): All ones where the lane of `lhs` is greater than that of `rhs`, both read signed, else all zeros.
+            /// [`i8x16_gt_s`](crate::simd::i8x16_gt_s)
             I8x16GtS,
-            /// [`i16x8_gt_s`](crate::simd::i16x8_gt_s): All ones where the lane of `lhs` is greater than that of `rhs`, both read signed, else all zeros.
+            /// [`i16x8_gt_s`](crate::simd::i16x8_gt_s)
             I16x8GtS,
-            /// [`i32x4_gt_s`](crate::simd::i32x4_gt_s): All ones where the lane of `lhs` is greater than that of `rhs`, both read signed, else all zeros.
+            /// [`i32x4_gt_s`](crate::simd::i32x4_gt_s)
             I32x4GtS,
-            /// [`i64x2_gt_s`](crate::simd::i64x2_gt_s): All ones where the lane of `lhs` is greater than that of `rhs`, both read signed, else all zeros.
+            /// [`i64x2_gt_s`](crate::simd::i64x2_gt_s)
             I64x2GtS,
-            /// [`i8x16_gt_u`](crate::simd::i8x16_gt_u): All ones where the lane of `lhs` is greater than that of `rhs`, both read unsigned, else all zeros.
+            /// [`i8x16_gt_u`](crate::simd::i8x16_gt_u)
             I8x16GtU,
-            /// [`i16x8_gt_u`](crate::simd::i16x8_gt_u): All ones where the lane of `lhs` is greater than that of `rhs`, both read unsigned, else all zeros.
+            /// [`i16x8_gt_u`](crate::simd::i16x8_gt_u)
             I16x8GtU,
-            /// [`i32x4_gt_u`](crate::simd::i32x4_gt_u): All ones where the lane of `lhs` is greater than that of `rhs`, both read unsigned, else all zeros.
+            /// [`i32x4_gt_u`](crate::simd::i32x4_gt_u)
             I32x4GtU,
-            /// [`i8x16_ge_s`](crate::simd::i8x16_ge_s): All ones where the lane of `lhs` is at least that of `rhs`, both read signed, else all zeros.
+            /// [`i8x16_ge_s`](crate::simd::i8x16_ge_s)
             I8x16GeS,
-            /// [`i16x8_ge_s`](crate::simd::i16x8_ge_s): All ones where the lane of `lhs` is at least that of `rhs`, both read signed, else all zeros.
+            /// [`i16x8_ge_s`](crate::simd::i16x8_ge_s)
             I16x8GeS,
-            /// [`i32x4_ge_s`](crate::simd::i32x4_ge_s): All ones where the lane of `lhs` is at least that of `rhs`, both read signed, else all zeros.
+            /// [`i32x4_ge_s`](crate::simd::i32x4_ge_s)
             I32x4GeS,
-            /// [`i64x2_ge_s`](crate::simd::i64x2_ge_s): All ones where the lane of `lhs` is at least that of `rhs`, both read signed, else all zeros.
+            /// [`i64x2_ge_s`](crate::simd::i64x2_ge_s)
             I64x2GeS,
-            /// [`i8x16_ge_u`](crate::simd::i8x16_ge_u): All ones where the lane of `lhs` is at least that of `rhs`, both read unsigned, else all zeros.
+            /// [`i8x16_ge_u`](crate::simd::i8x16_ge_u)
             I8x16GeU,
-            /// [`i16x8_ge_u`](crate::simd::i16x8_ge_u): All ones where the lane of `lhs` is at least that of `rhs`, both read unsigned, else all zeros.
+            /// [`i16x8_ge_u`](crate::simd::i16x8_ge_u)
             I16x8GeU,
-            /// [`i32x4_ge_u`](crate::simd::i32x4_ge_u): All ones where the lane of `lhs` is at least that of `rhs`, both read unsigned, else all zeros.
+            /// [`i32x4_ge_u`](crate::simd::i32x4_ge_u)
             I32x4GeU,
-            /// [`i8x16_swizzle`](crate::simd::i8x16_swizzle): Lane i is the lane of `a` at the index that lane i of `s` is, and 0 where that is above 15.
+            /// [`i8x16_swizzle`](crate::simd::i8x16_swizzle)
             I8x16Swizzle,
-            /// [`i16x8_extmul_low_i8x16_s`](crate::simd::i16x8_extmul_low_i8x16_s): The products of the lanes of the lower halves, read signed.
+            /// [`i16x8_extmul_low_i8x16_s`](crate::simd::i16x8_extmul_low_i8x16_s)
             I16x8ExtmulLowI8x16S,
-            /// [`i16x8_extmul_low_i8x16_u`](crate::simd::i16x8_extmul_low_i8x16_u): The products of the lanes of the lower halves, read unsigned.
+            /// [`i16x8_extmul_low_i8x16_u`](crate::simd::i16x8_extmul_low_i8x16_u)
             I16x8ExtmulLowI8x16U,
-            /// [`i16x8_extmul_high_i8x16_s`](crate::simd::i16x8_extmul_high_i8x16_s): The products of the lanes of the upper halves, read signed.
+            /// [`i16x8_extmul_high_i8x16_s`](crate::simd::i16x8_extmul_high_i8x16_s)
             I16x8ExtmulHighI8x16S,
-            /// [`i16x8_extmul_high_i8x16_u`](crate::simd::i16x8_extmul_high_i8x16_u): The products of the lanes of the upper halves, read unsigned.
+            /// [`i16x8_extmul_high_i8x16_u`](crate::simd::i16x8_extmul_high_i8x16_u)
             I16x8ExtmulHighI8x16U,
-            /// [`i32x4_extmul_low_i16x8_s`](crate::simd::i32x4_extmul_low_i16x8_s): The products of the lanes of the lower halves, read signed.
+            /// [`i32x4_extmul_low_i16x8_s`](crate::simd::i32x4_extmul_low_i16x8_s)
             I32x4ExtmulLowI16x8S,
-            /// [`i32x4_extmul_low_i16x8_u`](crate::simd::i32x4_extmul_low_i16x8_u): The products of the lanes of the lower halves, read unsigned.
+            /// [`i32x4_extmul_low_i16x8_u`](crate::simd::i32x4_extmul_low_i16x8_u)
             I32x4ExtmulLowI16x8U,
-            /// [`i32x4_extmul_high_i16x8_s`](crate::simd::i32x4_extmul_high_i16x8_s): The products of the lanes of the upper halves, read signed.
+            /// [`i32x4_extmul_high_i16x8_s`](crate::simd::i32x4_extmul_high_i16x8_s)
             I32x4ExtmulHighI16x8S,
-            /// [`i32x4_extmul_high_i16x8_u`](crate::simd::i32x4_extmul_high_i16x8_u): The products of the lanes of the upper halves, read unsigned.
+            /// [`i32x4_extmul_high_i16x8_u`](crate::simd::i32x4_extmul_high_i16x8_u)
             I32x4ExtmulHighI16x8U,
-            /// [`i64x2_extmul_low_i32x4_s`](crate::simd::i64x2_extmul_low_i32x4_s): The products of the lanes of the lower halves, read signed.
+            /// [`i64x2_extmul_low_i32x4_s`](crate::simd::i64x2_extmul_low_i32x4_s)
             I64x2ExtmulLowI32x4S,
-            /// [`i64x2_extmul_low_i32x4_u`](crate::simd::i64x2_extmul_low_i32x4_u): The products of the lanes of the lower halves, read unsigned.
+            /// [`i64x2_extmul_low_i32x4_u`](crate::simd::i64x2_extmul_low_i32x4_u)
             I64x2ExtmulLowI32x4U,
-            /// [`i64x2_extmul_high_i32x4_s`](crate::simd::i64x2_extmul_high_i32x4_s): The products of the lanes of the upper halves, read signed.
+            /// [`i64x2_extmul_high_i32x4_s`](crate::simd::i64x2_extmul_high_i32x4_s)
             I64x2ExtmulHighI32x4S,
-            /// [`i64x2_extmul_high_i32x4_u`](crate::simd::i64x2_extmul_high_i32x4_u): The products of the lanes of the upper halves, read unsigned.
+            /// [`i64x2_extmul_high_i32x4_u`](crate::simd::i64x2_extmul_high_i32x4_u)
             I64x2ExtmulHighI32x4U,
-            /// [`i8x16_narrow_i16x8_s`](crate::simd::i8x16_narrow_i16x8_s): The lanes of `low`, then those of `high`, read signed and clamped to the signed range of 8 bits.
+            /// [`i8x16_narrow_i16x8_s`](crate::simd::i8x16_narrow_i16x8_s)
             I8x16NarrowI16x8S,
-            /// [`i8x16_narrow_i16x8_u`](crate::simd::i8x16_narrow_i16x8_u): The lanes of `low`, then those of `high`, read signed and clamped to the unsigned range of 8 bits.
+            /// [`i8x16_narrow_i16x8_u`](crate::simd::i8x16_narrow_i16x8_u)
             I8x16NarrowI16x8U,
-            /// [`i16x8_narrow_i32x4_s`](crate::simd::i16x8_narrow_i32x4_s): The lanes of `low`, then those of `high`, read signed and clamped to the signed range of 16 bits.
+            /// [`i16x8_narrow_i32x4_s`](crate::simd::i16x8_narrow_i32x4_s)
             I16x8NarrowI32x4S,
-            /// [`i16x8_narrow_i32x4_u`](crate::simd::i16x8_narrow_i32x4_u): The lanes of `low`, then those of `high`, read signed and clamped to the unsigned range of 16 bits.
+            /// [`i16x8_narrow_i32x4_u`](crate::simd::i16x8_narrow_i32x4_u)
             I16x8NarrowI32x4U,
-            /// [`i32x4_dot_i16x8_s`](crate::simd::i32x4_dot_i16x8_s): The sums of the products of neighbouring lanes, read signed, modulo 2 to the power 32.
+            /// [`i32x4_dot_i16x8_s`](crate::simd::i32x4_dot_i16x8_s)
             I32x4DotI16x8S,
-            /// [`i16x8_relaxed_dot_i8x16_i7x16_s`](crate::simd::i16x8_relaxed_dot_i8x16_i7x16_s): The sums of the products of neighbouring lanes, both read signed, modulo 2 to the power 16.
+            /// [`i16x8_relaxed_dot_i8x16_i7x16_s`](crate::simd::i16x8_relaxed_dot_i8x16_i7x16_s)
             I16x8RelaxedDotI8x16I7x16S,
-            /// [`i8x16_relaxed_swizzle`](crate::simd::i8x16_relaxed_swizzle): As `i8x16_swizzle`: 0 where the index is above 15.
+            /// [`i8x16_relaxed_swizzle`](crate::simd::i8x16_relaxed_swizzle)
             I8x16RelaxedSwizzle,
-            /// [`i16x8_relaxed_q15mulr_s`](crate::simd::i16x8_relaxed_q15mulr_s): As `i16x8_q15mulr_sat_s`: the one product that doesn't fit is clamped.
+            /// [`i16x8_relaxed_q15mulr_s`](crate::simd::i16x8_relaxed_q15mulr_s)
             I16x8RelaxedQ15mulrS,
         }
 
@@ -975,9 +991,11 @@ mod vector {
             ///
             /// # Contract
             ///
-            /// <span></span><pre><code>ensures: result ≡ [binary_vector] self a b</code></pre>
+            /// ```text
+            /// ensures: result ≡ binary_vector self a b
+            /// ```
             ///
-            /// [binary_vector]: crate::specs::ops::BinaryOps#binary_vector "what an instruction of two vectors gives"
+            /// Definitions: [`binary_vector`](crate::specs::ops::BinaryOps#binary_vector).
             #[inline]
             pub fn apply(self, a: V128, b: V128) -> V128 {
                 binaries!(calls! self(a, b))
@@ -995,17 +1013,17 @@ mod vector {
         /// A lane that is taken from a vector, with its index.
         #[derive(Clone, Copy, Debug, PartialEq, Eq)]
         pub enum ExtractOp {
-            /// [`i8x16_extract_lane_s`](crate::simd::i8x16_extract_lane_s): One lane, read signed.
+            /// [`i8x16_extract_lane_s`](crate::simd::i8x16_extract_lane_s)
             I8x16ExtractLaneS(ImmLaneIdx16),
-            /// [`i8x16_extract_lane_u`](crate::simd::i8x16_extract_lane_u): One lane, read unsigned.
+            /// [`i8x16_extract_lane_u`](crate::simd::i8x16_extract_lane_u)
             I8x16ExtractLaneU(ImmLaneIdx16),
-            /// [`i16x8_extract_lane_s`](crate::simd::i16x8_extract_lane_s): One lane, read signed.
+            /// [`i16x8_extract_lane_s`](crate::simd::i16x8_extract_lane_s)
             I16x8ExtractLaneS(ImmLaneIdx8),
-            /// [`i16x8_extract_lane_u`](crate::simd::i16x8_extract_lane_u): One lane, read unsigned.
+            /// [`i16x8_extract_lane_u`](crate::simd::i16x8_extract_lane_u)
             I16x8ExtractLaneU(ImmLaneIdx8),
-            /// [`i32x4_extract_lane`](crate::simd::i32x4_extract_lane): One lane, read signed.
+            /// [`i32x4_extract_lane`](crate::simd::i32x4_extract_lane)
             I32x4ExtractLane(ImmLaneIdx4),
-            /// [`i64x2_extract_lane`](crate::simd::i64x2_extract_lane): One lane, read signed.
+            /// [`i64x2_extract_lane`](crate::simd::i64x2_extract_lane)
             I64x2ExtractLane(ImmLaneIdx2),
         }
 
@@ -1024,9 +1042,11 @@ mod vector {
             ///
             /// # Contract
             ///
-            /// <span></span><pre><code>ensures: result ≡ [extracted_raw] self a</code></pre>
+            /// ```text
+            /// ensures: result ≡ extracted_raw self a
+            /// ```
             ///
-            /// [extracted_raw]: crate::specs::ops::LaneOps#extracted_raw "the lane that an instruction takes from a vector, as a raw value"
+            /// Definitions: [`extracted_raw`](crate::specs::ops::LaneOps#extracted_raw).
             #[inline]
             pub fn apply(self, a: V128) -> RawVal {
                 extractions!(calls! self(lane) (a, lane))
@@ -1036,13 +1056,13 @@ mod vector {
         /// A lane of a vector that takes an item, with its index.
         #[derive(Clone, Copy, Debug, PartialEq, Eq)]
         pub enum ReplaceOp {
-            /// [`i8x16_replace_lane`](crate::simd::i8x16_replace_lane): `v` with the item in one lane.
+            /// [`i8x16_replace_lane`](crate::simd::i8x16_replace_lane)
             I8x16ReplaceLane(ImmLaneIdx16),
-            /// [`i16x8_replace_lane`](crate::simd::i16x8_replace_lane): `v` with the item in one lane.
+            /// [`i16x8_replace_lane`](crate::simd::i16x8_replace_lane)
             I16x8ReplaceLane(ImmLaneIdx8),
-            /// [`i32x4_replace_lane`](crate::simd::i32x4_replace_lane): `v` with the item in one lane.
+            /// [`i32x4_replace_lane`](crate::simd::i32x4_replace_lane)
             I32x4ReplaceLane(ImmLaneIdx4),
-            /// [`i64x2_replace_lane`](crate::simd::i64x2_replace_lane): `v` with the item in one lane.
+            /// [`i64x2_replace_lane`](crate::simd::i64x2_replace_lane)
             I64x2ReplaceLane(ImmLaneIdx2),
         }
 
@@ -1059,9 +1079,11 @@ mod vector {
             ///
             /// # Contract
             ///
-            /// <span></span><pre><code>ensures: result ≡ [replaced_vector] self a raw</code></pre>
+            /// ```text
+            /// ensures: result ≡ replaced_vector self a raw
+            /// ```
             ///
-            /// [replaced_vector]: crate::specs::ops::LaneOps#replaced_vector "the vector with an item of a raw value in a lane"
+            /// Definitions: [`replaced_vector`](crate::specs::ops::LaneOps#replaced_vector).
             #[inline]
             pub fn apply(self, a: V128, raw: RawVal) -> V128 {
                 replacements!(calls! self(lane) (a, lane, raw.read_as()))
@@ -1083,17 +1105,17 @@ mod vector {
         /// A lane that is taken from a vector, whatever the lane.
         #[derive(Clone, Copy, Debug, PartialEq, Eq)]
         pub enum ExtractKind {
-            /// [`i8x16_extract_lane_s`](crate::simd::i8x16_extract_lane_s): One lane, read signed.
+            /// [`i8x16_extract_lane_s`](crate::simd::i8x16_extract_lane_s)
             I8x16ExtractLaneS,
-            /// [`i8x16_extract_lane_u`](crate::simd::i8x16_extract_lane_u): One lane, read unsigned.
+            /// [`i8x16_extract_lane_u`](crate::simd::i8x16_extract_lane_u)
             I8x16ExtractLaneU,
-            /// [`i16x8_extract_lane_s`](crate::simd::i16x8_extract_lane_s): One lane, read signed.
+            /// [`i16x8_extract_lane_s`](crate::simd::i16x8_extract_lane_s)
             I16x8ExtractLaneS,
-            /// [`i16x8_extract_lane_u`](crate::simd::i16x8_extract_lane_u): One lane, read unsigned.
+            /// [`i16x8_extract_lane_u`](crate::simd::i16x8_extract_lane_u)
             I16x8ExtractLaneU,
-            /// [`i32x4_extract_lane`](crate::simd::i32x4_extract_lane): One lane, read signed.
+            /// [`i32x4_extract_lane`](crate::simd::i32x4_extract_lane)
             I32x4ExtractLane,
-            /// [`i64x2_extract_lane`](crate::simd::i64x2_extract_lane): One lane, read signed.
+            /// [`i64x2_extract_lane`](crate::simd::i64x2_extract_lane)
             I64x2ExtractLane,
         }
 
@@ -1105,9 +1127,11 @@ mod vector {
             ///
             /// # Contract
             ///
-            /// <span></span><pre><code>ensures: result ≡ [extract_op] self lane</code></pre>
+            /// ```text
+            /// ensures: result ≡ extract_op self lane
+            /// ```
             ///
-            /// [extract_op]: crate::specs::ops::LaneKinds#extract_op "an extraction of the lane of an index"
+            /// Definitions: [`extract_op`](crate::specs::ops::LaneKinds#extract_op).
             #[inline]
             pub fn on(self, lane: u8) -> Option<ExtractOp> {
                 extractions!(on_lane! self ExtractOp lane)
@@ -1117,13 +1141,13 @@ mod vector {
         /// A lane of a vector that takes an item, whatever the lane.
         #[derive(Clone, Copy, Debug, PartialEq, Eq)]
         pub enum ReplaceKind {
-            /// [`i8x16_replace_lane`](crate::simd::i8x16_replace_lane): `v` with the item in one lane.
+            /// [`i8x16_replace_lane`](crate::simd::i8x16_replace_lane)
             I8x16ReplaceLane,
-            /// [`i16x8_replace_lane`](crate::simd::i16x8_replace_lane): `v` with the item in one lane.
+            /// [`i16x8_replace_lane`](crate::simd::i16x8_replace_lane)
             I16x8ReplaceLane,
-            /// [`i32x4_replace_lane`](crate::simd::i32x4_replace_lane): `v` with the item in one lane.
+            /// [`i32x4_replace_lane`](crate::simd::i32x4_replace_lane)
             I32x4ReplaceLane,
-            /// [`i64x2_replace_lane`](crate::simd::i64x2_replace_lane): `v` with the item in one lane.
+            /// [`i64x2_replace_lane`](crate::simd::i64x2_replace_lane)
             I64x2ReplaceLane,
         }
 
@@ -1135,9 +1159,11 @@ mod vector {
             ///
             /// # Contract
             ///
-            /// <span></span><pre><code>ensures: result ≡ [replace_op] self lane</code></pre>
+            /// ```text
+            /// ensures: result ≡ replace_op self lane
+            /// ```
             ///
-            /// [replace_op]: crate::specs::ops::LaneKinds#replace_op "a replacement of the lane of an index"
+            /// Definitions: [`replace_op`](crate::specs::ops::LaneKinds#replace_op).
             #[inline]
             pub fn on(self, lane: u8) -> Option<ReplaceOp> {
                 replacements!(on_lane! self ReplaceOp lane)
@@ -1147,13 +1173,13 @@ mod vector {
         /// A load of one lane of a vector, whatever the lane.
         #[derive(Clone, Copy, Debug, PartialEq, Eq)]
         pub enum LoadLaneKind {
-            /// [`v128_load8_lane`](crate::simd::v128_load8_lane): `v128.load8_lane`: `v` with 8 bits in one lane.
+            /// [`v128_load8_lane`](crate::simd::v128_load8_lane)
             V128Load8Lane,
-            /// [`v128_load16_lane`](crate::simd::v128_load16_lane): `v128.load16_lane`: `v` with 16 bits in one lane.
+            /// [`v128_load16_lane`](crate::simd::v128_load16_lane)
             V128Load16Lane,
-            /// [`v128_load32_lane`](crate::simd::v128_load32_lane): `v128.load32_lane`: `v` with 32 bits in one lane.
+            /// [`v128_load32_lane`](crate::simd::v128_load32_lane)
             V128Load32Lane,
-            /// [`v128_load64_lane`](crate::simd::v128_load64_lane): `v128.load64_lane`: `v` with 64 bits in one lane.
+            /// [`v128_load64_lane`](crate::simd::v128_load64_lane)
             V128Load64Lane,
         }
 
@@ -1165,9 +1191,11 @@ mod vector {
             ///
             /// # Contract
             ///
-            /// <span></span><pre><code>ensures: result ≡ [load_lane_op] self lane</code></pre>
+            /// ```text
+            /// ensures: result ≡ load_lane_op self lane
+            /// ```
             ///
-            /// [load_lane_op]: crate::specs::ops::LaneKinds#load_lane_op "a load of the lane of an index"
+            /// Definitions: [`load_lane_op`](crate::specs::ops::LaneKinds#load_lane_op).
             #[inline]
             pub fn on(self, lane: u8) -> Option<LoadLaneOp> {
                 lane_loads!(on_lane! self LoadLaneOp lane)
@@ -1177,13 +1205,13 @@ mod vector {
         /// A store of one lane of a vector, whatever the lane.
         #[derive(Clone, Copy, Debug, PartialEq, Eq)]
         pub enum StoreLaneKind {
-            /// [`v128_store8_lane`](crate::simd::v128_store8_lane): `v128.store8_lane`: the 8 bits of one lane of `v`.
+            /// [`v128_store8_lane`](crate::simd::v128_store8_lane)
             V128Store8Lane,
-            /// [`v128_store16_lane`](crate::simd::v128_store16_lane): `v128.store16_lane`: the 16 bits of one lane of `v`.
+            /// [`v128_store16_lane`](crate::simd::v128_store16_lane)
             V128Store16Lane,
-            /// [`v128_store32_lane`](crate::simd::v128_store32_lane): `v128.store32_lane`: the 32 bits of one lane of `v`.
+            /// [`v128_store32_lane`](crate::simd::v128_store32_lane)
             V128Store32Lane,
-            /// [`v128_store64_lane`](crate::simd::v128_store64_lane): `v128.store64_lane`: the 64 bits of one lane of `v`.
+            /// [`v128_store64_lane`](crate::simd::v128_store64_lane)
             V128Store64Lane,
         }
 
@@ -1195,9 +1223,11 @@ mod vector {
             ///
             /// # Contract
             ///
-            /// <span></span><pre><code>ensures: result ≡ [store_lane_op] self lane</code></pre>
+            /// ```text
+            /// ensures: result ≡ store_lane_op self lane
+            /// ```
             ///
-            /// [store_lane_op]: crate::specs::ops::LaneKinds#store_lane_op "a store of the lane of an index"
+            /// Definitions: [`store_lane_op`](crate::specs::ops::LaneKinds#store_lane_op).
             #[inline]
             pub fn on(self, lane: u8) -> Option<StoreLaneOp> {
                 lane_stores!(on_lane! self StoreLaneOp lane)
@@ -1215,29 +1245,29 @@ mod vector {
         /// A vector instruction whose operand is an item.
         #[derive(Clone, Copy, Debug, PartialEq, Eq)]
         pub enum MakeOp {
-            /// [`i8x16_splat`](crate::simd::i8x16_splat): The item in every lane.
+            /// [`i8x16_splat`](crate::simd::i8x16_splat)
             I8x16Splat,
-            /// [`i16x8_splat`](crate::simd::i16x8_splat): The item in every lane.
+            /// [`i16x8_splat`](crate::simd::i16x8_splat)
             I16x8Splat,
-            /// [`i32x4_splat`](crate::simd::i32x4_splat): The item in every lane.
+            /// [`i32x4_splat`](crate::simd::i32x4_splat)
             I32x4Splat,
-            /// [`i64x2_splat`](crate::simd::i64x2_splat): The item in every lane.
+            /// [`i64x2_splat`](crate::simd::i64x2_splat)
             I64x2Splat,
-            /// [`v128_widen8x8_s`](crate::simd::v128_widen8x8_s): The 8 lanes of 8 bits of a number, read signed, lane 0 the lowest.
+            /// [`v128_widen8x8_s`](crate::simd::v128_widen8x8_s)
             V128Widen8x8S,
-            /// [`v128_widen8x8_u`](crate::simd::v128_widen8x8_u): The 8 lanes of 8 bits of a number, read unsigned, lane 0 the lowest.
+            /// [`v128_widen8x8_u`](crate::simd::v128_widen8x8_u)
             V128Widen8x8U,
-            /// [`v128_widen16x4_s`](crate::simd::v128_widen16x4_s): The 4 lanes of 16 bits of a number, read signed, lane 0 the lowest.
+            /// [`v128_widen16x4_s`](crate::simd::v128_widen16x4_s)
             V128Widen16x4S,
-            /// [`v128_widen16x4_u`](crate::simd::v128_widen16x4_u): The 4 lanes of 16 bits of a number, read unsigned, lane 0 the lowest.
+            /// [`v128_widen16x4_u`](crate::simd::v128_widen16x4_u)
             V128Widen16x4U,
-            /// [`v128_widen32x2_s`](crate::simd::v128_widen32x2_s): The 2 lanes of 32 bits of a number, read signed, lane 0 the lowest.
+            /// [`v128_widen32x2_s`](crate::simd::v128_widen32x2_s)
             V128Widen32x2S,
-            /// [`v128_widen32x2_u`](crate::simd::v128_widen32x2_u): The 2 lanes of 32 bits of a number, read unsigned, lane 0 the lowest.
+            /// [`v128_widen32x2_u`](crate::simd::v128_widen32x2_u)
             V128Widen32x2U,
-            /// [`v128_low32_zero`](crate::simd::v128_low32_zero): The number in lane 0, and 0 in the others.
+            /// [`v128_low32_zero`](crate::simd::v128_low32_zero)
             V128Low32Zero,
-            /// [`v128_low64_zero`](crate::simd::v128_low64_zero): The number in lane 0, and 0 in the others.
+            /// [`v128_low64_zero`](crate::simd::v128_low64_zero)
             V128Low64Zero,
         }
 
@@ -1265,9 +1295,11 @@ mod vector {
             ///
             /// # Contract
             ///
-            /// <span></span><pre><code>ensures: result ≡ [made_vector] self raw</code></pre>
+            /// ```text
+            /// ensures: result ≡ made_vector self raw
+            /// ```
             ///
-            /// [made_vector]: crate::specs::ops::MakeOps#made_vector "the vector that an instruction makes of an item in a raw value"
+            /// Definitions: [`made_vector`](crate::specs::ops::MakeOps#made_vector).
             #[inline]
             pub fn apply(self, raw: RawVal) -> V128 {
                 makes!(calls! self(raw.read_as()))
@@ -1284,29 +1316,29 @@ mod vector {
         /// A shift of the lanes of a vector, by an amount modulo their width.
         #[derive(Clone, Copy, Debug, PartialEq, Eq)]
         pub enum ShiftOp {
-            /// [`i8x16_shl`](crate::simd::i8x16_shl): The lanes shifted to the left, the bits above each lane dropped.
+            /// [`i8x16_shl`](crate::simd::i8x16_shl)
             I8x16Shl,
-            /// [`i8x16_shr_s`](crate::simd::i8x16_shr_s): The lanes shifted to the right, the sign copied.
+            /// [`i8x16_shr_s`](crate::simd::i8x16_shr_s)
             I8x16ShrS,
-            /// [`i8x16_shr_u`](crate::simd::i8x16_shr_u): The lanes shifted to the right, with zeros.
+            /// [`i8x16_shr_u`](crate::simd::i8x16_shr_u)
             I8x16ShrU,
-            /// [`i16x8_shl`](crate::simd::i16x8_shl): The lanes shifted to the left, the bits above each lane dropped.
+            /// [`i16x8_shl`](crate::simd::i16x8_shl)
             I16x8Shl,
-            /// [`i16x8_shr_s`](crate::simd::i16x8_shr_s): The lanes shifted to the right, the sign copied.
+            /// [`i16x8_shr_s`](crate::simd::i16x8_shr_s)
             I16x8ShrS,
-            /// [`i16x8_shr_u`](crate::simd::i16x8_shr_u): The lanes shifted to the right, with zeros.
+            /// [`i16x8_shr_u`](crate::simd::i16x8_shr_u)
             I16x8ShrU,
-            /// [`i32x4_shl`](crate::simd::i32x4_shl): The lanes shifted to the left, the bits above each lane dropped.
+            /// [`i32x4_shl`](crate::simd::i32x4_shl)
             I32x4Shl,
-            /// [`i32x4_shr_s`](crate::simd::i32x4_shr_s): The lanes shifted to the right, the sign copied.
+            /// [`i32x4_shr_s`](crate::simd::i32x4_shr_s)
             I32x4ShrS,
-            /// [`i32x4_shr_u`](crate::simd::i32x4_shr_u): The lanes shifted to the right, with zeros.
+            /// [`i32x4_shr_u`](crate::simd::i32x4_shr_u)
             I32x4ShrU,
-            /// [`i64x2_shl`](crate::simd::i64x2_shl): The lanes shifted to the left, the bits above each lane dropped.
+            /// [`i64x2_shl`](crate::simd::i64x2_shl)
             I64x2Shl,
-            /// [`i64x2_shr_s`](crate::simd::i64x2_shr_s): The lanes shifted to the right, the sign copied.
+            /// [`i64x2_shr_s`](crate::simd::i64x2_shr_s)
             I64x2ShrS,
-            /// [`i64x2_shr_u`](crate::simd::i64x2_shr_u): The lanes shifted to the right, with zeros.
+            /// [`i64x2_shr_u`](crate::simd::i64x2_shr_u)
             I64x2ShrU,
         }
 
@@ -1328,9 +1360,11 @@ mod vector {
             ///
             /// # Contract
             ///
-            /// <span></span><pre><code>ensures: result ≡ [shifted_vector] self a amount</code></pre>
+            /// ```text
+            /// ensures: result ≡ shifted_vector self a amount
+            /// ```
             ///
-            /// [shifted_vector]: crate::specs::ops::ShiftOps#shifted_vector "what a shift of a vector by an amount gives"
+            /// Definitions: [`shifted_vector`](crate::specs::ops::ShiftOps#shifted_vector).
             #[inline]
             pub fn apply(self, a: V128, amount: u32) -> V128 {
                 shifts!(calls! self(a, amount))
@@ -1348,17 +1382,17 @@ mod vector {
         /// A vector instruction of three operands.
         #[derive(Clone, Copy, Debug, PartialEq, Eq)]
         pub enum TernaryOp {
-            /// [`v128_bitselect`](crate::simd::v128_bitselect): The bits of `v1` where `c` has ones, those of `v2` where it has zeros.
+            /// [`v128_bitselect`](crate::simd::v128_bitselect)
             V128Bitselect,
-            /// [`i8x16_relaxed_laneselect`](crate::simd::i8x16_relaxed_laneselect): As `v128_bitselect`: the bits of `a` where `c` has ones, those of `b` where it has zeros.
+            /// [`i8x16_relaxed_laneselect`](crate::simd::i8x16_relaxed_laneselect)
             I8x16RelaxedLaneselect,
-            /// [`i16x8_relaxed_laneselect`](crate::simd::i16x8_relaxed_laneselect): As `v128_bitselect`: the bits of `a` where `c` has ones, those of `b` where it has zeros.
+            /// [`i16x8_relaxed_laneselect`](crate::simd::i16x8_relaxed_laneselect)
             I16x8RelaxedLaneselect,
-            /// [`i32x4_relaxed_laneselect`](crate::simd::i32x4_relaxed_laneselect): As `v128_bitselect`: the bits of `a` where `c` has ones, those of `b` where it has zeros.
+            /// [`i32x4_relaxed_laneselect`](crate::simd::i32x4_relaxed_laneselect)
             I32x4RelaxedLaneselect,
-            /// [`i64x2_relaxed_laneselect`](crate::simd::i64x2_relaxed_laneselect): As `v128_bitselect`: the bits of `a` where `c` has ones, those of `b` where it has zeros.
+            /// [`i64x2_relaxed_laneselect`](crate::simd::i64x2_relaxed_laneselect)
             I64x2RelaxedLaneselect,
-            /// [`i32x4_relaxed_dot_i8x16_i7x16_add_s`](crate::simd::i32x4_relaxed_dot_i8x16_i7x16_add_s): The sums of neighbouring lanes of `i16x8_relaxed_dot_i8x16_i7x16_s`, read signed, and of `c`, modulo 2 to the power 32.
+            /// [`i32x4_relaxed_dot_i8x16_i7x16_add_s`](crate::simd::i32x4_relaxed_dot_i8x16_i7x16_add_s)
             I32x4RelaxedDotI8x16I7x16AddS,
         }
 
@@ -1386,9 +1420,11 @@ mod vector {
             ///
             /// # Contract
             ///
-            /// <span></span><pre><code>ensures: result ≡ [ternary_vector] self a b c</code></pre>
+            /// ```text
+            /// ensures: result ≡ ternary_vector self a b c
+            /// ```
             ///
-            /// [ternary_vector]: crate::specs::ops::TernaryOps#ternary_vector "what an instruction of three vectors gives"
+            /// Definitions: [`ternary_vector`](crate::specs::ops::TernaryOps#ternary_vector).
             #[inline]
             pub fn apply(self, a: V128, b: V128, c: V128) -> V128 {
                 ternaries!(calls! self(a, b, c))
@@ -1405,23 +1441,23 @@ mod vector {
         /// A test of a vector, or its mask.
         #[derive(Clone, Copy, Debug, PartialEq, Eq)]
         pub enum TestOp {
-            /// [`i8x16_all_true`](crate::simd::i8x16_all_true): Whether no lane is 0.
+            /// [`i8x16_all_true`](crate::simd::i8x16_all_true)
             I8x16AllTrue,
-            /// [`i16x8_all_true`](crate::simd::i16x8_all_true): Whether no lane is 0.
+            /// [`i16x8_all_true`](crate::simd::i16x8_all_true)
             I16x8AllTrue,
-            /// [`i32x4_all_true`](crate::simd::i32x4_all_true): Whether no lane is 0.
+            /// [`i32x4_all_true`](crate::simd::i32x4_all_true)
             I32x4AllTrue,
-            /// [`i64x2_all_true`](crate::simd::i64x2_all_true): Whether no lane is 0.
+            /// [`i64x2_all_true`](crate::simd::i64x2_all_true)
             I64x2AllTrue,
-            /// [`v128_any_true`](crate::simd::v128_any_true): Whether some bit is 1.
+            /// [`v128_any_true`](crate::simd::v128_any_true)
             V128AnyTrue,
-            /// [`i8x16_bitmask`](crate::simd::i8x16_bitmask): The highest bits of the lanes, that of lane i at bit i.
+            /// [`i8x16_bitmask`](crate::simd::i8x16_bitmask)
             I8x16Bitmask,
-            /// [`i16x8_bitmask`](crate::simd::i16x8_bitmask): The highest bits of the lanes, that of lane i at bit i.
+            /// [`i16x8_bitmask`](crate::simd::i16x8_bitmask)
             I16x8Bitmask,
-            /// [`i32x4_bitmask`](crate::simd::i32x4_bitmask): The highest bits of the lanes, that of lane i at bit i.
+            /// [`i32x4_bitmask`](crate::simd::i32x4_bitmask)
             I32x4Bitmask,
-            /// [`i64x2_bitmask`](crate::simd::i64x2_bitmask): The highest bits of the lanes, that of lane i at bit i.
+            /// [`i64x2_bitmask`](crate::simd::i64x2_bitmask)
             I64x2Bitmask,
         }
 
@@ -1444,9 +1480,11 @@ mod vector {
             ///
             /// # Contract
             ///
-            /// <span></span><pre><code>ensures: result ≡ [tested_raw] self a</code></pre>
+            /// ```text
+            /// ensures: result ≡ tested_raw self a
+            /// ```
             ///
-            /// [tested_raw]: crate::specs::ops::TestOps#tested_raw "the Boolean or the mask that a test of a vector gives, as a raw value"
+            /// Definitions: [`tested_raw`](crate::specs::ops::TestOps#tested_raw).
             #[inline]
             pub fn apply(self, a: V128) -> RawVal {
                 tests!(calls! self(a))
@@ -1464,57 +1502,57 @@ mod vector {
         /// A vector instruction of one operand.
         #[derive(Clone, Copy, Debug, PartialEq, Eq)]
         pub enum UnaryOp {
-            /// [`v128_not`](crate::simd::v128_not): The bits of `v` inverted.
+            /// [`v128_not`](crate::simd::v128_not)
             V128Not,
-            /// [`i8x16_neg`](crate::simd::i8x16_neg): The lanes negated, modulo 2 to the power 8.
+            /// [`i8x16_neg`](crate::simd::i8x16_neg)
             I8x16Neg,
-            /// [`i16x8_neg`](crate::simd::i16x8_neg): The lanes negated, modulo 2 to the power 16.
+            /// [`i16x8_neg`](crate::simd::i16x8_neg)
             I16x8Neg,
-            /// [`i32x4_neg`](crate::simd::i32x4_neg): The lanes negated, modulo 2 to the power 32.
+            /// [`i32x4_neg`](crate::simd::i32x4_neg)
             I32x4Neg,
-            /// [`i64x2_neg`](crate::simd::i64x2_neg): The lanes negated, modulo 2 to the power 64.
+            /// [`i64x2_neg`](crate::simd::i64x2_neg)
             I64x2Neg,
-            /// [`i8x16_abs`](crate::simd::i8x16_abs): The absolute values of the lanes, read signed; the least number is its own, modulo 2 to the power 8.
+            /// [`i8x16_abs`](crate::simd::i8x16_abs)
             I8x16Abs,
-            /// [`i16x8_abs`](crate::simd::i16x8_abs): The absolute values of the lanes, read signed; the least number is its own, modulo 2 to the power 16.
+            /// [`i16x8_abs`](crate::simd::i16x8_abs)
             I16x8Abs,
-            /// [`i32x4_abs`](crate::simd::i32x4_abs): The absolute values of the lanes, read signed; the least number is its own, modulo 2 to the power 32.
+            /// [`i32x4_abs`](crate::simd::i32x4_abs)
             I32x4Abs,
-            /// [`i64x2_abs`](crate::simd::i64x2_abs): The absolute values of the lanes, read signed; the least number is its own, modulo 2 to the power 64.
+            /// [`i64x2_abs`](crate::simd::i64x2_abs)
             I64x2Abs,
-            /// [`i8x16_popcnt`](crate::simd::i8x16_popcnt): How many bits of each lane are one.
+            /// [`i8x16_popcnt`](crate::simd::i8x16_popcnt)
             I8x16Popcnt,
-            /// [`i16x8_extend_low_i8x16_s`](crate::simd::i16x8_extend_low_i8x16_s): The lanes of the lower half, read signed.
+            /// [`i16x8_extend_low_i8x16_s`](crate::simd::i16x8_extend_low_i8x16_s)
             I16x8ExtendLowI8x16S,
-            /// [`i16x8_extend_low_i8x16_u`](crate::simd::i16x8_extend_low_i8x16_u): The lanes of the lower half, read unsigned.
+            /// [`i16x8_extend_low_i8x16_u`](crate::simd::i16x8_extend_low_i8x16_u)
             I16x8ExtendLowI8x16U,
-            /// [`i16x8_extend_high_i8x16_s`](crate::simd::i16x8_extend_high_i8x16_s): The lanes of the upper half, read signed.
+            /// [`i16x8_extend_high_i8x16_s`](crate::simd::i16x8_extend_high_i8x16_s)
             I16x8ExtendHighI8x16S,
-            /// [`i16x8_extend_high_i8x16_u`](crate::simd::i16x8_extend_high_i8x16_u): The lanes of the upper half, read unsigned.
+            /// [`i16x8_extend_high_i8x16_u`](crate::simd::i16x8_extend_high_i8x16_u)
             I16x8ExtendHighI8x16U,
-            /// [`i32x4_extend_low_i16x8_s`](crate::simd::i32x4_extend_low_i16x8_s): The lanes of the lower half, read signed.
+            /// [`i32x4_extend_low_i16x8_s`](crate::simd::i32x4_extend_low_i16x8_s)
             I32x4ExtendLowI16x8S,
-            /// [`i32x4_extend_low_i16x8_u`](crate::simd::i32x4_extend_low_i16x8_u): The lanes of the lower half, read unsigned.
+            /// [`i32x4_extend_low_i16x8_u`](crate::simd::i32x4_extend_low_i16x8_u)
             I32x4ExtendLowI16x8U,
-            /// [`i32x4_extend_high_i16x8_s`](crate::simd::i32x4_extend_high_i16x8_s): The lanes of the upper half, read signed.
+            /// [`i32x4_extend_high_i16x8_s`](crate::simd::i32x4_extend_high_i16x8_s)
             I32x4ExtendHighI16x8S,
-            /// [`i32x4_extend_high_i16x8_u`](crate::simd::i32x4_extend_high_i16x8_u): The lanes of the upper half, read unsigned.
+            /// [`i32x4_extend_high_i16x8_u`](crate::simd::i32x4_extend_high_i16x8_u)
             I32x4ExtendHighI16x8U,
-            /// [`i64x2_extend_low_i32x4_s`](crate::simd::i64x2_extend_low_i32x4_s): The lanes of the lower half, read signed.
+            /// [`i64x2_extend_low_i32x4_s`](crate::simd::i64x2_extend_low_i32x4_s)
             I64x2ExtendLowI32x4S,
-            /// [`i64x2_extend_low_i32x4_u`](crate::simd::i64x2_extend_low_i32x4_u): The lanes of the lower half, read unsigned.
+            /// [`i64x2_extend_low_i32x4_u`](crate::simd::i64x2_extend_low_i32x4_u)
             I64x2ExtendLowI32x4U,
-            /// [`i64x2_extend_high_i32x4_s`](crate::simd::i64x2_extend_high_i32x4_s): The lanes of the upper half, read signed.
+            /// [`i64x2_extend_high_i32x4_s`](crate::simd::i64x2_extend_high_i32x4_s)
             I64x2ExtendHighI32x4S,
-            /// [`i64x2_extend_high_i32x4_u`](crate::simd::i64x2_extend_high_i32x4_u): The lanes of the upper half, read unsigned.
+            /// [`i64x2_extend_high_i32x4_u`](crate::simd::i64x2_extend_high_i32x4_u)
             I64x2ExtendHighI32x4U,
-            /// [`i16x8_extadd_pairwise_i8x16_s`](crate::simd::i16x8_extadd_pairwise_i8x16_s): The sums of neighbouring lanes, read signed.
+            /// [`i16x8_extadd_pairwise_i8x16_s`](crate::simd::i16x8_extadd_pairwise_i8x16_s)
             I16x8ExtaddPairwiseI8x16S,
-            /// [`i16x8_extadd_pairwise_i8x16_u`](crate::simd::i16x8_extadd_pairwise_i8x16_u): The sums of neighbouring lanes, read unsigned.
+            /// [`i16x8_extadd_pairwise_i8x16_u`](crate::simd::i16x8_extadd_pairwise_i8x16_u)
             I16x8ExtaddPairwiseI8x16U,
-            /// [`i32x4_extadd_pairwise_i16x8_s`](crate::simd::i32x4_extadd_pairwise_i16x8_s): The sums of neighbouring lanes, read signed.
+            /// [`i32x4_extadd_pairwise_i16x8_s`](crate::simd::i32x4_extadd_pairwise_i16x8_s)
             I32x4ExtaddPairwiseI16x8S,
-            /// [`i32x4_extadd_pairwise_i16x8_u`](crate::simd::i32x4_extadd_pairwise_i16x8_u): The sums of neighbouring lanes, read unsigned.
+            /// [`i32x4_extadd_pairwise_i16x8_u`](crate::simd::i32x4_extadd_pairwise_i16x8_u)
             I32x4ExtaddPairwiseI16x8U,
         }
 
@@ -1556,9 +1594,11 @@ mod vector {
             ///
             /// # Contract
             ///
-            /// <span></span><pre><code>ensures: result ≡ [unary_vector] self a</code></pre>
+            /// ```text
+            /// ensures: result ≡ unary_vector self a
+            /// ```
             ///
-            /// [unary_vector]: crate::specs::ops::UnaryOps#unary_vector "what an instruction of one vector gives"
+            /// Definitions: [`unary_vector`](crate::specs::ops::UnaryOps#unary_vector).
             #[inline]
             pub fn apply(self, a: V128) -> V128 {
                 unaries!(calls! self(a))

@@ -9,10 +9,11 @@ mod convert {
 
     /// # Contract
     ///
-    /// <span></span><pre><code>from_gives = λ raw value. value ≡ [signed_in] [w8] raw</code></pre>
+    /// ```text
+    /// from_gives = λ raw value. value ≡ signed_in w8 raw
+    /// ```
     ///
-    /// [signed_in]: crate::specs::raw::RawVal#signed_in "the low bits of a raw value, as many as a width has, read signed"
-    /// [w8]: crate::specs::library#w8 "the widths of integers in bits"
+    /// Definitions: [`signed_in`](crate::specs::raw::RawVal#signed_in).
     impl From<RawVal> for i8 {
         #[inline]
         fn from(raw: RawVal) -> i8 {
@@ -22,10 +23,11 @@ mod convert {
 
     /// # Contract
     ///
-    /// <span></span><pre><code>from_gives = λ raw value. value ≡ [signed_in] [w16] raw</code></pre>
+    /// ```text
+    /// from_gives = λ raw value. value ≡ signed_in w16 raw
+    /// ```
     ///
-    /// [signed_in]: crate::specs::raw::RawVal#signed_in "the low bits of a raw value, as many as a width has, read signed"
-    /// [w16]: crate::specs::library#w16 "the widths of integers in bits"
+    /// Definitions: [`signed_in`](crate::specs::raw::RawVal#signed_in).
     impl From<RawVal> for i16 {
         #[inline]
         fn from(raw: RawVal) -> i16 {
@@ -35,10 +37,11 @@ mod convert {
 
     /// # Contract
     ///
-    /// <span></span><pre><code>from_gives = λ raw value. value ≡ [signed_in] [w32] raw</code></pre>
+    /// ```text
+    /// from_gives = λ raw value. value ≡ signed_in w32 raw
+    /// ```
     ///
-    /// [signed_in]: crate::specs::raw::RawVal#signed_in "the low bits of a raw value, as many as a width has, read signed"
-    /// [w32]: crate::specs::library#w32 "the widths of integers in bits"
+    /// Definitions: [`signed_in`](crate::specs::raw::RawVal#signed_in).
     impl From<RawVal> for i32 {
         #[inline]
         fn from(raw: RawVal) -> i32 {
@@ -48,10 +51,11 @@ mod convert {
 
     /// # Contract
     ///
-    /// <span></span><pre><code>from_gives = λ raw value. value ≡ [signed_in] [w64] raw</code></pre>
+    /// ```text
+    /// from_gives = λ raw value. value ≡ signed_in w64 raw
+    /// ```
     ///
-    /// [signed_in]: crate::specs::raw::RawVal#signed_in "the low bits of a raw value, as many as a width has, read signed"
-    /// [w64]: crate::specs::library#w64 "the widths of integers in bits"
+    /// Definitions: [`signed_in`](crate::specs::raw::RawVal#signed_in).
     impl From<RawVal> for i64 {
         #[inline]
         fn from(raw: RawVal) -> i64 {
@@ -61,10 +65,11 @@ mod convert {
 
     /// # Contract
     ///
-    /// <span></span><pre><code>from_gives = λ raw value. value ≡ [unsigned_in] [w8] raw</code></pre>
+    /// ```text
+    /// from_gives = λ raw value. value ≡ unsigned_in w8 raw
+    /// ```
     ///
-    /// [unsigned_in]: crate::specs::raw::RawVal#unsigned_in "the low word cut to a width: the unsigned integer, and the signed one"
-    /// [w8]: crate::specs::library#w8 "the widths of integers in bits"
+    /// Definitions: [`unsigned_in`](crate::specs::raw::RawVal#unsigned_in).
     impl From<RawVal> for u8 {
         #[inline]
         fn from(raw: RawVal) -> u8 {
@@ -74,10 +79,11 @@ mod convert {
 
     /// # Contract
     ///
-    /// <span></span><pre><code>from_gives = λ raw value. value ≡ [unsigned_in] [w16] raw</code></pre>
+    /// ```text
+    /// from_gives = λ raw value. value ≡ unsigned_in w16 raw
+    /// ```
     ///
-    /// [unsigned_in]: crate::specs::raw::RawVal#unsigned_in "the low word cut to a width: the unsigned integer, and the signed one"
-    /// [w16]: crate::specs::library#w16 "the widths of integers in bits"
+    /// Definitions: [`unsigned_in`](crate::specs::raw::RawVal#unsigned_in).
     impl From<RawVal> for u16 {
         #[inline]
         fn from(raw: RawVal) -> u16 {
@@ -87,10 +93,11 @@ mod convert {
 
     /// # Contract
     ///
-    /// <span></span><pre><code>from_gives = λ raw value. value ≡ [unsigned_in] [w32] raw</code></pre>
+    /// ```text
+    /// from_gives = λ raw value. value ≡ unsigned_in w32 raw
+    /// ```
     ///
-    /// [unsigned_in]: crate::specs::raw::RawVal#unsigned_in "the low word cut to a width: the unsigned integer, and the signed one"
-    /// [w32]: crate::specs::library#w32 "the widths of integers in bits"
+    /// Definitions: [`unsigned_in`](crate::specs::raw::RawVal#unsigned_in).
     impl From<RawVal> for u32 {
         #[inline]
         fn from(raw: RawVal) -> u32 {
@@ -100,10 +107,11 @@ mod convert {
 
     /// # Contract
     ///
-    /// <span></span><pre><code>from_gives = λ raw value. value ≡ [unsigned_in] [w64] raw</code></pre>
+    /// ```text
+    /// from_gives = λ raw value. value ≡ unsigned_in w64 raw
+    /// ```
     ///
-    /// [unsigned_in]: crate::specs::raw::RawVal#unsigned_in "the low word cut to a width: the unsigned integer, and the signed one"
-    /// [w64]: crate::specs::library#w64 "the widths of integers in bits"
+    /// Definitions: [`unsigned_in`](crate::specs::raw::RawVal#unsigned_in).
     impl From<RawVal> for u64 {
         #[inline]
         fn from(raw: RawVal) -> u64 {
@@ -113,9 +121,11 @@ mod convert {
 
     /// # Contract
     ///
-    /// <span></span><pre><code>from_gives = λ raw value. value ≡ [bool_in] raw</code></pre>
+    /// ```text
+    /// from_gives = λ raw value. value ≡ bool_in raw
+    /// ```
     ///
-    /// [bool_in]: crate::specs::raw::RawVal#bool_in "whether the low word is not 0"
+    /// Definitions: [`bool_in`](crate::specs::raw::RawVal#bool_in).
     impl From<RawVal> for bool {
         #[inline]
         fn from(raw: RawVal) -> bool {
@@ -125,10 +135,11 @@ mod convert {
 
     /// # Contract
     ///
-    /// <span></span><pre><code>from_gives = λ raw value. value ≡ [unsigned_in] [w32] raw</code></pre>
+    /// ```text
+    /// from_gives = λ raw value. value ≡ unsigned_in w32 raw
+    /// ```
     ///
-    /// [unsigned_in]: crate::specs::raw::RawVal#unsigned_in "the low word cut to a width: the unsigned integer, and the signed one"
-    /// [w32]: crate::specs::library#w32 "the widths of integers in bits"
+    /// Definitions: [`unsigned_in`](crate::specs::raw::RawVal#unsigned_in).
     impl From<RawVal> for F32 {
         #[inline]
         fn from(raw: RawVal) -> F32 {
@@ -138,10 +149,11 @@ mod convert {
 
     /// # Contract
     ///
-    /// <span></span><pre><code>from_gives = λ raw value. value ≡ [unsigned_in] [w64] raw</code></pre>
+    /// ```text
+    /// from_gives = λ raw value. value ≡ unsigned_in w64 raw
+    /// ```
     ///
-    /// [unsigned_in]: crate::specs::raw::RawVal#unsigned_in "the low word cut to a width: the unsigned integer, and the signed one"
-    /// [w64]: crate::specs::library#w64 "the widths of integers in bits"
+    /// Definitions: [`unsigned_in`](crate::specs::raw::RawVal#unsigned_in).
     impl From<RawVal> for F64 {
         #[inline]
         fn from(raw: RawVal) -> F64 {
@@ -151,9 +163,11 @@ mod convert {
 
     /// # Contract
     ///
-    /// <span></span><pre><code>from_gives = λ raw value. value ≡ [vector_in] raw</code></pre>
+    /// ```text
+    /// from_gives = λ raw value. value ≡ vector_in raw
+    /// ```
     ///
-    /// [vector_in]: crate::specs::raw::RawVal#vector_in "the vector of both words"
+    /// Definitions: [`vector_in`](crate::specs::raw::RawVal#vector_in).
     impl From<RawVal> for V128 {
         #[inline]
         fn from(raw: RawVal) -> V128 {
@@ -164,10 +178,11 @@ mod convert {
     // The words of the vector, which give it back.
     /// # Contract
     ///
-    /// <span></span><pre><code>from_gives = λ value raw. (raw ≡ [raw_of_vector] value) × ([vector_in] raw ≡ value)</code></pre>
+    /// ```text
+    /// from_gives = λ value raw. (raw ≡ raw_of_vector value) × (vector_in raw ≡ value)
+    /// ```
     ///
-    /// [raw_of_vector]: crate::specs::raw::RawVal#raw_of_vector "the words of a vector"
-    /// [vector_in]: crate::specs::raw::RawVal#vector_in "the vector of both words"
+    /// Definitions: [`raw_of_vector`](crate::specs::raw::RawVal#raw_of_vector), [`vector_in`](crate::specs::raw::RawVal#vector_in).
     impl From<V128> for RawVal {
         #[inline]
         fn from(value: V128) -> RawVal {
@@ -181,9 +196,11 @@ mod convert {
     ///
     /// # Contract
     ///
-    /// <span></span><pre><code>from_gives = λ value raw. raw ≡ ⟦\<RawVal as WriteAs\<T>>⟧.written ([raw_of] 0) value</code></pre>
+    /// ```text
+    /// from_gives = λ value raw. raw ≡ ⟦<RawVal as WriteAs<T>>⟧.written (raw_of 0) value
+    /// ```
     ///
-    /// [raw_of]: crate::specs::raw::RawVal#raw_of "the low word is n, and the high word is 0"
+    /// Definitions: [`raw_of`](crate::specs::raw::RawVal#raw_of).
     impl<T: OneWord> From<T> for RawVal
     where
         RawVal: WriteAs<T>,
@@ -198,9 +215,11 @@ mod convert {
 
     /// # Contract
     ///
-    /// <span></span><pre><code>from_gives = λ value raw. raw ≡ [raw_of] value</code></pre>
+    /// ```text
+    /// from_gives = λ value raw. raw ≡ raw_of value
+    /// ```
     ///
-    /// [raw_of]: crate::specs::raw::RawVal#raw_of "the low word is n, and the high word is 0"
+    /// Definitions: [`raw_of`](crate::specs::raw::RawVal#raw_of).
     impl From<F32> for RawVal {
         #[inline]
         fn from(value: F32) -> RawVal {
@@ -210,9 +229,11 @@ mod convert {
 
     /// # Contract
     ///
-    /// <span></span><pre><code>from_gives = λ value raw. raw ≡ [raw_of] value</code></pre>
+    /// ```text
+    /// from_gives = λ value raw. raw ≡ raw_of value
+    /// ```
     ///
-    /// [raw_of]: crate::specs::raw::RawVal#raw_of "the low word is n, and the high word is 0"
+    /// Definitions: [`raw_of`](crate::specs::raw::RawVal#raw_of).
     impl From<F64> for RawVal {
         #[inline]
         fn from(value: F64) -> RawVal {
@@ -229,11 +250,11 @@ mod float {
     ///
     /// # Model
     ///
-    /// <span></span><pre><code>Value = [ℕ]
+    /// ```text
+    /// Value = ℕ
     /// view = λ float. float.bits
-    /// inverse = λ bits. record { bits = bits }</code></pre>
-    ///
-    /// [ℕ]: crate::specs::library#%E2%84%95 "the whole numbers from 0 on"
+    /// inverse = λ bits. record { bits = bits }
+    /// ```
     #[derive(Clone, Copy)]
     pub struct F32 {
         bits: u32,
@@ -244,7 +265,9 @@ mod float {
         ///
         /// # Contract
         ///
-        /// <span></span><pre><code>ensures: result ≡ bits</code></pre>
+        /// ```text
+        /// ensures: result ≡ bits
+        /// ```
         #[inline]
         pub fn from_bits(bits: u32) -> F32 {
             F32 { bits }
@@ -254,7 +277,9 @@ mod float {
         ///
         /// # Contract
         ///
-        /// <span></span><pre><code>ensures: result ≡ self</code></pre>
+        /// ```text
+        /// ensures: result ≡ self
+        /// ```
         #[inline]
         pub fn to_bits(self) -> u32 {
             self.bits
@@ -267,11 +292,11 @@ mod float {
     ///
     /// # Model
     ///
-    /// <span></span><pre><code>Value = [ℕ]
+    /// ```text
+    /// Value = ℕ
     /// view = λ float. float.bits
-    /// inverse = λ bits. record { bits = bits }</code></pre>
-    ///
-    /// [ℕ]: crate::specs::library#%E2%84%95 "the whole numbers from 0 on"
+    /// inverse = λ bits. record { bits = bits }
+    /// ```
     #[derive(Clone, Copy)]
     pub struct F64 {
         bits: u64,
@@ -282,7 +307,9 @@ mod float {
         ///
         /// # Contract
         ///
-        /// <span></span><pre><code>ensures: result ≡ bits</code></pre>
+        /// ```text
+        /// ensures: result ≡ bits
+        /// ```
         #[inline]
         pub fn from_bits(bits: u64) -> F64 {
             F64 { bits }
@@ -292,7 +319,9 @@ mod float {
         ///
         /// # Contract
         ///
-        /// <span></span><pre><code>ensures: result ≡ self</code></pre>
+        /// ```text
+        /// ensures: result ≡ self
+        /// ```
         #[inline]
         pub fn to_bits(self) -> u64 {
             self.bits
@@ -303,15 +332,15 @@ mod float {
 pub mod laws {
     //! The law of a write and the read that follows it.
 
-    use crate::proved::raw::raw::{ReadBack, WriteAs};
+    use crate::proved::raw::raw::{ReadAs, ReadBack, WriteAs};
 
     /// Whatever a value is written to, reading gives it back.
     ///
     /// # Contract
     ///
-    /// <span></span><pre><code>ensures: result ≡ [T.read_back] value</code></pre>
-    ///
-    /// [T.read_back]: trait@ReadBack#contract
+    /// ```text
+    /// ensures: result ≡ T.read_back value
+    /// ```
     #[inline]
     pub fn written_value_is_read<T: ReadBack, P: WriteAs<T>>(place: &mut P, value: T) -> T::Read {
         place.write_as(value);
@@ -353,141 +382,120 @@ mod number {
     ///
     /// # Contract
     ///
-    /// <span></span><pre><code><i>\-\- How many bits the type has.</i>
-    /// width: [Width]
-    /// <i>\-\- Whether its numbers are signed.</i>
-    /// is_signed: [Bool]
-    /// <i>\-\- The number of a value.</i>
-    /// number: Self → [ℤ]
-    /// <i>\-\- The value of a number of the type.</i>
-    /// of_number: [ℤ] → Self
-    /// <i>\-\- A value is that of its number, and a number of the type is that of its value.</i>
-    /// laws: [AreNumbers] is_signed width number of_number</code></pre>
+    /// ```text
+    /// -- How many bits the type has.
+    /// width: Width
+    /// -- Whether its numbers are signed.
+    /// is_signed: Bool
+    /// -- The number of a value.
+    /// number: Self → ℤ
+    /// -- The value of a number of the type.
+    /// of_number: ℤ → Self
+    /// -- A value is that of its number, and a number of the type is that of its value.
+    /// laws: AreNumbers is_signed width number of_number
+    /// ```
     ///
-    /// [Width]: crate::specs::library#Width "the widths of integers: 8, 16, 32, 64 or 128 bits"
-    /// [Bool]: crate::specs::library#Bool "the Booleans \`true\` and \`false\`"
-    /// [ℤ]: crate::specs::library#%E2%84%A4 "the whole numbers, with a sign"
-    /// [AreNumbers]: crate::specs::raw::Number#AreNumbers "a type\'s values and their numbers: \`number\` gives the number of a value, \`of_number\` the value of a number of the type"
+    /// Definitions: [`AreNumbers`](crate::specs::raw::Number#AreNumbers).
     pub trait Number: sealed::Sealed {}
 
     /// # Contract
     ///
-    /// <span></span><pre><code>width = [w8]
-    /// is_signed = [true]
+    /// ```text
+    /// width = w8
+    /// is_signed = true
     /// number = λ value. value
-    /// of_number = λ number. number</code></pre>
-    ///
-    /// [w8]: crate::specs::library#w8 "the widths of integers in bits"
-    /// [true]: crate::specs::library#true "the Boolean"
+    /// of_number = λ number. number
+    /// ```
     impl Number for i8 {}
 
     /// # Contract
     ///
-    /// <span></span><pre><code>width = [w16]
-    /// is_signed = [true]
+    /// ```text
+    /// width = w16
+    /// is_signed = true
     /// number = λ value. value
-    /// of_number = λ number. number</code></pre>
-    ///
-    /// [w16]: crate::specs::library#w16 "the widths of integers in bits"
-    /// [true]: crate::specs::library#true "the Boolean"
+    /// of_number = λ number. number
+    /// ```
     impl Number for i16 {}
 
     /// # Contract
     ///
-    /// <span></span><pre><code>width = [w32]
-    /// is_signed = [true]
+    /// ```text
+    /// width = w32
+    /// is_signed = true
     /// number = λ value. value
-    /// of_number = λ number. number</code></pre>
-    ///
-    /// [w32]: crate::specs::library#w32 "the widths of integers in bits"
-    /// [true]: crate::specs::library#true "the Boolean"
+    /// of_number = λ number. number
+    /// ```
     impl Number for i32 {}
 
     /// # Contract
     ///
-    /// <span></span><pre><code>width = [w64]
-    /// is_signed = [true]
+    /// ```text
+    /// width = w64
+    /// is_signed = true
     /// number = λ value. value
-    /// of_number = λ number. number</code></pre>
-    ///
-    /// [w64]: crate::specs::library#w64 "the widths of integers in bits"
-    /// [true]: crate::specs::library#true "the Boolean"
+    /// of_number = λ number. number
+    /// ```
     impl Number for i64 {}
 
     /// # Contract
     ///
-    /// <span></span><pre><code>width = [w128]
-    /// is_signed = [true]
+    /// ```text
+    /// width = w128
+    /// is_signed = true
     /// number = λ value. value
-    /// of_number = λ number. number</code></pre>
-    ///
-    /// [w128]: crate::specs::library#w128 "the widths of integers in bits"
-    /// [true]: crate::specs::library#true "the Boolean"
+    /// of_number = λ number. number
+    /// ```
     impl Number for i128 {}
 
     /// # Contract
     ///
-    /// <span></span><pre><code>width = [w8]
-    /// is_signed = [false]
-    /// number = [pos]
-    /// of_number = [unsigned_abs]</code></pre>
-    ///
-    /// [w8]: crate::specs::library#w8 "the widths of integers in bits"
-    /// [false]: crate::specs::library#false "the Boolean"
-    /// [pos]: crate::specs::library#pos "the number n, as one with a sign"
-    /// [unsigned_abs]: crate::specs::library#unsigned_abs "the number without its sign"
+    /// ```text
+    /// width = w8
+    /// is_signed = false
+    /// number = pos
+    /// of_number = unsigned_abs
+    /// ```
     impl Number for u8 {}
 
     /// # Contract
     ///
-    /// <span></span><pre><code>width = [w16]
-    /// is_signed = [false]
-    /// number = [pos]
-    /// of_number = [unsigned_abs]</code></pre>
-    ///
-    /// [w16]: crate::specs::library#w16 "the widths of integers in bits"
-    /// [false]: crate::specs::library#false "the Boolean"
-    /// [pos]: crate::specs::library#pos "the number n, as one with a sign"
-    /// [unsigned_abs]: crate::specs::library#unsigned_abs "the number without its sign"
+    /// ```text
+    /// width = w16
+    /// is_signed = false
+    /// number = pos
+    /// of_number = unsigned_abs
+    /// ```
     impl Number for u16 {}
 
     /// # Contract
     ///
-    /// <span></span><pre><code>width = [w32]
-    /// is_signed = [false]
-    /// number = [pos]
-    /// of_number = [unsigned_abs]</code></pre>
-    ///
-    /// [w32]: crate::specs::library#w32 "the widths of integers in bits"
-    /// [false]: crate::specs::library#false "the Boolean"
-    /// [pos]: crate::specs::library#pos "the number n, as one with a sign"
-    /// [unsigned_abs]: crate::specs::library#unsigned_abs "the number without its sign"
+    /// ```text
+    /// width = w32
+    /// is_signed = false
+    /// number = pos
+    /// of_number = unsigned_abs
+    /// ```
     impl Number for u32 {}
 
     /// # Contract
     ///
-    /// <span></span><pre><code>width = [w64]
-    /// is_signed = [false]
-    /// number = [pos]
-    /// of_number = [unsigned_abs]</code></pre>
-    ///
-    /// [w64]: crate::specs::library#w64 "the widths of integers in bits"
-    /// [false]: crate::specs::library#false "the Boolean"
-    /// [pos]: crate::specs::library#pos "the number n, as one with a sign"
-    /// [unsigned_abs]: crate::specs::library#unsigned_abs "the number without its sign"
+    /// ```text
+    /// width = w64
+    /// is_signed = false
+    /// number = pos
+    /// of_number = unsigned_abs
+    /// ```
     impl Number for u64 {}
 
     /// # Contract
     ///
-    /// <span></span><pre><code>width = [w128]
-    /// is_signed = [false]
-    /// number = [pos]
-    /// of_number = [unsigned_abs]</code></pre>
-    ///
-    /// [w128]: crate::specs::library#w128 "the widths of integers in bits"
-    /// [false]: crate::specs::library#false "the Boolean"
-    /// [pos]: crate::specs::library#pos "the number n, as one with a sign"
-    /// [unsigned_abs]: crate::specs::library#unsigned_abs "the number without its sign"
+    /// ```text
+    /// width = w128
+    /// is_signed = false
+    /// number = pos
+    /// of_number = unsigned_abs
+    /// ```
     impl Number for u128 {}
 }
 mod raw {
@@ -497,31 +505,7 @@ mod raw {
     ///
     /// A value of up to 64 bits stands in `lo`, and a vector in both words. The order is that of `lo`,
     /// then of `hi`. C has it as a struct of the two. Upstream: `wasmi_core::RawVal`.
-    ///
-    /// # Examples
-    ///
-    /// ```
-    /// use wasmi_core_proved::{RawVal, ReadAs, WriteAs};
-    ///
-    /// let raw = RawVal::from(-1_i32);
-    /// assert_eq!(raw.to_bits64(), 0xffff_ffff);
-    /// assert_eq!(i32::from(raw), -1);
-    ///
-    /// let mut register = RawVal::default();
-    /// register.write_as(3_u64);
-    /// let read: u8 = register.read_as();
-    /// assert_eq!(read, 3);
-    /// # #[cfg(feature = "simd")]
-    /// # {
-    /// use wasmi_core_proved::V128;
-    ///
-    /// // An integer is written over the low word alone.
-    /// register.write_as(V128::from(7_u128 << 64));
-    /// register.write_as(3_u64);
-    /// let vector: V128 = register.read_as();
-    /// assert_eq!(vector.as_u128(), (7 << 64) + 3);
-    /// # }
-    /// ```
+    #[doc = examples!(raw RawVal)]
     #[repr(C)]
     #[derive(Clone, Copy, Default, PartialEq, Eq, PartialOrd, Ord)]
     pub struct RawVal {
@@ -536,9 +520,11 @@ mod raw {
         ///
         /// # Contract
         ///
-        /// <span></span><pre><code>ensures: result ≡ [raw_of] lo</code></pre>
+        /// ```text
+        /// ensures: result ≡ raw_of lo
+        /// ```
         ///
-        /// [raw_of]: crate::specs::raw::RawVal#raw_of "the low word is n, and the high word is 0"
+        /// Definitions: [`raw_of`](crate::specs::raw::RawVal#raw_of).
         #[inline]
         pub const fn from_bits64(lo: u64) -> RawVal {
             RawVal { lo, hi: 0 }
@@ -548,7 +534,9 @@ mod raw {
         ///
         /// # Contract
         ///
-        /// <span></span><pre><code>ensures: result ≡ self.lo</code></pre>
+        /// ```text
+        /// ensures: result ≡ self.lo
+        /// ```
         #[inline]
         pub const fn to_bits64(self) -> u64 {
             self.lo
@@ -562,14 +550,18 @@ mod raw {
     ///
     /// # Contract
     ///
-    /// <span></span><pre><code><i>\-\- The \`T\` that \`self\` is read as.</i>
-    /// read: Self → T</code></pre>
+    /// ```text
+    /// -- The `T` that `self` is read as.
+    /// read: Self → T
+    /// ```
     pub trait ReadAs<T> {
         /// Reads `self` as a `T`.
         ///
         /// # Contract
         ///
-        /// <span></span><pre><code>ensures: result ≡ read self.now</code></pre>
+        /// ```text
+        /// ensures: result ≡ read self.now
+        /// ```
         fn read_as(&self) -> T;
     }
 
@@ -579,10 +571,10 @@ mod raw {
     ///
     /// # Contract
     ///
-    /// <span></span><pre><code><i>\-\- The value that is read after the \`Self\` was written.</i>
-    /// read_back: Self → [Self.Read]</code></pre>
-    ///
-    /// [Self.Read]: trait@ReadBack#contract
+    /// ```text
+    /// -- The value that is read after the `Self` was written.
+    /// read_back: Self → Self.Read
+    /// ```
     pub trait ReadBack {
         /// The type that is read after a `Self` was written: of a `NonZero` its integer type, else
         /// `Self`.
@@ -597,18 +589,19 @@ mod raw {
     ///
     /// # Contract
     ///
-    /// <span></span><pre><code><i>\-\- What \`self\` becomes when the \`T\` is written to it.</i>
-    /// written: Self → T → Self</code></pre>
+    /// ```text
+    /// -- What `self` becomes when the `T` is written to it.
+    /// written: Self → T → Self
+    /// ```
     pub trait WriteAs<T: ReadBack>: ReadAs<T::Read> {
         /// Writes `value` to `self`.
         ///
         /// # Contract
         ///
-        /// <span></span><pre><code>ensures written: self.new ≡ written self.old value
-        /// ensures read_back: [Self.read] self.new ≡ [T.read_back] value</code></pre>
-        ///
-        /// [Self.read]: trait@WriteAs#contract
-        /// [T.read_back]: trait@ReadBack#contract
+        /// ```text
+        /// ensures written: self.new ≡ written self.old value
+        /// ensures read_back: Self.read self.new ≡ T.read_back value
+        /// ```
         fn write_as(&mut self, value: T);
     }
 
@@ -626,11 +619,11 @@ mod raw_ref {
     ///
     /// # Model
     ///
-    /// <span></span><pre><code>Value = [ℕ]
+    /// ```text
+    /// Value = ℕ
     /// view = λ reference. reference.bits
-    /// inverse = λ bits. record { bits = bits }</code></pre>
-    ///
-    /// [ℕ]: crate::specs::library#%E2%84%95 "the whole numbers from 0 on"
+    /// inverse = λ bits. record { bits = bits }
+    /// ```
     #[derive(Clone, Copy, Debug, PartialEq, Eq, PartialOrd, Ord, Hash)]
     #[repr(transparent)]
     pub struct RawRef {
@@ -642,7 +635,9 @@ mod raw_ref {
         ///
         /// # Contract
         ///
-        /// <span></span><pre><code>ensures: result ≡ 0</code></pre>
+        /// ```text
+        /// ensures: result ≡ 0
+        /// ```
         #[inline]
         pub fn null() -> Self {
             RawRef { bits: 0 }
@@ -652,9 +647,9 @@ mod raw_ref {
         ///
         /// # Contract
         ///
-        /// <span></span><pre><code>ensures: [IsTrue] result ↔ (self ≡ 0)</code></pre>
-        ///
-        /// [IsTrue]: crate::specs::library#IsTrue "b is true"
+        /// ```text
+        /// ensures: IsTrue result ↔ (self ≡ 0)
+        /// ```
         #[inline]
         pub fn is_null(self) -> bool {
             self.bits == 0
@@ -663,7 +658,9 @@ mod raw_ref {
 
     /// # Contract
     ///
-    /// <span></span><pre><code>from_gives = λ bits reference. reference ≡ bits</code></pre>
+    /// ```text
+    /// from_gives = λ bits reference. reference ≡ bits
+    /// ```
     impl From<u32> for RawRef {
         #[inline]
         fn from(bits: u32) -> RawRef {
@@ -673,7 +670,9 @@ mod raw_ref {
 
     /// # Contract
     ///
-    /// <span></span><pre><code>from_gives = λ reference bits. bits ≡ reference</code></pre>
+    /// ```text
+    /// from_gives = λ reference bits. bits ≡ reference
+    /// ```
     impl From<RawRef> for u32 {
         #[inline]
         fn from(reference: RawRef) -> u32 {
@@ -683,10 +682,11 @@ mod raw_ref {
 
     /// # Contract
     ///
-    /// <span></span><pre><code>from_gives = λ raw reference. reference ≡ [unsigned_in] [w32] raw</code></pre>
+    /// ```text
+    /// from_gives = λ raw reference. reference ≡ unsigned_in w32 raw
+    /// ```
     ///
-    /// [unsigned_in]: crate::specs::raw::RawVal#unsigned_in "the low word cut to a width: the unsigned integer, and the signed one"
-    /// [w32]: crate::specs::library#w32 "the widths of integers in bits"
+    /// Definitions: [`unsigned_in`](crate::specs::raw::RawVal#unsigned_in).
     impl From<RawVal> for RawRef {
         #[inline]
         fn from(raw: RawVal) -> RawRef {
@@ -696,10 +696,11 @@ mod raw_ref {
 
     /// # Contract
     ///
-    /// <span></span><pre><code>read = [unsigned_in] [w32]</code></pre>
+    /// ```text
+    /// read = unsigned_in w32
+    /// ```
     ///
-    /// [unsigned_in]: crate::specs::raw::RawVal#unsigned_in "the low word cut to a width: the unsigned integer, and the signed one"
-    /// [w32]: crate::specs::library#w32 "the widths of integers in bits"
+    /// Definitions: [`unsigned_in`](crate::specs::raw::RawVal#unsigned_in).
     impl ReadAs<RawRef> for RawVal {
         #[inline]
         fn read_as(&self) -> RawRef {
@@ -710,7 +711,9 @@ mod raw_ref {
 
     /// # Contract
     ///
-    /// <span></span><pre><code>read_back = λ value. value</code></pre>
+    /// ```text
+    /// read_back = λ value. value
+    /// ```
     impl ReadBack for RawRef {
         type Read = RawRef;
     }
@@ -719,9 +722,11 @@ mod raw_ref {
 
     /// # Contract
     ///
-    /// <span></span><pre><code>written = [with_low]</code></pre>
+    /// ```text
+    /// written = with_low
+    /// ```
     ///
-    /// [with_low]: crate::specs::raw::RawVal#with_low "the low word becomes n, and the high word is kept"
+    /// Definitions: [`with_low`](crate::specs::raw::RawVal#with_low).
     impl WriteAs<RawRef> for RawVal {
         #[inline]
         fn write_as(&mut self, value: RawRef) {
@@ -737,7 +742,9 @@ mod read {
 
     /// # Contract
     ///
-    /// <span></span><pre><code>read = λ raw. raw</code></pre>
+    /// ```text
+    /// read = λ raw. raw
+    /// ```
     impl ReadAs<RawVal> for RawVal {
         #[inline]
         fn read_as(&self) -> RawVal {
@@ -747,10 +754,11 @@ mod read {
 
     /// # Contract
     ///
-    /// <span></span><pre><code>read = [signed_in] [w8]</code></pre>
+    /// ```text
+    /// read = signed_in w8
+    /// ```
     ///
-    /// [signed_in]: crate::specs::raw::RawVal#signed_in "the low bits of a raw value, as many as a width has, read signed"
-    /// [w8]: crate::specs::library#w8 "the widths of integers in bits"
+    /// Definitions: [`signed_in`](crate::specs::raw::RawVal#signed_in).
     impl ReadAs<i8> for RawVal {
         #[inline]
         fn read_as(&self) -> i8 {
@@ -761,10 +769,11 @@ mod read {
 
     /// # Contract
     ///
-    /// <span></span><pre><code>read = [signed_in] [w16]</code></pre>
+    /// ```text
+    /// read = signed_in w16
+    /// ```
     ///
-    /// [signed_in]: crate::specs::raw::RawVal#signed_in "the low bits of a raw value, as many as a width has, read signed"
-    /// [w16]: crate::specs::library#w16 "the widths of integers in bits"
+    /// Definitions: [`signed_in`](crate::specs::raw::RawVal#signed_in).
     impl ReadAs<i16> for RawVal {
         #[inline]
         fn read_as(&self) -> i16 {
@@ -775,10 +784,11 @@ mod read {
 
     /// # Contract
     ///
-    /// <span></span><pre><code>read = [signed_in] [w32]</code></pre>
+    /// ```text
+    /// read = signed_in w32
+    /// ```
     ///
-    /// [signed_in]: crate::specs::raw::RawVal#signed_in "the low bits of a raw value, as many as a width has, read signed"
-    /// [w32]: crate::specs::library#w32 "the widths of integers in bits"
+    /// Definitions: [`signed_in`](crate::specs::raw::RawVal#signed_in).
     impl ReadAs<i32> for RawVal {
         #[inline]
         fn read_as(&self) -> i32 {
@@ -789,10 +799,11 @@ mod read {
 
     /// # Contract
     ///
-    /// <span></span><pre><code>read = [signed_in] [w64]</code></pre>
+    /// ```text
+    /// read = signed_in w64
+    /// ```
     ///
-    /// [signed_in]: crate::specs::raw::RawVal#signed_in "the low bits of a raw value, as many as a width has, read signed"
-    /// [w64]: crate::specs::library#w64 "the widths of integers in bits"
+    /// Definitions: [`signed_in`](crate::specs::raw::RawVal#signed_in).
     impl ReadAs<i64> for RawVal {
         #[inline]
         fn read_as(&self) -> i64 {
@@ -803,10 +814,11 @@ mod read {
 
     /// # Contract
     ///
-    /// <span></span><pre><code>read = [unsigned_in] [w8]</code></pre>
+    /// ```text
+    /// read = unsigned_in w8
+    /// ```
     ///
-    /// [unsigned_in]: crate::specs::raw::RawVal#unsigned_in "the low word cut to a width: the unsigned integer, and the signed one"
-    /// [w8]: crate::specs::library#w8 "the widths of integers in bits"
+    /// Definitions: [`unsigned_in`](crate::specs::raw::RawVal#unsigned_in).
     impl ReadAs<u8> for RawVal {
         #[inline]
         fn read_as(&self) -> u8 {
@@ -816,10 +828,11 @@ mod read {
 
     /// # Contract
     ///
-    /// <span></span><pre><code>read = [unsigned_in] [w16]</code></pre>
+    /// ```text
+    /// read = unsigned_in w16
+    /// ```
     ///
-    /// [unsigned_in]: crate::specs::raw::RawVal#unsigned_in "the low word cut to a width: the unsigned integer, and the signed one"
-    /// [w16]: crate::specs::library#w16 "the widths of integers in bits"
+    /// Definitions: [`unsigned_in`](crate::specs::raw::RawVal#unsigned_in).
     impl ReadAs<u16> for RawVal {
         #[inline]
         fn read_as(&self) -> u16 {
@@ -829,10 +842,11 @@ mod read {
 
     /// # Contract
     ///
-    /// <span></span><pre><code>read = [unsigned_in] [w32]</code></pre>
+    /// ```text
+    /// read = unsigned_in w32
+    /// ```
     ///
-    /// [unsigned_in]: crate::specs::raw::RawVal#unsigned_in "the low word cut to a width: the unsigned integer, and the signed one"
-    /// [w32]: crate::specs::library#w32 "the widths of integers in bits"
+    /// Definitions: [`unsigned_in`](crate::specs::raw::RawVal#unsigned_in).
     impl ReadAs<u32> for RawVal {
         #[inline]
         fn read_as(&self) -> u32 {
@@ -842,10 +856,11 @@ mod read {
 
     /// # Contract
     ///
-    /// <span></span><pre><code>read = [unsigned_in] [w64]</code></pre>
+    /// ```text
+    /// read = unsigned_in w64
+    /// ```
     ///
-    /// [unsigned_in]: crate::specs::raw::RawVal#unsigned_in "the low word cut to a width: the unsigned integer, and the signed one"
-    /// [w64]: crate::specs::library#w64 "the widths of integers in bits"
+    /// Definitions: [`unsigned_in`](crate::specs::raw::RawVal#unsigned_in).
     impl ReadAs<u64> for RawVal {
         #[inline]
         fn read_as(&self) -> u64 {
@@ -855,9 +870,11 @@ mod read {
 
     /// # Contract
     ///
-    /// <span></span><pre><code>read = [vector_in]</code></pre>
+    /// ```text
+    /// read = vector_in
+    /// ```
     ///
-    /// [vector_in]: crate::specs::raw::RawVal#vector_in "the vector of both words"
+    /// Definitions: [`vector_in`](crate::specs::raw::RawVal#vector_in).
     impl ReadAs<V128> for RawVal {
         #[inline]
         fn read_as(&self) -> V128 {
@@ -867,9 +884,11 @@ mod read {
 
     /// # Contract
     ///
-    /// <span></span><pre><code>read = [bool_in]</code></pre>
+    /// ```text
+    /// read = bool_in
+    /// ```
     ///
-    /// [bool_in]: crate::specs::raw::RawVal#bool_in "whether the low word is not 0"
+    /// Definitions: [`bool_in`](crate::specs::raw::RawVal#bool_in).
     impl ReadAs<bool> for RawVal {
         #[inline]
         fn read_as(&self) -> bool {
@@ -887,7 +906,9 @@ mod read_back {
 
     /// # Contract
     ///
-    /// <span></span><pre><code>read_back = λ value. value</code></pre>
+    /// ```text
+    /// read_back = λ value. value
+    /// ```
     impl ReadBack for RawVal {
         type Read = RawVal;
     }
@@ -895,93 +916,99 @@ mod read_back {
     // An integer is read back as it is.
     /// # Contract
     ///
-    /// <span></span><pre><code>read_back = λ value. value</code></pre>
+    /// ```text
+    /// read_back = λ value. value
+    /// ```
     impl<T: Number> ReadBack for T {
         type Read = T;
     }
 
     /// # Contract
     ///
-    /// <span></span><pre><code>read_back = λ value. value</code></pre>
+    /// ```text
+    /// read_back = λ value. value
+    /// ```
     impl ReadBack for bool {
         type Read = bool;
     }
 
     /// # Contract
     ///
-    /// <span></span><pre><code>read_back = λ value. value</code></pre>
+    /// ```text
+    /// read_back = λ value. value
+    /// ```
     impl ReadBack for V128 {
         type Read = V128;
     }
 
     /// # Contract
     ///
-    /// <span></span><pre><code>read_back = [non_zero_i8_get]</code></pre>
-    ///
-    /// [non_zero_i8_get]: crate::specs::library#non_zero_i8_get "the number of a \`NonZero\<u8>\`, and of those of the other integer types"
+    /// ```text
+    /// read_back = non_zero_i8_get
+    /// ```
     impl ReadBack for NonZero<i8> {
         type Read = i8;
     }
 
     /// # Contract
     ///
-    /// <span></span><pre><code>read_back = [non_zero_i16_get]</code></pre>
-    ///
-    /// [non_zero_i16_get]: crate::specs::library#non_zero_i16_get "the number of a \`NonZero\<u8>\`, and of those of the other integer types"
+    /// ```text
+    /// read_back = non_zero_i16_get
+    /// ```
     impl ReadBack for NonZero<i16> {
         type Read = i16;
     }
 
     /// # Contract
     ///
-    /// <span></span><pre><code>read_back = [non_zero_i32_get]</code></pre>
-    ///
-    /// [non_zero_i32_get]: crate::specs::library#non_zero_i32_get "the number of a \`NonZero\<u8>\`, and of those of the other integer types"
+    /// ```text
+    /// read_back = non_zero_i32_get
+    /// ```
     impl ReadBack for NonZero<i32> {
         type Read = i32;
     }
 
     /// # Contract
     ///
-    /// <span></span><pre><code>read_back = [non_zero_i64_get]</code></pre>
-    ///
-    /// [non_zero_i64_get]: crate::specs::library#non_zero_i64_get "the number of a \`NonZero\<u8>\`, and of those of the other integer types"
+    /// ```text
+    /// read_back = non_zero_i64_get
+    /// ```
     impl ReadBack for NonZero<i64> {
         type Read = i64;
     }
 
     /// # Contract
     ///
-    /// <span></span><pre><code>read_back = [non_zero_u8_get]</code></pre>
-    ///
-    /// [non_zero_u8_get]: crate::specs::library#non_zero_u8_get "the number of a \`NonZero\<u8>\`, and of those of the other integer types"
+    /// ```text
+    /// read_back = non_zero_u8_get
+    /// ```
     impl ReadBack for NonZero<u8> {
         type Read = u8;
     }
 
     /// # Contract
     ///
-    /// <span></span><pre><code>read_back = [non_zero_u16_get]</code></pre>
-    ///
-    /// [non_zero_u16_get]: crate::specs::library#non_zero_u16_get "the number of a \`NonZero\<u8>\`, and of those of the other integer types"
+    /// ```text
+    /// read_back = non_zero_u16_get
+    /// ```
     impl ReadBack for NonZero<u16> {
         type Read = u16;
     }
 
     /// # Contract
     ///
-    /// <span></span><pre><code>read_back = [non_zero_u32_get]</code></pre>
-    ///
-    /// [non_zero_u32_get]: crate::specs::library#non_zero_u32_get "the number of a \`NonZero\<u8>\`, and of those of the other integer types"
+    /// ```text
+    /// read_back = non_zero_u32_get
+    /// ```
     impl ReadBack for NonZero<u32> {
         type Read = u32;
     }
 
     /// # Contract
     ///
-    /// <span></span><pre><code>read_back = [non_zero_u64_get]</code></pre>
-    ///
-    /// [non_zero_u64_get]: crate::specs::library#non_zero_u64_get "the number of a \`NonZero\<u8>\`, and of those of the other integer types"
+    /// ```text
+    /// read_back = non_zero_u64_get
+    /// ```
     impl ReadBack for NonZero<u64> {
         type Read = u64;
     }
@@ -1027,32 +1054,17 @@ mod vector {
     ///
     /// It is kept as two words of 64 bits. Upstream: `wasmi_core::V128`.
     ///
-    /// # Examples
-    ///
-    /// ```
-    /// use wasmi_core_proved::V128;
-    ///
-    /// let vector = V128::from(0x0004_0003_0002_0001_u128);
-    /// assert_eq!(vector.as_u128(), 0x0004_0003_0002_0001);
-    /// # #[cfg(feature = "simd")]
-    /// # {
-    /// use wasmi_core_proved::simd;
-    ///
-    /// // Lane 0 is the lowest.
-    /// assert_eq!(simd::i16x8_add(vector, vector).as_u128(), 0x0008_0006_0004_0002);
-    /// assert_eq!(simd::v128_xor(vector, vector).as_u128(), 0);
-    /// # }
-    /// ```
-    ///
     /// # Model
     ///
-    /// <span></span><pre><code>Value = [ℕ]
-    /// view = λ vector. [vector_of] vector.low vector.high
+    /// ```text
+    /// Value = ℕ
+    /// view = λ vector. vector_of vector.low vector.high
     /// invariant = λ vector. vector.low < 2 ^ 64
-    /// inverse = λ number. record { low = number % 2 ^ 64; high = number / 2 ^ 64 }</code></pre>
+    /// inverse = λ number. record { low = number % 2 ^ 64; high = number / 2 ^ 64 }
+    /// ```
     ///
-    /// [ℕ]: crate::specs::library#%E2%84%95 "the whole numbers from 0 on"
-    /// [vector_of]: crate::specs::raw::Vector#vector_of "the vector whose words are low and high"
+    /// Definitions: [`vector_of`](crate::specs::raw::Vector#vector_of).
+    #[doc = examples!(raw V128)]
     #[derive(Clone, Copy, PartialEq, Eq)]
     pub struct V128 {
         low: u64,
@@ -1064,9 +1076,11 @@ mod vector {
         ///
         /// # Contract
         ///
-        /// <span></span><pre><code>ensures: result ≡ [vector_of] low high</code></pre>
+        /// ```text
+        /// ensures: result ≡ vector_of low high
+        /// ```
         ///
-        /// [vector_of]: crate::specs::raw::Vector#vector_of "the vector whose words are low and high"
+        /// Definitions: [`vector_of`](crate::specs::raw::Vector#vector_of).
         #[inline]
         pub(crate) fn from_word_pair(low: u64, high: u64) -> V128 {
             V128 { low, high }
@@ -1076,11 +1090,13 @@ mod vector {
         ///
         /// # Contract
         ///
-        /// <span></span><pre><code>ensures whole: self ≡ [vector_of] result.0 result.1
+        /// ```text
+        /// ensures whole: self ≡ vector_of result.0 result.1
         /// ensures low: result.0 ≡ self % 2 ^ 64
-        /// ensures high: result.1 ≡ self / 2 ^ 64</code></pre>
+        /// ensures high: result.1 ≡ self / 2 ^ 64
+        /// ```
         ///
-        /// [vector_of]: crate::specs::raw::Vector#vector_of "the vector whose words are low and high"
+        /// Definitions: [`vector_of`](crate::specs::raw::Vector#vector_of).
         #[inline]
         pub(crate) fn words(self) -> (u64, u64) {
             (self.low, self.high)
@@ -1090,8 +1106,10 @@ mod vector {
         ///
         /// # Contract
         ///
-        /// <span></span><pre><code>ensures value: result ≡ self
-        /// ensures in_range: self < 2 ^ 128</code></pre>
+        /// ```text
+        /// ensures value: result ≡ self
+        /// ensures in_range: self < 2 ^ 128
+        /// ```
         #[inline]
         pub fn as_u128(&self) -> u128 {
             (u128::from(self.high) << 64) | u128::from(self.low)
@@ -1100,7 +1118,9 @@ mod vector {
 
     /// # Contract
     ///
-    /// <span></span><pre><code>from_gives = λ number vector. vector ≡ number</code></pre>
+    /// ```text
+    /// from_gives = λ number vector. vector ≡ number
+    /// ```
     impl From<u128> for V128 {
         #[inline]
         fn from(number: u128) -> V128 {
@@ -1120,7 +1140,9 @@ mod write {
 
     /// # Contract
     ///
-    /// <span></span><pre><code>written = λ \_ value. value</code></pre>
+    /// ```text
+    /// written = λ _ value. value
+    /// ```
     impl WriteAs<RawVal> for RawVal {
         #[inline]
         fn write_as(&mut self, value: RawVal) {
@@ -1130,11 +1152,11 @@ mod write {
 
     /// # Contract
     ///
-    /// <span></span><pre><code>written = λ raw value. [with_low] raw ([cast_unsigned] [w8] value)</code></pre>
+    /// ```text
+    /// written = λ raw value. with_low raw (cast_unsigned w8 value)
+    /// ```
     ///
-    /// [with_low]: crate::specs::raw::RawVal#with_low "the low word becomes n, and the high word is kept"
-    /// [cast_unsigned]: crate::specs::library#cast_unsigned "the signed number as one from 0 up to 2 ^ w, in two\'s complement"
-    /// [w8]: crate::specs::library#w8 "the widths of integers in bits"
+    /// Definitions: [`with_low`](crate::specs::raw::RawVal#with_low).
     impl WriteAs<i8> for RawVal {
         #[inline]
         fn write_as(&mut self, value: i8) {
@@ -1144,12 +1166,11 @@ mod write {
 
     /// # Contract
     ///
-    /// <span></span><pre><code>written = λ raw value. [with_low] raw ([cast_unsigned] [w8] ([non_zero_i8_get] value))</code></pre>
+    /// ```text
+    /// written = λ raw value. with_low raw (cast_unsigned w8 (non_zero_i8_get value))
+    /// ```
     ///
-    /// [with_low]: crate::specs::raw::RawVal#with_low "the low word becomes n, and the high word is kept"
-    /// [cast_unsigned]: crate::specs::library#cast_unsigned "the signed number as one from 0 up to 2 ^ w, in two\'s complement"
-    /// [w8]: crate::specs::library#w8 "the widths of integers in bits"
-    /// [non_zero_i8_get]: crate::specs::library#non_zero_i8_get "the number of a \`NonZero\<u8>\`, and of those of the other integer types"
+    /// Definitions: [`with_low`](crate::specs::raw::RawVal#with_low).
     impl WriteAs<NonZero<i8>> for RawVal {
         #[inline]
         fn write_as(&mut self, value: NonZero<i8>) {
@@ -1159,11 +1180,11 @@ mod write {
 
     /// # Contract
     ///
-    /// <span></span><pre><code>written = λ raw value. [with_low] raw ([cast_unsigned] [w16] value)</code></pre>
+    /// ```text
+    /// written = λ raw value. with_low raw (cast_unsigned w16 value)
+    /// ```
     ///
-    /// [with_low]: crate::specs::raw::RawVal#with_low "the low word becomes n, and the high word is kept"
-    /// [cast_unsigned]: crate::specs::library#cast_unsigned "the signed number as one from 0 up to 2 ^ w, in two\'s complement"
-    /// [w16]: crate::specs::library#w16 "the widths of integers in bits"
+    /// Definitions: [`with_low`](crate::specs::raw::RawVal#with_low).
     impl WriteAs<i16> for RawVal {
         #[inline]
         fn write_as(&mut self, value: i16) {
@@ -1173,12 +1194,11 @@ mod write {
 
     /// # Contract
     ///
-    /// <span></span><pre><code>written = λ raw value. [with_low] raw ([cast_unsigned] [w16] ([non_zero_i16_get] value))</code></pre>
+    /// ```text
+    /// written = λ raw value. with_low raw (cast_unsigned w16 (non_zero_i16_get value))
+    /// ```
     ///
-    /// [with_low]: crate::specs::raw::RawVal#with_low "the low word becomes n, and the high word is kept"
-    /// [cast_unsigned]: crate::specs::library#cast_unsigned "the signed number as one from 0 up to 2 ^ w, in two\'s complement"
-    /// [w16]: crate::specs::library#w16 "the widths of integers in bits"
-    /// [non_zero_i16_get]: crate::specs::library#non_zero_i16_get "the number of a \`NonZero\<u8>\`, and of those of the other integer types"
+    /// Definitions: [`with_low`](crate::specs::raw::RawVal#with_low).
     impl WriteAs<NonZero<i16>> for RawVal {
         #[inline]
         fn write_as(&mut self, value: NonZero<i16>) {
@@ -1188,11 +1208,11 @@ mod write {
 
     /// # Contract
     ///
-    /// <span></span><pre><code>written = λ raw value. [with_low] raw ([cast_unsigned] [w32] value)</code></pre>
+    /// ```text
+    /// written = λ raw value. with_low raw (cast_unsigned w32 value)
+    /// ```
     ///
-    /// [with_low]: crate::specs::raw::RawVal#with_low "the low word becomes n, and the high word is kept"
-    /// [cast_unsigned]: crate::specs::library#cast_unsigned "the signed number as one from 0 up to 2 ^ w, in two\'s complement"
-    /// [w32]: crate::specs::library#w32 "the widths of integers in bits"
+    /// Definitions: [`with_low`](crate::specs::raw::RawVal#with_low).
     impl WriteAs<i32> for RawVal {
         #[inline]
         fn write_as(&mut self, value: i32) {
@@ -1202,12 +1222,11 @@ mod write {
 
     /// # Contract
     ///
-    /// <span></span><pre><code>written = λ raw value. [with_low] raw ([cast_unsigned] [w32] ([non_zero_i32_get] value))</code></pre>
+    /// ```text
+    /// written = λ raw value. with_low raw (cast_unsigned w32 (non_zero_i32_get value))
+    /// ```
     ///
-    /// [with_low]: crate::specs::raw::RawVal#with_low "the low word becomes n, and the high word is kept"
-    /// [cast_unsigned]: crate::specs::library#cast_unsigned "the signed number as one from 0 up to 2 ^ w, in two\'s complement"
-    /// [w32]: crate::specs::library#w32 "the widths of integers in bits"
-    /// [non_zero_i32_get]: crate::specs::library#non_zero_i32_get "the number of a \`NonZero\<u8>\`, and of those of the other integer types"
+    /// Definitions: [`with_low`](crate::specs::raw::RawVal#with_low).
     impl WriteAs<NonZero<i32>> for RawVal {
         #[inline]
         fn write_as(&mut self, value: NonZero<i32>) {
@@ -1217,11 +1236,11 @@ mod write {
 
     /// # Contract
     ///
-    /// <span></span><pre><code>written = λ raw value. [with_low] raw ([cast_unsigned] [w64] value)</code></pre>
+    /// ```text
+    /// written = λ raw value. with_low raw (cast_unsigned w64 value)
+    /// ```
     ///
-    /// [with_low]: crate::specs::raw::RawVal#with_low "the low word becomes n, and the high word is kept"
-    /// [cast_unsigned]: crate::specs::library#cast_unsigned "the signed number as one from 0 up to 2 ^ w, in two\'s complement"
-    /// [w64]: crate::specs::library#w64 "the widths of integers in bits"
+    /// Definitions: [`with_low`](crate::specs::raw::RawVal#with_low).
     impl WriteAs<i64> for RawVal {
         #[inline]
         fn write_as(&mut self, value: i64) {
@@ -1231,12 +1250,11 @@ mod write {
 
     /// # Contract
     ///
-    /// <span></span><pre><code>written = λ raw value. [with_low] raw ([cast_unsigned] [w64] ([non_zero_i64_get] value))</code></pre>
+    /// ```text
+    /// written = λ raw value. with_low raw (cast_unsigned w64 (non_zero_i64_get value))
+    /// ```
     ///
-    /// [with_low]: crate::specs::raw::RawVal#with_low "the low word becomes n, and the high word is kept"
-    /// [cast_unsigned]: crate::specs::library#cast_unsigned "the signed number as one from 0 up to 2 ^ w, in two\'s complement"
-    /// [w64]: crate::specs::library#w64 "the widths of integers in bits"
-    /// [non_zero_i64_get]: crate::specs::library#non_zero_i64_get "the number of a \`NonZero\<u8>\`, and of those of the other integer types"
+    /// Definitions: [`with_low`](crate::specs::raw::RawVal#with_low).
     impl WriteAs<NonZero<i64>> for RawVal {
         #[inline]
         fn write_as(&mut self, value: NonZero<i64>) {
@@ -1246,9 +1264,11 @@ mod write {
 
     /// # Contract
     ///
-    /// <span></span><pre><code>written = [with_low]</code></pre>
+    /// ```text
+    /// written = with_low
+    /// ```
     ///
-    /// [with_low]: crate::specs::raw::RawVal#with_low "the low word becomes n, and the high word is kept"
+    /// Definitions: [`with_low`](crate::specs::raw::RawVal#with_low).
     impl WriteAs<u8> for RawVal {
         #[inline]
         fn write_as(&mut self, value: u8) {
@@ -1258,10 +1278,11 @@ mod write {
 
     /// # Contract
     ///
-    /// <span></span><pre><code>written = λ raw value. [with_low] raw ([non_zero_u8_get] value)</code></pre>
+    /// ```text
+    /// written = λ raw value. with_low raw (non_zero_u8_get value)
+    /// ```
     ///
-    /// [with_low]: crate::specs::raw::RawVal#with_low "the low word becomes n, and the high word is kept"
-    /// [non_zero_u8_get]: crate::specs::library#non_zero_u8_get "the number of a \`NonZero\<u8>\`, and of those of the other integer types"
+    /// Definitions: [`with_low`](crate::specs::raw::RawVal#with_low).
     impl WriteAs<NonZero<u8>> for RawVal {
         #[inline]
         fn write_as(&mut self, value: NonZero<u8>) {
@@ -1271,9 +1292,11 @@ mod write {
 
     /// # Contract
     ///
-    /// <span></span><pre><code>written = [with_low]</code></pre>
+    /// ```text
+    /// written = with_low
+    /// ```
     ///
-    /// [with_low]: crate::specs::raw::RawVal#with_low "the low word becomes n, and the high word is kept"
+    /// Definitions: [`with_low`](crate::specs::raw::RawVal#with_low).
     impl WriteAs<u16> for RawVal {
         #[inline]
         fn write_as(&mut self, value: u16) {
@@ -1283,10 +1306,11 @@ mod write {
 
     /// # Contract
     ///
-    /// <span></span><pre><code>written = λ raw value. [with_low] raw ([non_zero_u16_get] value)</code></pre>
+    /// ```text
+    /// written = λ raw value. with_low raw (non_zero_u16_get value)
+    /// ```
     ///
-    /// [with_low]: crate::specs::raw::RawVal#with_low "the low word becomes n, and the high word is kept"
-    /// [non_zero_u16_get]: crate::specs::library#non_zero_u16_get "the number of a \`NonZero\<u8>\`, and of those of the other integer types"
+    /// Definitions: [`with_low`](crate::specs::raw::RawVal#with_low).
     impl WriteAs<NonZero<u16>> for RawVal {
         #[inline]
         fn write_as(&mut self, value: NonZero<u16>) {
@@ -1296,9 +1320,11 @@ mod write {
 
     /// # Contract
     ///
-    /// <span></span><pre><code>written = [with_low]</code></pre>
+    /// ```text
+    /// written = with_low
+    /// ```
     ///
-    /// [with_low]: crate::specs::raw::RawVal#with_low "the low word becomes n, and the high word is kept"
+    /// Definitions: [`with_low`](crate::specs::raw::RawVal#with_low).
     impl WriteAs<u32> for RawVal {
         #[inline]
         fn write_as(&mut self, value: u32) {
@@ -1308,10 +1334,11 @@ mod write {
 
     /// # Contract
     ///
-    /// <span></span><pre><code>written = λ raw value. [with_low] raw ([non_zero_u32_get] value)</code></pre>
+    /// ```text
+    /// written = λ raw value. with_low raw (non_zero_u32_get value)
+    /// ```
     ///
-    /// [with_low]: crate::specs::raw::RawVal#with_low "the low word becomes n, and the high word is kept"
-    /// [non_zero_u32_get]: crate::specs::library#non_zero_u32_get "the number of a \`NonZero\<u8>\`, and of those of the other integer types"
+    /// Definitions: [`with_low`](crate::specs::raw::RawVal#with_low).
     impl WriteAs<NonZero<u32>> for RawVal {
         #[inline]
         fn write_as(&mut self, value: NonZero<u32>) {
@@ -1321,9 +1348,11 @@ mod write {
 
     /// # Contract
     ///
-    /// <span></span><pre><code>written = [with_low]</code></pre>
+    /// ```text
+    /// written = with_low
+    /// ```
     ///
-    /// [with_low]: crate::specs::raw::RawVal#with_low "the low word becomes n, and the high word is kept"
+    /// Definitions: [`with_low`](crate::specs::raw::RawVal#with_low).
     impl WriteAs<u64> for RawVal {
         #[inline]
         fn write_as(&mut self, value: u64) {
@@ -1333,10 +1362,11 @@ mod write {
 
     /// # Contract
     ///
-    /// <span></span><pre><code>written = λ raw value. [with_low] raw ([non_zero_u64_get] value)</code></pre>
+    /// ```text
+    /// written = λ raw value. with_low raw (non_zero_u64_get value)
+    /// ```
     ///
-    /// [with_low]: crate::specs::raw::RawVal#with_low "the low word becomes n, and the high word is kept"
-    /// [non_zero_u64_get]: crate::specs::library#non_zero_u64_get "the number of a \`NonZero\<u8>\`, and of those of the other integer types"
+    /// Definitions: [`with_low`](crate::specs::raw::RawVal#with_low).
     impl WriteAs<NonZero<u64>> for RawVal {
         #[inline]
         fn write_as(&mut self, value: NonZero<u64>) {
@@ -1346,10 +1376,11 @@ mod write {
 
     /// # Contract
     ///
-    /// <span></span><pre><code>written = λ raw value. [with_low] raw ([from_bool] value)</code></pre>
+    /// ```text
+    /// written = λ raw value. with_low raw (from_bool value)
+    /// ```
     ///
-    /// [with_low]: crate::specs::raw::RawVal#with_low "the low word becomes n, and the high word is kept"
-    /// [from_bool]: crate::specs::library#from_bool "1 for true, 0 for false"
+    /// Definitions: [`with_low`](crate::specs::raw::RawVal#with_low).
     impl WriteAs<bool> for RawVal {
         #[inline]
         fn write_as(&mut self, value: bool) {
@@ -1359,9 +1390,11 @@ mod write {
 
     /// # Contract
     ///
-    /// <span></span><pre><code>written = λ \_ value. [raw_of_vector] value</code></pre>
+    /// ```text
+    /// written = λ _ value. raw_of_vector value
+    /// ```
     ///
-    /// [raw_of_vector]: crate::specs::raw::RawVal#raw_of_vector "the words of a vector"
+    /// Definitions: [`raw_of_vector`](crate::specs::raw::RawVal#raw_of_vector).
     impl WriteAs<V128> for RawVal {
         #[inline]
         fn write_as(&mut self, value: V128) {

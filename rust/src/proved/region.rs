@@ -11,11 +11,11 @@ pub mod laws {
     ///
     /// # Contract
     ///
-    /// <span></span><pre><code>ensures: [TableCreationsSucceed] ([optional_rules] [L.rules])</code></pre>
+    /// ```text
+    /// ensures: TableCreationsSucceed (optional_rules L.rules)
+    /// ```
     ///
-    /// [TableCreationsSucceed]: crate::specs::region::Laws#TableCreationsSucceed "a creation of a table on a region of at least its minimum is refused by the limiter alone"
-    /// [optional_rules]: crate::specs::meter::Limiter#optional_rules "the rules of a limiter that may be absent"
-    /// [L.rules]: trait@ResourceLimiter#contract
+    /// Definitions: [`TableCreationsSucceed`](crate::specs::region::Laws#TableCreationsSucceed), [`optional_rules`](crate::specs::meter::Limiter#optional_rules).
     #[inline]
     pub fn table_creations_succeed<L: ResourceLimiter>() {}
 
@@ -24,11 +24,11 @@ pub mod laws {
     ///
     /// # Contract
     ///
-    /// <span></span><pre><code>ensures: [TableGrowthsSucceed] ([optional_rules] [L.rules])</code></pre>
+    /// ```text
+    /// ensures: TableGrowthsSucceed (optional_rules L.rules)
+    /// ```
     ///
-    /// [TableGrowthsSucceed]: crate::specs::region::Laws#TableGrowthsSucceed "a growth of a table that its type and its region have place for, and that can be paid, is refused by the limiter alone"
-    /// [optional_rules]: crate::specs::meter::Limiter#optional_rules "the rules of a limiter that may be absent"
-    /// [L.rules]: trait@ResourceLimiter#contract
+    /// Definitions: [`TableGrowthsSucceed`](crate::specs::region::Laws#TableGrowthsSucceed), [`optional_rules`](crate::specs::meter::Limiter#optional_rules).
     #[inline]
     pub fn table_growths_succeed<L: ResourceLimiter>() {}
 
@@ -36,13 +36,12 @@ pub mod laws {
     ///
     /// # Contract
     ///
-    /// <span></span><pre><code>ensures creations: [CreationsAreTables] ([optional_rules] [L.rules])
-    /// ensures growths: [GrowthsAreTables] ([optional_rules] [L.rules])</code></pre>
+    /// ```text
+    /// ensures creations: CreationsAreTables (optional_rules L.rules)
+    /// ensures growths: GrowthsAreTables (optional_rules L.rules)
+    /// ```
     ///
-    /// [CreationsAreTables]: crate::specs::region::Laws#CreationsAreTables "a table that is made on a region is made as one that owns its elements"
-    /// [optional_rules]: crate::specs::meter::Limiter#optional_rules "the rules of a limiter that may be absent"
-    /// [L.rules]: trait@ResourceLimiter#contract
-    /// [GrowthsAreTables]: crate::specs::region::Laws#GrowthsAreTables "a table on a region grows as one that owns its elements"
+    /// Definitions: [`CreationsAreTables`](crate::specs::region::Laws#CreationsAreTables), [`optional_rules`](crate::specs::meter::Limiter#optional_rules), [`GrowthsAreTables`](crate::specs::region::Laws#GrowthsAreTables).
     #[inline]
     pub fn region_tables_are_tables<L: ResourceLimiter>() {}
 }
@@ -65,10 +64,11 @@ pub mod memory {
     ///
     /// # Contract
     ///
-    /// <span></span><pre><code>ensures: (result ≡ [true] → [IsSized] ty size) × ([IsSized] ty size → result ≡ [true])</code></pre>
+    /// ```text
+    /// ensures: (result ≡ true → IsSized ty size) × (IsSized ty size → result ≡ true)
+    /// ```
     ///
-    /// [true]: crate::specs::library#true "the Boolean"
-    /// [IsSized]: crate::specs::store::Memory#IsSized "so many bytes are whole pages, as many as the type allows"
+    /// Definitions: [`IsSized`](crate::specs::store::Memory#IsSized).
     #[inline]
     pub fn is_sized(ty: MemoryType, size: usize) -> bool {
         let pages = ty.pages_in(size);
@@ -79,9 +79,11 @@ pub mod memory {
     ///
     /// # Contract
     ///
-    /// <span></span><pre><code>ensures: result ≡ size / [page_bytes] ty.page</code></pre>
+    /// ```text
+    /// ensures: result ≡ size / page_bytes ty.page
+    /// ```
     ///
-    /// [page_bytes]: crate::specs::store::MemoryType#page_bytes "the bytes of a page, and the power of two that they are"
+    /// Definitions: [`page_bytes`](crate::specs::store::MemoryType#page_bytes).
     #[inline]
     pub fn pages(ty: MemoryType, size: usize) -> u64 {
         ty.pages_in(size)
@@ -90,58 +92,25 @@ pub mod memory {
     /// Makes a memory of zeros at the front of a region, at the minimum of its type, and returns its
     /// size in bytes. It takes no fuel, and leaves the bytes past the minimum alone.
     ///
-    /// Errors, in the order of the tests: [`MinimumSizeOverflow`] if the minimum has 2^64 bytes or more;
-    /// [`ResourceLimiterDeniedAllocation`] if the limiter doesn't permit it; [`InvalidStaticBufferSize`] if
+    /// Errors, in the order of the tests: `MinimumSizeOverflow` if the minimum has 2^64 bytes or more;
+    /// `ResourceLimiterDeniedAllocation` if the limiter doesn't permit it; `InvalidStaticBufferSize` if
     /// the region is shorter than the minimum, of which the limiter is notified. After an error the
     /// bytes of the region are unchanged.
     ///
-    /// # Examples
-    ///
-    /// ```
-    /// use wasmi_core_proved::machine::{Fuel, FuelCostsProvider, MemoryType, NoLimits, ResourceLimiterRef};
-    /// use wasmi_core_proved::region::memory;
-    ///
-    /// let mut builder = MemoryType::builder();
-    /// builder.min(2).max(Some(8)).page_size_log2(0);
-    /// let ty = builder.build()?;
-    /// let mut fuel = Fuel::new(false, FuelCostsProvider::default());
-    /// let mut limiter = ResourceLimiterRef::<NoLimits>::default();
-    ///
-    /// // The memory is the first `size` bytes of the region; the rest is room to grow.
-    /// let mut region = [9; 5];
-    /// let mut size = memory::make(ty, &mut region, &mut limiter)?;
-    /// assert_eq!((size, region), (2, [0, 0, 9, 9, 9]));
-    /// assert_eq!(memory::grow(ty, &mut size, &mut region, 2, &mut fuel, &mut limiter)?, 2);
-    /// assert_eq!((size, region), (4, [0, 0, 0, 0, 9]));
-    /// assert!(memory::grow(ty, &mut size, &mut region, 2, &mut fuel, &mut limiter).is_err());
-    /// # Ok::<(), wasmi_core_proved::MemoryError>(())
-    /// ```
-    ///
     /// # Contract
     ///
-    /// <span></span><pre><code>ensures loan: [KeepsLoan] limiter.old limiter.new
-    /// ensures made: [MakesMemory] ([optional_rules] [L.rules]) ([Lent] region.old) ty
-    /// &#32;&#32;&#32;&#32;([lent_limiter] limiter.old) ([made_in] ty region.new result) ([lent_limiter] limiter.new)
-    /// ensures sized: [IfOk] result (λ size. [IsSized] ty size × (size ≤ [length] region.new))
-    /// ensures rest: [IfOk] result (λ size. [drop] size region.new ≡ [drop] size region.old)
-    /// ensures refused: [OnErr] result (region.new ≡ region.old)
-    /// ensures len: [length] region.new ≡ [length] region.old</code></pre>
+    /// ```text
+    /// ensures loan: KeepsLoan limiter.old limiter.new
+    /// ensures made: MakesMemory (optional_rules L.rules) (Lent region.old) ty
+    ///     (lent_limiter limiter.old) (made_in ty region.new result) (lent_limiter limiter.new)
+    /// ensures sized: IfOk result (λ size. IsSized ty size × (size ≤ length region.new))
+    /// ensures rest: IfOk result (λ size. drop size region.new ≡ drop size region.old)
+    /// ensures refused: OnErr result (region.new ≡ region.old)
+    /// ensures len: length region.new ≡ length region.old
+    /// ```
     ///
-    /// [KeepsLoan]: crate::specs::meter::LimiterRef#KeepsLoan "r\' leads to what r leads to"
-    /// [MakesMemory]: crate::specs::store::Memory#MakesMemory "a memory of a type is made in a room"
-    /// [optional_rules]: crate::specs::meter::Limiter#optional_rules "the rules of a limiter that may be absent"
-    /// [L.rules]: trait@ResourceLimiter#contract
-    /// [Lent]: crate::specs::store::Buffer#Lent
-    /// [lent_limiter]: crate::specs::meter::LimiterRef#lent_limiter "the present value of the limiter that is lent, or none"
-    /// [made_in]: crate::specs::region::Memory#made_in "what a call makes in a region, by the size that it returns"
-    /// [IfOk]: crate::specs::library#IfOk "P of the value, if r is a value"
-    /// [IsSized]: crate::specs::store::Memory#IsSized "so many bytes are whole pages, as many as the type allows"
-    /// [length]: crate::specs::library#length "the number of elements of a list"
-    /// [drop]: crate::specs::library#drop "all but the first n elements"
-    /// [OnErr]: crate::specs::library#OnErr "P, if r is an error"
-    /// [`MinimumSizeOverflow`]: crate::proved::meter::MemoryError::MinimumSizeOverflow
-    /// [`ResourceLimiterDeniedAllocation`]: crate::proved::meter::MemoryError::ResourceLimiterDeniedAllocation
-    /// [`InvalidStaticBufferSize`]: crate::proved::meter::MemoryError::InvalidStaticBufferSize
+    /// Definitions: [`KeepsLoan`](crate::specs::meter::LimiterRef#KeepsLoan), [`MakesMemory`](crate::specs::store::Memory#MakesMemory), [`optional_rules`](crate::specs::meter::Limiter#optional_rules), [`Lent`](crate::specs::store::Buffer#Lent), [`lent_limiter`](crate::specs::meter::LimiterRef#lent_limiter), [`made_in`](crate::specs::region::Memory#made_in), [`IsSized`](crate::specs::store::Memory#IsSized).
+    #[doc = examples!(region make)]
     #[inline]
     pub fn make<L: ResourceLimiter>(
         ty: MemoryType,
@@ -169,33 +138,24 @@ pub mod memory {
     ///
     /// # Contract
     ///
-    /// <span></span><pre><code>requires sized: [IsSized] ty size.old
-    /// requires within: size.old ≤ [length] region.old
-    /// ensures loan: [KeepsLoan] limiter.old limiter.new
-    /// ensures grown: [GrowsMemory] ([optional_rules] [L.rules]) additional
-    /// &#32;&#32;&#32;&#32;([metered_value] ([memory_in] ty region.old size.old) ([Some] fuel.old)
-    /// &#32;&#32;&#32;&#32;([lent_limiter] limiter.old)) result
-    /// &#32;&#32;&#32;&#32;([metered_value] ([memory_in] ty region.new size.new) ([Some] fuel.new)
-    /// &#32;&#32;&#32;&#32;([lent_limiter] limiter.new))
-    /// ensures sized: [IsSized] ty size.new
-    /// ensures within: size.new ≤ [length] region.new
-    /// ensures len: [length] region.new ≡ [length] region.old
-    /// ensures rest: [drop] size.new region.new ≡ [drop] size.new region.old
-    /// ensures refused: [OnErr] result (region.new ≡ region.old)
-    /// ensures size: [OnErr] result (size.new ≡ size.old)</code></pre>
+    /// ```text
+    /// requires sized: IsSized ty size.old
+    /// requires within: size.old ≤ length region.old
+    /// ensures loan: KeepsLoan limiter.old limiter.new
+    /// ensures grown: GrowsMemory (optional_rules L.rules) additional
+    ///     (metered_value (memory_in ty region.old size.old) (Some fuel.old)
+    ///     (lent_limiter limiter.old)) result
+    ///     (metered_value (memory_in ty region.new size.new) (Some fuel.new)
+    ///     (lent_limiter limiter.new))
+    /// ensures sized: IsSized ty size.new
+    /// ensures within: size.new ≤ length region.new
+    /// ensures len: length region.new ≡ length region.old
+    /// ensures rest: drop size.new region.new ≡ drop size.new region.old
+    /// ensures refused: OnErr result (region.new ≡ region.old)
+    /// ensures size: OnErr result (size.new ≡ size.old)
+    /// ```
     ///
-    /// [IsSized]: crate::specs::store::Memory#IsSized "so many bytes are whole pages, as many as the type allows"
-    /// [length]: crate::specs::library#length "the number of elements of a list"
-    /// [KeepsLoan]: crate::specs::meter::LimiterRef#KeepsLoan "r\' leads to what r leads to"
-    /// [GrowsMemory]: crate::specs::store::Memory#GrowsMemory "a memory grows by so many pages; it returns the old size in pages"
-    /// [optional_rules]: crate::specs::meter::Limiter#optional_rules "the rules of a limiter that may be absent"
-    /// [L.rules]: trait@ResourceLimiter#contract
-    /// [metered_value]: crate::specs::store::Growth#metered_value "a value with its meter, if there is one, and its limiter"
-    /// [memory_in]: crate::specs::region::Memory#memory_in "the memory of a type that has so many bytes at the front of a region, and the rest of it as room"
-    /// [Some]: crate::specs::library#Some "the value x, of an \`Option\`"
-    /// [lent_limiter]: crate::specs::meter::LimiterRef#lent_limiter "the present value of the limiter that is lent, or none"
-    /// [drop]: crate::specs::library#drop "all but the first n elements"
-    /// [OnErr]: crate::specs::library#OnErr "P, if r is an error"
+    /// Definitions: [`IsSized`](crate::specs::store::Memory#IsSized), [`KeepsLoan`](crate::specs::meter::LimiterRef#KeepsLoan), [`GrowsMemory`](crate::specs::store::Memory#GrowsMemory), [`optional_rules`](crate::specs::meter::Limiter#optional_rules), [`metered_value`](crate::specs::store::Growth#metered_value), [`memory_in`](crate::specs::region::Memory#memory_in), [`lent_limiter`](crate::specs::meter::LimiterRef#lent_limiter).
     #[inline]
     pub fn grow<L: ResourceLimiter>(
         ty: MemoryType,
@@ -235,19 +195,15 @@ pub mod memory {
     ///
     /// # Contract
     ///
-    /// <span></span><pre><code>requires sized: [IsSized] ty size
-    /// ensures asked: [MatchOption] result
-    /// &#32;&#32;&#32;&#32;([in_bounds] ty (size / [page_bytes] ty.page + additional) ≡ [false])
-    /// &#32;&#32;&#32;&#32;(λ asked. ([in_bounds] ty (size / [page_bytes] ty.page + additional) ≡ [true])
-    /// &#32;&#32;&#32;&#32;× (asked.0 ≡ size + additional \* [page_bytes] ty.page) × (asked.1 ≡ [maximum_bytes] ty))</code></pre>
+    /// ```text
+    /// requires sized: IsSized ty size
+    /// ensures asked: MatchOption result
+    ///     (in_bounds ty (size / page_bytes ty.page + additional) ≡ false)
+    ///     (λ asked. (in_bounds ty (size / page_bytes ty.page + additional) ≡ true)
+    ///     × (asked.0 ≡ size + additional * page_bytes ty.page) × (asked.1 ≡ maximum_bytes ty))
+    /// ```
     ///
-    /// [IsSized]: crate::specs::store::Memory#IsSized "so many bytes are whole pages, as many as the type allows"
-    /// [MatchOption]: crate::specs::library#MatchOption "P where there is no value, else Q of the value"
-    /// [in_bounds]: crate::specs::store::MemoryType#in_bounds "whether a memory of the type may have so many pages: as many as it can address, and no more than its maximum"
-    /// [page_bytes]: crate::specs::store::MemoryType#page_bytes "the bytes of a page, and the power of two that they are"
-    /// [false]: crate::specs::library#false "the Boolean"
-    /// [true]: crate::specs::library#true "the Boolean"
-    /// [maximum_bytes]: crate::specs::store::MemoryType#maximum_bytes "the maximum in bytes, at most 2^64 - 1"
+    /// Definitions: [`IsSized`](crate::specs::store::Memory#IsSized), [`in_bounds`](crate::specs::store::MemoryType#in_bounds), [`page_bytes`](crate::specs::store::MemoryType#page_bytes), [`maximum_bytes`](crate::specs::store::MemoryType#maximum_bytes).
     #[inline]
     pub fn question(
         ty: MemoryType,
@@ -260,7 +216,7 @@ pub mod memory {
     }
 
     /// Writes bytes over those from an offset on, of a memory of `size` bytes at the front of a region.
-    /// The error is [`OutOfBoundsAccess`] if they would end past the memory; then nothing is written.
+    /// The error is `OutOfBoundsAccess` if they would end past the memory; then nothing is written.
     ///
     /// # Panics
     ///
@@ -268,26 +224,19 @@ pub mod memory {
     ///
     /// # Contract
     ///
-    /// <span></span><pre><code>requires within: size ≤ [length] region.old
-    /// ensures ok: [OnOk] result
-    /// &#32;&#32;&#32;&#32;(([overwrite] ([take] size region.old) offset source.now ≡ [Some] ([take] size region.new))
-    /// &#32;&#32;&#32;&#32;× ([drop] size region.new ≡ [drop] size region.old))
-    /// ensures err: [IfErr] result
-    /// &#32;&#32;&#32;&#32;(λ error. (error ≡ [MemoryError.OutOfBoundsAccess])
-    /// &#32;&#32;&#32;&#32;× ([overwrite] ([take] size region.old) offset source.now ≡ [None])
-    /// &#32;&#32;&#32;&#32;× (region.new ≡ region.old))
-    /// ensures len: [length] region.new ≡ [length] region.old</code></pre>
+    /// ```text
+    /// requires within: size ≤ length region.old
+    /// ensures ok: OnOk result
+    ///     ((overwrite (take size region.old) offset source.now ≡ Some (take size region.new))
+    ///     × (drop size region.new ≡ drop size region.old))
+    /// ensures err: IfErr result
+    ///     (λ error. (error ≡ MemoryError.OutOfBoundsAccess)
+    ///     × (overwrite (take size region.old) offset source.now ≡ None)
+    ///     × (region.new ≡ region.old))
+    /// ensures len: length region.new ≡ length region.old
+    /// ```
     ///
-    /// [length]: crate::specs::library#length "the number of elements of a list"
-    /// [OnOk]: crate::specs::library#OnOk "P, if r is a value"
-    /// [overwrite]: crate::specs::types::Access#overwrite "xs with ys at a, or none where the list ends before them"
-    /// [take]: crate::specs::library#take "the first n elements"
-    /// [Some]: crate::specs::library#Some "the value x, of an \`Option\`"
-    /// [drop]: crate::specs::library#drop "all but the first n elements"
-    /// [IfErr]: crate::specs::library#IfErr "P of the error, if r is an error"
-    /// [MemoryError.OutOfBoundsAccess]: crate::proved::meter::MemoryError::OutOfBoundsAccess
-    /// [None]: crate::specs::library#None "no value, of an \`Option\`"
-    /// [`OutOfBoundsAccess`]: crate::proved::meter::MemoryError::OutOfBoundsAccess
+    /// Definitions: [`overwrite`](crate::specs::types::Access#overwrite).
     #[inline]
     pub fn write(
         region: &mut [u8],
@@ -315,20 +264,16 @@ pub mod memory {
     ///
     /// # Contract
     ///
-    /// <span></span><pre><code>requires within: size ≤ [length] region.old
-    /// ensures written: [BulkWrites] ([filled] ([take] size region.old) dst value len) len
-    /// &#32;&#32;&#32;&#32;([metered] ([take] size region.old) ([Some] fuel.old)) result
-    /// &#32;&#32;&#32;&#32;([metered] ([take] size region.new) ([Some] fuel.new))
-    /// ensures rest: [drop] size region.new ≡ [drop] size region.old
-    /// ensures len: [length] region.new ≡ [length] region.old</code></pre>
+    /// ```text
+    /// requires within: size ≤ length region.old
+    /// ensures written: BulkWrites (filled (take size region.old) dst value len) len
+    ///     (metered (take size region.old) (Some fuel.old)) result
+    ///     (metered (take size region.new) (Some fuel.new))
+    /// ensures rest: drop size region.new ≡ drop size region.old
+    /// ensures len: length region.new ≡ length region.old
+    /// ```
     ///
-    /// [length]: crate::specs::library#length "the number of elements of a list"
-    /// [BulkWrites]: crate::specs::store::Bulk#BulkWrites "A bulk instruction writes so many bytes, by what the bytes become, or none where a range ends past its list. That is tested first, then the fuel; an instruction that is refused writes and takes nothing."
-    /// [filled]: crate::specs::store::Bulk#filled "items of which so many, from dst on, are each filled with a value, or none where they end too early"
-    /// [take]: crate::specs::library#take "the first n elements"
-    /// [metered]: crate::specs::store::Growth#metered "a value with its meter, if there is one, and no limiter to ask"
-    /// [Some]: crate::specs::library#Some "the value x, of an \`Option\`"
-    /// [drop]: crate::specs::library#drop "all but the first n elements"
+    /// Definitions: [`BulkWrites`](crate::specs::store::Bulk#BulkWrites), [`filled`](crate::specs::store::Bulk#filled), [`metered`](crate::specs::store::Growth#metered).
     #[inline]
     pub fn fill(
         region: &mut [u8],
@@ -354,21 +299,17 @@ pub mod memory {
     ///
     /// # Contract
     ///
-    /// <span></span><pre><code>requires within: size ≤ [length] region.old
-    /// ensures written: [BulkWrites]
-    /// &#32;&#32;&#32;&#32;([copied] ([take] size region.old) dst ([take] size region.old) src len) len
-    /// &#32;&#32;&#32;&#32;([metered] ([take] size region.old) ([Some] fuel.old)) result
-    /// &#32;&#32;&#32;&#32;([metered] ([take] size region.new) ([Some] fuel.new))
-    /// ensures rest: [drop] size region.new ≡ [drop] size region.old
-    /// ensures len: [length] region.new ≡ [length] region.old</code></pre>
+    /// ```text
+    /// requires within: size ≤ length region.old
+    /// ensures written: BulkWrites
+    ///     (copied (take size region.old) dst (take size region.old) src len) len
+    ///     (metered (take size region.old) (Some fuel.old)) result
+    ///     (metered (take size region.new) (Some fuel.new))
+    /// ensures rest: drop size region.new ≡ drop size region.old
+    /// ensures len: length region.new ≡ length region.old
+    /// ```
     ///
-    /// [length]: crate::specs::library#length "the number of elements of a list"
-    /// [BulkWrites]: crate::specs::store::Bulk#BulkWrites "A bulk instruction writes so many bytes, by what the bytes become, or none where a range ends past its list. That is tested first, then the fuel; an instruction that is refused writes and takes nothing."
-    /// [copied]: crate::specs::store::Bulk#copied "items whose part from dst on is written over by so many items of a list from src on, or none where a list ends too early"
-    /// [take]: crate::specs::library#take "the first n elements"
-    /// [metered]: crate::specs::store::Growth#metered "a value with its meter, if there is one, and no limiter to ask"
-    /// [Some]: crate::specs::library#Some "the value x, of an \`Option\`"
-    /// [drop]: crate::specs::library#drop "all but the first n elements"
+    /// Definitions: [`BulkWrites`](crate::specs::store::Bulk#BulkWrites), [`copied`](crate::specs::store::Bulk#copied), [`metered`](crate::specs::store::Growth#metered).
     #[inline]
     pub fn copy_within(
         region: &mut [u8],
@@ -395,20 +336,16 @@ pub mod memory {
     ///
     /// # Contract
     ///
-    /// <span></span><pre><code>requires within: size ≤ [length] region.old
-    /// ensures written: [BulkWrites] ([copied] ([take] size region.old) dst source.now src len) len
-    /// &#32;&#32;&#32;&#32;([metered] ([take] size region.old) ([Some] fuel.old)) result
-    /// &#32;&#32;&#32;&#32;([metered] ([take] size region.new) ([Some] fuel.new))
-    /// ensures rest: [drop] size region.new ≡ [drop] size region.old
-    /// ensures len: [length] region.new ≡ [length] region.old</code></pre>
+    /// ```text
+    /// requires within: size ≤ length region.old
+    /// ensures written: BulkWrites (copied (take size region.old) dst source.now src len) len
+    ///     (metered (take size region.old) (Some fuel.old)) result
+    ///     (metered (take size region.new) (Some fuel.new))
+    /// ensures rest: drop size region.new ≡ drop size region.old
+    /// ensures len: length region.new ≡ length region.old
+    /// ```
     ///
-    /// [length]: crate::specs::library#length "the number of elements of a list"
-    /// [BulkWrites]: crate::specs::store::Bulk#BulkWrites "A bulk instruction writes so many bytes, by what the bytes become, or none where a range ends past its list. That is tested first, then the fuel; an instruction that is refused writes and takes nothing."
-    /// [copied]: crate::specs::store::Bulk#copied "items whose part from dst on is written over by so many items of a list from src on, or none where a list ends too early"
-    /// [take]: crate::specs::library#take "the first n elements"
-    /// [metered]: crate::specs::store::Growth#metered "a value with its meter, if there is one, and no limiter to ask"
-    /// [Some]: crate::specs::library#Some "the value x, of an \`Option\`"
-    /// [drop]: crate::specs::library#drop "all but the first n elements"
+    /// Definitions: [`BulkWrites`](crate::specs::store::Bulk#BulkWrites), [`copied`](crate::specs::store::Bulk#copied), [`metered`](crate::specs::store::Growth#metered).
     #[inline]
     pub fn copy(
         region: &mut [u8],
@@ -436,20 +373,16 @@ pub mod memory {
     ///
     /// # Contract
     ///
-    /// <span></span><pre><code>requires within: size ≤ [length] region.old
-    /// ensures written: [BulkWrites] ([copied] ([take] size region.old) dst segment.now src len) len
-    /// &#32;&#32;&#32;&#32;([metered] ([take] size region.old) ([Some] fuel.old)) result
-    /// &#32;&#32;&#32;&#32;([metered] ([take] size region.new) ([Some] fuel.new))
-    /// ensures rest: [drop] size region.new ≡ [drop] size region.old
-    /// ensures len: [length] region.new ≡ [length] region.old</code></pre>
+    /// ```text
+    /// requires within: size ≤ length region.old
+    /// ensures written: BulkWrites (copied (take size region.old) dst segment.now src len) len
+    ///     (metered (take size region.old) (Some fuel.old)) result
+    ///     (metered (take size region.new) (Some fuel.new))
+    /// ensures rest: drop size region.new ≡ drop size region.old
+    /// ensures len: length region.new ≡ length region.old
+    /// ```
     ///
-    /// [length]: crate::specs::library#length "the number of elements of a list"
-    /// [BulkWrites]: crate::specs::store::Bulk#BulkWrites "A bulk instruction writes so many bytes, by what the bytes become, or none where a range ends past its list. That is tested first, then the fuel; an instruction that is refused writes and takes nothing."
-    /// [copied]: crate::specs::store::Bulk#copied "items whose part from dst on is written over by so many items of a list from src on, or none where a list ends too early"
-    /// [take]: crate::specs::library#take "the first n elements"
-    /// [metered]: crate::specs::store::Growth#metered "a value with its meter, if there is one, and no limiter to ask"
-    /// [Some]: crate::specs::library#Some "the value x, of an \`Option\`"
-    /// [drop]: crate::specs::library#drop "all but the first n elements"
+    /// Definitions: [`BulkWrites`](crate::specs::store::Bulk#BulkWrites), [`copied`](crate::specs::store::Bulk#copied), [`metered`](crate::specs::store::Growth#metered).
     #[inline]
     pub fn init(
         region: &mut [u8],
@@ -472,10 +405,9 @@ pub mod memory {
     ///
     /// # Contract
     ///
-    /// <span></span><pre><code>ensures: result ≡ [nat_le] size ([length] region.now)</code></pre>
-    ///
-    /// [nat_le]: crate::specs::library#nat_le "whether m is at most n, as a Boolean"
-    /// [length]: crate::specs::library#length "the number of elements of a list"
+    /// ```text
+    /// ensures: result ≡ nat_le size (length region.now)
+    /// ```
     #[inline]
     fn has_room(region: &[u8], size: usize) -> bool {
         size <= region.len()
@@ -502,10 +434,11 @@ pub mod table {
     ///
     /// # Contract
     ///
-    /// <span></span><pre><code>ensures: (result ≡ [true] → [IsSized] ty size) × ([IsSized] ty size → result ≡ [true])</code></pre>
+    /// ```text
+    /// ensures: (result ≡ true → IsSized ty size) × (IsSized ty size → result ≡ true)
+    /// ```
     ///
-    /// [true]: crate::specs::library#true "the Boolean"
-    /// [IsSized]: crate::specs::store::Table#IsSized "so many elements are as many as the type allows"
+    /// Definitions: [`IsSized`](crate::specs::store::Table#IsSized).
     #[inline]
     pub fn is_sized(ty: TableType, size: usize) -> bool {
         ty.minimum() <= size as u64 && ty.indexes_size(size) && ty.allows_size(size)
@@ -514,33 +447,23 @@ pub mod table {
     /// Makes a table with one reference in each place at the front of a region, at the minimum of its
     /// type, and returns its size. It takes no fuel, and leaves the elements past the minimum alone.
     ///
-    /// Errors, in the order of the tests: [`ResourceLimiterDeniedAllocation`] if the limiter doesn't
-    /// permit it; [`OutOfSystemMemory`] if the region is shorter than the minimum, of which the limiter
+    /// Errors, in the order of the tests: `ResourceLimiterDeniedAllocation` if the limiter doesn't
+    /// permit it; `OutOfSystemMemory` if the region is shorter than the minimum, of which the limiter
     /// is notified. After an error the region is unchanged.
     ///
     /// # Contract
     ///
-    /// <span></span><pre><code>ensures loan: [KeepsLoan] limiter.old limiter.new
-    /// ensures made: [MakesTableIn] ([optional_rules] [L.rules]) ty ([length] region.old) reference
-    /// &#32;&#32;&#32;&#32;([lent_limiter] limiter.old) ([made_in] ty region.new result) ([lent_limiter] limiter.new)
-    /// ensures sized: [IfOk] result (λ size. [IsSized] ty size × (size ≤ [length] region.new))
-    /// ensures rest: [IfOk] result (λ size. [drop] size region.new ≡ [drop] size region.old)
-    /// ensures refused: [OnErr] result (region.new ≡ region.old)
-    /// ensures len: [length] region.new ≡ [length] region.old</code></pre>
+    /// ```text
+    /// ensures loan: KeepsLoan limiter.old limiter.new
+    /// ensures made: MakesTableIn (optional_rules L.rules) ty (length region.old) reference
+    ///     (lent_limiter limiter.old) (made_in ty region.new result) (lent_limiter limiter.new)
+    /// ensures sized: IfOk result (λ size. IsSized ty size × (size ≤ length region.new))
+    /// ensures rest: IfOk result (λ size. drop size region.new ≡ drop size region.old)
+    /// ensures refused: OnErr result (region.new ≡ region.old)
+    /// ensures len: length region.new ≡ length region.old
+    /// ```
     ///
-    /// [KeepsLoan]: crate::specs::meter::LimiterRef#KeepsLoan "r\' leads to what r leads to"
-    /// [MakesTableIn]: crate::specs::region::Table#MakesTableIn "a table of a type is made of one reference on a region of so many"
-    /// [optional_rules]: crate::specs::meter::Limiter#optional_rules "the rules of a limiter that may be absent"
-    /// [L.rules]: trait@ResourceLimiter#contract
-    /// [length]: crate::specs::library#length "the number of elements of a list"
-    /// [lent_limiter]: crate::specs::meter::LimiterRef#lent_limiter "the present value of the limiter that is lent, or none"
-    /// [made_in]: crate::specs::region::Table#made_in "what a call makes in a region, by the size that it returns"
-    /// [IfOk]: crate::specs::library#IfOk "P of the value, if r is a value"
-    /// [IsSized]: crate::specs::store::Table#IsSized "so many elements are as many as the type allows"
-    /// [drop]: crate::specs::library#drop "all but the first n elements"
-    /// [OnErr]: crate::specs::library#OnErr "P, if r is an error"
-    /// [`ResourceLimiterDeniedAllocation`]: crate::proved::meter::TableError::ResourceLimiterDeniedAllocation
-    /// [`OutOfSystemMemory`]: crate::proved::meter::TableError::OutOfSystemMemory
+    /// Definitions: [`KeepsLoan`](crate::specs::meter::LimiterRef#KeepsLoan), [`MakesTableIn`](crate::specs::region::Table#MakesTableIn), [`optional_rules`](crate::specs::meter::Limiter#optional_rules), [`lent_limiter`](crate::specs::meter::LimiterRef#lent_limiter), [`made_in`](crate::specs::region::Table#made_in), [`IsSized`](crate::specs::store::Table#IsSized).
     #[inline]
     pub fn make<L: ResourceLimiter>(
         ty: TableType,
@@ -563,7 +486,7 @@ pub mod table {
     /// and returns the old size; `size` becomes the new one. A growth by 0 changes nothing and asks no
     /// limiter.
     ///
-    /// The errors are those of [`Table::grow_raw`](crate::proved::store::Table::grow_raw), of which [`OutOfSystemMemory`] comes
+    /// The errors are those of [`Table::grow_raw`](crate::proved::store::Table::grow_raw), of which `OutOfSystemMemory` comes
     /// only if the region is shorter than the new size. The elements past the table are unchanged, and
     /// after an error the whole region is.
     ///
@@ -573,34 +496,24 @@ pub mod table {
     ///
     /// # Contract
     ///
-    /// <span></span><pre><code>requires sized: [IsSized] ty size.old
-    /// requires within: size.old ≤ [length] region.old
-    /// ensures loan: [KeepsLoan] limiter.old limiter.new
-    /// ensures grown: [GrowsTableIn] ([optional_rules] [L.rules]) ([length] region.old) delta reference
-    /// &#32;&#32;&#32;&#32;([metered_value] ([table_in] ty region.old size.old) ([Some] fuel.old)
-    /// &#32;&#32;&#32;&#32;([lent_limiter] limiter.old)) result
-    /// &#32;&#32;&#32;&#32;([metered_value] ([table_in] ty region.new size.new) ([Some] fuel.new)
-    /// &#32;&#32;&#32;&#32;([lent_limiter] limiter.new))
-    /// ensures sized: [IsSized] ty size.new
-    /// ensures within: size.new ≤ [length] region.new
-    /// ensures len: [length] region.new ≡ [length] region.old
-    /// ensures rest: [drop] size.new region.new ≡ [drop] size.new region.old
-    /// ensures refused: [OnErr] result (region.new ≡ region.old)
-    /// ensures size: [OnErr] result (size.new ≡ size.old)</code></pre>
+    /// ```text
+    /// requires sized: IsSized ty size.old
+    /// requires within: size.old ≤ length region.old
+    /// ensures loan: KeepsLoan limiter.old limiter.new
+    /// ensures grown: GrowsTableIn (optional_rules L.rules) (length region.old) delta reference
+    ///     (metered_value (table_in ty region.old size.old) (Some fuel.old)
+    ///     (lent_limiter limiter.old)) result
+    ///     (metered_value (table_in ty region.new size.new) (Some fuel.new)
+    ///     (lent_limiter limiter.new))
+    /// ensures sized: IsSized ty size.new
+    /// ensures within: size.new ≤ length region.new
+    /// ensures len: length region.new ≡ length region.old
+    /// ensures rest: drop size.new region.new ≡ drop size.new region.old
+    /// ensures refused: OnErr result (region.new ≡ region.old)
+    /// ensures size: OnErr result (size.new ≡ size.old)
+    /// ```
     ///
-    /// [IsSized]: crate::specs::store::Table#IsSized "so many elements are as many as the type allows"
-    /// [length]: crate::specs::library#length "the number of elements of a list"
-    /// [KeepsLoan]: crate::specs::meter::LimiterRef#KeepsLoan "r\' leads to what r leads to"
-    /// [GrowsTableIn]: crate::specs::region::Table#GrowsTableIn "a table on a region of so many references grows by n elements; it returns the old size"
-    /// [optional_rules]: crate::specs::meter::Limiter#optional_rules "the rules of a limiter that may be absent"
-    /// [L.rules]: trait@ResourceLimiter#contract
-    /// [metered_value]: crate::specs::store::Growth#metered_value "a value with its meter, if there is one, and its limiter"
-    /// [table_in]: crate::specs::region::Table#table_in "the table of a type that has so many elements at the front of a region"
-    /// [Some]: crate::specs::library#Some "the value x, of an \`Option\`"
-    /// [lent_limiter]: crate::specs::meter::LimiterRef#lent_limiter "the present value of the limiter that is lent, or none"
-    /// [drop]: crate::specs::library#drop "all but the first n elements"
-    /// [OnErr]: crate::specs::library#OnErr "P, if r is an error"
-    /// [`OutOfSystemMemory`]: crate::proved::meter::TableError::OutOfSystemMemory
+    /// Definitions: [`IsSized`](crate::specs::store::Table#IsSized), [`KeepsLoan`](crate::specs::meter::LimiterRef#KeepsLoan), [`GrowsTableIn`](crate::specs::region::Table#GrowsTableIn), [`optional_rules`](crate::specs::meter::Limiter#optional_rules), [`metered_value`](crate::specs::store::Growth#metered_value), [`table_in`](crate::specs::region::Table#table_in), [`lent_limiter`](crate::specs::meter::LimiterRef#lent_limiter).
     #[inline]
     pub fn grow<L: ResourceLimiter>(
         ty: TableType,
@@ -648,31 +561,30 @@ pub mod table {
     ///
     /// # Contract
     ///
-    /// <span></span><pre><code>ensures: [MatchOption] result
-    /// &#32;&#32;&#32;&#32;([is_indexable] ty (size + delta) ≡ [false])
-    /// &#32;&#32;&#32;&#32;(λ asked. ([is_indexable] ty (size + delta) ≡ [true])
-    /// &#32;&#32;&#32;&#32;× (asked.0 ≡ size + delta) × (asked.1 ≡ ty.maximum))</code></pre>
+    /// ```text
+    /// ensures: MatchOption result
+    ///     (is_indexable ty (size + delta) ≡ false)
+    ///     (λ asked. (is_indexable ty (size + delta) ≡ true)
+    ///     × (asked.0 ≡ size + delta) × (asked.1 ≡ ty.maximum))
+    /// ```
     ///
-    /// [MatchOption]: crate::specs::library#MatchOption "P where there is no value, else Q of the value"
-    /// [is_indexable]: crate::specs::store::TableType#is_indexable "whether a table of the type may have so many elements: fewer than there are indices"
-    /// [false]: crate::specs::library#false "the Boolean"
-    /// [true]: crate::specs::library#true "the Boolean"
+    /// Definitions: [`is_indexable`](crate::specs::store::TableType#is_indexable).
     #[inline]
     pub fn question(ty: TableType, size: usize, delta: u64) -> Option<(usize, Option<usize>)> {
         let desired = ty.grown_size(size as u64, delta)?;
         Some((desired, ty.maximum_size()))
     }
 
-    /// Sets the element at an index. The error is [`SetOutOfBounds`] past the end.
+    /// Sets the element at an index. The error is `SetOutOfBounds` past the end.
     ///
     /// # Contract
     ///
-    /// <span></span><pre><code>ensures: [SetsTableRaw] index reference ([table_of] ty elements.old) result
-    /// &#32;&#32;&#32;&#32;([table_of] ty elements.new)</code></pre>
+    /// ```text
+    /// ensures: SetsTableRaw index reference (table_of ty elements.old) result
+    ///     (table_of ty elements.new)
+    /// ```
     ///
-    /// [SetsTableRaw]: crate::specs::store::Table#SetsTableRaw "the element at an index is set to a reference; past the end it is refused, and the table stays"
-    /// [table_of]: crate::specs::store::Table#table_of "the table of a type with these elements"
-    /// [`SetOutOfBounds`]: crate::proved::meter::TableError::SetOutOfBounds
+    /// Definitions: [`SetsTableRaw`](crate::specs::store::Table#SetsTableRaw), [`table_of`](crate::specs::store::Table#table_of).
     #[inline]
     pub fn set(
         ty: TableType,
@@ -680,7 +592,6 @@ pub mod table {
         index: u64,
         reference: u32,
     ) -> Result<(), TableError> {
-        let _ = ty;
         let index = index as usize;
         if index >= elements.len() {
             return Err(TableError::SetOutOfBounds);
@@ -694,15 +605,13 @@ pub mod table {
     ///
     /// # Contract
     ///
-    /// <span></span><pre><code>ensures: [WritesTable] ([raw_filling_of] dst reference len)
-    /// &#32;&#32;&#32;&#32;([metered] ([table_of] ty elements.old) ([Some] fuel.old)) result
-    /// &#32;&#32;&#32;&#32;([metered] ([table_of] ty elements.new) ([Some] fuel.new))</code></pre>
+    /// ```text
+    /// ensures: WritesTable (raw_filling_of dst reference len)
+    ///     (metered (table_of ty elements.old) (Some fuel.old)) result
+    ///     (metered (table_of ty elements.new) (Some fuel.new))
+    /// ```
     ///
-    /// [WritesTable]: crate::specs::store::Table#WritesTable "a part of a table is written over"
-    /// [raw_filling_of]: crate::specs::store::Table#raw_filling_of "so many elements from dst on are filled with a reference, whose type isn\'t tested"
-    /// [metered]: crate::specs::store::Growth#metered "a value with its meter, if there is one, and no limiter to ask"
-    /// [table_of]: crate::specs::store::Table#table_of "the table of a type with these elements"
-    /// [Some]: crate::specs::library#Some "the value x, of an \`Option\`"
+    /// Definitions: [`WritesTable`](crate::specs::store::Table#WritesTable), [`raw_filling_of`](crate::specs::store::Table#raw_filling_of), [`metered`](crate::specs::store::Growth#metered), [`table_of`](crate::specs::store::Table#table_of).
     #[inline]
     pub fn fill(
         ty: TableType,
@@ -712,7 +621,6 @@ pub mod table {
         len: u64,
         fuel: &mut Fuel,
     ) -> Result<(), TableError> {
-        let _ = ty;
         fill_elements(elements, dst, reference, len, fuel)
     }
 
@@ -721,15 +629,13 @@ pub mod table {
     ///
     /// # Contract
     ///
-    /// <span></span><pre><code>ensures: [WritesTable] ([copy_of] dst src len ([table_of] ty elements.old))
-    /// &#32;&#32;&#32;&#32;([metered] ([table_of] ty elements.old) ([Some] fuel.old)) result
-    /// &#32;&#32;&#32;&#32;([metered] ([table_of] ty elements.new) ([Some] fuel.new))</code></pre>
+    /// ```text
+    /// ensures: WritesTable (copy_of dst src len (table_of ty elements.old))
+    ///     (metered (table_of ty elements.old) (Some fuel.old)) result
+    ///     (metered (table_of ty elements.new) (Some fuel.new))
+    /// ```
     ///
-    /// [WritesTable]: crate::specs::store::Table#WritesTable "a part of a table is written over"
-    /// [copy_of]: crate::specs::store::Table#copy_of "so many elements from src on of a table, perhaps the same one, are copied over those from dst on"
-    /// [table_of]: crate::specs::store::Table#table_of "the table of a type with these elements"
-    /// [metered]: crate::specs::store::Growth#metered "a value with its meter, if there is one, and no limiter to ask"
-    /// [Some]: crate::specs::library#Some "the value x, of an \`Option\`"
+    /// Definitions: [`WritesTable`](crate::specs::store::Table#WritesTable), [`copy_of`](crate::specs::store::Table#copy_of), [`table_of`](crate::specs::store::Table#table_of), [`metered`](crate::specs::store::Growth#metered).
     #[inline]
     pub fn copy_within(
         ty: TableType,
@@ -739,7 +645,6 @@ pub mod table {
         len: u64,
         fuel: &mut Fuel,
     ) -> Result<(), TableError> {
-        let _ = ty;
         copy_elements_within(elements, dst, src, len, fuel)
     }
 
@@ -748,15 +653,13 @@ pub mod table {
     ///
     /// # Contract
     ///
-    /// <span></span><pre><code>ensures: [WritesTable] ([copy_of] dst src len ([table_of] source items.now))
-    /// &#32;&#32;&#32;&#32;([metered] ([table_of] ty elements.old) ([Some] fuel.old)) result
-    /// &#32;&#32;&#32;&#32;([metered] ([table_of] ty elements.new) ([Some] fuel.new))</code></pre>
+    /// ```text
+    /// ensures: WritesTable (copy_of dst src len (table_of source items.now))
+    ///     (metered (table_of ty elements.old) (Some fuel.old)) result
+    ///     (metered (table_of ty elements.new) (Some fuel.new))
+    /// ```
     ///
-    /// [WritesTable]: crate::specs::store::Table#WritesTable "a part of a table is written over"
-    /// [copy_of]: crate::specs::store::Table#copy_of "so many elements from src on of a table, perhaps the same one, are copied over those from dst on"
-    /// [table_of]: crate::specs::store::Table#table_of "the table of a type with these elements"
-    /// [metered]: crate::specs::store::Growth#metered "a value with its meter, if there is one, and no limiter to ask"
-    /// [Some]: crate::specs::library#Some "the value x, of an \`Option\`"
+    /// Definitions: [`WritesTable`](crate::specs::store::Table#WritesTable), [`copy_of`](crate::specs::store::Table#copy_of), [`table_of`](crate::specs::store::Table#table_of), [`metered`](crate::specs::store::Growth#metered).
     #[inline]
     pub fn copy(
         ty: TableType,
@@ -778,16 +681,13 @@ pub mod table {
     ///
     /// # Contract
     ///
-    /// <span></span><pre><code>ensures: [WritesTable] ([initialization_of] dst src len ([items_of] ty items.now))
-    /// &#32;&#32;&#32;&#32;([metered] ([table_of] ty elements.old) ([Some] fuel.old)) result
-    /// &#32;&#32;&#32;&#32;([metered] ([table_of] ty elements.new) ([Some] fuel.new))</code></pre>
+    /// ```text
+    /// ensures: WritesTable (initialization_of dst src len (items_of ty items.now))
+    ///     (metered (table_of ty elements.old) (Some fuel.old)) result
+    ///     (metered (table_of ty elements.new) (Some fuel.new))
+    /// ```
     ///
-    /// [WritesTable]: crate::specs::store::Table#WritesTable "a part of a table is written over"
-    /// [initialization_of]: crate::specs::store::Table#initialization_of "so many items from src on of an element segment are copied over the elements from dst on; no item is free"
-    /// [items_of]: crate::specs::region::Table#items_of "items of the type of a table\'s elements"
-    /// [metered]: crate::specs::store::Growth#metered "a value with its meter, if there is one, and no limiter to ask"
-    /// [table_of]: crate::specs::store::Table#table_of "the table of a type with these elements"
-    /// [Some]: crate::specs::library#Some "the value x, of an \`Option\`"
+    /// Definitions: [`WritesTable`](crate::specs::store::Table#WritesTable), [`initialization_of`](crate::specs::store::Table#initialization_of), [`items_of`](crate::specs::region::Table#items_of), [`metered`](crate::specs::store::Growth#metered), [`table_of`](crate::specs::store::Table#table_of).
     #[inline]
     pub fn init(
         ty: TableType,
@@ -798,7 +698,6 @@ pub mod table {
         len: u64,
         fuel: &mut Fuel,
     ) -> Result<(), TableError> {
-        let _ = ty;
         init_elements(elements, dst, items, src, len, fuel)
     }
 }

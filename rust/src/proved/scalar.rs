@@ -18,10 +18,9 @@ pub mod value {
         ///
         /// # Contract
         ///
-        /// <span></span><pre><code>ensures: result ≡ Self.of_number ([int_wrap] [T.width] (Self.number self))</code></pre>
-        ///
-        /// [int_wrap]: crate::specs::library#int_wrap "z modulo 2 ^ w, as a signed number of that width"
-        /// [T.width]: trait@Number#contract
+        /// ```text
+        /// ensures: result ≡ Self.of_number (int_wrap T.width (Self.number self))
+        /// ```
         fn sign_extend_from(self) -> Self;
     }
 
@@ -48,92 +47,90 @@ pub mod value {
     ///
     /// # Contract
     ///
-    /// <span></span><pre><code><i>\-\- The unsigned type has the width.</i>
-    /// is_as_wide: [Self.Uint].width ≡ [Self.width]
-    /// <i>\-\- Its numbers are unsigned.</i>
-    /// is_of_unsigned: [Self.Uint].is_signed ≡ [false]</code></pre>
-    ///
-    /// [Self.Uint]: trait@Integer#contract
-    /// [Self.width]: trait@Integer#contract
-    /// [false]: crate::specs::library#false "the Boolean"
+    /// ```text
+    /// -- The unsigned type has the width.
+    /// is_as_wide: Self.Uint.width ≡ Self.width
+    /// -- Its numbers are unsigned.
+    /// is_of_unsigned: Self.Uint.is_signed ≡ false
+    /// ```
     pub trait Integer: Sized + Unsigned + Number {
         /// Whether the number is 0.
         ///
         /// # Contract
         ///
-        /// <span></span><pre><code>ensures: result ≡ [ieqz] ([Self.number] self)</code></pre>
+        /// ```text
+        /// ensures: result ≡ ieqz (Self.number self)
+        /// ```
         ///
-        /// [ieqz]: crate::specs::scalar::Numerics#ieqz "whether the number is 0"
-        /// [Self.number]: trait@Integer#contract
+        /// Definitions: [`ieqz`](crate::specs::scalar::Numerics#ieqz).
         fn is_zero(self) -> bool;
 
         /// The zeros above the highest bit that is set, the width for 0.
         ///
         /// # Contract
         ///
-        /// <span></span><pre><code>ensures: [Self.number] result ≡ [iclz] [Self.width] ([Self.number] self)</code></pre>
+        /// ```text
+        /// ensures: Self.number result ≡ iclz Self.width (Self.number self)
+        /// ```
         ///
-        /// [Self.number]: trait@Integer#contract
-        /// [iclz]: crate::specs::scalar::Numerics#iclz "how many zeros stand above the highest bit that is set; all bits for 0"
-        /// [Self.width]: trait@Integer#contract
+        /// Definitions: [`iclz`](crate::specs::scalar::Numerics#iclz).
         fn leading_zeros(self) -> Self;
 
         /// The zeros below the lowest bit that is set, the width for 0.
         ///
         /// # Contract
         ///
-        /// <span></span><pre><code>ensures: [Self.number] result ≡ [ictz] [Self.width] ([Self.number] self)</code></pre>
+        /// ```text
+        /// ensures: Self.number result ≡ ictz Self.width (Self.number self)
+        /// ```
         ///
-        /// [Self.number]: trait@Integer#contract
-        /// [ictz]: crate::specs::scalar::Numerics#ictz "how many zeros stand below the lowest bit that is set; all bits for 0"
-        /// [Self.width]: trait@Integer#contract
+        /// Definitions: [`ictz`](crate::specs::scalar::Numerics#ictz).
         fn trailing_zeros(self) -> Self;
 
         /// The bits that are set.
         ///
         /// # Contract
         ///
-        /// <span></span><pre><code>ensures: [Self.number] result ≡ [ipopcnt] [Self.width] ([Self.number] self)</code></pre>
+        /// ```text
+        /// ensures: Self.number result ≡ ipopcnt Self.width (Self.number self)
+        /// ```
         ///
-        /// [Self.number]: trait@Integer#contract
-        /// [ipopcnt]: crate::specs::scalar::Numerics#ipopcnt "how many bits are set"
-        /// [Self.width]: trait@Integer#contract
+        /// Definitions: [`ipopcnt`](crate::specs::scalar::Numerics#ipopcnt).
         fn count_ones(self) -> Self;
 
         /// Shifts to the left by `rhs` modulo the width, filling with zeros.
         ///
         /// # Contract
         ///
-        /// <span></span><pre><code>ensures: [Self.number] result ≡ [ishl] [Self.width] ([Self.number] lhs) ([Self.number] rhs)</code></pre>
+        /// ```text
+        /// ensures: Self.number result ≡ ishl Self.width (Self.number lhs) (Self.number rhs)
+        /// ```
         ///
-        /// [Self.number]: trait@Integer#contract
-        /// [ishl]: crate::specs::scalar::Numerics#ishl "the number shifted to the left by an amount modulo the width, wrapped"
-        /// [Self.width]: trait@Integer#contract
+        /// Definitions: [`ishl`](crate::specs::scalar::Numerics#ishl).
         fn shl(lhs: Self, rhs: Self) -> Self;
 
         /// Shifts to the right by `rhs` modulo the width, filling with the highest bit.
         ///
         /// # Contract
         ///
-        /// <span></span><pre><code>ensures: [Self.number] result ≡ [ishr_s] [Self.width] ([Self.number] lhs) ([Self.number] rhs)</code></pre>
+        /// ```text
+        /// ensures: Self.number result ≡ ishr_s Self.width (Self.number lhs) (Self.number rhs)
+        /// ```
         ///
-        /// [Self.number]: trait@Integer#contract
-        /// [ishr_s]: crate::specs::scalar::Numerics#ishr_s "the quotient by 2 to the power of the amount, rounded down"
-        /// [Self.width]: trait@Integer#contract
+        /// Definitions: [`ishr_s`](crate::specs::scalar::Numerics#ishr_s).
         fn shr_s(lhs: Self, rhs: Self) -> Self;
 
         /// Shifts to the right by `rhs` modulo the width, filling with zeros.
         ///
         /// # Contract
         ///
-        /// <span></span><pre><code>ensures: [unsigned_abs] ([Self.Uint].number result)
-        /// &#32;&#32;&#32;&#32;≡ [ishr_u] [Self.width] ([unsigned_abs] ([Self.Uint].number lhs))
-        /// &#32;&#32;&#32;&#32;([unsigned_abs] ([Self.Uint].number rhs))</code></pre>
+        /// ```text
+        /// ensures: unsigned_abs (Self.Uint.number result)
+        ///     ≡ ishr_u Self.width (unsigned_abs (Self.Uint.number lhs))
+        ///     (unsigned_abs (Self.Uint.number rhs))
+        /// ```
         ///
-        /// [unsigned_abs]: crate::specs::library#unsigned_abs "the number without its sign"
-        /// [Self.Uint]: trait@Integer#contract
-        /// [ishr_u]: crate::specs::scalar::Numerics#ishr_u "the number shifted to the right by an amount modulo the width, with zeros from above"
-        /// [Self.width]: trait@Integer#contract
+        /// Definitions: [`ishr_u`](crate::specs::scalar::Numerics#ishr_u).
         fn shr_u(lhs: Self::Uint, rhs: Self::Uint) -> Self::Uint;
 
         /// Rotates to the left by `rhs` modulo the width: the bits that leave at the top come in at the
@@ -141,11 +138,11 @@ pub mod value {
         ///
         /// # Contract
         ///
-        /// <span></span><pre><code>ensures: [Self.number] result ≡ [irotl] [Self.width] ([Self.number] lhs) ([Self.number] rhs)</code></pre>
+        /// ```text
+        /// ensures: Self.number result ≡ irotl Self.width (Self.number lhs) (Self.number rhs)
+        /// ```
         ///
-        /// [Self.number]: trait@Integer#contract
-        /// [irotl]: crate::specs::scalar::Numerics#irotl "the bits rotated to the left by an amount modulo the width"
-        /// [Self.width]: trait@Integer#contract
+        /// Definitions: [`irotl`](crate::specs::scalar::Numerics#irotl).
         fn rotl(lhs: Self, rhs: Self) -> Self;
 
         /// Rotates to the right by `rhs` modulo the width: the bits that leave at the bottom come in at
@@ -153,11 +150,11 @@ pub mod value {
         ///
         /// # Contract
         ///
-        /// <span></span><pre><code>ensures: [Self.number] result ≡ [irotr] [Self.width] ([Self.number] lhs) ([Self.number] rhs)</code></pre>
+        /// ```text
+        /// ensures: Self.number result ≡ irotr Self.width (Self.number lhs) (Self.number rhs)
+        /// ```
         ///
-        /// [Self.number]: trait@Integer#contract
-        /// [irotr]: crate::specs::scalar::Numerics#irotr "the bits rotated to the right by an amount modulo the width: to the left by the rest of the bits"
-        /// [Self.width]: trait@Integer#contract
+        /// Definitions: [`irotr`](crate::specs::scalar::Numerics#irotr).
         fn rotr(lhs: Self, rhs: Self) -> Self;
 
         /// The quotient towards zero.
@@ -167,13 +164,12 @@ pub mod value {
         ///
         /// # Contract
         ///
-        /// <span></span><pre><code>ensures: [GivesNumber] [Self.number] result
-        /// &#32;&#32;&#32;&#32;([idiv_s] [Self.width] ([Self.number] lhs) ([Self.number] rhs))</code></pre>
+        /// ```text
+        /// ensures: GivesNumber Self.number result
+        ///     (idiv_s Self.width (Self.number lhs) (Self.number rhs))
+        /// ```
         ///
-        /// [GivesNumber]: crate::specs::accesses::LoadStore#GivesNumber "an instruction gives this, where \`number\` reads its value"
-        /// [Self.number]: trait@Integer#contract
-        /// [idiv_s]: crate::specs::scalar::Numerics#idiv_s "the quotient of two signed numbers, rounded towards zero, or a trap where the divisor is 0 or no signed number of the width is the quotient: that of the least number by -1 is 2 to the power \`bits w - 1\`"
-        /// [Self.width]: trait@Integer#contract
+        /// Definitions: [`GivesNumber`](crate::specs::accesses::LoadStore#GivesNumber), [`idiv_s`](crate::specs::scalar::Numerics#idiv_s).
         fn div_s(lhs: Self, rhs: Self) -> Result<Self, TrapCode>;
 
         /// The quotient.
@@ -182,13 +178,12 @@ pub mod value {
         ///
         /// # Contract
         ///
-        /// <span></span><pre><code>ensures: [GivesNumber] (λ n. [unsigned_abs] ([Self.Uint].number n)) result
-        /// &#32;&#32;&#32;&#32;([idiv_u] ([unsigned_abs] ([Self.Uint].number lhs)) ([unsigned_abs] ([Self.Uint].number rhs)))</code></pre>
+        /// ```text
+        /// ensures: GivesNumber (λ n. unsigned_abs (Self.Uint.number n)) result
+        ///     (idiv_u (unsigned_abs (Self.Uint.number lhs)) (unsigned_abs (Self.Uint.number rhs)))
+        /// ```
         ///
-        /// [GivesNumber]: crate::specs::accesses::LoadStore#GivesNumber "an instruction gives this, where \`number\` reads its value"
-        /// [unsigned_abs]: crate::specs::library#unsigned_abs "the number without its sign"
-        /// [Self.Uint]: trait@Integer#contract
-        /// [idiv_u]: crate::specs::scalar::Numerics#idiv_u "the quotient rounded down, or a trap where the divisor is 0"
+        /// Definitions: [`GivesNumber`](crate::specs::accesses::LoadStore#GivesNumber), [`idiv_u`](crate::specs::scalar::Numerics#idiv_u).
         fn div_u(lhs: Self::Uint, rhs: Self::Uint) -> Result<Self::Uint, TrapCode>;
 
         /// The remainder, with the sign of the dividend; 0 for the least number by -1.
@@ -197,11 +192,11 @@ pub mod value {
         ///
         /// # Contract
         ///
-        /// <span></span><pre><code>ensures: [GivesNumber] [Self.number] result ([irem_s] ([Self.number] lhs) ([Self.number] rhs))</code></pre>
+        /// ```text
+        /// ensures: GivesNumber Self.number result (irem_s (Self.number lhs) (Self.number rhs))
+        /// ```
         ///
-        /// [GivesNumber]: crate::specs::accesses::LoadStore#GivesNumber "an instruction gives this, where \`number\` reads its value"
-        /// [Self.number]: trait@Integer#contract
-        /// [irem_s]: crate::specs::scalar::Numerics#irem_s "the remainder of the quotient rounded towards zero, which has the sign of x, or a trap where the divisor is 0"
+        /// Definitions: [`GivesNumber`](crate::specs::accesses::LoadStore#GivesNumber), [`irem_s`](crate::specs::scalar::Numerics#irem_s).
         fn rem_s(lhs: Self, rhs: Self) -> Result<Self, TrapCode>;
 
         /// The remainder.
@@ -210,13 +205,12 @@ pub mod value {
         ///
         /// # Contract
         ///
-        /// <span></span><pre><code>ensures: [GivesNumber] (λ n. [unsigned_abs] ([Self.Uint].number n)) result
-        /// &#32;&#32;&#32;&#32;([irem_u] ([unsigned_abs] ([Self.Uint].number lhs)) ([unsigned_abs] ([Self.Uint].number rhs)))</code></pre>
+        /// ```text
+        /// ensures: GivesNumber (λ n. unsigned_abs (Self.Uint.number n)) result
+        ///     (irem_u (unsigned_abs (Self.Uint.number lhs)) (unsigned_abs (Self.Uint.number rhs)))
+        /// ```
         ///
-        /// [GivesNumber]: crate::specs::accesses::LoadStore#GivesNumber "an instruction gives this, where \`number\` reads its value"
-        /// [unsigned_abs]: crate::specs::library#unsigned_abs "the number without its sign"
-        /// [Self.Uint]: trait@Integer#contract
-        /// [irem_u]: crate::specs::scalar::Numerics#irem_u "the remainder of the quotient rounded down, or a trap where the divisor is 0"
+        /// Definitions: [`GivesNumber`](crate::specs::accesses::LoadStore#GivesNumber), [`irem_u`](crate::specs::scalar::Numerics#irem_u).
         fn rem_u(lhs: Self::Uint, rhs: Self::Uint) -> Result<Self::Uint, TrapCode>;
     }
 
@@ -369,10 +363,11 @@ pub mod value {
     // The amount of a shift or a rotation, modulo the width.
     /// # Contract
     ///
-    /// <span></span><pre><code>ensures: result ≡ [amount_modulo] [w64] rhs</code></pre>
+    /// ```text
+    /// ensures: result ≡ amount_modulo w64 rhs
+    /// ```
     ///
-    /// [amount_modulo]: crate::specs::scalar::Numerics#amount_modulo "the amount of a shift or a rotation, modulo the width"
-    /// [w64]: crate::specs::library#w64 "the widths of integers in bits"
+    /// Definitions: [`amount_modulo`](crate::specs::scalar::Numerics#amount_modulo).
     #[inline(always)]
     fn amount(rhs: i64) -> u32 {
         (rhs.cast_unsigned() % 64) as u32
@@ -434,10 +429,11 @@ pub mod wasm {
     ///
     /// # Contract
     ///
-    /// <span></span><pre><code>ensures: result ≡ [iadd] [w32] lhs rhs</code></pre>
+    /// ```text
+    /// ensures: result ≡ iadd w32 lhs rhs
+    /// ```
     ///
-    /// [iadd]: crate::specs::scalar::Numerics#iadd "the sum, wrapped to the signed range"
-    /// [w32]: crate::specs::library#w32 "the widths of integers in bits"
+    /// Definitions: [`iadd`](crate::specs::scalar::Numerics#iadd).
     #[inline]
     pub fn i32_add(lhs: i32, rhs: i32) -> i32 {
         lhs.wrapping_add(rhs)
@@ -447,10 +443,11 @@ pub mod wasm {
     ///
     /// # Contract
     ///
-    /// <span></span><pre><code>ensures: result ≡ [isub] [w32] lhs rhs</code></pre>
+    /// ```text
+    /// ensures: result ≡ isub w32 lhs rhs
+    /// ```
     ///
-    /// [isub]: crate::specs::scalar::Numerics#isub "the difference, wrapped to the signed range"
-    /// [w32]: crate::specs::library#w32 "the widths of integers in bits"
+    /// Definitions: [`isub`](crate::specs::scalar::Numerics#isub).
     #[inline]
     pub fn i32_sub(lhs: i32, rhs: i32) -> i32 {
         lhs.wrapping_sub(rhs)
@@ -460,10 +457,11 @@ pub mod wasm {
     ///
     /// # Contract
     ///
-    /// <span></span><pre><code>ensures: result ≡ [imul] [w32] lhs rhs</code></pre>
+    /// ```text
+    /// ensures: result ≡ imul w32 lhs rhs
+    /// ```
     ///
-    /// [imul]: crate::specs::scalar::Numerics#imul "the product, wrapped to the signed range"
-    /// [w32]: crate::specs::library#w32 "the widths of integers in bits"
+    /// Definitions: [`imul`](crate::specs::scalar::Numerics#imul).
     #[inline]
     pub fn i32_mul(lhs: i32, rhs: i32) -> i32 {
         lhs.wrapping_mul(rhs)
@@ -473,10 +471,11 @@ pub mod wasm {
     ///
     /// # Contract
     ///
-    /// <span></span><pre><code>ensures: result ≡ [iand] [w32] lhs rhs</code></pre>
+    /// ```text
+    /// ensures: result ≡ iand w32 lhs rhs
+    /// ```
     ///
-    /// [iand]: crate::specs::scalar::Numerics#iand "the bits that are set in both"
-    /// [w32]: crate::specs::library#w32 "the widths of integers in bits"
+    /// Definitions: [`iand`](crate::specs::scalar::Numerics#iand).
     #[inline]
     pub fn i32_bitand(lhs: i32, rhs: i32) -> i32 {
         lhs & rhs
@@ -486,10 +485,11 @@ pub mod wasm {
     ///
     /// # Contract
     ///
-    /// <span></span><pre><code>ensures: result ≡ [ior] [w32] lhs rhs</code></pre>
+    /// ```text
+    /// ensures: result ≡ ior w32 lhs rhs
+    /// ```
     ///
-    /// [ior]: crate::specs::scalar::Numerics#ior "the bits that are set in one or both"
-    /// [w32]: crate::specs::library#w32 "the widths of integers in bits"
+    /// Definitions: [`ior`](crate::specs::scalar::Numerics#ior).
     #[inline]
     pub fn i32_bitor(lhs: i32, rhs: i32) -> i32 {
         lhs | rhs
@@ -499,10 +499,11 @@ pub mod wasm {
     ///
     /// # Contract
     ///
-    /// <span></span><pre><code>ensures: result ≡ [ixor] [w32] lhs rhs</code></pre>
+    /// ```text
+    /// ensures: result ≡ ixor w32 lhs rhs
+    /// ```
     ///
-    /// [ixor]: crate::specs::scalar::Numerics#ixor "the bits that are set in exactly one"
-    /// [w32]: crate::specs::library#w32 "the widths of integers in bits"
+    /// Definitions: [`ixor`](crate::specs::scalar::Numerics#ixor).
     #[inline]
     pub fn i32_bitxor(lhs: i32, rhs: i32) -> i32 {
         lhs ^ rhs
@@ -512,10 +513,11 @@ pub mod wasm {
     ///
     /// # Contract
     ///
-    /// <span></span><pre><code>ensures: result ≡ [ishl] [w32] lhs rhs</code></pre>
+    /// ```text
+    /// ensures: result ≡ ishl w32 lhs rhs
+    /// ```
     ///
-    /// [ishl]: crate::specs::scalar::Numerics#ishl "the number shifted to the left by an amount modulo the width, wrapped"
-    /// [w32]: crate::specs::library#w32 "the widths of integers in bits"
+    /// Definitions: [`ishl`](crate::specs::scalar::Numerics#ishl).
     #[inline]
     pub fn i32_shl(lhs: i32, rhs: i32) -> i32 {
         Integer::shl(lhs, rhs)
@@ -525,10 +527,11 @@ pub mod wasm {
     ///
     /// # Contract
     ///
-    /// <span></span><pre><code>ensures: result ≡ [ishr_s] [w32] lhs rhs</code></pre>
+    /// ```text
+    /// ensures: result ≡ ishr_s w32 lhs rhs
+    /// ```
     ///
-    /// [ishr_s]: crate::specs::scalar::Numerics#ishr_s "the quotient by 2 to the power of the amount, rounded down"
-    /// [w32]: crate::specs::library#w32 "the widths of integers in bits"
+    /// Definitions: [`ishr_s`](crate::specs::scalar::Numerics#ishr_s).
     #[inline]
     pub fn i32_shr_s(lhs: i32, rhs: i32) -> i32 {
         Integer::shr_s(lhs, rhs)
@@ -538,10 +541,11 @@ pub mod wasm {
     ///
     /// # Contract
     ///
-    /// <span></span><pre><code>ensures: result ≡ [ishr_u] [w32] lhs rhs</code></pre>
+    /// ```text
+    /// ensures: result ≡ ishr_u w32 lhs rhs
+    /// ```
     ///
-    /// [ishr_u]: crate::specs::scalar::Numerics#ishr_u "the number shifted to the right by an amount modulo the width, with zeros from above"
-    /// [w32]: crate::specs::library#w32 "the widths of integers in bits"
+    /// Definitions: [`ishr_u`](crate::specs::scalar::Numerics#ishr_u).
     #[inline]
     pub fn i32_shr_u(lhs: u32, rhs: u32) -> u32 {
         <i32 as Integer>::shr_u(lhs, rhs)
@@ -551,10 +555,11 @@ pub mod wasm {
     ///
     /// # Contract
     ///
-    /// <span></span><pre><code>ensures: result ≡ [irotl] [w32] lhs rhs</code></pre>
+    /// ```text
+    /// ensures: result ≡ irotl w32 lhs rhs
+    /// ```
     ///
-    /// [irotl]: crate::specs::scalar::Numerics#irotl "the bits rotated to the left by an amount modulo the width"
-    /// [w32]: crate::specs::library#w32 "the widths of integers in bits"
+    /// Definitions: [`irotl`](crate::specs::scalar::Numerics#irotl).
     #[inline]
     pub fn i32_rotl(lhs: i32, rhs: i32) -> i32 {
         Integer::rotl(lhs, rhs)
@@ -564,10 +569,11 @@ pub mod wasm {
     ///
     /// # Contract
     ///
-    /// <span></span><pre><code>ensures: result ≡ [irotr] [w32] lhs rhs</code></pre>
+    /// ```text
+    /// ensures: result ≡ irotr w32 lhs rhs
+    /// ```
     ///
-    /// [irotr]: crate::specs::scalar::Numerics#irotr "the bits rotated to the right by an amount modulo the width: to the left by the rest of the bits"
-    /// [w32]: crate::specs::library#w32 "the widths of integers in bits"
+    /// Definitions: [`irotr`](crate::specs::scalar::Numerics#irotr).
     #[inline]
     pub fn i32_rotr(lhs: i32, rhs: i32) -> i32 {
         Integer::rotr(lhs, rhs)
@@ -579,10 +585,11 @@ pub mod wasm {
     ///
     /// # Contract
     ///
-    /// <span></span><pre><code>ensures: result ≡ [idiv_s] [w32] lhs rhs</code></pre>
+    /// ```text
+    /// ensures: result ≡ idiv_s w32 lhs rhs
+    /// ```
     ///
-    /// [idiv_s]: crate::specs::scalar::Numerics#idiv_s "the quotient of two signed numbers, rounded towards zero, or a trap where the divisor is 0 or no signed number of the width is the quotient: that of the least number by -1 is 2 to the power \`bits w - 1\`"
-    /// [w32]: crate::specs::library#w32 "the widths of integers in bits"
+    /// Definitions: [`idiv_s`](crate::specs::scalar::Numerics#idiv_s).
     #[inline]
     pub fn i32_div_s(lhs: i32, rhs: i32) -> Result<i32, TrapCode> {
         Integer::div_s(lhs, rhs)
@@ -594,9 +601,11 @@ pub mod wasm {
     ///
     /// # Contract
     ///
-    /// <span></span><pre><code>ensures: result ≡ [idiv_u] lhs rhs</code></pre>
+    /// ```text
+    /// ensures: result ≡ idiv_u lhs rhs
+    /// ```
     ///
-    /// [idiv_u]: crate::specs::scalar::Numerics#idiv_u "the quotient rounded down, or a trap where the divisor is 0"
+    /// Definitions: [`idiv_u`](crate::specs::scalar::Numerics#idiv_u).
     #[inline]
     pub fn i32_div_u(lhs: u32, rhs: u32) -> Result<u32, TrapCode> {
         <i32 as Integer>::div_u(lhs, rhs)
@@ -608,9 +617,11 @@ pub mod wasm {
     ///
     /// # Contract
     ///
-    /// <span></span><pre><code>ensures: result ≡ [irem_s] lhs rhs</code></pre>
+    /// ```text
+    /// ensures: result ≡ irem_s lhs rhs
+    /// ```
     ///
-    /// [irem_s]: crate::specs::scalar::Numerics#irem_s "the remainder of the quotient rounded towards zero, which has the sign of x, or a trap where the divisor is 0"
+    /// Definitions: [`irem_s`](crate::specs::scalar::Numerics#irem_s).
     #[inline]
     pub fn i32_rem_s(lhs: i32, rhs: i32) -> Result<i32, TrapCode> {
         Integer::rem_s(lhs, rhs)
@@ -622,9 +633,11 @@ pub mod wasm {
     ///
     /// # Contract
     ///
-    /// <span></span><pre><code>ensures: result ≡ [irem_u] lhs rhs</code></pre>
+    /// ```text
+    /// ensures: result ≡ irem_u lhs rhs
+    /// ```
     ///
-    /// [irem_u]: crate::specs::scalar::Numerics#irem_u "the remainder of the quotient rounded down, or a trap where the divisor is 0"
+    /// Definitions: [`irem_u`](crate::specs::scalar::Numerics#irem_u).
     #[inline]
     pub fn i32_rem_u(lhs: u32, rhs: u32) -> Result<u32, TrapCode> {
         <i32 as Integer>::rem_u(lhs, rhs)
@@ -634,10 +647,11 @@ pub mod wasm {
     ///
     /// # Contract
     ///
-    /// <span></span><pre><code>ensures: result ≡ [iclz] [w32] value</code></pre>
+    /// ```text
+    /// ensures: result ≡ iclz w32 value
+    /// ```
     ///
-    /// [iclz]: crate::specs::scalar::Numerics#iclz "how many zeros stand above the highest bit that is set; all bits for 0"
-    /// [w32]: crate::specs::library#w32 "the widths of integers in bits"
+    /// Definitions: [`iclz`](crate::specs::scalar::Numerics#iclz).
     #[inline]
     pub fn i32_clz(value: i32) -> i32 {
         Integer::leading_zeros(value)
@@ -647,10 +661,11 @@ pub mod wasm {
     ///
     /// # Contract
     ///
-    /// <span></span><pre><code>ensures: result ≡ [ictz] [w32] value</code></pre>
+    /// ```text
+    /// ensures: result ≡ ictz w32 value
+    /// ```
     ///
-    /// [ictz]: crate::specs::scalar::Numerics#ictz "how many zeros stand below the lowest bit that is set; all bits for 0"
-    /// [w32]: crate::specs::library#w32 "the widths of integers in bits"
+    /// Definitions: [`ictz`](crate::specs::scalar::Numerics#ictz).
     #[inline]
     pub fn i32_ctz(value: i32) -> i32 {
         Integer::trailing_zeros(value)
@@ -660,10 +675,11 @@ pub mod wasm {
     ///
     /// # Contract
     ///
-    /// <span></span><pre><code>ensures: result ≡ [ipopcnt] [w32] value</code></pre>
+    /// ```text
+    /// ensures: result ≡ ipopcnt w32 value
+    /// ```
     ///
-    /// [ipopcnt]: crate::specs::scalar::Numerics#ipopcnt "how many bits are set"
-    /// [w32]: crate::specs::library#w32 "the widths of integers in bits"
+    /// Definitions: [`ipopcnt`](crate::specs::scalar::Numerics#ipopcnt).
     #[inline]
     pub fn i32_popcnt(value: i32) -> i32 {
         Integer::count_ones(value)
@@ -673,9 +689,11 @@ pub mod wasm {
     ///
     /// # Contract
     ///
-    /// <span></span><pre><code>ensures: result ≡ [ieqz] value</code></pre>
+    /// ```text
+    /// ensures: result ≡ ieqz value
+    /// ```
     ///
-    /// [ieqz]: crate::specs::scalar::Numerics#ieqz "whether the number is 0"
+    /// Definitions: [`ieqz`](crate::specs::scalar::Numerics#ieqz).
     #[inline]
     pub fn i32_eqz(value: i32) -> bool {
         Integer::is_zero(value)
@@ -685,9 +703,11 @@ pub mod wasm {
     ///
     /// # Contract
     ///
-    /// <span></span><pre><code>ensures: result ≡ [ieq] lhs rhs</code></pre>
+    /// ```text
+    /// ensures: result ≡ ieq lhs rhs
+    /// ```
     ///
-    /// [ieq]: crate::specs::scalar::Numerics#ieq "whether the numbers are equal"
+    /// Definitions: [`ieq`](crate::specs::scalar::Numerics#ieq).
     #[inline]
     pub fn i32_eq(lhs: i32, rhs: i32) -> bool {
         lhs == rhs
@@ -697,9 +717,11 @@ pub mod wasm {
     ///
     /// # Contract
     ///
-    /// <span></span><pre><code>ensures: result ≡ [ine] lhs rhs</code></pre>
+    /// ```text
+    /// ensures: result ≡ ine lhs rhs
+    /// ```
     ///
-    /// [ine]: crate::specs::scalar::Numerics#ine "whether the numbers differ"
+    /// Definitions: [`ine`](crate::specs::scalar::Numerics#ine).
     #[inline]
     pub fn i32_ne(lhs: i32, rhs: i32) -> bool {
         lhs != rhs
@@ -709,9 +731,11 @@ pub mod wasm {
     ///
     /// # Contract
     ///
-    /// <span></span><pre><code>ensures: result ≡ [ilt_s] lhs rhs</code></pre>
+    /// ```text
+    /// ensures: result ≡ ilt_s lhs rhs
+    /// ```
     ///
-    /// [ilt_s]: crate::specs::scalar::Numerics#ilt_s "whether the first is less, both read signed"
+    /// Definitions: [`ilt_s`](crate::specs::scalar::Numerics#ilt_s).
     #[inline]
     pub fn i32_lt_s(lhs: i32, rhs: i32) -> bool {
         lhs < rhs
@@ -721,9 +745,11 @@ pub mod wasm {
     ///
     /// # Contract
     ///
-    /// <span></span><pre><code>ensures: result ≡ [ilt_u] lhs rhs</code></pre>
+    /// ```text
+    /// ensures: result ≡ ilt_u lhs rhs
+    /// ```
     ///
-    /// [ilt_u]: crate::specs::scalar::Numerics#ilt_u "whether the first is less, both read unsigned"
+    /// Definitions: [`ilt_u`](crate::specs::scalar::Numerics#ilt_u).
     #[inline]
     pub fn i32_lt_u(lhs: u32, rhs: u32) -> bool {
         lhs < rhs
@@ -733,9 +759,11 @@ pub mod wasm {
     ///
     /// # Contract
     ///
-    /// <span></span><pre><code>ensures: result ≡ [ile_s] lhs rhs</code></pre>
+    /// ```text
+    /// ensures: result ≡ ile_s lhs rhs
+    /// ```
     ///
-    /// [ile_s]: crate::specs::scalar::Numerics#ile_s "whether the first is at most the second, both read signed"
+    /// Definitions: [`ile_s`](crate::specs::scalar::Numerics#ile_s).
     #[inline]
     pub fn i32_le_s(lhs: i32, rhs: i32) -> bool {
         lhs <= rhs
@@ -745,9 +773,11 @@ pub mod wasm {
     ///
     /// # Contract
     ///
-    /// <span></span><pre><code>ensures: result ≡ [ile_u] lhs rhs</code></pre>
+    /// ```text
+    /// ensures: result ≡ ile_u lhs rhs
+    /// ```
     ///
-    /// [ile_u]: crate::specs::scalar::Numerics#ile_u "whether the first is at most the second, both read unsigned"
+    /// Definitions: [`ile_u`](crate::specs::scalar::Numerics#ile_u).
     #[inline]
     pub fn i32_le_u(lhs: u32, rhs: u32) -> bool {
         lhs <= rhs
@@ -757,9 +787,11 @@ pub mod wasm {
     ///
     /// # Contract
     ///
-    /// <span></span><pre><code>ensures: result ≡ [igt_s] lhs rhs</code></pre>
+    /// ```text
+    /// ensures: result ≡ igt_s lhs rhs
+    /// ```
     ///
-    /// [igt_s]: crate::specs::scalar::Numerics#igt_s "greater is less, and at least is at most, of the numbers exchanged"
+    /// Definitions: [`igt_s`](crate::specs::scalar::Numerics#igt_s).
     #[inline]
     pub fn i32_gt_s(lhs: i32, rhs: i32) -> bool {
         lhs > rhs
@@ -769,9 +801,11 @@ pub mod wasm {
     ///
     /// # Contract
     ///
-    /// <span></span><pre><code>ensures: result ≡ [igt_u] lhs rhs</code></pre>
+    /// ```text
+    /// ensures: result ≡ igt_u lhs rhs
+    /// ```
     ///
-    /// [igt_u]: crate::specs::scalar::Numerics#igt_u "whether the first is greater, both read unsigned"
+    /// Definitions: [`igt_u`](crate::specs::scalar::Numerics#igt_u).
     #[inline]
     pub fn i32_gt_u(lhs: u32, rhs: u32) -> bool {
         lhs > rhs
@@ -781,9 +815,11 @@ pub mod wasm {
     ///
     /// # Contract
     ///
-    /// <span></span><pre><code>ensures: result ≡ [ige_s] lhs rhs</code></pre>
+    /// ```text
+    /// ensures: result ≡ ige_s lhs rhs
+    /// ```
     ///
-    /// [ige_s]: crate::specs::scalar::Numerics#ige_s "whether the first is at least the second, both read signed"
+    /// Definitions: [`ige_s`](crate::specs::scalar::Numerics#ige_s).
     #[inline]
     pub fn i32_ge_s(lhs: i32, rhs: i32) -> bool {
         lhs >= rhs
@@ -793,9 +829,11 @@ pub mod wasm {
     ///
     /// # Contract
     ///
-    /// <span></span><pre><code>ensures: result ≡ [ige_u] lhs rhs</code></pre>
+    /// ```text
+    /// ensures: result ≡ ige_u lhs rhs
+    /// ```
     ///
-    /// [ige_u]: crate::specs::scalar::Numerics#ige_u "whether the first is at least the second, both read unsigned"
+    /// Definitions: [`ige_u`](crate::specs::scalar::Numerics#ige_u).
     #[inline]
     pub fn i32_ge_u(lhs: u32, rhs: u32) -> bool {
         lhs >= rhs
@@ -805,10 +843,11 @@ pub mod wasm {
     ///
     /// # Contract
     ///
-    /// <span></span><pre><code>ensures: result ≡ [iadd] [w64] lhs rhs</code></pre>
+    /// ```text
+    /// ensures: result ≡ iadd w64 lhs rhs
+    /// ```
     ///
-    /// [iadd]: crate::specs::scalar::Numerics#iadd "the sum, wrapped to the signed range"
-    /// [w64]: crate::specs::library#w64 "the widths of integers in bits"
+    /// Definitions: [`iadd`](crate::specs::scalar::Numerics#iadd).
     #[inline]
     pub fn i64_add(lhs: i64, rhs: i64) -> i64 {
         lhs.wrapping_add(rhs)
@@ -818,10 +857,11 @@ pub mod wasm {
     ///
     /// # Contract
     ///
-    /// <span></span><pre><code>ensures: result ≡ [isub] [w64] lhs rhs</code></pre>
+    /// ```text
+    /// ensures: result ≡ isub w64 lhs rhs
+    /// ```
     ///
-    /// [isub]: crate::specs::scalar::Numerics#isub "the difference, wrapped to the signed range"
-    /// [w64]: crate::specs::library#w64 "the widths of integers in bits"
+    /// Definitions: [`isub`](crate::specs::scalar::Numerics#isub).
     #[inline]
     pub fn i64_sub(lhs: i64, rhs: i64) -> i64 {
         lhs.wrapping_sub(rhs)
@@ -831,10 +871,11 @@ pub mod wasm {
     ///
     /// # Contract
     ///
-    /// <span></span><pre><code>ensures: result ≡ [imul] [w64] lhs rhs</code></pre>
+    /// ```text
+    /// ensures: result ≡ imul w64 lhs rhs
+    /// ```
     ///
-    /// [imul]: crate::specs::scalar::Numerics#imul "the product, wrapped to the signed range"
-    /// [w64]: crate::specs::library#w64 "the widths of integers in bits"
+    /// Definitions: [`imul`](crate::specs::scalar::Numerics#imul).
     #[inline]
     pub fn i64_mul(lhs: i64, rhs: i64) -> i64 {
         lhs.wrapping_mul(rhs)
@@ -844,10 +885,11 @@ pub mod wasm {
     ///
     /// # Contract
     ///
-    /// <span></span><pre><code>ensures: result ≡ [iand] [w64] lhs rhs</code></pre>
+    /// ```text
+    /// ensures: result ≡ iand w64 lhs rhs
+    /// ```
     ///
-    /// [iand]: crate::specs::scalar::Numerics#iand "the bits that are set in both"
-    /// [w64]: crate::specs::library#w64 "the widths of integers in bits"
+    /// Definitions: [`iand`](crate::specs::scalar::Numerics#iand).
     #[inline]
     pub fn i64_bitand(lhs: i64, rhs: i64) -> i64 {
         lhs & rhs
@@ -857,10 +899,11 @@ pub mod wasm {
     ///
     /// # Contract
     ///
-    /// <span></span><pre><code>ensures: result ≡ [ior] [w64] lhs rhs</code></pre>
+    /// ```text
+    /// ensures: result ≡ ior w64 lhs rhs
+    /// ```
     ///
-    /// [ior]: crate::specs::scalar::Numerics#ior "the bits that are set in one or both"
-    /// [w64]: crate::specs::library#w64 "the widths of integers in bits"
+    /// Definitions: [`ior`](crate::specs::scalar::Numerics#ior).
     #[inline]
     pub fn i64_bitor(lhs: i64, rhs: i64) -> i64 {
         lhs | rhs
@@ -870,10 +913,11 @@ pub mod wasm {
     ///
     /// # Contract
     ///
-    /// <span></span><pre><code>ensures: result ≡ [ixor] [w64] lhs rhs</code></pre>
+    /// ```text
+    /// ensures: result ≡ ixor w64 lhs rhs
+    /// ```
     ///
-    /// [ixor]: crate::specs::scalar::Numerics#ixor "the bits that are set in exactly one"
-    /// [w64]: crate::specs::library#w64 "the widths of integers in bits"
+    /// Definitions: [`ixor`](crate::specs::scalar::Numerics#ixor).
     #[inline]
     pub fn i64_bitxor(lhs: i64, rhs: i64) -> i64 {
         lhs ^ rhs
@@ -883,10 +927,11 @@ pub mod wasm {
     ///
     /// # Contract
     ///
-    /// <span></span><pre><code>ensures: result ≡ [ishl] [w64] lhs rhs</code></pre>
+    /// ```text
+    /// ensures: result ≡ ishl w64 lhs rhs
+    /// ```
     ///
-    /// [ishl]: crate::specs::scalar::Numerics#ishl "the number shifted to the left by an amount modulo the width, wrapped"
-    /// [w64]: crate::specs::library#w64 "the widths of integers in bits"
+    /// Definitions: [`ishl`](crate::specs::scalar::Numerics#ishl).
     #[inline]
     pub fn i64_shl(lhs: i64, rhs: i64) -> i64 {
         Integer::shl(lhs, rhs)
@@ -896,10 +941,11 @@ pub mod wasm {
     ///
     /// # Contract
     ///
-    /// <span></span><pre><code>ensures: result ≡ [ishr_s] [w64] lhs rhs</code></pre>
+    /// ```text
+    /// ensures: result ≡ ishr_s w64 lhs rhs
+    /// ```
     ///
-    /// [ishr_s]: crate::specs::scalar::Numerics#ishr_s "the quotient by 2 to the power of the amount, rounded down"
-    /// [w64]: crate::specs::library#w64 "the widths of integers in bits"
+    /// Definitions: [`ishr_s`](crate::specs::scalar::Numerics#ishr_s).
     #[inline]
     pub fn i64_shr_s(lhs: i64, rhs: i64) -> i64 {
         Integer::shr_s(lhs, rhs)
@@ -909,10 +955,11 @@ pub mod wasm {
     ///
     /// # Contract
     ///
-    /// <span></span><pre><code>ensures: result ≡ [ishr_u] [w64] lhs rhs</code></pre>
+    /// ```text
+    /// ensures: result ≡ ishr_u w64 lhs rhs
+    /// ```
     ///
-    /// [ishr_u]: crate::specs::scalar::Numerics#ishr_u "the number shifted to the right by an amount modulo the width, with zeros from above"
-    /// [w64]: crate::specs::library#w64 "the widths of integers in bits"
+    /// Definitions: [`ishr_u`](crate::specs::scalar::Numerics#ishr_u).
     #[inline]
     pub fn i64_shr_u(lhs: u64, rhs: u64) -> u64 {
         <i64 as Integer>::shr_u(lhs, rhs)
@@ -922,10 +969,11 @@ pub mod wasm {
     ///
     /// # Contract
     ///
-    /// <span></span><pre><code>ensures: result ≡ [irotl] [w64] lhs rhs</code></pre>
+    /// ```text
+    /// ensures: result ≡ irotl w64 lhs rhs
+    /// ```
     ///
-    /// [irotl]: crate::specs::scalar::Numerics#irotl "the bits rotated to the left by an amount modulo the width"
-    /// [w64]: crate::specs::library#w64 "the widths of integers in bits"
+    /// Definitions: [`irotl`](crate::specs::scalar::Numerics#irotl).
     #[inline]
     pub fn i64_rotl(lhs: i64, rhs: i64) -> i64 {
         Integer::rotl(lhs, rhs)
@@ -935,10 +983,11 @@ pub mod wasm {
     ///
     /// # Contract
     ///
-    /// <span></span><pre><code>ensures: result ≡ [irotr] [w64] lhs rhs</code></pre>
+    /// ```text
+    /// ensures: result ≡ irotr w64 lhs rhs
+    /// ```
     ///
-    /// [irotr]: crate::specs::scalar::Numerics#irotr "the bits rotated to the right by an amount modulo the width: to the left by the rest of the bits"
-    /// [w64]: crate::specs::library#w64 "the widths of integers in bits"
+    /// Definitions: [`irotr`](crate::specs::scalar::Numerics#irotr).
     #[inline]
     pub fn i64_rotr(lhs: i64, rhs: i64) -> i64 {
         Integer::rotr(lhs, rhs)
@@ -950,10 +999,11 @@ pub mod wasm {
     ///
     /// # Contract
     ///
-    /// <span></span><pre><code>ensures: result ≡ [idiv_s] [w64] lhs rhs</code></pre>
+    /// ```text
+    /// ensures: result ≡ idiv_s w64 lhs rhs
+    /// ```
     ///
-    /// [idiv_s]: crate::specs::scalar::Numerics#idiv_s "the quotient of two signed numbers, rounded towards zero, or a trap where the divisor is 0 or no signed number of the width is the quotient: that of the least number by -1 is 2 to the power \`bits w - 1\`"
-    /// [w64]: crate::specs::library#w64 "the widths of integers in bits"
+    /// Definitions: [`idiv_s`](crate::specs::scalar::Numerics#idiv_s).
     #[inline]
     pub fn i64_div_s(lhs: i64, rhs: i64) -> Result<i64, TrapCode> {
         Integer::div_s(lhs, rhs)
@@ -965,9 +1015,11 @@ pub mod wasm {
     ///
     /// # Contract
     ///
-    /// <span></span><pre><code>ensures: result ≡ [idiv_u] lhs rhs</code></pre>
+    /// ```text
+    /// ensures: result ≡ idiv_u lhs rhs
+    /// ```
     ///
-    /// [idiv_u]: crate::specs::scalar::Numerics#idiv_u "the quotient rounded down, or a trap where the divisor is 0"
+    /// Definitions: [`idiv_u`](crate::specs::scalar::Numerics#idiv_u).
     #[inline]
     pub fn i64_div_u(lhs: u64, rhs: u64) -> Result<u64, TrapCode> {
         <i64 as Integer>::div_u(lhs, rhs)
@@ -979,9 +1031,11 @@ pub mod wasm {
     ///
     /// # Contract
     ///
-    /// <span></span><pre><code>ensures: result ≡ [irem_s] lhs rhs</code></pre>
+    /// ```text
+    /// ensures: result ≡ irem_s lhs rhs
+    /// ```
     ///
-    /// [irem_s]: crate::specs::scalar::Numerics#irem_s "the remainder of the quotient rounded towards zero, which has the sign of x, or a trap where the divisor is 0"
+    /// Definitions: [`irem_s`](crate::specs::scalar::Numerics#irem_s).
     #[inline]
     pub fn i64_rem_s(lhs: i64, rhs: i64) -> Result<i64, TrapCode> {
         Integer::rem_s(lhs, rhs)
@@ -993,9 +1047,11 @@ pub mod wasm {
     ///
     /// # Contract
     ///
-    /// <span></span><pre><code>ensures: result ≡ [irem_u] lhs rhs</code></pre>
+    /// ```text
+    /// ensures: result ≡ irem_u lhs rhs
+    /// ```
     ///
-    /// [irem_u]: crate::specs::scalar::Numerics#irem_u "the remainder of the quotient rounded down, or a trap where the divisor is 0"
+    /// Definitions: [`irem_u`](crate::specs::scalar::Numerics#irem_u).
     #[inline]
     pub fn i64_rem_u(lhs: u64, rhs: u64) -> Result<u64, TrapCode> {
         <i64 as Integer>::rem_u(lhs, rhs)
@@ -1005,10 +1061,11 @@ pub mod wasm {
     ///
     /// # Contract
     ///
-    /// <span></span><pre><code>ensures: result ≡ [iclz] [w64] value</code></pre>
+    /// ```text
+    /// ensures: result ≡ iclz w64 value
+    /// ```
     ///
-    /// [iclz]: crate::specs::scalar::Numerics#iclz "how many zeros stand above the highest bit that is set; all bits for 0"
-    /// [w64]: crate::specs::library#w64 "the widths of integers in bits"
+    /// Definitions: [`iclz`](crate::specs::scalar::Numerics#iclz).
     #[inline]
     pub fn i64_clz(value: i64) -> i64 {
         Integer::leading_zeros(value)
@@ -1018,10 +1075,11 @@ pub mod wasm {
     ///
     /// # Contract
     ///
-    /// <span></span><pre><code>ensures: result ≡ [ictz] [w64] value</code></pre>
+    /// ```text
+    /// ensures: result ≡ ictz w64 value
+    /// ```
     ///
-    /// [ictz]: crate::specs::scalar::Numerics#ictz "how many zeros stand below the lowest bit that is set; all bits for 0"
-    /// [w64]: crate::specs::library#w64 "the widths of integers in bits"
+    /// Definitions: [`ictz`](crate::specs::scalar::Numerics#ictz).
     #[inline]
     pub fn i64_ctz(value: i64) -> i64 {
         Integer::trailing_zeros(value)
@@ -1031,10 +1089,11 @@ pub mod wasm {
     ///
     /// # Contract
     ///
-    /// <span></span><pre><code>ensures: result ≡ [ipopcnt] [w64] value</code></pre>
+    /// ```text
+    /// ensures: result ≡ ipopcnt w64 value
+    /// ```
     ///
-    /// [ipopcnt]: crate::specs::scalar::Numerics#ipopcnt "how many bits are set"
-    /// [w64]: crate::specs::library#w64 "the widths of integers in bits"
+    /// Definitions: [`ipopcnt`](crate::specs::scalar::Numerics#ipopcnt).
     #[inline]
     pub fn i64_popcnt(value: i64) -> i64 {
         Integer::count_ones(value)
@@ -1044,9 +1103,11 @@ pub mod wasm {
     ///
     /// # Contract
     ///
-    /// <span></span><pre><code>ensures: result ≡ [ieqz] value</code></pre>
+    /// ```text
+    /// ensures: result ≡ ieqz value
+    /// ```
     ///
-    /// [ieqz]: crate::specs::scalar::Numerics#ieqz "whether the number is 0"
+    /// Definitions: [`ieqz`](crate::specs::scalar::Numerics#ieqz).
     #[inline]
     pub fn i64_eqz(value: i64) -> bool {
         Integer::is_zero(value)
@@ -1056,9 +1117,11 @@ pub mod wasm {
     ///
     /// # Contract
     ///
-    /// <span></span><pre><code>ensures: result ≡ [ieq] lhs rhs</code></pre>
+    /// ```text
+    /// ensures: result ≡ ieq lhs rhs
+    /// ```
     ///
-    /// [ieq]: crate::specs::scalar::Numerics#ieq "whether the numbers are equal"
+    /// Definitions: [`ieq`](crate::specs::scalar::Numerics#ieq).
     #[inline]
     pub fn i64_eq(lhs: i64, rhs: i64) -> bool {
         lhs == rhs
@@ -1068,9 +1131,11 @@ pub mod wasm {
     ///
     /// # Contract
     ///
-    /// <span></span><pre><code>ensures: result ≡ [ine] lhs rhs</code></pre>
+    /// ```text
+    /// ensures: result ≡ ine lhs rhs
+    /// ```
     ///
-    /// [ine]: crate::specs::scalar::Numerics#ine "whether the numbers differ"
+    /// Definitions: [`ine`](crate::specs::scalar::Numerics#ine).
     #[inline]
     pub fn i64_ne(lhs: i64, rhs: i64) -> bool {
         lhs != rhs
@@ -1080,9 +1145,11 @@ pub mod wasm {
     ///
     /// # Contract
     ///
-    /// <span></span><pre><code>ensures: result ≡ [ilt_s] lhs rhs</code></pre>
+    /// ```text
+    /// ensures: result ≡ ilt_s lhs rhs
+    /// ```
     ///
-    /// [ilt_s]: crate::specs::scalar::Numerics#ilt_s "whether the first is less, both read signed"
+    /// Definitions: [`ilt_s`](crate::specs::scalar::Numerics#ilt_s).
     #[inline]
     pub fn i64_lt_s(lhs: i64, rhs: i64) -> bool {
         lhs < rhs
@@ -1092,9 +1159,11 @@ pub mod wasm {
     ///
     /// # Contract
     ///
-    /// <span></span><pre><code>ensures: result ≡ [ilt_u] lhs rhs</code></pre>
+    /// ```text
+    /// ensures: result ≡ ilt_u lhs rhs
+    /// ```
     ///
-    /// [ilt_u]: crate::specs::scalar::Numerics#ilt_u "whether the first is less, both read unsigned"
+    /// Definitions: [`ilt_u`](crate::specs::scalar::Numerics#ilt_u).
     #[inline]
     pub fn i64_lt_u(lhs: u64, rhs: u64) -> bool {
         lhs < rhs
@@ -1104,9 +1173,11 @@ pub mod wasm {
     ///
     /// # Contract
     ///
-    /// <span></span><pre><code>ensures: result ≡ [ile_s] lhs rhs</code></pre>
+    /// ```text
+    /// ensures: result ≡ ile_s lhs rhs
+    /// ```
     ///
-    /// [ile_s]: crate::specs::scalar::Numerics#ile_s "whether the first is at most the second, both read signed"
+    /// Definitions: [`ile_s`](crate::specs::scalar::Numerics#ile_s).
     #[inline]
     pub fn i64_le_s(lhs: i64, rhs: i64) -> bool {
         lhs <= rhs
@@ -1116,9 +1187,11 @@ pub mod wasm {
     ///
     /// # Contract
     ///
-    /// <span></span><pre><code>ensures: result ≡ [ile_u] lhs rhs</code></pre>
+    /// ```text
+    /// ensures: result ≡ ile_u lhs rhs
+    /// ```
     ///
-    /// [ile_u]: crate::specs::scalar::Numerics#ile_u "whether the first is at most the second, both read unsigned"
+    /// Definitions: [`ile_u`](crate::specs::scalar::Numerics#ile_u).
     #[inline]
     pub fn i64_le_u(lhs: u64, rhs: u64) -> bool {
         lhs <= rhs
@@ -1128,9 +1201,11 @@ pub mod wasm {
     ///
     /// # Contract
     ///
-    /// <span></span><pre><code>ensures: result ≡ [igt_s] lhs rhs</code></pre>
+    /// ```text
+    /// ensures: result ≡ igt_s lhs rhs
+    /// ```
     ///
-    /// [igt_s]: crate::specs::scalar::Numerics#igt_s "greater is less, and at least is at most, of the numbers exchanged"
+    /// Definitions: [`igt_s`](crate::specs::scalar::Numerics#igt_s).
     #[inline]
     pub fn i64_gt_s(lhs: i64, rhs: i64) -> bool {
         lhs > rhs
@@ -1140,9 +1215,11 @@ pub mod wasm {
     ///
     /// # Contract
     ///
-    /// <span></span><pre><code>ensures: result ≡ [igt_u] lhs rhs</code></pre>
+    /// ```text
+    /// ensures: result ≡ igt_u lhs rhs
+    /// ```
     ///
-    /// [igt_u]: crate::specs::scalar::Numerics#igt_u "whether the first is greater, both read unsigned"
+    /// Definitions: [`igt_u`](crate::specs::scalar::Numerics#igt_u).
     #[inline]
     pub fn i64_gt_u(lhs: u64, rhs: u64) -> bool {
         lhs > rhs
@@ -1152,9 +1229,11 @@ pub mod wasm {
     ///
     /// # Contract
     ///
-    /// <span></span><pre><code>ensures: result ≡ [ige_s] lhs rhs</code></pre>
+    /// ```text
+    /// ensures: result ≡ ige_s lhs rhs
+    /// ```
     ///
-    /// [ige_s]: crate::specs::scalar::Numerics#ige_s "whether the first is at least the second, both read signed"
+    /// Definitions: [`ige_s`](crate::specs::scalar::Numerics#ige_s).
     #[inline]
     pub fn i64_ge_s(lhs: i64, rhs: i64) -> bool {
         lhs >= rhs
@@ -1164,9 +1243,11 @@ pub mod wasm {
     ///
     /// # Contract
     ///
-    /// <span></span><pre><code>ensures: result ≡ [ige_u] lhs rhs</code></pre>
+    /// ```text
+    /// ensures: result ≡ ige_u lhs rhs
+    /// ```
     ///
-    /// [ige_u]: crate::specs::scalar::Numerics#ige_u "whether the first is at least the second, both read unsigned"
+    /// Definitions: [`ige_u`](crate::specs::scalar::Numerics#ige_u).
     #[inline]
     pub fn i64_ge_u(lhs: u64, rhs: u64) -> bool {
         lhs >= rhs
@@ -1176,10 +1257,9 @@ pub mod wasm {
     ///
     /// # Contract
     ///
-    /// <span></span><pre><code>ensures: result ≡ [int_wrap] [w32] value</code></pre>
-    ///
-    /// [int_wrap]: crate::specs::library#int_wrap "z modulo 2 ^ w, as a signed number of that width"
-    /// [w32]: crate::specs::library#w32 "the widths of integers in bits"
+    /// ```text
+    /// ensures: result ≡ int_wrap w32 value
+    /// ```
     #[inline]
     pub fn i32_wrap_i64(value: i64) -> i32 {
         value.wrap_into()
@@ -1189,7 +1269,9 @@ pub mod wasm {
     ///
     /// # Contract
     ///
-    /// <span></span><pre><code>ensures: result ≡ value</code></pre>
+    /// ```text
+    /// ensures: result ≡ value
+    /// ```
     #[inline]
     pub fn i64_extend_i32_s(value: i32) -> i64 {
         value.extend_into()
@@ -1199,7 +1281,9 @@ pub mod wasm {
     ///
     /// # Contract
     ///
-    /// <span></span><pre><code>ensures: result ≡ value</code></pre>
+    /// ```text
+    /// ensures: result ≡ value
+    /// ```
     #[inline]
     pub fn i64_extend_i32_u(value: u32) -> u64 {
         value.extend_into()
@@ -1209,10 +1293,9 @@ pub mod wasm {
     ///
     /// # Contract
     ///
-    /// <span></span><pre><code>ensures: result ≡ [int_wrap] [w8] value</code></pre>
-    ///
-    /// [int_wrap]: crate::specs::library#int_wrap "z modulo 2 ^ w, as a signed number of that width"
-    /// [w8]: crate::specs::library#w8 "the widths of integers in bits"
+    /// ```text
+    /// ensures: result ≡ int_wrap w8 value
+    /// ```
     #[inline]
     pub fn i32_extend8_s(value: i32) -> i32 {
         <i32 as SignExtendFrom<i8>>::sign_extend_from(value)
@@ -1222,10 +1305,9 @@ pub mod wasm {
     ///
     /// # Contract
     ///
-    /// <span></span><pre><code>ensures: result ≡ [int_wrap] [w16] value</code></pre>
-    ///
-    /// [int_wrap]: crate::specs::library#int_wrap "z modulo 2 ^ w, as a signed number of that width"
-    /// [w16]: crate::specs::library#w16 "the widths of integers in bits"
+    /// ```text
+    /// ensures: result ≡ int_wrap w16 value
+    /// ```
     #[inline]
     pub fn i32_extend16_s(value: i32) -> i32 {
         <i32 as SignExtendFrom<i16>>::sign_extend_from(value)
@@ -1235,10 +1317,9 @@ pub mod wasm {
     ///
     /// # Contract
     ///
-    /// <span></span><pre><code>ensures: result ≡ [int_wrap] [w8] value</code></pre>
-    ///
-    /// [int_wrap]: crate::specs::library#int_wrap "z modulo 2 ^ w, as a signed number of that width"
-    /// [w8]: crate::specs::library#w8 "the widths of integers in bits"
+    /// ```text
+    /// ensures: result ≡ int_wrap w8 value
+    /// ```
     #[inline]
     pub fn i64_extend8_s(value: i64) -> i64 {
         <i64 as SignExtendFrom<i8>>::sign_extend_from(value)
@@ -1248,10 +1329,9 @@ pub mod wasm {
     ///
     /// # Contract
     ///
-    /// <span></span><pre><code>ensures: result ≡ [int_wrap] [w16] value</code></pre>
-    ///
-    /// [int_wrap]: crate::specs::library#int_wrap "z modulo 2 ^ w, as a signed number of that width"
-    /// [w16]: crate::specs::library#w16 "the widths of integers in bits"
+    /// ```text
+    /// ensures: result ≡ int_wrap w16 value
+    /// ```
     #[inline]
     pub fn i64_extend16_s(value: i64) -> i64 {
         <i64 as SignExtendFrom<i16>>::sign_extend_from(value)
@@ -1261,10 +1341,9 @@ pub mod wasm {
     ///
     /// # Contract
     ///
-    /// <span></span><pre><code>ensures: result ≡ [int_wrap] [w32] value</code></pre>
-    ///
-    /// [int_wrap]: crate::specs::library#int_wrap "z modulo 2 ^ w, as a signed number of that width"
-    /// [w32]: crate::specs::library#w32 "the widths of integers in bits"
+    /// ```text
+    /// ensures: result ≡ int_wrap w32 value
+    /// ```
     #[inline]
     pub fn i64_extend32_s(value: i64) -> i64 {
         <i64 as SignExtendFrom<i32>>::sign_extend_from(value)
@@ -1273,9 +1352,11 @@ pub mod wasm {
     // The number of 128 bits in two words, and its two words.
     /// # Contract
     ///
-    /// <span></span><pre><code>ensures: result ≡ [unsigned_of] lo hi</code></pre>
+    /// ```text
+    /// ensures: result ≡ unsigned_of lo hi
+    /// ```
     ///
-    /// [unsigned_of]: crate::specs::scalar::Wide#unsigned_of "the number of a low and a high word, read unsigned"
+    /// Definitions: [`unsigned_of`](crate::specs::scalar::Wide#unsigned_of).
     #[inline]
     fn combine128(lo: i64, hi: i64) -> u128 {
         hi.cast_unsigned() as u128 * 0x1_0000_0000_0000_0000 + lo.cast_unsigned() as u128
@@ -1283,9 +1364,11 @@ pub mod wasm {
 
     /// # Contract
     ///
-    /// <span></span><pre><code>ensures: [unsigned_of] result.0 result.1 ≡ value</code></pre>
+    /// ```text
+    /// ensures: unsigned_of result.0 result.1 ≡ value
+    /// ```
     ///
-    /// [unsigned_of]: crate::specs::scalar::Wide#unsigned_of "the number of a low and a high word, read unsigned"
+    /// Definitions: [`unsigned_of`](crate::specs::scalar::Wide#unsigned_of).
     #[inline]
     fn split128(value: u128) -> (i64, i64) {
         let lo = (value % 0x1_0000_0000_0000_0000) as u64;
@@ -1297,11 +1380,12 @@ pub mod wasm {
     ///
     /// # Contract
     ///
-    /// <span></span><pre><code>ensures: [unsigned_of] result.0 result.1
-    /// &#32;&#32;&#32;&#32;≡ [add128] ([unsigned_of] lhs_lo lhs_hi) ([unsigned_of] rhs_lo rhs_hi)</code></pre>
+    /// ```text
+    /// ensures: unsigned_of result.0 result.1
+    ///     ≡ add128 (unsigned_of lhs_lo lhs_hi) (unsigned_of rhs_lo rhs_hi)
+    /// ```
     ///
-    /// [unsigned_of]: crate::specs::scalar::Wide#unsigned_of "the number of a low and a high word, read unsigned"
-    /// [add128]: crate::specs::scalar::Wide#add128 "the sum modulo 2 to the power 128"
+    /// Definitions: [`unsigned_of`](crate::specs::scalar::Wide#unsigned_of), [`add128`](crate::specs::scalar::Wide#add128).
     #[inline]
     pub fn i64_add128(lhs_lo: i64, lhs_hi: i64, rhs_lo: i64, rhs_hi: i64) -> (i64, i64) {
         let lhs = combine128(lhs_lo, lhs_hi);
@@ -1313,11 +1397,12 @@ pub mod wasm {
     ///
     /// # Contract
     ///
-    /// <span></span><pre><code>ensures: [unsigned_of] result.0 result.1
-    /// &#32;&#32;&#32;&#32;≡ [sub128] ([unsigned_of] lhs_lo lhs_hi) ([unsigned_of] rhs_lo rhs_hi)</code></pre>
+    /// ```text
+    /// ensures: unsigned_of result.0 result.1
+    ///     ≡ sub128 (unsigned_of lhs_lo lhs_hi) (unsigned_of rhs_lo rhs_hi)
+    /// ```
     ///
-    /// [unsigned_of]: crate::specs::scalar::Wide#unsigned_of "the number of a low and a high word, read unsigned"
-    /// [sub128]: crate::specs::scalar::Wide#sub128 "the difference modulo 2 to the power 128"
+    /// Definitions: [`unsigned_of`](crate::specs::scalar::Wide#unsigned_of), [`sub128`](crate::specs::scalar::Wide#sub128).
     #[inline]
     pub fn i64_sub128(lhs_lo: i64, lhs_hi: i64, rhs_lo: i64, rhs_hi: i64) -> (i64, i64) {
         let lhs = combine128(lhs_lo, lhs_hi);
@@ -1329,9 +1414,11 @@ pub mod wasm {
     ///
     /// # Contract
     ///
-    /// <span></span><pre><code>ensures: [signed_of] result.0 result.1 ≡ lhs \*ℤ rhs</code></pre>
+    /// ```text
+    /// ensures: signed_of result.0 result.1 ≡ lhs *ℤ rhs
+    /// ```
     ///
-    /// [signed_of]: crate::specs::scalar::Wide#signed_of "the number of two words of 64 bits, of which the high one is read signed"
+    /// Definitions: [`signed_of`](crate::specs::scalar::Wide#signed_of).
     #[inline]
     pub fn i64_mul_wide_s(lhs: i64, rhs: i64) -> (i64, i64) {
         let product = lhs as i128 * rhs as i128;
@@ -1342,11 +1429,11 @@ pub mod wasm {
     ///
     /// # Contract
     ///
-    /// <span></span><pre><code>ensures: [unsigned_of] result.0 result.1 ≡ [cast_unsigned] [w64] lhs \* [cast_unsigned] [w64] rhs</code></pre>
+    /// ```text
+    /// ensures: unsigned_of result.0 result.1 ≡ cast_unsigned w64 lhs * cast_unsigned w64 rhs
+    /// ```
     ///
-    /// [unsigned_of]: crate::specs::scalar::Wide#unsigned_of "the number of a low and a high word, read unsigned"
-    /// [cast_unsigned]: crate::specs::library#cast_unsigned "the signed number as one from 0 up to 2 ^ w, in two\'s complement"
-    /// [w64]: crate::specs::library#w64 "the widths of integers in bits"
+    /// Definitions: [`unsigned_of`](crate::specs::scalar::Wide#unsigned_of).
     #[inline]
     pub fn i64_mul_wide_u(lhs: i64, rhs: i64) -> (i64, i64) {
         let product = lhs.cast_unsigned() as u128 * rhs.cast_unsigned() as u128;

@@ -19,10 +19,11 @@ mod error {
 
     /// # Contract
     ///
-    /// <span></span><pre><code>output = λ error. [Some] ([error_text] error)</code></pre>
+    /// ```text
+    /// output = λ error. Some (error_text error)
+    /// ```
     ///
-    /// [Some]: crate::specs::library#Some "the value x, of an \`Option\`"
-    /// [error_text]: crate::specs::script::Texts#error_text "why a script isn\'t run"
+    /// Definitions: [`error_text`](crate::specs::script::Texts#error_text).
     impl fmt::Display for ReplayError {
         #[inline]
         fn fmt(&self, f: &mut fmt::Formatter<'_>) -> fmt::Result {
@@ -41,10 +42,9 @@ mod error {
 
     /// # Contract
     ///
-    /// <span></span><pre><code>from_gives = λ \_ error. error ≡ [Parse] [OutOfMemory]</code></pre>
-    ///
-    /// [Parse]: crate::proved::script::ReplayError::Parse
-    /// [OutOfMemory]: crate::proved::grammar::ParseError::OutOfMemory
+    /// ```text
+    /// from_gives = λ _ error. error ≡ Parse OutOfMemory
+    /// ```
     impl From<AllocError> for ReplayError {
         #[inline]
         fn from(_: AllocError) -> Self {
@@ -54,10 +54,9 @@ mod error {
 
     /// # Contract
     ///
-    /// <span></span><pre><code>from_gives = λ \_ error. error ≡ [Parse] [OutOfMemory]</code></pre>
-    ///
-    /// [Parse]: crate::proved::script::ReplayError::Parse
-    /// [OutOfMemory]: crate::proved::grammar::ParseError::OutOfMemory
+    /// ```text
+    /// from_gives = λ _ error. error ≡ Parse OutOfMemory
+    /// ```
     impl<T> From<AllocFailed<T>> for ReplayError {
         #[inline]
         fn from(_: AllocFailed<T>) -> Self {
@@ -67,9 +66,9 @@ mod error {
 
     /// # Contract
     ///
-    /// <span></span><pre><code>from_gives = λ error replayed. replayed ≡ [Parse] error</code></pre>
-    ///
-    /// [Parse]: crate::proved::script::ReplayError::Parse
+    /// ```text
+    /// from_gives = λ error replayed. replayed ≡ Parse error
+    /// ```
     impl From<ParseError> for ReplayError {
         #[inline]
         fn from(error: ParseError) -> Self {
@@ -85,9 +84,11 @@ mod front {
     ///
     /// # Contract
     ///
-    /// <span></span><pre><code>ensures: [AddsToFront] text.now bytes.old written bytes.new result</code></pre>
+    /// ```text
+    /// ensures: AddsToFront text.now bytes.old written bytes.new result
+    /// ```
     ///
-    /// [AddsToFront]: crate::specs::script::Fronts#AddsToFront "One text more is written to the front of bytes: whatever text was there before and whatever the bytes were at the start, that text followed by this one is there afterwards."
+    /// Definitions: [`AddsToFront`](crate::specs::script::Fronts#AddsToFront).
     #[inline]
     pub fn put(bytes: &mut [u8], written: usize, text: &[u8]) -> usize {
         let start = written.min(bytes.len());
@@ -100,10 +101,11 @@ mod front {
     ///
     /// # Contract
     ///
-    /// <span></span><pre><code>ensures: [AddsToFront] ([decimal] number) bytes.old written bytes.new result</code></pre>
+    /// ```text
+    /// ensures: AddsToFront (decimal number) bytes.old written bytes.new result
+    /// ```
     ///
-    /// [AddsToFront]: crate::specs::script::Fronts#AddsToFront "One text more is written to the front of bytes: whatever text was there before and whatever the bytes were at the start, that text followed by this one is there afterwards."
-    /// [decimal]: crate::specs::library#decimal "the digits of a number, as characters"
+    /// Definitions: [`AddsToFront`](crate::specs::script::Fronts#AddsToFront).
     #[inline]
     pub fn put_number(bytes: &mut [u8], written: usize, number: u64) -> usize {
         let digit = [b'0' + (number % 10) as u8];
@@ -118,10 +120,11 @@ mod front {
     ///
     /// # Contract
     ///
-    /// <span></span><pre><code>ensures: [AddsToFront] ([number_text] before.now number) bytes.old written bytes.new result</code></pre>
+    /// ```text
+    /// ensures: AddsToFront (number_text before.now number) bytes.old written bytes.new result
+    /// ```
     ///
-    /// [AddsToFront]: crate::specs::script::Fronts#AddsToFront "One text more is written to the front of bytes: whatever text was there before and whatever the bytes were at the start, that text followed by this one is there afterwards."
-    /// [number_text]: crate::specs::script::Fronts#number_text "a number, if there is one, after what stands before it"
+    /// Definitions: [`AddsToFront`](crate::specs::script::Fronts#AddsToFront), [`number_text`](crate::specs::script::Fronts#number_text).
     #[inline]
     pub fn put_optional(
         bytes: &mut [u8],
@@ -144,15 +147,19 @@ pub mod laws {
     //! law as its contract.
 
     use crate::proved::budget::laws::tenants_leave_no_choice;
+    pub use crate::proved::grammar::laws::{
+        first_bad_lines_are_one, texts_write_one_script, written_texts_have_no_bad_line,
+    };
 
     /// A limiter that answers from a list is deterministic.
     ///
     /// # Contract
     ///
-    /// <span></span><pre><code>ensures: [IsDeterministic] [answer_list_rules]</code></pre>
+    /// ```text
+    /// ensures: IsDeterministic answer_list_rules
+    /// ```
     ///
-    /// [IsDeterministic]: crate::specs::machine::Determinism#IsDeterministic "each question and each notice has one answer, and leaves one state"
-    /// [answer_list_rules]: crate::specs::meter::AnswerList#answer_list_rules "the rules of such a limiter, whatever is asked: a notice is answered as the last question\'s answer says, and takes none"
+    /// Definitions: [`IsDeterministic`](crate::specs::machine::Determinism#IsDeterministic), [`answer_list_rules`](crate::specs::meter::AnswerList#answer_list_rules).
     #[inline]
     pub fn answers_leave_no_choice() {}
 
@@ -160,9 +167,11 @@ pub mod laws {
     ///
     /// # Contract
     ///
-    /// <span></span><pre><code>ensures: [QuietListsAcceptNotices]</code></pre>
+    /// ```text
+    /// ensures: QuietListsAcceptNotices
+    /// ```
     ///
-    /// [QuietListsAcceptNotices]: crate::specs::script::QuietLists#QuietListsAcceptNotices "such a limiter accepts each notice, and stays one"
+    /// Definitions: [`QuietListsAcceptNotices`](crate::specs::script::QuietLists#QuietListsAcceptNotices).
     #[inline]
     pub fn quiet_lists_accept_notices() {}
 
@@ -171,9 +180,11 @@ pub mod laws {
     ///
     /// # Contract
     ///
-    /// <span></span><pre><code>ensures: [QuietListsDecideReplies]</code></pre>
+    /// ```text
+    /// ensures: QuietListsDecideReplies
+    /// ```
     ///
-    /// [QuietListsDecideReplies]: crate::specs::script::QuietLists#QuietListsDecideReplies "two runs of one list of calls from one machine under such a limiter, in which no reply says out of memory, have the same replies and end in one world"
+    /// Definitions: [`QuietListsDecideReplies`](crate::specs::script::QuietLists#QuietListsDecideReplies).
     #[inline]
     pub fn quiet_lists_decide_replies() {}
 
@@ -183,9 +194,11 @@ pub mod laws {
     ///
     /// # Contract
     ///
-    /// <span></span><pre><code>ensures: [OutcomesAreOne]</code></pre>
+    /// ```text
+    /// ensures: OutcomesAreOne
+    /// ```
     ///
-    /// [OutcomesAreOne]: crate::specs::script::Decided#OutcomesAreOne "two outcomes of the same bytes that these decide end alike"
+    /// Definitions: [`OutcomesAreOne`](crate::specs::script::Decided#OutcomesAreOne).
     #[inline]
     pub fn outcomes_are_one() {
         tenants_leave_no_choice();
@@ -204,13 +217,12 @@ mod lines {
     ///
     /// # Contract
     ///
-    /// <span></span><pre><code>ensures front: [FillsFront] ([replies_text] calls.now replies.now) bytes.old bytes.new
-    /// ensures length: result ≡ [min] ([length] ([replies_text] calls.now replies.now)) (2 ^ 64 - 1)</code></pre>
+    /// ```text
+    /// ensures front: FillsFront (replies_text calls.now replies.now) bytes.old bytes.new
+    /// ensures length: result ≡ min (length (replies_text calls.now replies.now)) (2 ^ 64 - 1)
+    /// ```
     ///
-    /// [FillsFront]: crate::specs::script::Fronts#FillsFront "as much of a text as fits stands at the front of bytes, and those after it stay"
-    /// [replies_text]: crate::specs::script::Outcomes#replies_text "a line for each call, with its reply"
-    /// [min]: crate::specs::library#min "the greater and the smaller of two numbers"
-    /// [length]: crate::specs::library#length "the number of elements of a list"
+    /// Definitions: [`FillsFront`](crate::specs::script::Fronts#FillsFront), [`replies_text`](crate::specs::script::Outcomes#replies_text).
     #[inline]
     pub fn write_lines(bytes: &mut [u8], calls: &[Call], replies: &[Reply]) -> usize {
         put_lines(bytes, 0, calls, replies)
@@ -220,10 +232,11 @@ mod lines {
     ///
     /// # Contract
     ///
-    /// <span></span><pre><code>ensures: [AddsToFront] ([replies_text] calls.now replies.now) bytes.old written bytes.new result</code></pre>
+    /// ```text
+    /// ensures: AddsToFront (replies_text calls.now replies.now) bytes.old written bytes.new result
+    /// ```
     ///
-    /// [AddsToFront]: crate::specs::script::Fronts#AddsToFront "One text more is written to the front of bytes: whatever text was there before and whatever the bytes were at the start, that text followed by this one is there afterwards."
-    /// [replies_text]: crate::specs::script::Outcomes#replies_text "a line for each call, with its reply"
+    /// Definitions: [`AddsToFront`](crate::specs::script::Fronts#AddsToFront), [`replies_text`](crate::specs::script::Outcomes#replies_text).
     #[inline]
     fn put_lines(bytes: &mut [u8], written: usize, calls: &[Call], replies: &[Reply]) -> usize {
         let mut end = written;
@@ -237,12 +250,12 @@ mod lines {
     ///
     /// # Contract
     ///
-    /// <span></span><pre><code>ensures: [AddsToFront] ([line] ([reply_text] call.now reply.now)) bytes.old written bytes.new
-    /// &#32;&#32;&#32;&#32;result</code></pre>
+    /// ```text
+    /// ensures: AddsToFront (line (reply_text call.now reply.now)) bytes.old written bytes.new
+    ///     result
+    /// ```
     ///
-    /// [AddsToFront]: crate::specs::script::Fronts#AddsToFront "One text more is written to the front of bytes: whatever text was there before and whatever the bytes were at the start, that text followed by this one is there afterwards."
-    /// [line]: crate::specs::script::Printing#line "a text as a line"
-    /// [reply_text]: crate::specs::script::Texts#reply_text "the reply to a call: its head, and a number for each byte that it tells"
+    /// Definitions: [`AddsToFront`](crate::specs::script::Fronts#AddsToFront), [`line`](crate::specs::script::Printing#line), [`reply_text`](crate::specs::script::Texts#reply_text).
     #[inline]
     fn put_line(bytes: &mut [u8], written: usize, call: &Call, reply: &Reply) -> usize {
         let worded = Wording::of(call, reply).put(bytes, written);
@@ -254,10 +267,11 @@ mod lines {
     ///
     /// # Contract
     ///
-    /// <span></span><pre><code>ensures: [AddsToFront] ([bytes_text] told.now) bytes.old written bytes.new result</code></pre>
+    /// ```text
+    /// ensures: AddsToFront (bytes_text told.now) bytes.old written bytes.new result
+    /// ```
     ///
-    /// [AddsToFront]: crate::specs::script::Fronts#AddsToFront "One text more is written to the front of bytes: whatever text was there before and whatever the bytes were at the start, that text followed by this one is there afterwards."
-    /// [bytes_text]: crate::specs::script::Texts#bytes_text "a space and a number for each byte"
+    /// Definitions: [`AddsToFront`](crate::specs::script::Fronts#AddsToFront), [`bytes_text`](crate::specs::script::Texts#bytes_text).
     #[inline]
     fn put_bytes(bytes: &mut [u8], written: usize, told: &[u8]) -> usize {
         let mut end = written;
@@ -279,7 +293,7 @@ mod printing {
     use crate::proved::script::running::{Held, Ran};
     use crate::proved::script::wording::Wording;
     use crate::rattle::arrayvec::ArrayString;
-    use std::fmt::Display;
+    use crate::rattle::arrayvec::{Show, Sink};
     use std::{fmt, io};
 
     /// How many bytes wait at most before they go to the writer.
@@ -300,17 +314,14 @@ mod printing {
     ///
     /// # Contract
     ///
-    /// <span></span><pre><code>ensures ok: [OnOk] result
-    /// &#32;&#32;&#32;&#32;([Appends] ([W.contents] writer.old) ([W.contents] writer.new) ([outcome_text] outcome.now))
-    /// ensures front: [OnErr] result
-    /// &#32;&#32;&#32;&#32;([AppendsFront] ([W.contents] writer.old) ([W.contents] writer.new) ([outcome_text] outcome.now))</code></pre>
+    /// ```text
+    /// ensures ok: OnOk result
+    ///     (Appends (W.contents writer.old) (W.contents writer.new) (outcome_text outcome.now))
+    /// ensures front: OnErr result
+    ///     (AppendsFront (W.contents writer.old) (W.contents writer.new) (outcome_text outcome.now))
+    /// ```
     ///
-    /// [OnOk]: crate::specs::library#OnOk "P, if r is a value"
-    /// [Appends]: crate::specs::library#Appends "\`new\` is \`old\` followed by the bytes of the text"
-    /// [W.contents]: crate::specs::library#contents "the bytes that a writer holds, where they are known"
-    /// [outcome_text]: crate::specs::script::Outcomes#outcome_text "what is printed: the replies and what is held then, or why the script isn\'t run"
-    /// [OnErr]: crate::specs::library#OnErr "P, if r is an error"
-    /// [AppendsFront]: crate::specs::script::Printing#AppendsFront "known bytes grow by the front of a text, up to some place in it"
+    /// Definitions: [`outcome_text`](crate::specs::script::Outcomes#outcome_text), [`AppendsFront`](crate::specs::script::Printing#AppendsFront).
     #[inline]
     pub fn print<W: io::Write>(
         writer: &mut W,
@@ -327,17 +338,14 @@ mod printing {
     ///
     /// # Contract
     ///
-    /// <span></span><pre><code>ensures ok: [OnOk] result ([Appends] ([W.contents] writer.old) ([W.contents] writer.new)
-    /// &#32;&#32;&#32;&#32;([replies_text] calls.now replies.now))
-    /// ensures front: [OnErr] result ([AppendsFront] ([W.contents] writer.old) ([W.contents] writer.new)
-    /// &#32;&#32;&#32;&#32;([replies_text] calls.now replies.now))</code></pre>
+    /// ```text
+    /// ensures ok: OnOk result (Appends (W.contents writer.old) (W.contents writer.new)
+    ///     (replies_text calls.now replies.now))
+    /// ensures front: OnErr result (AppendsFront (W.contents writer.old) (W.contents writer.new)
+    ///     (replies_text calls.now replies.now))
+    /// ```
     ///
-    /// [OnOk]: crate::specs::library#OnOk "P, if r is a value"
-    /// [Appends]: crate::specs::library#Appends "\`new\` is \`old\` followed by the bytes of the text"
-    /// [W.contents]: crate::specs::library#contents "the bytes that a writer holds, where they are known"
-    /// [replies_text]: crate::specs::script::Outcomes#replies_text "a line for each call, with its reply"
-    /// [OnErr]: crate::specs::library#OnErr "P, if r is an error"
-    /// [AppendsFront]: crate::specs::script::Printing#AppendsFront "known bytes grow by the front of a text, up to some place in it"
+    /// Definitions: [`replies_text`](crate::specs::script::Outcomes#replies_text), [`AppendsFront`](crate::specs::script::Printing#AppendsFront).
     #[inline]
     pub fn print_lines<W: io::Write>(
         writer: &mut W,
@@ -355,17 +363,14 @@ mod printing {
     ///
     /// # Contract
     ///
-    /// <span></span><pre><code>ensures ok: [OnOk] result
-    /// &#32;&#32;&#32;&#32;([PrintsOut] [W.contents] printer.old printer.new ([replies_text] calls.now replies.now))
-    /// ensures front: [OnErr] result
-    /// &#32;&#32;&#32;&#32;([PrintsFront] [W.contents] printer.old printer.new ([replies_text] calls.now replies.now))</code></pre>
+    /// ```text
+    /// ensures ok: OnOk result
+    ///     (PrintsOut W.contents printer.old printer.new (replies_text calls.now replies.now))
+    /// ensures front: OnErr result
+    ///     (PrintsFront W.contents printer.old printer.new (replies_text calls.now replies.now))
+    /// ```
     ///
-    /// [OnOk]: crate::specs::library#OnOk "P, if r is a value"
-    /// [PrintsOut]: crate::specs::script::Printing#PrintsOut "a text is out: the writer gets what waits and the text"
-    /// [W.contents]: crate::specs::library#contents "the bytes that a writer holds, where they are known"
-    /// [replies_text]: crate::specs::script::Outcomes#replies_text "a line for each call, with its reply"
-    /// [OnErr]: crate::specs::library#OnErr "P, if r is an error"
-    /// [PrintsFront]: crate::specs::script::Printing#PrintsFront "a text is printed in part: the writer gets the front of what waits and of the text"
+    /// Definitions: [`PrintsOut`](crate::specs::script::Printing#PrintsOut), [`replies_text`](crate::specs::script::Outcomes#replies_text), [`PrintsFront`](crate::specs::script::Printing#PrintsFront).
     #[inline]
     fn print_all_replies<W: io::Write>(
         printer: &mut Printer<'_, W>,
@@ -380,17 +385,14 @@ mod printing {
     ///
     /// # Contract
     ///
-    /// <span></span><pre><code>ensures ok: [OnOk] result
-    /// &#32;&#32;&#32;&#32;([PrintsOut] [W.contents] printer.old printer.new ([outcome_text] outcome.now))
-    /// ensures front: [OnErr] result
-    /// &#32;&#32;&#32;&#32;([PrintsFront] [W.contents] printer.old printer.new ([outcome_text] outcome.now))</code></pre>
+    /// ```text
+    /// ensures ok: OnOk result
+    ///     (PrintsOut W.contents printer.old printer.new (outcome_text outcome.now))
+    /// ensures front: OnErr result
+    ///     (PrintsFront W.contents printer.old printer.new (outcome_text outcome.now))
+    /// ```
     ///
-    /// [OnOk]: crate::specs::library#OnOk "P, if r is a value"
-    /// [PrintsOut]: crate::specs::script::Printing#PrintsOut "a text is out: the writer gets what waits and the text"
-    /// [W.contents]: crate::specs::library#contents "the bytes that a writer holds, where they are known"
-    /// [outcome_text]: crate::specs::script::Outcomes#outcome_text "what is printed: the replies and what is held then, or why the script isn\'t run"
-    /// [OnErr]: crate::specs::library#OnErr "P, if r is an error"
-    /// [PrintsFront]: crate::specs::script::Printing#PrintsFront "a text is printed in part: the writer gets the front of what waits and of the text"
+    /// Definitions: [`PrintsOut`](crate::specs::script::Printing#PrintsOut), [`outcome_text`](crate::specs::script::Outcomes#outcome_text), [`PrintsFront`](crate::specs::script::Printing#PrintsFront).
     #[inline]
     fn print_all<W: io::Write>(
         printer: &mut Printer<'_, W>,
@@ -404,17 +406,14 @@ mod printing {
     ///
     /// # Contract
     ///
-    /// <span></span><pre><code>ensures ok: [OnOk] result
-    /// &#32;&#32;&#32;&#32;([Prints] [W.contents] printer.old printer.new ([outcome_text] outcome.now))
-    /// ensures front: [OnErr] result
-    /// &#32;&#32;&#32;&#32;([PrintsFront] [W.contents] printer.old printer.new ([outcome_text] outcome.now))</code></pre>
+    /// ```text
+    /// ensures ok: OnOk result
+    ///     (Prints W.contents printer.old printer.new (outcome_text outcome.now))
+    /// ensures front: OnErr result
+    ///     (PrintsFront W.contents printer.old printer.new (outcome_text outcome.now))
+    /// ```
     ///
-    /// [OnOk]: crate::specs::library#OnOk "P, if r is a value"
-    /// [Prints]: crate::specs::script::Printing#Prints "A printer before and after a text is printed, by the bytes that its writer is known to have: it keeps its writer, and the text comes after what waits."
-    /// [W.contents]: crate::specs::library#contents "the bytes that a writer holds, where they are known"
-    /// [outcome_text]: crate::specs::script::Outcomes#outcome_text "what is printed: the replies and what is held then, or why the script isn\'t run"
-    /// [OnErr]: crate::specs::library#OnErr "P, if r is an error"
-    /// [PrintsFront]: crate::specs::script::Printing#PrintsFront "a text is printed in part: the writer gets the front of what waits and of the text"
+    /// Definitions: [`Prints`](crate::specs::script::Printing#Prints), [`outcome_text`](crate::specs::script::Outcomes#outcome_text), [`PrintsFront`](crate::specs::script::Printing#PrintsFront).
     #[inline]
     fn print_outcome<W: io::Write>(
         printer: &mut Printer<'_, W>,
@@ -434,17 +433,14 @@ mod printing {
     ///
     /// # Contract
     ///
-    /// <span></span><pre><code>ensures ok: [OnOk] result
-    /// &#32;&#32;&#32;&#32;([Prints] [W.contents] printer.old printer.new ([replies_text] calls.now replies.now))
-    /// ensures front: [OnErr] result
-    /// &#32;&#32;&#32;&#32;([PrintsFront] [W.contents] printer.old printer.new ([replies_text] calls.now replies.now))</code></pre>
+    /// ```text
+    /// ensures ok: OnOk result
+    ///     (Prints W.contents printer.old printer.new (replies_text calls.now replies.now))
+    /// ensures front: OnErr result
+    ///     (PrintsFront W.contents printer.old printer.new (replies_text calls.now replies.now))
+    /// ```
     ///
-    /// [OnOk]: crate::specs::library#OnOk "P, if r is a value"
-    /// [Prints]: crate::specs::script::Printing#Prints "A printer before and after a text is printed, by the bytes that its writer is known to have: it keeps its writer, and the text comes after what waits."
-    /// [W.contents]: crate::specs::library#contents "the bytes that a writer holds, where they are known"
-    /// [replies_text]: crate::specs::script::Outcomes#replies_text "a line for each call, with its reply"
-    /// [OnErr]: crate::specs::library#OnErr "P, if r is an error"
-    /// [PrintsFront]: crate::specs::script::Printing#PrintsFront "a text is printed in part: the writer gets the front of what waits and of the text"
+    /// Definitions: [`Prints`](crate::specs::script::Printing#Prints), [`replies_text`](crate::specs::script::Outcomes#replies_text), [`PrintsFront`](crate::specs::script::Printing#PrintsFront).
     #[inline]
     fn print_replies<W: io::Write>(
         printer: &mut Printer<'_, W>,
@@ -461,18 +457,14 @@ mod printing {
     ///
     /// # Contract
     ///
-    /// <span></span><pre><code>ensures ok: [OnOk] result
-    /// &#32;&#32;&#32;&#32;([Prints] [W.contents] printer.old printer.new ([line] ([reply_text] call.now reply.now)))
-    /// ensures front: [OnErr] result
-    /// &#32;&#32;&#32;&#32;([PrintsFront] [W.contents] printer.old printer.new ([line] ([reply_text] call.now reply.now)))</code></pre>
+    /// ```text
+    /// ensures ok: OnOk result
+    ///     (Prints W.contents printer.old printer.new (line (reply_text call.now reply.now)))
+    /// ensures front: OnErr result
+    ///     (PrintsFront W.contents printer.old printer.new (line (reply_text call.now reply.now)))
+    /// ```
     ///
-    /// [OnOk]: crate::specs::library#OnOk "P, if r is a value"
-    /// [Prints]: crate::specs::script::Printing#Prints "A printer before and after a text is printed, by the bytes that its writer is known to have: it keeps its writer, and the text comes after what waits."
-    /// [W.contents]: crate::specs::library#contents "the bytes that a writer holds, where they are known"
-    /// [line]: crate::specs::script::Printing#line "a text as a line"
-    /// [reply_text]: crate::specs::script::Texts#reply_text "the reply to a call: its head, and a number for each byte that it tells"
-    /// [OnErr]: crate::specs::library#OnErr "P, if r is an error"
-    /// [PrintsFront]: crate::specs::script::Printing#PrintsFront "a text is printed in part: the writer gets the front of what waits and of the text"
+    /// Definitions: [`Prints`](crate::specs::script::Printing#Prints), [`line`](crate::specs::script::Printing#line), [`reply_text`](crate::specs::script::Texts#reply_text), [`PrintsFront`](crate::specs::script::Printing#PrintsFront).
     #[inline]
     fn print_reply<W: io::Write>(
         printer: &mut Printer<'_, W>,
@@ -490,9 +482,11 @@ mod printing {
     ///
     /// # Contract
     ///
-    /// <span></span><pre><code>ensures: result.now ≡ [bytes_in] reply.now</code></pre>
+    /// ```text
+    /// ensures: result.now ≡ bytes_in reply.now
+    /// ```
     ///
-    /// [bytes_in]: crate::specs::script::Texts#bytes_in "the bytes that a reply tells"
+    /// Definitions: [`bytes_in`](crate::specs::script::Texts#bytes_in).
     #[inline]
     pub fn bytes_of(reply: &Reply) -> &[u8] {
         match reply {
@@ -505,16 +499,13 @@ mod printing {
     ///
     /// # Contract
     ///
-    /// <span></span><pre><code>ensures ok: [OnOk] result ([Prints] [W.contents] printer.old printer.new ([held_text] held.now))
-    /// ensures front: [OnErr] result
-    /// &#32;&#32;&#32;&#32;([PrintsFront] [W.contents] printer.old printer.new ([held_text] held.now))</code></pre>
+    /// ```text
+    /// ensures ok: OnOk result (Prints W.contents printer.old printer.new (held_text held.now))
+    /// ensures front: OnErr result
+    ///     (PrintsFront W.contents printer.old printer.new (held_text held.now))
+    /// ```
     ///
-    /// [OnOk]: crate::specs::library#OnOk "P, if r is a value"
-    /// [Prints]: crate::specs::script::Printing#Prints "A printer before and after a text is printed, by the bytes that its writer is known to have: it keeps its writer, and the text comes after what waits."
-    /// [W.contents]: crate::specs::library#contents "the bytes that a writer holds, where they are known"
-    /// [held_text]: crate::specs::script::Outcomes#held_text "what is held after a run"
-    /// [OnErr]: crate::specs::library#OnErr "P, if r is an error"
-    /// [PrintsFront]: crate::specs::script::Printing#PrintsFront "a text is printed in part: the writer gets the front of what waits and of the text"
+    /// Definitions: [`Prints`](crate::specs::script::Printing#Prints), [`held_text`](crate::specs::script::Outcomes#held_text), [`PrintsFront`](crate::specs::script::Printing#PrintsFront).
     #[inline]
     fn print_held<W: io::Write>(printer: &mut Printer<'_, W>, held: &Held) -> fmt::Result {
         match held {
@@ -530,17 +521,14 @@ mod printing {
     ///
     /// # Contract
     ///
-    /// <span></span><pre><code>ensures ok: [OnOk] result
-    /// &#32;&#32;&#32;&#32;([Prints] [W.contents] printer.old printer.new ([tenants_text] pool.now.machines))
-    /// ensures front: [OnErr] result
-    /// &#32;&#32;&#32;&#32;([PrintsFront] [W.contents] printer.old printer.new ([tenants_text] pool.now.machines))</code></pre>
+    /// ```text
+    /// ensures ok: OnOk result
+    ///     (Prints W.contents printer.old printer.new (tenants_text pool.now.machines))
+    /// ensures front: OnErr result
+    ///     (PrintsFront W.contents printer.old printer.new (tenants_text pool.now.machines))
+    /// ```
     ///
-    /// [OnOk]: crate::specs::library#OnOk "P, if r is a value"
-    /// [Prints]: crate::specs::script::Printing#Prints "A printer before and after a text is printed, by the bytes that its writer is known to have: it keeps its writer, and the text comes after what waits."
-    /// [W.contents]: crate::specs::library#contents "the bytes that a writer holds, where they are known"
-    /// [tenants_text]: crate::specs::script::Outcomes#tenants_text "a line for each tenant"
-    /// [OnErr]: crate::specs::library#OnErr "P, if r is an error"
-    /// [PrintsFront]: crate::specs::script::Printing#PrintsFront "a text is printed in part: the writer gets the front of what waits and of the text"
+    /// Definitions: [`Prints`](crate::specs::script::Printing#Prints), [`tenants_text`](crate::specs::script::Outcomes#tenants_text), [`PrintsFront`](crate::specs::script::Printing#PrintsFront).
     #[inline]
     fn print_tenants<W: io::Write>(printer: &mut Printer<'_, W>, pool: &Pool) -> fmt::Result {
         for index in 0..pool.len() {
@@ -562,29 +550,31 @@ mod printing {
 
     /// # Contract
     ///
-    /// <span></span><pre><code>output = λ head. [Some] ([head_text] head.call.now head.reply.now)</code></pre>
+    /// ```text
+    /// output = λ head. Some (head_text head.call.now head.reply.now)
+    /// ```
     ///
-    /// [Some]: crate::specs::library#Some "the value x, of an \`Option\`"
-    /// [head_text]: crate::specs::script::Texts#head_text "the reply to a call, but for the numbers of its bytes"
-    impl crate::rattle::arrayvec::Show for ReplyHead<'_> {
+    /// Definitions: [`head_text`](crate::specs::script::Texts#head_text).
+
+    impl fmt::Display for ReplyHead<'_> {
+        fn fmt(&self, f: &mut fmt::Formatter<'_>) -> fmt::Result {
+            self.show(f)
+        }
+    }
+
+    impl Show for ReplyHead<'_> {
         #[inline]
-        fn show<W: crate::rattle::arrayvec::Sink>(&self, f: &mut W) -> fmt::Result {
+        fn show<W: Sink>(&self, f: &mut W) -> fmt::Result {
             let wording = Wording::of(self.call, self.reply);
             f.write_str(wording.start)?;
             f.write_str(wording.words)?;
             if let Some(first) = wording.first {
-                crate::rattle::arrayvec::Show::show(&&first, f)?;
+                first.show(f)?;
             }
             match wording.second {
-                Some(second) => crate::rattle::arrayvec::Show::show(&(" ", &second), f),
+                Some(second) => (" ", &second).show(f),
                 None => Ok(()),
             }
-        }
-    }
-
-    impl std::fmt::Display for ReplyHead<'_> {
-        fn fmt(&self, f: &mut std::fmt::Formatter<'_>) -> std::fmt::Result {
-            crate::rattle::arrayvec::Show::show(self, f)
         }
     }
 
@@ -600,8 +590,10 @@ mod printing {
         ///
         /// # Contract
         ///
-        /// <span></span><pre><code>ensures writer: result.writer ≡ writer.entry
-        /// ensures chunk: result.chunk.bytes ≡ \[\]</code></pre>
+        /// ```text
+        /// ensures writer: result.writer ≡ writer.entry
+        /// ensures chunk: result.chunk.bytes ≡ []
+        /// ```
         #[inline]
         pub fn new(writer: &'w mut W) -> Self {
             Printer {
@@ -614,22 +606,17 @@ mod printing {
         ///
         /// # Contract
         ///
-        /// <span></span><pre><code>requires short: [IsShort] ([D.output] text)
-        /// ensures ok: [OnOk] result
-        /// &#32;&#32;&#32;&#32;([IfSome] ([D.output] text) (λ bytes. [Prints] [W.contents] self.old self.new bytes))
-        /// ensures front: [OnErr] result
-        /// &#32;&#32;&#32;&#32;([IfSome] ([D.output] text) (λ bytes. [PrintsFront] [W.contents] self.old self.new bytes))</code></pre>
+        /// ```text
+        /// requires short: IsShort (D.output text)
+        /// ensures ok: OnOk result
+        ///     (IfSome (D.output text) (λ bytes. Prints W.contents self.old self.new bytes))
+        /// ensures front: OnErr result
+        ///     (IfSome (D.output text) (λ bytes. PrintsFront W.contents self.old self.new bytes))
+        /// ```
         ///
-        /// [IsShort]: crate::specs::script::Printing#IsShort "a text, where it is known, that may be printed at once"
-        /// [D.output]: crate::specs::library#output "what \`Display\` prints of x, if it is known"
-        /// [OnOk]: crate::specs::library#OnOk "P, if r is a value"
-        /// [IfSome]: crate::specs::library#IfSome "P of the value, if there is one"
-        /// [Prints]: crate::specs::script::Printing#Prints "A printer before and after a text is printed, by the bytes that its writer is known to have: it keeps its writer, and the text comes after what waits."
-        /// [W.contents]: crate::specs::library#contents "the bytes that a writer holds, where they are known"
-        /// [OnErr]: crate::specs::library#OnErr "P, if r is an error"
-        /// [PrintsFront]: crate::specs::script::Printing#PrintsFront "a text is printed in part: the writer gets the front of what waits and of the text"
+        /// Definitions: [`IsShort`](crate::specs::script::Printing#IsShort), [`Prints`](crate::specs::script::Printing#Prints), [`PrintsFront`](crate::specs::script::Printing#PrintsFront).
         #[inline]
-        pub fn print<D: crate::rattle::arrayvec::Show>(&mut self, text: D) -> fmt::Result {
+        pub fn print<D: Show>(&mut self, text: D) -> fmt::Result {
             self.make_room()?;
             self.chunk.write(text)
         }
@@ -638,24 +625,18 @@ mod printing {
         ///
         /// # Contract
         ///
-        /// <span></span><pre><code>requires short: [IsShort] ([D.output] text)
-        /// ensures ok: [OnOk] result
-        /// &#32;&#32;&#32;&#32;([IfSome] ([D.output] text) (λ bytes. [Prints] [W.contents] self.old self.new ([line] bytes)))
-        /// ensures front: [OnErr] result
-        /// &#32;&#32;&#32;&#32;([IfSome] ([D.output] text)
-        /// &#32;&#32;&#32;&#32;(λ bytes. [PrintsFront] [W.contents] self.old self.new ([line] bytes)))</code></pre>
+        /// ```text
+        /// requires short: IsShort (D.output text)
+        /// ensures ok: OnOk result
+        ///     (IfSome (D.output text) (λ bytes. Prints W.contents self.old self.new (line bytes)))
+        /// ensures front: OnErr result
+        ///     (IfSome (D.output text)
+        ///     (λ bytes. PrintsFront W.contents self.old self.new (line bytes)))
+        /// ```
         ///
-        /// [IsShort]: crate::specs::script::Printing#IsShort "a text, where it is known, that may be printed at once"
-        /// [D.output]: crate::specs::library#output "what \`Display\` prints of x, if it is known"
-        /// [OnOk]: crate::specs::library#OnOk "P, if r is a value"
-        /// [IfSome]: crate::specs::library#IfSome "P of the value, if there is one"
-        /// [Prints]: crate::specs::script::Printing#Prints "A printer before and after a text is printed, by the bytes that its writer is known to have: it keeps its writer, and the text comes after what waits."
-        /// [W.contents]: crate::specs::library#contents "the bytes that a writer holds, where they are known"
-        /// [line]: crate::specs::script::Printing#line "a text as a line"
-        /// [OnErr]: crate::specs::library#OnErr "P, if r is an error"
-        /// [PrintsFront]: crate::specs::script::Printing#PrintsFront "a text is printed in part: the writer gets the front of what waits and of the text"
+        /// Definitions: [`IsShort`](crate::specs::script::Printing#IsShort), [`Prints`](crate::specs::script::Printing#Prints), [`line`](crate::specs::script::Printing#line), [`PrintsFront`](crate::specs::script::Printing#PrintsFront).
         #[inline]
-        pub fn print_line<D: crate::rattle::arrayvec::Show>(&mut self, text: D) -> fmt::Result {
+        pub fn print_line<D: Show>(&mut self, text: D) -> fmt::Result {
             self.make_room()?;
             self.chunk.writeln(text)
         }
@@ -664,16 +645,13 @@ mod printing {
         ///
         /// # Contract
         ///
-        /// <span></span><pre><code>ensures ok: [OnOk] result ([Prints] [W.contents] self.old self.new \[\])
-        /// ensures front: [OnErr] result ([SendsFront] [W.contents] self.old self.new)
-        /// ensures room: [OnOk] result ([length] self.new.chunk.bytes + LONGEST ≤ CHUNK)</code></pre>
+        /// ```text
+        /// ensures ok: OnOk result (Prints W.contents self.old self.new [])
+        /// ensures front: OnErr result (SendsFront W.contents self.old self.new)
+        /// ensures room: OnOk result (length self.new.chunk.bytes + LONGEST ≤ CHUNK)
+        /// ```
         ///
-        /// [OnOk]: crate::specs::library#OnOk "P, if r is a value"
-        /// [Prints]: crate::specs::script::Printing#Prints "A printer before and after a text is printed, by the bytes that its writer is known to have: it keeps its writer, and the text comes after what waits."
-        /// [W.contents]: crate::specs::library#contents "the bytes that a writer holds, where they are known"
-        /// [OnErr]: crate::specs::library#OnErr "P, if r is an error"
-        /// [SendsFront]: crate::specs::script::Printing#SendsFront "a front of what waits is out"
-        /// [length]: crate::specs::library#length "the number of elements of a list"
+        /// Definitions: [`Prints`](crate::specs::script::Printing#Prints), [`SendsFront`](crate::specs::script::Printing#SendsFront).
         #[inline]
         fn make_room(&mut self) -> fmt::Result {
             if self.chunk.remaining_capacity() < LONGEST {
@@ -686,14 +664,12 @@ mod printing {
         ///
         /// # Contract
         ///
-        /// <span></span><pre><code>ensures ok: [OnOk] result ([Sends] [W.contents] self.old self.new)
-        /// ensures front: [OnErr] result ([SendsFront] [W.contents] self.old self.new)</code></pre>
+        /// ```text
+        /// ensures ok: OnOk result (Sends W.contents self.old self.new)
+        /// ensures front: OnErr result (SendsFront W.contents self.old self.new)
+        /// ```
         ///
-        /// [OnOk]: crate::specs::library#OnOk "P, if r is a value"
-        /// [Sends]: crate::specs::script::Printing#Sends "what waits is out"
-        /// [W.contents]: crate::specs::library#contents "the bytes that a writer holds, where they are known"
-        /// [OnErr]: crate::specs::library#OnErr "P, if r is an error"
-        /// [SendsFront]: crate::specs::script::Printing#SendsFront "a front of what waits is out"
+        /// Definitions: [`Sends`](crate::specs::script::Printing#Sends), [`SendsFront`](crate::specs::script::Printing#SendsFront).
         #[inline]
         pub fn flush(&mut self) -> fmt::Result {
             self.send()?;
@@ -704,7 +680,9 @@ mod printing {
         ///
         /// # Contract
         ///
-        /// <span></span><pre><code>ensures: result ≡ self.entry.writer</code></pre>
+        /// ```text
+        /// ensures: result ≡ self.entry.writer
+        /// ```
         #[inline]
         pub fn into_writer(self) -> &'w mut W {
             self.writer
@@ -714,15 +692,13 @@ mod printing {
         ///
         /// # Contract
         ///
-        /// <span></span><pre><code>ensures ok: [OnOk] result ([Sends] [W.contents] self.old self.new)
-        /// ensures empty: [OnOk] result (self.new.chunk.bytes ≡ \[\])
-        /// ensures front: [OnErr] result ([SendsFront] [W.contents] self.old self.new)</code></pre>
+        /// ```text
+        /// ensures ok: OnOk result (Sends W.contents self.old self.new)
+        /// ensures empty: OnOk result (self.new.chunk.bytes ≡ [])
+        /// ensures front: OnErr result (SendsFront W.contents self.old self.new)
+        /// ```
         ///
-        /// [OnOk]: crate::specs::library#OnOk "P, if r is a value"
-        /// [Sends]: crate::specs::script::Printing#Sends "what waits is out"
-        /// [W.contents]: crate::specs::library#contents "the bytes that a writer holds, where they are known"
-        /// [OnErr]: crate::specs::library#OnErr "P, if r is an error"
-        /// [SendsFront]: crate::specs::script::Printing#SendsFront "a front of what waits is out"
+        /// Definitions: [`Sends`](crate::specs::script::Printing#Sends), [`SendsFront`](crate::specs::script::Printing#SendsFront).
         #[inline]
         fn send(&mut self) -> fmt::Result {
             send_all(self.writer, self.chunk.as_str())?;
@@ -735,13 +711,12 @@ mod printing {
     ///
     /// # Contract
     ///
-    /// <span></span><pre><code>ensures ok: [IsOk] result → [Appends] ([W.contents] writer.old) ([W.contents] writer.new) text.now
-    /// ensures front: [AppendsFront] ([W.contents] writer.old) ([W.contents] writer.new) text.now</code></pre>
+    /// ```text
+    /// ensures ok: IsOk result → Appends (W.contents writer.old) (W.contents writer.new) text.now
+    /// ensures front: AppendsFront (W.contents writer.old) (W.contents writer.new) text.now
+    /// ```
     ///
-    /// [IsOk]: crate::specs::library#IsOk "r is a value"
-    /// [Appends]: crate::specs::library#Appends "\`new\` is \`old\` followed by the bytes of the text"
-    /// [W.contents]: crate::specs::library#contents "the bytes that a writer holds, where they are known"
-    /// [AppendsFront]: crate::specs::script::Printing#AppendsFront "known bytes grow by the front of a text, up to some place in it"
+    /// Definitions: [`AppendsFront`](crate::specs::script::Printing#AppendsFront).
     #[inline]
     fn send_all<W: io::Write>(writer: &mut W, text: &str) -> fmt::Result {
         let mut rest = text.as_bytes();
@@ -786,9 +761,11 @@ mod replaying {
         ///
         /// # Contract
         ///
-        /// <span></span><pre><code>ensures: result ≡ [status_number] self</code></pre>
+        /// ```text
+        /// ensures: result ≡ status_number self
+        /// ```
         ///
-        /// [status_number]: crate::specs::script::Status#status_number "the number that a process ends with"
+        /// Definitions: [`status_number`](crate::specs::script::Status#status_number).
         #[inline]
         pub fn code(self) -> u8 {
             match self {
@@ -801,31 +778,17 @@ mod replaying {
     }
 
     /// Reads the script, runs it and prints its replies, or prints why it isn't run. A line that can't
-    /// be printed makes the status [`Fault`]; what went out before it stays.
-    ///
-    /// # Examples
-    ///
-    /// ```
-    /// use wasmi_core_proved::script::{Status, replay};
-    ///
-    /// let script = "memory 1 2 16 32\ngrow 0 1\ngrow 0 1\n";
-    /// let mut printed = Vec::new();
-    /// let status = replay(&mut script.as_bytes(), &mut printed);
-    /// assert_eq!(status, Status::Answered);
-    /// let printed = String::from_utf8(printed)?;
-    /// assert!(printed.starts_with("memory 0\nvalue 1\n"));
-    /// # Ok::<(), Box<dyn std::error::Error>>(())
-    /// ```
+    /// be printed makes the status `Fault`; what went out before it stays.
     ///
     /// # Contract
     ///
-    /// <span></span><pre><code>ensures ends: [Replays] ([R.remaining] reader.old) ([W.contents] writer.old)
-    /// &#32;&#32;&#32;&#32;([W.contents] writer.new) result</code></pre>
+    /// ```text
+    /// ensures ends: Replays (R.remaining reader.old) (W.contents writer.old)
+    ///     (W.contents writer.new) result
+    /// ```
     ///
-    /// [Replays]: crate::specs::script::Outcomes#Replays "the bytes of a reader have an outcome, and a writer has got it"
-    /// [R.remaining]: crate::specs::library#remaining "the bytes that a reader still has"
-    /// [W.contents]: crate::specs::library#contents "the bytes that a writer holds, where they are known"
-    /// [`Fault`]: crate::proved::script::Status::Fault
+    /// Definitions: [`Replays`](crate::specs::script::Outcomes#Replays).
+    #[doc = examples!(script replay)]
     #[inline]
     pub fn replay<R: io::Read, W: io::Write>(reader: &mut R, writer: &mut W) -> Status {
         let outcome = outcome_of(reader);
@@ -839,10 +802,11 @@ mod replaying {
     ///
     /// # Contract
     ///
-    /// <span></span><pre><code>ensures outcome: [IsOutcomeOfReader] ([R.remaining] reader.old) result</code></pre>
+    /// ```text
+    /// ensures outcome: IsOutcomeOfReader (R.remaining reader.old) result
+    /// ```
     ///
-    /// [IsOutcomeOfReader]: crate::specs::script::Outcomes#IsOutcomeOfReader "an outcome of some bytes, which are those of a reader where it tells them"
-    /// [R.remaining]: crate::specs::library#remaining "the bytes that a reader still has"
+    /// Definitions: [`IsOutcomeOfReader`](crate::specs::script::Outcomes#IsOutcomeOfReader).
     #[inline]
     fn outcome_of<R: io::Read>(reader: &mut R) -> Result<Replayed, ReplayError> {
         let bytes = read(&mut CountedReader::new(reader))?;
@@ -855,9 +819,11 @@ mod replaying {
     ///
     /// # Contract
     ///
-    /// <span></span><pre><code>ensures: result ≡ [status_after] outcome.now</code></pre>
+    /// ```text
+    /// ensures: result ≡ status_after outcome.now
+    /// ```
     ///
-    /// [status_after]: crate::specs::script::Status#status_after "how a replay ends whose lines could be printed"
+    /// Definitions: [`status_after`](crate::specs::script::Status#status_after).
     #[inline]
     fn status_of(outcome: &Result<Replayed, ReplayError>) -> Status {
         match outcome {
@@ -882,8 +848,10 @@ mod replaying {
         ///
         /// # Contract
         ///
-        /// <span></span><pre><code>ensures reader: result.reader ≡ reader.entry
-        /// ensures taken: result.taken ≡ 0</code></pre>
+        /// ```text
+        /// ensures reader: result.reader ≡ reader.entry
+        /// ensures taken: result.taken ≡ 0
+        /// ```
         #[inline]
         fn new(reader: &'r mut R) -> Self {
             CountedReader { reader, taken: 0 }
@@ -893,16 +861,15 @@ mod replaying {
         ///
         /// # Contract
         ///
-        /// <span></span><pre><code>requires turns: self.old.taken ≤ [script_limit]
+        /// ```text
+        /// requires turns: self.old.taken ≤ script_limit
         /// ensures taken: self.new.taken ≡ self.old.taken + 1
-        /// ensures bound: [ReadsAtMost] result buffer.new
-        /// ensures bytes: [ReadConsumes] ([R.remaining] self.old.reader.now)
-        /// &#32;&#32;&#32;&#32;([R.remaining] self.new.reader.now) result buffer.new</code></pre>
+        /// ensures bound: ReadsAtMost result buffer.new
+        /// ensures bytes: ReadConsumes (R.remaining self.old.reader.now)
+        ///     (R.remaining self.new.reader.now) result buffer.new
+        /// ```
         ///
-        /// [script_limit]: crate::specs::script::Refusals#script_limit "the most bytes that a script may have"
-        /// [ReadsAtMost]: crate::specs::library#ReadsAtMost "if r is a number, there are so many bytes"
-        /// [ReadConsumes]: crate::specs::library#ReadConsumes "a reader gave the bytes that r counts, and has the rest"
-        /// [R.remaining]: crate::specs::library#remaining "the bytes that a reader still has"
+        /// Definitions: [`script_limit`](crate::specs::script::Refusals#script_limit).
         #[inline]
         fn turn(&mut self, buffer: &mut [u8]) -> io::Result<usize> {
             self.taken += 1;
@@ -915,20 +882,16 @@ mod replaying {
     ///
     /// # Contract
     ///
-    /// <span></span><pre><code>requires fresh: reader.old.taken ≡ 0
-    /// ensures bounded: [IfOk] result (λ script. [vec_len] script ≤ LIMIT)
-    /// ensures whole: [IfOk] result
-    /// &#32;&#32;&#32;&#32;(λ script. [IfSome] ([R.remaining] reader.old.reader.now) (λ bytes. script.items ≡ bytes))
-    /// ensures refused: [IfErr] result ([IsReadError] ([R.remaining] reader.old.reader.now))
-    /// ensures turns: reader.new.taken ≤ [script_limit] + 1</code></pre>
+    /// ```text
+    /// requires fresh: reader.old.taken ≡ 0
+    /// ensures bounded: IfOk result (λ script. vec_len script ≤ LIMIT)
+    /// ensures whole: IfOk result
+    ///     (λ script. IfSome (R.remaining reader.old.reader.now) (λ bytes. script.items ≡ bytes))
+    /// ensures refused: IfErr result (IsReadError (R.remaining reader.old.reader.now))
+    /// ensures turns: reader.new.taken ≤ script_limit + 1
+    /// ```
     ///
-    /// [IfOk]: crate::specs::library#IfOk "P of the value, if r is a value"
-    /// [vec_len]: crate::specs::library#vec_len "the length of a \`Vec\`"
-    /// [IfSome]: crate::specs::library#IfSome "P of the value, if there is one"
-    /// [R.remaining]: crate::specs::library#remaining "the bytes that a reader still has"
-    /// [IfErr]: crate::specs::library#IfErr "P of the error, if r is an error"
-    /// [IsReadError]: crate::specs::script::Refusals#IsReadError "why the bytes that a reader has left aren\'t read"
-    /// [script_limit]: crate::specs::script::Refusals#script_limit "the most bytes that a script may have"
+    /// Definitions: [`IsReadError`](crate::specs::script::Refusals#IsReadError), [`script_limit`](crate::specs::script::Refusals#script_limit).
     #[inline]
     fn read<R: io::Read>(reader: &mut CountedReader<'_, R>) -> Result<Vec<u8>, ReplayError> {
         let mut script = Vec::new();
@@ -984,10 +947,11 @@ mod running {
     ///
     /// # Contract
     ///
-    /// <span></span><pre><code>ensures: [IfOk] result ([IsReplayOf] script.now)</code></pre>
+    /// ```text
+    /// ensures: IfOk result (IsReplayOf script.now)
+    /// ```
     ///
-    /// [IfOk]: crate::specs::library#IfOk "P of the value, if r is a value"
-    /// [IsReplayOf]: crate::specs::script::ScriptRuns#IsReplayOf "the replies are those of a run as the script\'s header lines ask for it"
+    /// Definitions: [`IsReplayOf`](crate::specs::script::ScriptRuns#IsReplayOf).
     #[inline]
     pub fn run_script(script: &Script) -> Result<Ran, AllocError> {
         let header = &script.header;
@@ -1004,9 +968,11 @@ mod running {
     ///
     /// # Contract
     ///
-    /// <span></span><pre><code>ensures: result ≡ [meter_of] header.now</code></pre>
+    /// ```text
+    /// ensures: result ≡ meter_of header.now
+    /// ```
     ///
-    /// [meter_of]: crate::specs::grammar::Headers#meter_of "the meter that a script starts with: off without a line that says more"
+    /// Definitions: [`meter_of`](crate::specs::grammar::Headers#meter_of).
     #[inline]
     fn fuel_of(header: &Header) -> Fuel {
         match header.meter {
@@ -1026,12 +992,12 @@ mod running {
     ///
     /// # Contract
     ///
-    /// <span></span><pre><code>ensures: [IfOk] result (λ region. [option_map] (λ bytes. bytes.items) region
-    /// &#32;&#32;&#32;&#32;≡ [option_map] [region_bytes] header.now.region)</code></pre>
+    /// ```text
+    /// ensures: IfOk result (λ region. option_map (λ bytes. bytes.items) region
+    ///     ≡ option_map region_bytes header.now.region)
+    /// ```
     ///
-    /// [IfOk]: crate::specs::library#IfOk "P of the value, if r is a value"
-    /// [option_map]: crate::specs::library#option_map "f of the value, if there is one"
-    /// [region_bytes]: crate::specs::grammar::Headers#region_bytes "the bytes of a region that a line asks for"
+    /// Definitions: [`region_bytes`](crate::specs::grammar::Headers#region_bytes).
     #[inline]
     fn region_of(header: &Header) -> Result<Option<Vec<u8>>, AllocError> {
         match header.region {
@@ -1044,13 +1010,12 @@ mod running {
     ///
     /// # Contract
     ///
-    /// <span></span><pre><code>ensures: result ≡ record ([new_state] ([meter_of] header.now))
-    /// &#32;&#32;&#32;&#32;{ spare = [option_map] (λ bytes. bytes.items) ([option_copied_mut] region.entry) }</code></pre>
+    /// ```text
+    /// ensures: result ≡ record (new_state (meter_of header.now))
+    ///     { spare = option_map (λ bytes. bytes.items) (option_copied_mut region.entry) }
+    /// ```
     ///
-    /// [new_state]: crate::specs::machine::State#new_state "a machine on which nothing was made yet, with 16 registers of zeros"
-    /// [meter_of]: crate::specs::grammar::Headers#meter_of "the meter that a script starts with: off without a line that says more"
-    /// [option_map]: crate::specs::library#option_map "f of the value, if there is one"
-    /// [option_copied_mut]: crate::specs::library#option_copied_mut "the value behind an optional \`&mut\`, if there is one"
+    /// Definitions: [`new_state`](crate::specs::machine::State#new_state), [`meter_of`](crate::specs::grammar::Headers#meter_of).
     #[inline]
     fn machine_of<'r>(header: &Header, region: Option<&'r mut Vec<u8>>) -> Machine<'r> {
         let fuel = fuel_of(header);
@@ -1064,11 +1029,11 @@ mod running {
     ///
     /// # Contract
     ///
-    /// <span></span><pre><code>ensures: [IfOk] result ([IsReplayOnOne] [None] header.now calls.now)</code></pre>
+    /// ```text
+    /// ensures: IfOk result (IsReplayOnOne None header.now calls.now)
+    /// ```
     ///
-    /// [IfOk]: crate::specs::library#IfOk "P of the value, if r is a value"
-    /// [IsReplayOnOne]: crate::specs::script::ScriptRuns#IsReplayOnOne "the replies are those of a run of the calls on a new machine with the meter and the region of these header lines"
-    /// [None]: crate::specs::library#None "no value, of an \`Option\`"
+    /// Definitions: [`IsReplayOnOne`](crate::specs::script::ScriptRuns#IsReplayOnOne).
     #[inline]
     fn run_freely(header: &Header, calls: &[Call]) -> Result<Ran, AllocError> {
         let mut region = region_of(header)?;
@@ -1083,12 +1048,11 @@ mod running {
     ///
     /// # Contract
     ///
-    /// <span></span><pre><code>ensures: [IfOk] result ([IsReplayOnOne] ([Some] ([LimiterLine.Quota] caps)) header.now calls.now)</code></pre>
+    /// ```text
+    /// ensures: IfOk result (IsReplayOnOne (Some (LimiterLine.Quota caps)) header.now calls.now)
+    /// ```
     ///
-    /// [IfOk]: crate::specs::library#IfOk "P of the value, if r is a value"
-    /// [IsReplayOnOne]: crate::specs::script::ScriptRuns#IsReplayOnOne "the replies are those of a run of the calls on a new machine with the meter and the region of these header lines"
-    /// [Some]: crate::specs::library#Some "the value x, of an \`Option\`"
-    /// [LimiterLine.Quota]: crate::proved::grammar::LimiterLine::Quota
+    /// Definitions: [`IsReplayOnOne`](crate::specs::script::ScriptRuns#IsReplayOnOne).
     #[inline]
     fn run_under_quota(header: &Header, calls: &[Call], caps: Amounts) -> Result<Ran, AllocError> {
         let mut region = region_of(header)?;
@@ -1106,12 +1070,12 @@ mod running {
     ///
     /// # Contract
     ///
-    /// <span></span><pre><code>ensures: [IfOk] result (λ ran.
-    /// &#32;&#32;&#32;&#32;[IsListedReplay] answers.now ([start_of] header.now) calls.now ran.replies.items ran.held)</code></pre>
+    /// ```text
+    /// ensures: IfOk result (λ ran.
+    ///     IsListedReplay answers.now (start_of header.now) calls.now ran.replies.items ran.held)
+    /// ```
     ///
-    /// [IfOk]: crate::specs::library#IfOk "P of the value, if r is a value"
-    /// [IsListedReplay]: crate::specs::script::ScriptRuns#IsListedReplay "The replies, with what is held, are those of a run of the calls from a machine, under a limiter that has these answers."
-    /// [start_of]: crate::specs::grammar::Headers#start_of "the machine that a script starts with: new, with its meter and its region"
+    /// Definitions: [`IsListedReplay`](crate::specs::script::ScriptRuns#IsListedReplay), [`start_of`](crate::specs::grammar::Headers#start_of).
     #[inline]
     fn run_answered(
         header: &Header,
@@ -1130,10 +1094,11 @@ mod running {
     ///
     /// # Contract
     ///
-    /// <span></span><pre><code>ensures: [IfOk] result ([IsPoolReplay] line script.now)</code></pre>
+    /// ```text
+    /// ensures: IfOk result (IsPoolReplay line script.now)
+    /// ```
     ///
-    /// [IfOk]: crate::specs::library#IfOk "P of the value, if r is a value"
-    /// [IsPoolReplay]: crate::specs::script::ScriptRuns#IsPoolReplay "The replies are those of the parts, one after another, on a pool of new machines with the script\'s meter. What is held is what the pool\'s machines have then."
+    /// Definitions: [`IsPoolReplay`](crate::specs::script::ScriptRuns#IsPoolReplay).
     #[inline]
     fn run_pool(script: &Script, line: TenantsLine) -> Result<Ran, AllocError> {
         let mut pool = pool_of(&script.header, line)?;
@@ -1152,12 +1117,11 @@ mod running {
     ///
     /// # Contract
     ///
-    /// <span></span><pre><code>ensures: [IfOk] result (λ pool. pool ≡ [new_pool] line ([new_state] ([meter_of] header.now)))</code></pre>
+    /// ```text
+    /// ensures: IfOk result (λ pool. pool ≡ new_pool line (new_state (meter_of header.now)))
+    /// ```
     ///
-    /// [IfOk]: crate::specs::library#IfOk "P of the value, if r is a value"
-    /// [new_pool]: crate::specs::script::ScriptRuns#new_pool "a pool of new machines, as many as a line says, under its caps"
-    /// [new_state]: crate::specs::machine::State#new_state "a machine on which nothing was made yet, with 16 registers of zeros"
-    /// [meter_of]: crate::specs::grammar::Headers#meter_of "the meter that a script starts with: off without a line that says more"
+    /// Definitions: [`new_pool`](crate::specs::script::ScriptRuns#new_pool), [`new_state`](crate::specs::machine::State#new_state), [`meter_of`](crate::specs::grammar::Headers#meter_of).
     #[inline]
     fn pool_of(header: &Header, line: TenantsLine) -> Result<Pool<'static>, AllocError> {
         let mut pool = Pool::new(line.caps.bytes, line.caps.elements);
@@ -1174,11 +1138,12 @@ mod running {
     ///
     /// # Contract
     ///
-    /// <span></span><pre><code>ensures: [IfOk] result (λ replies.
-    /// &#32;&#32;&#32;&#32;[RunsTenant] pool.old tenant calls.now replies.items pool.new)</code></pre>
+    /// ```text
+    /// ensures: IfOk result (λ replies.
+    ///     RunsTenant pool.old tenant calls.now replies.items pool.new)
+    /// ```
     ///
-    /// [IfOk]: crate::specs::library#IfOk "P of the value, if r is a value"
-    /// [RunsTenant]: crate::specs::budget::Pool#RunsTenant "the machine of an index has run these calls under its limiter by a tenant\'s rules, and all else is the same"
+    /// Definitions: [`RunsTenant`](crate::specs::budget::Pool#RunsTenant).
     #[inline]
     fn run_part(pool: &mut Pool, tenant: usize, calls: &[Call]) -> Result<Vec<Reply>, AllocError> {
         // No script names a tenant that its pool lacks, so memory is wanting after an error.
@@ -1212,10 +1177,11 @@ mod wording {
         ///
         /// # Contract
         ///
-        /// <span></span><pre><code>ensures: [wording_text] result ≡ [head_text] call.now reply.now</code></pre>
+        /// ```text
+        /// ensures: wording_text result ≡ head_text call.now reply.now
+        /// ```
         ///
-        /// [wording_text]: crate::specs::script::Wording#wording_text "the words of a wording, and then its numbers, the second after a space"
-        /// [head_text]: crate::specs::script::Texts#head_text "the reply to a call, but for the numbers of its bytes"
+        /// Definitions: [`wording_text`](crate::specs::script::Wording#wording_text), [`head_text`](crate::specs::script::Texts#head_text).
         #[inline]
         pub fn of(call: &Call, reply: &Reply) -> Wording {
             match reply {
@@ -1248,9 +1214,11 @@ mod wording {
 
         /// # Contract
         ///
-        /// <span></span><pre><code>ensures: [wording_text] result ≡ start.now ++ words.now</code></pre>
+        /// ```text
+        /// ensures: wording_text result ≡ start.now ++ words.now
+        /// ```
         ///
-        /// [wording_text]: crate::specs::script::Wording#wording_text "the words of a wording, and then its numbers, the second after a space"
+        /// Definitions: [`wording_text`](crate::specs::script::Wording#wording_text).
         #[inline]
         fn of_words(start: &'static str, words: &'static str) -> Wording {
             Wording {
@@ -1263,10 +1231,11 @@ mod wording {
 
         /// # Contract
         ///
-        /// <span></span><pre><code>ensures: [wording_text] result ≡ start.now ++ (words.now ++ [decimal] number)</code></pre>
+        /// ```text
+        /// ensures: wording_text result ≡ start.now ++ (words.now ++ decimal number)
+        /// ```
         ///
-        /// [wording_text]: crate::specs::script::Wording#wording_text "the words of a wording, and then its numbers, the second after a space"
-        /// [decimal]: crate::specs::library#decimal "the digits of a number, as characters"
+        /// Definitions: [`wording_text`](crate::specs::script::Wording#wording_text).
         #[inline]
         fn with_number(start: &'static str, words: &'static str, number: u64) -> Wording {
             Wording {
@@ -1279,11 +1248,11 @@ mod wording {
 
         /// # Contract
         ///
-        /// <span></span><pre><code>ensures: [wording_text] result ≡ [codes] \"error \" ++ [memory_error_text] error.now</code></pre>
+        /// ```text
+        /// ensures: wording_text result ≡ codes "error " ++ memory_error_text error.now
+        /// ```
         ///
-        /// [wording_text]: crate::specs::script::Wording#wording_text "the words of a wording, and then its numbers, the second after a space"
-        /// [codes]: crate::specs::library#codes "the characters of a text, by their numbers"
-        /// [memory_error_text]: crate::specs::meter::Texts#memory_error_text "the text of an error of a memory"
+        /// Definitions: [`wording_text`](crate::specs::script::Wording#wording_text), [`memory_error_text`](crate::specs::meter::Texts#memory_error_text).
         #[inline]
         fn of_memory(error: &MemoryError) -> Wording {
             let words = match error {
@@ -1316,11 +1285,11 @@ mod wording {
 
         /// # Contract
         ///
-        /// <span></span><pre><code>ensures: [wording_text] result ≡ [codes] \"error \" ++ [table_error_text] error.now</code></pre>
+        /// ```text
+        /// ensures: wording_text result ≡ codes "error " ++ table_error_text error.now
+        /// ```
         ///
-        /// [wording_text]: crate::specs::script::Wording#wording_text "the words of a wording, and then its numbers, the second after a space"
-        /// [codes]: crate::specs::library#codes "the characters of a text, by their numbers"
-        /// [table_error_text]: crate::specs::meter::Texts#table_error_text "the text of an error of a table"
+        /// Definitions: [`wording_text`](crate::specs::script::Wording#wording_text), [`table_error_text`](crate::specs::meter::Texts#table_error_text).
         #[inline]
         fn of_table(error: &TableError) -> Wording {
             let words = match error {
@@ -1355,11 +1324,11 @@ mod wording {
 
         /// # Contract
         ///
-        /// <span></span><pre><code>ensures: [wording_text] result ≡ [codes] \"error \" ++ [fuel_error_text] error.now</code></pre>
+        /// ```text
+        /// ensures: wording_text result ≡ codes "error " ++ fuel_error_text error.now
+        /// ```
         ///
-        /// [wording_text]: crate::specs::script::Wording#wording_text "the words of a wording, and then its numbers, the second after a space"
-        /// [codes]: crate::specs::library#codes "the characters of a text, by their numbers"
-        /// [fuel_error_text]: crate::specs::meter::Texts#fuel_error_text "the text of an error of the meter"
+        /// Definitions: [`wording_text`](crate::specs::script::Wording#wording_text), [`fuel_error_text`](crate::specs::meter::Texts#fuel_error_text).
         #[inline]
         fn of_fuel(error: &FuelError) -> Wording {
             match error {
@@ -1374,11 +1343,11 @@ mod wording {
 
         /// # Contract
         ///
-        /// <span></span><pre><code>ensures: [wording_text] result ≡ [codes] \"error \" ++ [global_error_text] error.now</code></pre>
+        /// ```text
+        /// ensures: wording_text result ≡ codes "error " ++ global_error_text error.now
+        /// ```
         ///
-        /// [wording_text]: crate::specs::script::Wording#wording_text "the words of a wording, and then its numbers, the second after a space"
-        /// [codes]: crate::specs::library#codes "the characters of a text, by their numbers"
-        /// [global_error_text]: crate::specs::typed::Global#global_error_text "the text of an error of a global variable"
+        /// Definitions: [`wording_text`](crate::specs::script::Wording#wording_text), [`global_error_text`](crate::specs::typed::Global#global_error_text).
         #[inline]
         fn of_global(error: &GlobalError) -> Wording {
             let words = match error {
@@ -1392,11 +1361,11 @@ mod wording {
 
         /// # Contract
         ///
-        /// <span></span><pre><code>ensures: [wording_text] result ≡ [codes] \"error \" ++ [segment_error_text] error.now</code></pre>
+        /// ```text
+        /// ensures: wording_text result ≡ codes "error " ++ segment_error_text error.now
+        /// ```
         ///
-        /// [wording_text]: crate::specs::script::Wording#wording_text "the words of a wording, and then its numbers, the second after a space"
-        /// [codes]: crate::specs::library#codes "the characters of a text, by their numbers"
-        /// [segment_error_text]: crate::specs::store::Segment#segment_error_text "the text of an error of an element segment"
+        /// Definitions: [`wording_text`](crate::specs::script::Wording#wording_text), [`segment_error_text`](crate::specs::store::Segment#segment_error_text).
         #[inline]
         fn of_segment(error: &SegmentError) -> Wording {
             let words = match error {
@@ -1410,10 +1379,11 @@ mod wording {
         ///
         /// # Contract
         ///
-        /// <span></span><pre><code>ensures: [AddsToFront] ([wording_text] self) bytes.old written bytes.new result</code></pre>
+        /// ```text
+        /// ensures: AddsToFront (wording_text self) bytes.old written bytes.new result
+        /// ```
         ///
-        /// [AddsToFront]: crate::specs::script::Fronts#AddsToFront "One text more is written to the front of bytes: whatever text was there before and whatever the bytes were at the start, that text followed by this one is there afterwards."
-        /// [wording_text]: crate::specs::script::Wording#wording_text "the words of a wording, and then its numbers, the second after a space"
+        /// Definitions: [`AddsToFront`](crate::specs::script::Fronts#AddsToFront), [`wording_text`](crate::specs::script::Wording#wording_text).
         #[inline]
         pub fn put(self, bytes: &mut [u8], written: usize) -> usize {
             let started = put(bytes, written, self.start.as_bytes());
@@ -1428,9 +1398,11 @@ mod wording {
     ///
     /// # Contract
     ///
-    /// <span></span><pre><code>ensures: result.now ≡ [kind_text] call.now</code></pre>
+    /// ```text
+    /// ensures: result.now ≡ kind_text call.now
+    /// ```
     ///
-    /// [kind_text]: crate::specs::script::Texts#kind_text "the word for what a call makes; only creations make anything"
+    /// Definitions: [`kind_text`](crate::specs::script::Texts#kind_text).
     #[inline]
     fn made_word(call: &Call) -> &'static str {
         match call {
@@ -1446,9 +1418,11 @@ mod wording {
     ///
     /// # Contract
     ///
-    /// <span></span><pre><code>ensures: result.now ≡ [reference_word] ty</code></pre>
+    /// ```text
+    /// ensures: result.now ≡ reference_word ty
+    /// ```
     ///
-    /// [reference_word]: crate::specs::operands::TypeWords#reference_word "the word of a reference type"
+    /// Definitions: [`reference_word`](crate::specs::operands::TypeWords#reference_word).
     #[inline]
     fn reference_word_of(ty: RefType) -> &'static str {
         match ty {

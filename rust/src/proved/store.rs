@@ -11,24 +11,20 @@ pub mod bulk {
 
     /// Fills `len` bytes from `dst` on with a value.
     ///
-    /// Errors, in the order of the tests: [`OutOfBoundsAccess`] if they end past the bytes; [`OutOfFuel`],
+    /// Errors, in the order of the tests: `OutOfBoundsAccess` if they end past the bytes; `OutOfFuel`,
     /// which is tested also if no byte is filled.
     ///
     /// Core specification, memory.fill.
     ///
     /// # Contract
     ///
-    /// <span></span><pre><code>ensures written: [BulkWrites] ([filled] bytes.old dst value len) len
-    /// &#32;&#32;&#32;&#32;([metered] bytes.old ([Some] fuel.old)) result ([metered] bytes.new ([Some] fuel.new))
-    /// ensures len: [length] bytes.new ≡ [length] bytes.old</code></pre>
+    /// ```text
+    /// ensures written: BulkWrites (filled bytes.old dst value len) len
+    ///     (metered bytes.old (Some fuel.old)) result (metered bytes.new (Some fuel.new))
+    /// ensures len: length bytes.new ≡ length bytes.old
+    /// ```
     ///
-    /// [BulkWrites]: crate::specs::store::Bulk#BulkWrites "A bulk instruction writes so many bytes, by what the bytes become, or none where a range ends past its list. That is tested first, then the fuel; an instruction that is refused writes and takes nothing."
-    /// [filled]: crate::specs::store::Bulk#filled "items of which so many, from dst on, are each filled with a value, or none where they end too early"
-    /// [metered]: crate::specs::store::Growth#metered "a value with its meter, if there is one, and no limiter to ask"
-    /// [Some]: crate::specs::library#Some "the value x, of an \`Option\`"
-    /// [length]: crate::specs::library#length "the number of elements of a list"
-    /// [`OutOfBoundsAccess`]: crate::proved::meter::MemoryError::OutOfBoundsAccess
-    /// [`OutOfFuel`]: crate::proved::meter::MemoryError::OutOfFuel
+    /// Definitions: [`BulkWrites`](crate::specs::store::Bulk#BulkWrites), [`filled`](crate::specs::store::Bulk#filled), [`metered`](crate::specs::store::Growth#metered).
     #[inline]
     pub fn fill_bytes(
         bytes: &mut [u8],
@@ -51,24 +47,20 @@ pub mod bulk {
     /// Copies `len` bytes from `src` on over those from `dst` on. If the ranges overlap, the old bytes
     /// are copied.
     ///
-    /// Errors, in the order of the tests: [`OutOfBoundsAccess`] if a range ends past the bytes;
-    /// [`OutOfFuel`], which is tested also if no byte is copied.
+    /// Errors, in the order of the tests: `OutOfBoundsAccess` if a range ends past the bytes;
+    /// `OutOfFuel`, which is tested also if no byte is copied.
     ///
     /// Core specification, memory.copy.
     ///
     /// # Contract
     ///
-    /// <span></span><pre><code>ensures written: [BulkWrites] ([copied] bytes.old dst bytes.old src len) len
-    /// &#32;&#32;&#32;&#32;([metered] bytes.old ([Some] fuel.old)) result ([metered] bytes.new ([Some] fuel.new))
-    /// ensures len: [length] bytes.new ≡ [length] bytes.old</code></pre>
+    /// ```text
+    /// ensures written: BulkWrites (copied bytes.old dst bytes.old src len) len
+    ///     (metered bytes.old (Some fuel.old)) result (metered bytes.new (Some fuel.new))
+    /// ensures len: length bytes.new ≡ length bytes.old
+    /// ```
     ///
-    /// [BulkWrites]: crate::specs::store::Bulk#BulkWrites "A bulk instruction writes so many bytes, by what the bytes become, or none where a range ends past its list. That is tested first, then the fuel; an instruction that is refused writes and takes nothing."
-    /// [copied]: crate::specs::store::Bulk#copied "items whose part from dst on is written over by so many items of a list from src on, or none where a list ends too early"
-    /// [metered]: crate::specs::store::Growth#metered "a value with its meter, if there is one, and no limiter to ask"
-    /// [Some]: crate::specs::library#Some "the value x, of an \`Option\`"
-    /// [length]: crate::specs::library#length "the number of elements of a list"
-    /// [`OutOfBoundsAccess`]: crate::proved::meter::MemoryError::OutOfBoundsAccess
-    /// [`OutOfFuel`]: crate::proved::meter::MemoryError::OutOfFuel
+    /// Definitions: [`BulkWrites`](crate::specs::store::Bulk#BulkWrites), [`copied`](crate::specs::store::Bulk#copied), [`metered`](crate::specs::store::Growth#metered).
     #[inline]
     pub fn copy_bytes_within(
         bytes: &mut [u8],
@@ -89,24 +81,20 @@ pub mod bulk {
 
     /// Copies `len` bytes of a source, from `src` on, over those from `dst` on.
     ///
-    /// Errors, in the order of the tests: [`OutOfBoundsAccess`] if a range ends past its bytes;
-    /// [`OutOfFuel`], which is tested also if no byte is copied.
+    /// Errors, in the order of the tests: `OutOfBoundsAccess` if a range ends past its bytes;
+    /// `OutOfFuel`, which is tested also if no byte is copied.
     ///
     /// Core specification, memory.copy of two memories, memory.init.
     ///
     /// # Contract
     ///
-    /// <span></span><pre><code>ensures written: [BulkWrites] ([copied] bytes.old dst source.now src len) len
-    /// &#32;&#32;&#32;&#32;([metered] bytes.old ([Some] fuel.old)) result ([metered] bytes.new ([Some] fuel.new))
-    /// ensures len: [length] bytes.new ≡ [length] bytes.old</code></pre>
+    /// ```text
+    /// ensures written: BulkWrites (copied bytes.old dst source.now src len) len
+    ///     (metered bytes.old (Some fuel.old)) result (metered bytes.new (Some fuel.new))
+    /// ensures len: length bytes.new ≡ length bytes.old
+    /// ```
     ///
-    /// [BulkWrites]: crate::specs::store::Bulk#BulkWrites "A bulk instruction writes so many bytes, by what the bytes become, or none where a range ends past its list. That is tested first, then the fuel; an instruction that is refused writes and takes nothing."
-    /// [copied]: crate::specs::store::Bulk#copied "items whose part from dst on is written over by so many items of a list from src on, or none where a list ends too early"
-    /// [metered]: crate::specs::store::Growth#metered "a value with its meter, if there is one, and no limiter to ask"
-    /// [Some]: crate::specs::library#Some "the value x, of an \`Option\`"
-    /// [length]: crate::specs::library#length "the number of elements of a list"
-    /// [`OutOfBoundsAccess`]: crate::proved::meter::MemoryError::OutOfBoundsAccess
-    /// [`OutOfFuel`]: crate::proved::meter::MemoryError::OutOfFuel
+    /// Definitions: [`BulkWrites`](crate::specs::store::Bulk#BulkWrites), [`copied`](crate::specs::store::Bulk#copied), [`metered`](crate::specs::store::Growth#metered).
     #[inline]
     pub fn copy_bytes(
         bytes: &mut [u8],
@@ -142,19 +130,16 @@ pub mod elements {
     ///
     /// # Contract
     ///
-    /// <span></span><pre><code>requires infallible: T.is_infallible value
+    /// ```text
+    /// requires infallible: T.is_infallible value
     /// requires same: (clone : T) → T.is_clone value clone → clone ≡ value
-    /// ensures written: [WritesElements] ([filled] elements.old dst value len) [TableError.FillOutOfBounds]
-    /// &#32;&#32;&#32;&#32;([Some] len) ([metered] elements.old ([Some] fuel.old)) result
-    /// &#32;&#32;&#32;&#32;([metered] elements.new ([Some] fuel.new))
-    /// ensures len: [length] elements.new ≡ [length] elements.old</code></pre>
+    /// ensures written: WritesElements (filled elements.old dst value len) TableError.FillOutOfBounds
+    ///     (Some len) (metered elements.old (Some fuel.old)) result
+    ///     (metered elements.new (Some fuel.new))
+    /// ensures len: length elements.new ≡ length elements.old
+    /// ```
     ///
-    /// [WritesElements]: crate::specs::store::Table#WritesElements "Elements are written over, wherever they lie: by what they become, or none where a range ends past its list, the error there, and how many of them are paid for, if any. A write that is refused writes and takes nothing."
-    /// [filled]: crate::specs::store::Bulk#filled "items of which so many, from dst on, are each filled with a value, or none where they end too early"
-    /// [TableError.FillOutOfBounds]: crate::proved::meter::TableError::FillOutOfBounds
-    /// [Some]: crate::specs::library#Some "the value x, of an \`Option\`"
-    /// [metered]: crate::specs::store::Growth#metered "a value with its meter, if there is one, and no limiter to ask"
-    /// [length]: crate::specs::library#length "the number of elements of a list"
+    /// Definitions: [`WritesElements`](crate::specs::store::Table#WritesElements), [`filled`](crate::specs::store::Bulk#filled), [`metered`](crate::specs::store::Growth#metered).
     #[inline]
     pub fn fill_elements<T: Copy>(
         elements: &mut [T],
@@ -179,17 +164,14 @@ pub mod elements {
     ///
     /// # Contract
     ///
-    /// <span></span><pre><code>ensures written: [WritesElements] ([copied] elements.old dst elements.old src len)
-    /// &#32;&#32;&#32;&#32;[TableError.CopyOutOfBounds] ([Some] len) ([metered] elements.old ([Some] fuel.old)) result
-    /// &#32;&#32;&#32;&#32;([metered] elements.new ([Some] fuel.new))
-    /// ensures len: [length] elements.new ≡ [length] elements.old</code></pre>
+    /// ```text
+    /// ensures written: WritesElements (copied elements.old dst elements.old src len)
+    ///     TableError.CopyOutOfBounds (Some len) (metered elements.old (Some fuel.old)) result
+    ///     (metered elements.new (Some fuel.new))
+    /// ensures len: length elements.new ≡ length elements.old
+    /// ```
     ///
-    /// [WritesElements]: crate::specs::store::Table#WritesElements "Elements are written over, wherever they lie: by what they become, or none where a range ends past its list, the error there, and how many of them are paid for, if any. A write that is refused writes and takes nothing."
-    /// [copied]: crate::specs::store::Bulk#copied "items whose part from dst on is written over by so many items of a list from src on, or none where a list ends too early"
-    /// [TableError.CopyOutOfBounds]: crate::proved::meter::TableError::CopyOutOfBounds
-    /// [Some]: crate::specs::library#Some "the value x, of an \`Option\`"
-    /// [metered]: crate::specs::store::Growth#metered "a value with its meter, if there is one, and no limiter to ask"
-    /// [length]: crate::specs::library#length "the number of elements of a list"
+    /// Definitions: [`WritesElements`](crate::specs::store::Table#WritesElements), [`copied`](crate::specs::store::Bulk#copied), [`metered`](crate::specs::store::Growth#metered).
     #[inline]
     pub fn copy_elements_within<T: Chunk>(
         elements: &mut [T],
@@ -213,15 +195,13 @@ pub mod elements {
     ///
     /// # Contract
     ///
-    /// <span></span><pre><code>ensures written: [WritesElements] ([copied] elements.old dst items.now src len) outside ([Some] len)
-    /// &#32;&#32;&#32;&#32;([metered] elements.old ([Some] fuel.old)) result ([metered] elements.new ([Some] fuel.new))
-    /// ensures len: [length] elements.new ≡ [length] elements.old</code></pre>
+    /// ```text
+    /// ensures written: WritesElements (copied elements.old dst items.now src len) outside (Some len)
+    ///     (metered elements.old (Some fuel.old)) result (metered elements.new (Some fuel.new))
+    /// ensures len: length elements.new ≡ length elements.old
+    /// ```
     ///
-    /// [WritesElements]: crate::specs::store::Table#WritesElements "Elements are written over, wherever they lie: by what they become, or none where a range ends past its list, the error there, and how many of them are paid for, if any. A write that is refused writes and takes nothing."
-    /// [copied]: crate::specs::store::Bulk#copied "items whose part from dst on is written over by so many items of a list from src on, or none where a list ends too early"
-    /// [Some]: crate::specs::library#Some "the value x, of an \`Option\`"
-    /// [metered]: crate::specs::store::Growth#metered "a value with its meter, if there is one, and no limiter to ask"
-    /// [length]: crate::specs::library#length "the number of elements of a list"
+    /// Definitions: [`WritesElements`](crate::specs::store::Table#WritesElements), [`copied`](crate::specs::store::Bulk#copied), [`metered`](crate::specs::store::Growth#metered).
     #[inline]
     pub fn copy_elements<T: Copy>(
         elements: &mut [T],
@@ -248,19 +228,14 @@ pub mod elements {
     ///
     /// # Contract
     ///
-    /// <span></span><pre><code>ensures written: [WritesElements] ([copied] elements.old dst items.now src len)
-    /// &#32;&#32;&#32;&#32;[TableError.InitOutOfBounds] (if [nat_eq] len 0 then [None] else [Some] len)
-    /// &#32;&#32;&#32;&#32;([metered] elements.old ([Some] fuel.old)) result ([metered] elements.new ([Some] fuel.new))
-    /// ensures len: [length] elements.new ≡ [length] elements.old</code></pre>
+    /// ```text
+    /// ensures written: WritesElements (copied elements.old dst items.now src len)
+    ///     TableError.InitOutOfBounds (if nat_eq len 0 then None else Some len)
+    ///     (metered elements.old (Some fuel.old)) result (metered elements.new (Some fuel.new))
+    /// ensures len: length elements.new ≡ length elements.old
+    /// ```
     ///
-    /// [WritesElements]: crate::specs::store::Table#WritesElements "Elements are written over, wherever they lie: by what they become, or none where a range ends past its list, the error there, and how many of them are paid for, if any. A write that is refused writes and takes nothing."
-    /// [copied]: crate::specs::store::Bulk#copied "items whose part from dst on is written over by so many items of a list from src on, or none where a list ends too early"
-    /// [TableError.InitOutOfBounds]: crate::proved::meter::TableError::InitOutOfBounds
-    /// [nat_eq]: crate::specs::library#nat_eq "whether two numbers are equal, as a Boolean"
-    /// [None]: crate::specs::library#None "no value, of an \`Option\`"
-    /// [Some]: crate::specs::library#Some "the value x, of an \`Option\`"
-    /// [metered]: crate::specs::store::Growth#metered "a value with its meter, if there is one, and no limiter to ask"
-    /// [length]: crate::specs::library#length "the number of elements of a list"
+    /// Definitions: [`WritesElements`](crate::specs::store::Table#WritesElements), [`copied`](crate::specs::store::Bulk#copied), [`metered`](crate::specs::store::Growth#metered).
     #[inline]
     pub fn init_elements<T: Copy>(
         elements: &mut [T],
@@ -301,25 +276,19 @@ pub mod growth {
 
     /// Asks whether a memory of a type may be made, and returns its minimum in bytes.
     ///
-    /// Errors, in the order of the tests: [`MinimumSizeOverflow`] if the minimum has 2^64 bytes or more;
-    /// [`ResourceLimiterDeniedAllocation`] if the limiter doesn't permit it.
+    /// Errors, in the order of the tests: `MinimumSizeOverflow` if the minimum has 2^64 bytes or more;
+    /// `ResourceLimiterDeniedAllocation` if the limiter doesn't permit it.
     ///
     /// # Contract
     ///
-    /// <span></span><pre><code>ensures loan: [KeepsLoan] limiter.old limiter.new
-    /// ensures permitted: [PermitsMinimum] ([optional_rules] [L.rules]) ty ([lent_limiter] limiter.old) result
-    /// &#32;&#32;&#32;&#32;([lent_limiter] limiter.new)
-    /// ensures sized: [IfOk] result (λ size. [IsSized] ty size)</code></pre>
+    /// ```text
+    /// ensures loan: KeepsLoan limiter.old limiter.new
+    /// ensures permitted: PermitsMinimum (optional_rules L.rules) ty (lent_limiter limiter.old) result
+    ///     (lent_limiter limiter.new)
+    /// ensures sized: IfOk result (λ size. IsSized ty size)
+    /// ```
     ///
-    /// [KeepsLoan]: crate::specs::meter::LimiterRef#KeepsLoan "r\' leads to what r leads to"
-    /// [PermitsMinimum]: crate::specs::store::Memory#PermitsMinimum "the minimum of a type is permitted in bytes, or an error ends the making of a memory, whatever its room"
-    /// [optional_rules]: crate::specs::meter::Limiter#optional_rules "the rules of a limiter that may be absent"
-    /// [L.rules]: trait@ResourceLimiter#contract
-    /// [lent_limiter]: crate::specs::meter::LimiterRef#lent_limiter "the present value of the limiter that is lent, or none"
-    /// [IfOk]: crate::specs::library#IfOk "P of the value, if r is a value"
-    /// [IsSized]: crate::specs::store::Memory#IsSized "so many bytes are whole pages, as many as the type allows"
-    /// [`MinimumSizeOverflow`]: crate::proved::meter::MemoryError::MinimumSizeOverflow
-    /// [`ResourceLimiterDeniedAllocation`]: crate::proved::meter::MemoryError::ResourceLimiterDeniedAllocation
+    /// Definitions: [`KeepsLoan`](crate::specs::meter::LimiterRef#KeepsLoan), [`PermitsMinimum`](crate::specs::store::Memory#PermitsMinimum), [`optional_rules`](crate::specs::meter::Limiter#optional_rules), [`lent_limiter`](crate::specs::meter::LimiterRef#lent_limiter), [`IsSized`](crate::specs::store::Memory#IsSized).
     #[inline]
     pub fn permitted_minimum<L: ResourceLimiter>(
         ty: MemoryType,
@@ -337,7 +306,7 @@ pub mod growth {
     /// is room for them, and the added ones are paid, in this order. The fuel is taken if they may; no
     /// byte is written yet, so it is the same wherever the bytes lie.
     ///
-    /// The errors are those of [`LinearMemory::grow`](crate::proved::store::LinearMemory::grow) from the limiter's denial to [`OutOfFuel`].
+    /// The errors are those of [`LinearMemory::grow`](crate::proved::store::LinearMemory::grow) from the limiter's denial to `OutOfFuel`.
     ///
     /// # Panics
     ///
@@ -345,43 +314,23 @@ pub mod growth {
     ///
     /// # Contract
     ///
-    /// <span></span><pre><code>requires grows: old_size < size
-    /// ensures loan: [KeepsLoan] limiter.old limiter.new
-    /// ensures permitted: [OnOk] result (([optional_rules] [L.rules]).asked ([lent_limiter] limiter.old)
-    /// &#32;&#32;&#32;&#32;([size_question] old_size size maximum) ([Ok] [true]) ([lent_limiter] limiter.new))
-    /// ensures room: [OnOk] result (has_room ≡ [true])
-    /// ensures paid: [OnOk] result ([Charges] fuel.old
-    /// &#32;&#32;&#32;&#32;([due] fuel.old (λ costs. [copy_cost] costs (size - old_size) 1)) ([Ok] [tt]) fuel.new)
-    /// ensures refused: [IfErr] result (λ error. (x : [MemoryValue]) (pages : [ℕ]) → 0 < pages
-    /// &#32;&#32;&#32;&#32;→ [IsAsked] ([growth_of] x pages) ([size_question] old_size size maximum)
-    /// &#32;&#32;&#32;&#32;→ [fits_room] x.room (size - old_size) ≡ has_room
-    /// &#32;&#32;&#32;&#32;→ [GrowsMemory] ([optional_rules] [L.rules]) pages
-    /// &#32;&#32;&#32;&#32;([metered_value] x ([Some] fuel.old) ([lent_limiter] limiter.old)) ([Err] error)
-    /// &#32;&#32;&#32;&#32;([metered_value] x ([Some] fuel.new) ([lent_limiter] limiter.new)))</code></pre>
+    /// ```text
+    /// requires grows: old_size < size
+    /// ensures loan: KeepsLoan limiter.old limiter.new
+    /// ensures permitted: OnOk result ((optional_rules L.rules).asked (lent_limiter limiter.old)
+    ///     (size_question old_size size maximum) (Ok true) (lent_limiter limiter.new))
+    /// ensures room: OnOk result (has_room ≡ true)
+    /// ensures paid: OnOk result (Charges fuel.old
+    ///     (due fuel.old (λ costs. copy_cost costs (size - old_size) 1)) (Ok tt) fuel.new)
+    /// ensures refused: IfErr result (λ error. (x : MemoryValue) (pages : ℕ) → 0 < pages
+    ///     → IsAsked (growth_of x pages) (size_question old_size size maximum)
+    ///     → fits_room x.room (size - old_size) ≡ has_room
+    ///     → GrowsMemory (optional_rules L.rules) pages
+    ///     (metered_value x (Some fuel.old) (lent_limiter limiter.old)) (Err error)
+    ///     (metered_value x (Some fuel.new) (lent_limiter limiter.new)))
+    /// ```
     ///
-    /// [KeepsLoan]: crate::specs::meter::LimiterRef#KeepsLoan "r\' leads to what r leads to"
-    /// [OnOk]: crate::specs::library#OnOk "P, if r is a value"
-    /// [optional_rules]: crate::specs::meter::Limiter#optional_rules "the rules of a limiter that may be absent"
-    /// [L.rules]: trait@ResourceLimiter#contract
-    /// [lent_limiter]: crate::specs::meter::LimiterRef#lent_limiter "the present value of the limiter that is lent, or none"
-    /// [size_question]: crate::specs::store::Memory#size_question "may a memory get from so many bytes to so many, where its type allows at most so many?"
-    /// [Ok]: crate::specs::library#Ok "the value x, of a \`Result\`"
-    /// [true]: crate::specs::library#true "the Boolean"
-    /// [Charges]: crate::specs::meter::Meter#Charges "a charge is taken where that much is left, and refused else with what it needs"
-    /// [due]: crate::specs::meter::Meter#due "what a meter is due for a price by its costs: nothing where it is off"
-    /// [copy_cost]: crate::specs::meter::Costs#copy_cost "the fuel for copying so many values of so many bytes each"
-    /// [tt]: crate::specs::library#tt "the value \`()\`"
-    /// [IfErr]: crate::specs::library#IfErr "P of the error, if r is an error"
-    /// [MemoryValue]: crate::specs::store::Memory#MemoryValue "a memory: its type, its bytes, and the room that these may grow into"
-    /// [ℕ]: crate::specs::library#%E2%84%95 "the whole numbers from 0 on"
-    /// [IsAsked]: crate::specs::store::Growth#IsAsked "no early cause stands against what is asked, and this is the question"
-    /// [growth_of]: crate::specs::store::Memory#growth_of "what is asked and paid where a memory grows by so many pages, and the causes of a refusal: a short region before want of fuel"
-    /// [fits_room]: crate::specs::store::Buffer#fits_room "whether a room has place for n more bytes: what is left of a lent region may be too short"
-    /// [GrowsMemory]: crate::specs::store::Memory#GrowsMemory "a memory grows by so many pages; it returns the old size in pages"
-    /// [metered_value]: crate::specs::store::Growth#metered_value "a value with its meter, if there is one, and its limiter"
-    /// [Some]: crate::specs::library#Some "the value x, of an \`Option\`"
-    /// [Err]: crate::specs::library#Err "the error e, of a \`Result\`"
-    /// [`OutOfFuel`]: crate::proved::meter::MemoryError::OutOfFuel
+    /// Definitions: [`KeepsLoan`](crate::specs::meter::LimiterRef#KeepsLoan), [`optional_rules`](crate::specs::meter::Limiter#optional_rules), [`lent_limiter`](crate::specs::meter::LimiterRef#lent_limiter), [`size_question`](crate::specs::store::Memory#size_question), [`Charges`](crate::specs::meter::Meter#Charges), [`due`](crate::specs::meter::Meter#due), [`copy_cost`](crate::specs::meter::Costs#copy_cost), [`MemoryValue`](crate::specs::store::Memory#MemoryValue), [`IsAsked`](crate::specs::store::Growth#IsAsked), [`growth_of`](crate::specs::store::Memory#growth_of), [`fits_room`](crate::specs::store::Buffer#fits_room), [`GrowsMemory`](crate::specs::store::Memory#GrowsMemory), [`metered_value`](crate::specs::store::Growth#metered_value).
     #[inline]
     pub fn decide_growth<L: ResourceLimiter>(
         old_size: usize,
@@ -427,9 +376,11 @@ pub mod laws {
     ///
     /// # Contract
     ///
-    /// <span></span><pre><code>ensures: [IsValidMemory] memory.now</code></pre>
+    /// ```text
+    /// ensures: IsValidMemory memory.now
+    /// ```
     ///
-    /// [IsValidMemory]: crate::specs::store::Memory#IsValidMemory "a memory of a valid type has as many whole pages as that allows (core specification, validity of memory instances)"
+    /// Definitions: [`IsValidMemory`](crate::specs::store::Memory#IsValidMemory).
     #[inline]
     pub fn memories_are_valid<R: Region>(memory: &LinearMemory<R>) {
         memory.tell_valid();
@@ -442,9 +393,11 @@ pub mod laws {
     ///
     /// # Contract
     ///
-    /// <span></span><pre><code>ensures: [IsValidTable] table.now</code></pre>
+    /// ```text
+    /// ensures: IsValidTable table.now
+    /// ```
     ///
-    /// [IsValidTable]: crate::specs::store::Table#IsValidTable "a table of a valid type has as many elements as that allows (core specification, validity of table instances)"
+    /// Definitions: [`IsValidTable`](crate::specs::store::Table#IsValidTable).
     #[inline]
     pub fn tables_are_valid(table: &Table) {
         table.tell_valid();
@@ -454,10 +407,11 @@ pub mod laws {
     ///
     /// # Contract
     ///
-    /// <span></span><pre><code>ensures: (a : [MemoryTypeValue]) → [IsSubtype] a a</code></pre>
+    /// ```text
+    /// ensures: (a : MemoryTypeValue) → IsSubtype a a
+    /// ```
     ///
-    /// [MemoryTypeValue]: crate::specs::store::MemoryType#MemoryTypeValue "a memory type: its address type, its page size, and its limits in pages"
-    /// [IsSubtype]: crate::specs::store::MemoryType#IsSubtype "a memory of type a may be given where one of type b is asked for (core specification, import matching)"
+    /// Definitions: [`MemoryTypeValue`](crate::specs::store::MemoryType#MemoryTypeValue), [`IsSubtype`](crate::specs::store::MemoryType#IsSubtype).
     #[inline]
     pub fn memory_subtyping_is_reflexive() {}
 
@@ -465,10 +419,11 @@ pub mod laws {
     ///
     /// # Contract
     ///
-    /// <span></span><pre><code>ensures: (a b c : [MemoryTypeValue]) → [IsSubtype] a b → [IsSubtype] b c → [IsSubtype] a c</code></pre>
+    /// ```text
+    /// ensures: (a b c : MemoryTypeValue) → IsSubtype a b → IsSubtype b c → IsSubtype a c
+    /// ```
     ///
-    /// [MemoryTypeValue]: crate::specs::store::MemoryType#MemoryTypeValue "a memory type: its address type, its page size, and its limits in pages"
-    /// [IsSubtype]: crate::specs::store::MemoryType#IsSubtype "a memory of type a may be given where one of type b is asked for (core specification, import matching)"
+    /// Definitions: [`MemoryTypeValue`](crate::specs::store::MemoryType#MemoryTypeValue), [`IsSubtype`](crate::specs::store::MemoryType#IsSubtype).
     #[inline]
     pub fn memory_subtyping_is_transitive() {}
 
@@ -476,10 +431,11 @@ pub mod laws {
     ///
     /// # Contract
     ///
-    /// <span></span><pre><code>ensures: (a : [table.TableTypeValue]) → [table.IsSubtype] a a</code></pre>
+    /// ```text
+    /// ensures: (a : table.TableTypeValue) → table.IsSubtype a a
+    /// ```
     ///
-    /// [table.TableTypeValue]: crate::specs::store::TableType#TableTypeValue "a table type: its index type, the type of its elements, and its limits in elements"
-    /// [table.IsSubtype]: crate::specs::store::TableType#IsSubtype "a table of type a may be given where one of type b is asked for (core specification, import matching)"
+    /// Definitions: [`TableTypeValue`](crate::specs::store::TableType#TableTypeValue), [`IsSubtype`](crate::specs::store::TableType#IsSubtype).
     #[inline]
     pub fn table_subtyping_is_reflexive() {}
 
@@ -487,11 +443,12 @@ pub mod laws {
     ///
     /// # Contract
     ///
-    /// <span></span><pre><code>ensures: (a b c : [table.TableTypeValue]) → [table.IsSubtype] a b → [table.IsSubtype] b c
-    /// &#32;&#32;&#32;&#32;→ [table.IsSubtype] a c</code></pre>
+    /// ```text
+    /// ensures: (a b c : table.TableTypeValue) → table.IsSubtype a b → table.IsSubtype b c
+    ///     → table.IsSubtype a c
+    /// ```
     ///
-    /// [table.TableTypeValue]: crate::specs::store::TableType#TableTypeValue "a table type: its index type, the type of its elements, and its limits in elements"
-    /// [table.IsSubtype]: crate::specs::store::TableType#IsSubtype "a table of type a may be given where one of type b is asked for (core specification, import matching)"
+    /// Definitions: [`TableTypeValue`](crate::specs::store::TableType#TableTypeValue), [`IsSubtype`](crate::specs::store::TableType#IsSubtype).
     #[inline]
     pub fn table_subtyping_is_transitive() {}
 }
@@ -502,10 +459,11 @@ mod limits {
     ///
     /// # Contract
     ///
-    /// <span></span><pre><code>ensures: [IsTrue] result ↔ [IsNoLooser] own other</code></pre>
+    /// ```text
+    /// ensures: IsTrue result ↔ IsNoLooser own other
+    /// ```
     ///
-    /// [IsTrue]: crate::specs::library#IsTrue "b is true"
-    /// [IsNoLooser]: crate::specs::store::Limits#IsNoLooser "an optional maximum is no looser than another"
+    /// Definitions: [`IsNoLooser`](crate::specs::store::Limits#IsNoLooser).
     #[inline]
     pub(crate) fn is_no_looser(own: Option<u64>, other: Option<u64>) -> bool {
         match (own, other) {
@@ -537,13 +495,12 @@ mod memory {
         impl<R: Region> Storage<R> {
             /// # Contract
             ///
-            /// <span></span><pre><code>requires inside: end ≤ [length] ([block] [R.bytes] self.now)
-            /// ensures value: result.now ≡ [take] end ([block] [R.bytes] self.now)</code></pre>
+            /// ```text
+            /// requires inside: end ≤ length (block R.bytes self.now)
+            /// ensures value: result.now ≡ take end (block R.bytes self.now)
+            /// ```
             ///
-            /// [length]: crate::specs::library#length "the number of elements of a list"
-            /// [block]: crate::specs::store::Storage#block "the block of bytes of which a buffer\'s are the first: memory of its own, or a region"
-            /// [R.bytes]: trait@Region#contract
-            /// [take]: crate::specs::library#take "the first n elements"
+            /// Definitions: [`block`](crate::specs::store::Storage#block).
             #[inline]
             fn front(&self, end: usize) -> &[u8] {
                 let whole = match self {
@@ -555,23 +512,14 @@ mod memory {
 
             /// # Contract
             ///
-            /// <span></span><pre><code>requires inside: end ≤ [length] ([block] [R.bytes] self.old)
-            /// ensures\* writes_back: [sem] 𝓛 ([Lends] ([the_row] [R.row]) ([Array] [u8] 0) self.entry result
-            /// &#32;&#32;&#32;&#32;([block_refilled] [R.refilled] self.old end))
-            /// ensures value: result.now ≡ [take] end ([block] [R.bytes] self.old)</code></pre>
+            /// ```text
+            /// requires inside: end ≤ length (block R.bytes self.old)
+            /// ensures* writes_back: sem 𝓛 (Lends (the_row R.row) (Array u8 0) self.entry result
+            ///     (block_refilled R.refilled self.old end))
+            /// ensures value: result.now ≡ take end (block R.bytes self.old)
+            /// ```
             ///
-            /// [length]: crate::specs::library#length "the number of elements of a list"
-            /// [block]: crate::specs::store::Storage#block "the block of bytes of which a buffer\'s are the first: memory of its own, or a region"
-            /// [R.bytes]: trait@Region#contract
-            /// [sem]: crate::specs::library#sem "the fixed form of a clause on a loan"
-            /// [Lends]: crate::specs::library#Lends "the result r borrows from x: what is written through r last, w, makes x the value F w"
-            /// [the_row]: crate::specs::library#the_row "the type itself, in a clause on a loan"
-            /// [R.row]: crate::specs::library#row "a type, in a clause on a loan"
-            /// [Array]: crate::specs::library#Array "in a clause on a loan: the type of a slice of T"
-            /// [u8]: crate::specs::library#u8 "the bytes, in a clause on a loan"
-            /// [block_refilled]: crate::specs::store::Storage#block_refilled "the storage once the front of its block, up to an end, was written over"
-            /// [R.refilled]: trait@Region#contract
-            /// [take]: crate::specs::library#take "the first n elements"
+            /// Definitions: [`block`](crate::specs::store::Storage#block), [`block_refilled`](crate::specs::store::Storage#block_refilled).
             #[inline]
             fn front_mut(&mut self, end: usize) -> &mut [u8] {
                 match self {
@@ -586,14 +534,13 @@ mod memory {
         ///
         /// # Model
         ///
-        /// <span></span><pre><code>Value = [BufferValue]
-        /// view = λ b. [view_of] [R.bytes] b.storage b.len
-        /// invariant = λ b. [EndsWithin] [R.bytes] b.storage b.len</code></pre>
+        /// ```text
+        /// Value = BufferValue
+        /// view = λ b. view_of R.bytes b.storage b.len
+        /// invariant = λ b. EndsWithin R.bytes b.storage b.len
+        /// ```
         ///
-        /// [BufferValue]: crate::specs::store::Buffer#BufferValue "a buffer: its bytes, and its room"
-        /// [view_of]: crate::specs::store::Storage#view_of "the buffer of the first bytes of a block, up to an end"
-        /// [R.bytes]: trait@Region#contract
-        /// [EndsWithin]: crate::specs::store::Storage#EndsWithin "memory of a buffer\'s own ends with its bytes, and a region doesn\'t end before them"
+        /// Definitions: [`BufferValue`](crate::specs::store::Buffer#BufferValue), [`view_of`](crate::specs::store::Storage#view_of), [`EndsWithin`](crate::specs::store::Storage#EndsWithin).
         #[derive(Debug)]
         pub struct Buffer<R: Region> {
             storage: Storage<R>,
@@ -610,7 +557,9 @@ mod memory {
             ///
             /// # Contract
             ///
-            /// <span></span><pre><code>ensures: result.now ≡ self.now.bytes</code></pre>
+            /// ```text
+            /// ensures: result.now ≡ self.now.bytes
+            /// ```
             #[inline]
             pub fn data(&self) -> &[u8] {
                 self.storage.front(self.len)
@@ -620,18 +569,13 @@ mod memory {
             ///
             /// # Contract
             ///
-            /// <span></span><pre><code>ensures\* writes_back: [sem] 𝓛 ([Lends] ([the_row] [R.row] [R.Region]) ([Array] [u8] 0) self.entry result
-            /// &#32;&#32;&#32;&#32;([with_bytes] self.old))
-            /// ensures value: result.now ≡ self.old.bytes</code></pre>
+            /// ```text
+            /// ensures* writes_back: sem 𝓛 (Lends (the_row R.row R.Region) (Array u8 0) self.entry result
+            ///     (with_bytes self.old))
+            /// ensures value: result.now ≡ self.old.bytes
+            /// ```
             ///
-            /// [sem]: crate::specs::library#sem "the fixed form of a clause on a loan"
-            /// [Lends]: crate::specs::library#Lends "the result r borrows from x: what is written through r last, w, makes x the value F w"
-            /// [the_row]: crate::specs::library#the_row "the type itself, in a clause on a loan"
-            /// [R.row]: crate::specs::library#row "a type, in a clause on a loan"
-            /// [R.Region]: trait@Region#contract
-            /// [Array]: crate::specs::library#Array "in a clause on a loan: the type of a slice of T"
-            /// [u8]: crate::specs::library#u8 "the bytes, in a clause on a loan"
-            /// [with_bytes]: crate::specs::store::Buffer#with_bytes "the buffer whose bytes were written over, by as many"
+            /// Definitions: [`with_bytes`](crate::specs::store::Buffer#with_bytes).
             #[inline]
             pub fn data_mut(&mut self) -> &mut [u8] {
                 self.storage.front_mut(self.len)
@@ -641,9 +585,9 @@ mod memory {
             ///
             /// # Contract
             ///
-            /// <span></span><pre><code>ensures: result ≡ [length] self.now.bytes</code></pre>
-            ///
-            /// [length]: crate::specs::library#length "the number of elements of a list"
+            /// ```text
+            /// ensures: result ≡ length self.now.bytes
+            /// ```
             #[inline]
             pub fn len(&self) -> usize {
                 self.len
@@ -654,10 +598,11 @@ mod memory {
             ///
             /// # Contract
             ///
-            /// <span></span><pre><code>ensures: result ≡ [fits_room] self.now.room (new_size - [length] self.now.bytes)</code></pre>
+            /// ```text
+            /// ensures: result ≡ fits_room self.now.room (new_size - length self.now.bytes)
+            /// ```
             ///
-            /// [fits_room]: crate::specs::store::Buffer#fits_room "whether a room has place for n more bytes: what is left of a lent region may be too short"
-            /// [length]: crate::specs::library#length "the number of elements of a list"
+            /// Definitions: [`fits_room`](crate::specs::store::Buffer#fits_room).
             #[inline]
             pub fn has_room(&self, new_size: usize) -> bool {
                 match &self.storage {
@@ -668,8 +613,8 @@ mod memory {
 
             /// Appends zeros up to `new_size` bytes, which isn't below the present number.
             ///
-            /// If the bytes are owned, the only error is [`OutOfSystemMemory`]. If they are borrowed, the
-            /// only error is [`InvalidStaticBufferSize`], if the borrowed buffer is shorter; nothing is
+            /// If the bytes are owned, the only error is `OutOfSystemMemory`. If they are borrowed, the
+            /// only error is `InvalidStaticBufferSize`, if the borrowed buffer is shorter; nothing is
             /// allocated, and the bytes past the new size stay as they are.
             ///
             /// # Panics
@@ -678,24 +623,17 @@ mod memory {
             ///
             /// # Contract
             ///
-            /// <span></span><pre><code>requires grows: [length] self.old.bytes ≤ new_size
-            /// ensures ok: [OnOk] result
-            /// &#32;&#32;&#32;&#32;(self.new ≡ [with_zeros] self.old (new_size - [length] self.old.bytes))
-            /// ensures fits: [OnOk] result
-            /// &#32;&#32;&#32;&#32;([fits_room] self.old.room (new_size - [length] self.old.bytes) ≡ [true])
-            /// ensures err: [OnErr] result (self.new ≡ self.old)
-            /// ensures cause: [IfErr] result ([CanFail] self.old.room (new_size - [length] self.old.bytes))</code></pre>
+            /// ```text
+            /// requires grows: length self.old.bytes ≤ new_size
+            /// ensures ok: OnOk result
+            ///     (self.new ≡ with_zeros self.old (new_size - length self.old.bytes))
+            /// ensures fits: OnOk result
+            ///     (fits_room self.old.room (new_size - length self.old.bytes) ≡ true)
+            /// ensures err: OnErr result (self.new ≡ self.old)
+            /// ensures cause: IfErr result (CanFail self.old.room (new_size - length self.old.bytes))
+            /// ```
             ///
-            /// [length]: crate::specs::library#length "the number of elements of a list"
-            /// [OnOk]: crate::specs::library#OnOk "P, if r is a value"
-            /// [with_zeros]: crate::specs::store::Buffer#with_zeros "the buffer with n zeros after its bytes"
-            /// [fits_room]: crate::specs::store::Buffer#fits_room "whether a room has place for n more bytes: what is left of a lent region may be too short"
-            /// [true]: crate::specs::library#true "the Boolean"
-            /// [OnErr]: crate::specs::library#OnErr "P, if r is an error"
-            /// [IfErr]: crate::specs::library#IfErr "P of the error, if r is an error"
-            /// [CanFail]: crate::specs::store::Buffer#CanFail "why n more bytes could not be had: a lent region is too short, or memory is refused"
-            /// [`OutOfSystemMemory`]: crate::proved::meter::MemoryError::OutOfSystemMemory
-            /// [`InvalidStaticBufferSize`]: crate::proved::meter::MemoryError::InvalidStaticBufferSize
+            /// Definitions: [`with_zeros`](crate::specs::store::Buffer#with_zeros), [`fits_room`](crate::specs::store::Buffer#fits_room), [`CanFail`](crate::specs::store::Buffer#CanFail).
             #[inline]
             pub fn grow(&mut self, new_size: usize) -> Result<(), MemoryError> {
                 assert!(
@@ -720,19 +658,16 @@ mod memory {
         }
 
         impl<'r> Buffer<&'r mut [u8]> {
-            /// A buffer of `size` zeros in memory of its own. The only error is [`OutOfSystemMemory`].
+            /// A buffer of `size` zeros in memory of its own. The only error is `OutOfSystemMemory`.
             ///
             /// # Contract
             ///
-            /// <span></span><pre><code>ensures ok: [IfOk] result (λ b. b ≡ [zeros_in] [Owned] size)
-            /// ensures err: [IfErr] result (λ e. e ≡ [MemoryError.OutOfSystemMemory])</code></pre>
+            /// ```text
+            /// ensures ok: IfOk result (λ b. b ≡ zeros_in Owned size)
+            /// ensures err: IfErr result (λ e. e ≡ MemoryError.OutOfSystemMemory)
+            /// ```
             ///
-            /// [IfOk]: crate::specs::library#IfOk "P of the value, if r is a value"
-            /// [zeros_in]: crate::specs::store::Buffer#zeros_in "a buffer of n zeros in a room"
-            /// [Owned]: crate::specs::store::Buffer#Owned
-            /// [IfErr]: crate::specs::library#IfErr "P of the error, if r is an error"
-            /// [MemoryError.OutOfSystemMemory]: crate::proved::meter::MemoryError::OutOfSystemMemory
-            /// [`OutOfSystemMemory`]: crate::proved::meter::MemoryError::OutOfSystemMemory
+            /// Definitions: [`zeros_in`](crate::specs::store::Buffer#zeros_in), [`Owned`](crate::specs::store::Buffer#Owned).
             #[inline]
             pub fn new(size: usize) -> Result<ByteBuffer<'r>, MemoryError> {
                 match Vec::filled(0u8, size) {
@@ -747,27 +682,21 @@ mod memory {
             /// A buffer of `size` zeros at the front of a borrowed one. It allocates nothing, and the bytes
             /// past them stay as they are.
             ///
-            /// The only error is [`InvalidStaticBufferSize`], if the borrowed buffer is shorter. Then the
+            /// The only error is `InvalidStaticBufferSize`, if the borrowed buffer is shorter. Then the
             /// loan has ended, and its bytes are unchanged.
             ///
             /// # Contract
             ///
-            /// <span></span><pre><code>ensures ok: [IfOk] result
-            /// &#32;&#32;&#32;&#32;(λ b. ([fits_room] ([Lent] region.entry.now) size ≡ [true])
-            /// &#32;&#32;&#32;&#32;× (b ≡ [zeros_in] ([Lent] region.entry.now) size))
-            /// ensures err: [IfErr] result
-            /// &#32;&#32;&#32;&#32;(λ e. ([fits_room] ([Lent] region.entry.now) size ≡ [false])
-            /// &#32;&#32;&#32;&#32;× (e ≡ [MemoryError.InvalidStaticBufferSize]))</code></pre>
+            /// ```text
+            /// ensures ok: IfOk result
+            ///     (λ b. (fits_room (Lent region.entry.now) size ≡ true)
+            ///     × (b ≡ zeros_in (Lent region.entry.now) size))
+            /// ensures err: IfErr result
+            ///     (λ e. (fits_room (Lent region.entry.now) size ≡ false)
+            ///     × (e ≡ MemoryError.InvalidStaticBufferSize))
+            /// ```
             ///
-            /// [IfOk]: crate::specs::library#IfOk "P of the value, if r is a value"
-            /// [fits_room]: crate::specs::store::Buffer#fits_room "whether a room has place for n more bytes: what is left of a lent region may be too short"
-            /// [Lent]: crate::specs::store::Buffer#Lent
-            /// [true]: crate::specs::library#true "the Boolean"
-            /// [zeros_in]: crate::specs::store::Buffer#zeros_in "a buffer of n zeros in a room"
-            /// [IfErr]: crate::specs::library#IfErr "P of the error, if r is an error"
-            /// [false]: crate::specs::library#false "the Boolean"
-            /// [MemoryError.InvalidStaticBufferSize]: crate::proved::meter::MemoryError::InvalidStaticBufferSize
-            /// [`InvalidStaticBufferSize`]: crate::proved::meter::MemoryError::InvalidStaticBufferSize
+            /// Definitions: [`fits_room`](crate::specs::store::Buffer#fits_room), [`Lent`](crate::specs::store::Buffer#Lent), [`zeros_in`](crate::specs::store::Buffer#zeros_in).
             #[inline]
             pub fn new_static(
                 region: &'r mut [u8],
@@ -798,50 +727,48 @@ mod memory {
         ///
         /// # Contract
         ///
-        /// <span></span><pre><code><i>\-\- The buffer\'s bytes.</i>
-        /// bytes: Self → [List] [ℕ]
-        /// <i>\-\- The buffer after its front, up to an end, was overwritten.</i>
-        /// refilled: Self → [ℕ] → [List] [ℕ] → Self
-        /// <i>\-\- The bytes of a buffer whose front was overwritten.</i>
-        /// refills: (r : Self) (end : [ℕ]) (ws : [List] [ℕ])
-        /// &#32;&#32;&#32;&#32;→ bytes (refilled r end ws) ≡ [refilled_front] (bytes r) end ws</code></pre>
+        /// ```text
+        /// -- The buffer's bytes.
+        /// bytes: Self → List ℕ
+        /// -- The buffer after its front, up to an end, was overwritten.
+        /// refilled: Self → ℕ → List ℕ → Self
+        /// -- The bytes of a buffer whose front was overwritten.
+        /// refills: (r : Self) (end : ℕ) (ws : List ℕ)
+        ///     → bytes (refilled r end ws) ≡ refilled_front (bytes r) end ws
+        /// ```
         ///
-        /// [List]: crate::specs::library#List "the finite lists"
-        /// [ℕ]: crate::specs::library#%E2%84%95 "the whole numbers from 0 on"
-        /// [refilled_front]: crate::specs::store::Front#refilled_front "xs with its first items, up to place end, written over by as many"
+        /// Definitions: [`refilled_front`](crate::specs::store::Front#refilled_front).
         pub trait Region: sealed::Sealed {
             /// All of its bytes.
             ///
             /// # Contract
             ///
-            /// <span></span><pre><code>ensures: result.now ≡ bytes self.now</code></pre>
+            /// ```text
+            /// ensures: result.now ≡ bytes self.now
+            /// ```
             fn whole(&self) -> &[u8];
 
             /// Lends its front.
             ///
             /// # Contract
             ///
-            /// <span></span><pre><code>requires: end ≤ [length] (bytes self.old)
-            /// ensures\* writes_back: [sem] 𝓛
-            /// &#32;&#32;&#32;&#32;([Lends] [Self.row] ([Array] [u8] 0) self.entry result (refilled self.old end))
-            /// ensures value: result.now ≡ [take] end (bytes self.old)</code></pre>
-            ///
-            /// [length]: crate::specs::library#length "the number of elements of a list"
-            /// [sem]: crate::specs::library#sem "the fixed form of a clause on a loan"
-            /// [Lends]: crate::specs::library#Lends "the result r borrows from x: what is written through r last, w, makes x the value F w"
-            /// [Self.row]: crate::specs::library#row "a type, in a clause on a loan"
-            /// [Array]: crate::specs::library#Array "in a clause on a loan: the type of a slice of T"
-            /// [u8]: crate::specs::library#u8 "the bytes, in a clause on a loan"
-            /// [take]: crate::specs::library#take "the first n elements"
+            /// ```text
+            /// requires: end ≤ length (bytes self.old)
+            /// ensures* writes_back: sem 𝓛
+            ///     (Lends Self.row (Array u8 0) self.entry result (refilled self.old end))
+            /// ensures value: result.now ≡ take end (bytes self.old)
+            /// ```
             fn front_mut(&mut self, end: usize) -> &mut [u8];
         }
 
         /// # Contract
         ///
-        /// <span></span><pre><code>bytes = λ r. r.now
-        /// refilled = [region_refilled]</code></pre>
+        /// ```text
+        /// bytes = λ r. r.now
+        /// refilled = region_refilled
+        /// ```
         ///
-        /// [region_refilled]: crate::specs::store::Front#region_refilled "the reference to a region whose front was written over"
+        /// Definitions: [`region_refilled`](crate::specs::store::Front#region_refilled).
         impl<'r> Region for &'r mut [u8] {
             #[inline]
             fn whole(&self) -> &[u8] {
@@ -871,9 +798,11 @@ mod memory {
         impl PageSize {
             /// # Contract
             ///
-            /// <span></span><pre><code>ensures: result ≡ [page_of_log2] log2</code></pre>
+            /// ```text
+            /// ensures: result ≡ page_of_log2 log2
+            /// ```
             ///
-            /// [page_of_log2]: crate::specs::store::MemoryType#page_of_log2 "the page size of so many bytes as this power of two, if there is one"
+            /// Definitions: [`page_of_log2`](crate::specs::store::MemoryType#page_of_log2).
             #[inline]
             fn from_log2(log2: u8) -> Option<Self> {
                 match log2 {
@@ -885,9 +814,11 @@ mod memory {
 
             /// # Contract
             ///
-            /// <span></span><pre><code>ensures: result ≡ [page_bytes] self</code></pre>
+            /// ```text
+            /// ensures: result ≡ page_bytes self
+            /// ```
             ///
-            /// [page_bytes]: crate::specs::store::MemoryType#page_bytes "the bytes of a page, and the power of two that they are"
+            /// Definitions: [`page_bytes`](crate::specs::store::MemoryType#page_bytes).
             #[inline]
             fn bytes(self) -> u32 {
                 match self {
@@ -900,9 +831,11 @@ mod memory {
             ///
             /// # Contract
             ///
-            /// <span></span><pre><code>ensures: result ≡ bytes / [page_bytes] self</code></pre>
+            /// ```text
+            /// ensures: result ≡ bytes / page_bytes self
+            /// ```
             ///
-            /// [page_bytes]: crate::specs::store::MemoryType#page_bytes "the bytes of a page, and the power of two that they are"
+            /// Definitions: [`page_bytes`](crate::specs::store::MemoryType#page_bytes).
             #[inline]
             fn pages_in(self, bytes: u64) -> u64 {
                 match self {
@@ -913,9 +846,11 @@ mod memory {
 
             /// # Contract
             ///
-            /// <span></span><pre><code>ensures: result ≡ [page_log2] self</code></pre>
+            /// ```text
+            /// ensures: result ≡ page_log2 self
+            /// ```
             ///
-            /// [page_log2]: crate::specs::store::MemoryType#page_log2 "the logarithm of the page size in bytes"
+            /// Definitions: [`page_log2`](crate::specs::store::MemoryType#page_log2).
             #[inline]
             fn log2(self) -> u8 {
                 match self {
@@ -930,34 +865,20 @@ mod memory {
         ///
         /// Core specification, memory types. Upstream: `wasmi_core::MemoryType`.
         ///
-        /// # Examples
-        ///
-        /// ```
-        /// use wasmi_core_proved::MemoryType;
-        ///
-        /// let mut builder = MemoryType::builder();
-        /// builder.min(1).max(Some(4));
-        /// let ty = builder.build()?;
-        /// assert_eq!((ty.minimum(), ty.maximum(), ty.page_size()), (1, Some(4), 65_536));
-        ///
-        /// let mut builder = MemoryType::builder();
-        /// builder.min(5).max(Some(4));
-        /// assert!(builder.build().is_err());
-        /// # Ok::<(), wasmi_core_proved::MemoryError>(())
-        /// ```
-        ///
         /// # Model
         ///
-        /// <span></span><pre><code>Value = [MemoryTypeValue]
+        /// ```text
+        /// Value = MemoryTypeValue
         /// view = λ t. record
-        /// &#32;&#32;&#32;&#32;{ index = t.index; page = t.page; minimum = t.minimum; maximum = t.maximum }
-        /// invariant = λ t. [IsValid]
-        /// &#32;&#32;&#32;&#32;(record { index = t.index; page = t.page; minimum = t.minimum; maximum = t.maximum })
+        ///     { index = t.index; page = t.page; minimum = t.minimum; maximum = t.maximum }
+        /// invariant = λ t. IsValid
+        ///     (record { index = t.index; page = t.page; minimum = t.minimum; maximum = t.maximum })
         /// inverse = λ t. record
-        /// &#32;&#32;&#32;&#32;{ index = t.index; page = t.page; minimum = t.minimum; maximum = t.maximum }</code></pre>
+        ///     { index = t.index; page = t.page; minimum = t.minimum; maximum = t.maximum }
+        /// ```
         ///
-        /// [MemoryTypeValue]: crate::specs::store::MemoryType#MemoryTypeValue "a memory type: its address type, its page size, and its limits in pages"
-        /// [IsValid]: crate::specs::store::MemoryType#IsValid "the limits are within what the address type reaches, the minimum not above the maximum"
+        /// Definitions: [`MemoryTypeValue`](crate::specs::store::MemoryType#MemoryTypeValue), [`IsValid`](crate::specs::store::MemoryType#IsValid).
+        #[doc = examples!(store MemoryType)]
         #[derive(Clone, Copy, Debug, PartialEq, Eq)]
         pub struct MemoryType {
             index: IndexType,
@@ -971,9 +892,11 @@ mod memory {
             ///
             /// # Contract
             ///
-            /// <span></span><pre><code>ensures: result ≡ [default_settings]</code></pre>
+            /// ```text
+            /// ensures: result ≡ default_settings
+            /// ```
             ///
-            /// [default_settings]: crate::specs::store::MemoryType#default_settings "what a builder begins with"
+            /// Definitions: [`default_settings`](crate::specs::store::MemoryType#default_settings).
             #[inline]
             pub fn builder() -> MemoryTypeBuilder {
                 MemoryTypeBuilder::default()
@@ -983,10 +906,9 @@ mod memory {
             ///
             /// # Contract
             ///
-            /// <span></span><pre><code>ensures: [IsTrue] result ↔ (self.now.index ≡ [I64])</code></pre>
-            ///
-            /// [IsTrue]: crate::specs::library#IsTrue "b is true"
-            /// [I64]: crate::proved::types::IndexType::I64
+            /// ```text
+            /// ensures: IsTrue result ↔ (self.now.index ≡ I64)
+            /// ```
             #[inline]
             pub fn is_64(&self) -> bool {
                 self.index.is_64()
@@ -996,7 +918,9 @@ mod memory {
             ///
             /// # Contract
             ///
-            /// <span></span><pre><code>ensures: result ≡ self.now.index</code></pre>
+            /// ```text
+            /// ensures: result ≡ self.now.index
+            /// ```
             #[inline]
             pub fn index_ty(&self) -> IndexType {
                 self.index
@@ -1006,10 +930,12 @@ mod memory {
             ///
             /// # Contract
             ///
-            /// <span></span><pre><code>ensures value: result ≡ self.minimum
-            /// ensures valid: [IsValid] self</code></pre>
+            /// ```text
+            /// ensures value: result ≡ self.minimum
+            /// ensures valid: IsValid self
+            /// ```
             ///
-            /// [IsValid]: crate::specs::store::MemoryType#IsValid "the limits are within what the address type reaches, the minimum not above the maximum"
+            /// Definitions: [`IsValid`](crate::specs::store::MemoryType#IsValid).
             #[inline]
             pub fn minimum(self) -> u64 {
                 self.minimum
@@ -1019,7 +945,9 @@ mod memory {
             ///
             /// # Contract
             ///
-            /// <span></span><pre><code>ensures: result ≡ self.maximum</code></pre>
+            /// ```text
+            /// ensures: result ≡ self.maximum
+            /// ```
             #[inline]
             pub fn maximum(self) -> Option<u64> {
                 self.maximum
@@ -1029,9 +957,11 @@ mod memory {
             ///
             /// # Contract
             ///
-            /// <span></span><pre><code>ensures: result ≡ [page_bytes] self.page</code></pre>
+            /// ```text
+            /// ensures: result ≡ page_bytes self.page
+            /// ```
             ///
-            /// [page_bytes]: crate::specs::store::MemoryType#page_bytes "the bytes of a page, and the power of two that they are"
+            /// Definitions: [`page_bytes`](crate::specs::store::MemoryType#page_bytes).
             #[inline]
             pub fn page_size(self) -> u32 {
                 self.page.bytes()
@@ -1041,9 +971,11 @@ mod memory {
             ///
             /// # Contract
             ///
-            /// <span></span><pre><code>ensures: result ≡ [page_log2] self.page</code></pre>
+            /// ```text
+            /// ensures: result ≡ page_log2 self.page
+            /// ```
             ///
-            /// [page_log2]: crate::specs::store::MemoryType#page_log2 "the logarithm of the page size in bytes"
+            /// Definitions: [`page_log2`](crate::specs::store::MemoryType#page_log2).
             #[inline]
             pub fn page_size_log2(self) -> u8 {
                 self.page.log2()
@@ -1055,10 +987,11 @@ mod memory {
             ///
             /// # Contract
             ///
-            /// <span></span><pre><code>ensures: [IsTrue] result ↔ [IsSubtype] self.now other.now</code></pre>
+            /// ```text
+            /// ensures: IsTrue result ↔ IsSubtype self.now other.now
+            /// ```
             ///
-            /// [IsTrue]: crate::specs::library#IsTrue "b is true"
-            /// [IsSubtype]: crate::specs::store::MemoryType#IsSubtype "a memory of type a may be given where one of type b is asked for (core specification, import matching)"
+            /// Definitions: [`IsSubtype`](crate::specs::store::MemoryType#IsSubtype).
             #[inline]
             pub fn is_subtype_of(&self, other: &Self) -> bool {
                 self.index == other.index
@@ -1071,11 +1004,12 @@ mod memory {
             ///
             /// # Contract
             ///
-            /// <span></span><pre><code>requires within: [in_bounds] self minimum ≡ [true]
-            /// ensures value: result ≡ record self { minimum = minimum }</code></pre>
+            /// ```text
+            /// requires within: in_bounds self minimum ≡ true
+            /// ensures value: result ≡ record self { minimum = minimum }
+            /// ```
             ///
-            /// [in_bounds]: crate::specs::store::MemoryType#in_bounds "whether a memory of the type may have so many pages: as many as it can address, and no more than its maximum"
-            /// [true]: crate::specs::library#true "the Boolean"
+            /// Definitions: [`in_bounds`](crate::specs::store::MemoryType#in_bounds).
             #[inline]
             pub(super) fn with_minimum(self, minimum: u64) -> Self {
                 MemoryType { minimum, ..self }
@@ -1085,15 +1019,13 @@ mod memory {
             ///
             /// # Contract
             ///
-            /// <span></span><pre><code>ensures size: result
-            /// &#32;&#32;&#32;&#32;≡ (if [nat_lt] ([minimum_bytes] self) (2 ^ 64) then [Some] ([minimum_bytes] self) else [None])
-            /// ensures valid: [IsValid] self</code></pre>
+            /// ```text
+            /// ensures size: result
+            ///     ≡ (if nat_lt (minimum_bytes self) (2 ^ 64) then Some (minimum_bytes self) else None)
+            /// ensures valid: IsValid self
+            /// ```
             ///
-            /// [nat_lt]: crate::specs::library#nat_lt "whether m is below n, as a Boolean"
-            /// [minimum_bytes]: crate::specs::store::MemoryType#minimum_bytes "the minimum and the maximum in bytes; the maximum is cut at the greatest number of 64 bits"
-            /// [Some]: crate::specs::library#Some "the value x, of an \`Option\`"
-            /// [None]: crate::specs::library#None "no value, of an \`Option\`"
-            /// [IsValid]: crate::specs::store::MemoryType#IsValid "the limits are within what the address type reaches, the minimum not above the maximum"
+            /// Definitions: [`minimum_bytes`](crate::specs::store::MemoryType#minimum_bytes), [`IsValid`](crate::specs::store::MemoryType#IsValid).
             #[inline]
             pub(crate) fn minimum_size(self) -> Option<usize> {
                 let size = self.minimum.checked_mul(u64::from(self.page.bytes()))?;
@@ -1104,9 +1036,11 @@ mod memory {
             ///
             /// # Contract
             ///
-            /// <span></span><pre><code>ensures: result ≡ [maximum_bytes] self</code></pre>
+            /// ```text
+            /// ensures: result ≡ maximum_bytes self
+            /// ```
             ///
-            /// [maximum_bytes]: crate::specs::store::MemoryType#maximum_bytes "the maximum in bytes, at most 2^64 - 1"
+            /// Definitions: [`maximum_bytes`](crate::specs::store::MemoryType#maximum_bytes).
             #[inline]
             pub(crate) fn maximum_size(self) -> Option<usize> {
                 match self.maximum {
@@ -1121,9 +1055,11 @@ mod memory {
             ///
             /// # Contract
             ///
-            /// <span></span><pre><code>ensures: result ≡ size / [page_bytes] self.page</code></pre>
+            /// ```text
+            /// ensures: result ≡ size / page_bytes self.page
+            /// ```
             ///
-            /// [page_bytes]: crate::specs::store::MemoryType#page_bytes "the bytes of a page, and the power of two that they are"
+            /// Definitions: [`page_bytes`](crate::specs::store::MemoryType#page_bytes).
             #[inline]
             pub(crate) fn pages_in(self, size: usize) -> u64 {
                 self.page.pages_in(size as u64)
@@ -1137,17 +1073,15 @@ mod memory {
             ///
             /// # Contract
             ///
-            /// <span></span><pre><code>requires whole: size % [page_bytes] self.page ≡ 0
-            /// ensures size: [MatchOption] result
-            /// &#32;&#32;&#32;&#32;([in_bounds] self (size / [page_bytes] self.page + additional) ≡ [false])
-            /// &#32;&#32;&#32;&#32;(λ grown. ([in_bounds] self (size / [page_bytes] self.page + additional) ≡ [true])
-            /// &#32;&#32;&#32;&#32;× (grown ≡ size + additional \* [page_bytes] self.page))</code></pre>
+            /// ```text
+            /// requires whole: size % page_bytes self.page ≡ 0
+            /// ensures size: MatchOption result
+            ///     (in_bounds self (size / page_bytes self.page + additional) ≡ false)
+            ///     (λ grown. (in_bounds self (size / page_bytes self.page + additional) ≡ true)
+            ///     × (grown ≡ size + additional * page_bytes self.page))
+            /// ```
             ///
-            /// [page_bytes]: crate::specs::store::MemoryType#page_bytes "the bytes of a page, and the power of two that they are"
-            /// [MatchOption]: crate::specs::library#MatchOption "P where there is no value, else Q of the value"
-            /// [in_bounds]: crate::specs::store::MemoryType#in_bounds "whether a memory of the type may have so many pages: as many as it can address, and no more than its maximum"
-            /// [false]: crate::specs::library#false "the Boolean"
-            /// [true]: crate::specs::library#true "the Boolean"
+            /// Definitions: [`page_bytes`](crate::specs::store::MemoryType#page_bytes), [`in_bounds`](crate::specs::store::MemoryType#in_bounds).
             #[inline]
             pub(crate) fn grown_size(self, size: usize, additional: u64) -> Option<usize> {
                 assert!(
@@ -1162,15 +1096,13 @@ mod memory {
             ///
             /// # Contract
             ///
-            /// <span></span><pre><code>ensures: [MatchOption] result
-            /// &#32;&#32;&#32;&#32;([in_bounds] self pages ≡ [false])
-            /// &#32;&#32;&#32;&#32;(λ size. ([in_bounds] self pages ≡ [true]) × (size ≡ pages \* [page_bytes] self.page))</code></pre>
+            /// ```text
+            /// ensures: MatchOption result
+            ///     (in_bounds self pages ≡ false)
+            ///     (λ size. (in_bounds self pages ≡ true) × (size ≡ pages * page_bytes self.page))
+            /// ```
             ///
-            /// [MatchOption]: crate::specs::library#MatchOption "P where there is no value, else Q of the value"
-            /// [in_bounds]: crate::specs::store::MemoryType#in_bounds "whether a memory of the type may have so many pages: as many as it can address, and no more than its maximum"
-            /// [false]: crate::specs::library#false "the Boolean"
-            /// [true]: crate::specs::library#true "the Boolean"
-            /// [page_bytes]: crate::specs::store::MemoryType#page_bytes "the bytes of a page, and the power of two that they are"
+            /// Definitions: [`in_bounds`](crate::specs::store::MemoryType#in_bounds), [`page_bytes`](crate::specs::store::MemoryType#page_bytes).
             #[inline]
             pub(crate) fn size_of_pages(self, pages: u64) -> Option<usize> {
                 if pages > self.maximum.unwrap_or(most_pages(self.index, self.page)) {
@@ -1185,11 +1117,11 @@ mod memory {
         ///
         /// # Contract
         ///
-        /// <span></span><pre><code>ensures: result ≡ [min] (2 ^ [address_bits] index / [page_bytes] page) (2 ^ 64 - 1)</code></pre>
+        /// ```text
+        /// ensures: result ≡ min (2 ^ address_bits index / page_bytes page) (2 ^ 64 - 1)
+        /// ```
         ///
-        /// [min]: crate::specs::library#min "the greater and the smaller of two numbers"
-        /// [address_bits]: crate::specs::types::IndexType#address_bits "how many bits an address has"
-        /// [page_bytes]: crate::specs::store::MemoryType#page_bytes "the bytes of a page, and the power of two that they are"
+        /// Definitions: [`address_bits`](crate::specs::types::IndexType#address_bits), [`page_bytes`](crate::specs::store::MemoryType#page_bytes).
         #[inline]
         fn most_pages(index: IndexType, page: PageSize) -> u64 {
             match (index, page) {
@@ -1206,15 +1138,17 @@ mod memory {
         ///
         /// # Model
         ///
-        /// <span></span><pre><code>Value = [Settings]
+        /// ```text
+        /// Value = Settings
         /// view = λ b. record {
-        /// &#32;&#32;&#32;&#32;index = b.index;
-        /// &#32;&#32;&#32;&#32;page_size_log2 = b.page_size_log2;
-        /// &#32;&#32;&#32;&#32;minimum = b.minimum;
-        /// &#32;&#32;&#32;&#32;maximum = b.maximum;
-        /// &#32;&#32;&#32;&#32;}</code></pre>
+        ///     index = b.index;
+        ///     page_size_log2 = b.page_size_log2;
+        ///     minimum = b.minimum;
+        ///     maximum = b.maximum;
+        ///     }
+        /// ```
         ///
-        /// [Settings]: crate::specs::store::MemoryType#Settings "what a builder was told: as a memory type, with the page size as a power of two"
+        /// Definitions: [`Settings`](crate::specs::store::MemoryType#Settings).
         pub struct MemoryTypeBuilder {
             index: IndexType,
             page_size_log2: u8,
@@ -1224,9 +1158,11 @@ mod memory {
 
         /// # Contract
         ///
-        /// <span></span><pre><code>is_default = λ b. b ≡ [default_settings]</code></pre>
+        /// ```text
+        /// is_default = λ b. b ≡ default_settings
+        /// ```
         ///
-        /// [default_settings]: crate::specs::store::MemoryType#default_settings "what a builder begins with"
+        /// Definitions: [`default_settings`](crate::specs::store::MemoryType#default_settings).
         impl Default for MemoryTypeBuilder {
             #[inline]
             fn default() -> Self {
@@ -1244,11 +1180,10 @@ mod memory {
             ///
             /// # Contract
             ///
-            /// <span></span><pre><code>ensures same_reference: result.ghost_name ≡ self.entry.ghost_name
-            /// ensures value: result.now ≡ record self.old { index = (if memory64 then [I64] else [I32]) }</code></pre>
-            ///
-            /// [I64]: crate::proved::types::IndexType::I64
-            /// [I32]: crate::proved::types::IndexType::I32
+            /// ```text
+            /// ensures same_reference: result.ghost_name ≡ self.entry.ghost_name
+            /// ensures value: result.now ≡ record self.old { index = (if memory64 then I64 else I32) }
+            /// ```
             #[inline]
             pub fn memory64(&mut self, memory64: bool) -> &mut Self {
                 self.index = if memory64 {
@@ -1263,8 +1198,10 @@ mod memory {
             ///
             /// # Contract
             ///
-            /// <span></span><pre><code>ensures same_reference: result.ghost_name ≡ self.entry.ghost_name
-            /// ensures value: result.now ≡ record self.old { minimum = minimum }</code></pre>
+            /// ```text
+            /// ensures same_reference: result.ghost_name ≡ self.entry.ghost_name
+            /// ensures value: result.now ≡ record self.old { minimum = minimum }
+            /// ```
             #[inline]
             pub fn min(&mut self, minimum: u64) -> &mut Self {
                 self.minimum = minimum;
@@ -1275,8 +1212,10 @@ mod memory {
             ///
             /// # Contract
             ///
-            /// <span></span><pre><code>ensures same_reference: result.ghost_name ≡ self.entry.ghost_name
-            /// ensures value: result.now ≡ record self.old { maximum = maximum }</code></pre>
+            /// ```text
+            /// ensures same_reference: result.ghost_name ≡ self.entry.ghost_name
+            /// ensures value: result.now ≡ record self.old { maximum = maximum }
+            /// ```
             #[inline]
             pub fn max(&mut self, maximum: Option<u64>) -> &mut Self {
                 self.maximum = maximum;
@@ -1287,31 +1226,29 @@ mod memory {
             ///
             /// # Contract
             ///
-            /// <span></span><pre><code>ensures same_reference: result.ghost_name ≡ self.entry.ghost_name
-            /// ensures value: result.now ≡ record self.old { page_size_log2 = page_size_log2 }</code></pre>
+            /// ```text
+            /// ensures same_reference: result.ghost_name ≡ self.entry.ghost_name
+            /// ensures value: result.now ≡ record self.old { page_size_log2 = page_size_log2 }
+            /// ```
             #[inline]
             pub fn page_size_log2(&mut self, page_size_log2: u8) -> &mut Self {
                 self.page_size_log2 = page_size_log2;
                 self
             }
 
-            /// Builds the type. The error is [`InvalidMemoryType`] for a page size other than 1 byte and 64
+            /// Builds the type. The error is `InvalidMemoryType` for a page size other than 1 byte and 64
             /// KiB, for limits above what the address type reaches, and for a minimum above the maximum.
             ///
             /// # Contract
             ///
-            /// <span></span><pre><code>ensures: [MatchResult] result
-            /// &#32;&#32;&#32;&#32;(λ ty. ([named_type] self ≡ [Some] ty) × [IsValid] ty)
-            /// &#32;&#32;&#32;&#32;(λ error. (error ≡ [MemoryError.InvalidMemoryType])
-            /// &#32;&#32;&#32;&#32;× ¬ ([IsSomeAnd] ([named_type] self) [IsValid]))</code></pre>
+            /// ```text
+            /// ensures: MatchResult result
+            ///     (λ ty. (named_type self ≡ Some ty) × IsValid ty)
+            ///     (λ error. (error ≡ MemoryError.InvalidMemoryType)
+            ///     × ¬ (IsSomeAnd (named_type self) IsValid))
+            /// ```
             ///
-            /// [MatchResult]: crate::specs::library#MatchResult "P of the value, or Q of the error"
-            /// [named_type]: crate::specs::store::MemoryType#named_type "the type that the settings name, if there is a page of that size"
-            /// [Some]: crate::specs::library#Some "the value x, of an \`Option\`"
-            /// [IsValid]: crate::specs::store::MemoryType#IsValid "the limits are within what the address type reaches, the minimum not above the maximum"
-            /// [MemoryError.InvalidMemoryType]: crate::proved::meter::MemoryError::InvalidMemoryType
-            /// [IsSomeAnd]: crate::specs::library#IsSomeAnd "there is a value, and P of it"
-            /// [`InvalidMemoryType`]: crate::proved::meter::MemoryError::InvalidMemoryType
+            /// Definitions: [`named_type`](crate::specs::store::MemoryType#named_type), [`IsValid`](crate::specs::store::MemoryType#IsValid).
             #[inline]
             pub fn build(self) -> Result<MemoryType, MemoryError> {
                 if cfg!(not(feature = "memory64")) && self.index.is_64() {
@@ -1349,14 +1286,13 @@ mod memory {
     ///
     /// # Model
     ///
-    /// <span></span><pre><code>Value = [MemoryValue]
-    /// view = λ m. [memory_of] m.ty m.buffer
-    /// invariant = λ m. [IsSized] m.ty ([length] m.buffer.bytes)</code></pre>
+    /// ```text
+    /// Value = MemoryValue
+    /// view = λ m. memory_of m.ty m.buffer
+    /// invariant = λ m. IsSized m.ty (length m.buffer.bytes)
+    /// ```
     ///
-    /// [MemoryValue]: crate::specs::store::Memory#MemoryValue "a memory: its type, its bytes, and the room that these may grow into"
-    /// [memory_of]: crate::specs::store::Memory#memory_of "the memory of a type whose bytes are a buffer\'s"
-    /// [IsSized]: crate::specs::store::Memory#IsSized "so many bytes are whole pages, as many as the type allows"
-    /// [length]: crate::specs::library#length "the number of elements of a list"
+    /// Definitions: [`MemoryValue`](crate::specs::store::Memory#MemoryValue), [`memory_of`](crate::specs::store::Memory#memory_of), [`IsSized`](crate::specs::store::Memory#IsSized).
     #[derive(Debug)]
     pub struct LinearMemory<R: Region> {
         buffer: Buffer<R>,
@@ -1373,25 +1309,19 @@ mod memory {
     impl<'r> LinearMemory<&'r mut [u8]> {
         /// A memory of zeros, at the minimum of its type. It takes no fuel.
         ///
-        /// Errors, in the order of the tests: [`MinimumSizeOverflow`] if the minimum has 2^64 bytes or
-        /// more; [`ResourceLimiterDeniedAllocation`] if the limiter doesn't permit it;
-        /// [`OutOfSystemMemory`], of which the limiter is notified.
+        /// Errors, in the order of the tests: `MinimumSizeOverflow` if the minimum has 2^64 bytes or
+        /// more; `ResourceLimiterDeniedAllocation` if the limiter doesn't permit it;
+        /// `OutOfSystemMemory`, of which the limiter is notified.
         ///
         /// # Contract
         ///
-        /// <span></span><pre><code>ensures loan: [KeepsLoan] limiter.old limiter.new
-        /// ensures made: [MakesMemory] ([optional_rules] [L.rules]) [Owned] ty
-        /// &#32;&#32;&#32;&#32;([lent_limiter] limiter.old) result ([lent_limiter] limiter.new)</code></pre>
+        /// ```text
+        /// ensures loan: KeepsLoan limiter.old limiter.new
+        /// ensures made: MakesMemory (optional_rules L.rules) Owned ty
+        ///     (lent_limiter limiter.old) result (lent_limiter limiter.new)
+        /// ```
         ///
-        /// [KeepsLoan]: crate::specs::meter::LimiterRef#KeepsLoan "r\' leads to what r leads to"
-        /// [MakesMemory]: crate::specs::store::Memory#MakesMemory "a memory of a type is made in a room"
-        /// [optional_rules]: crate::specs::meter::Limiter#optional_rules "the rules of a limiter that may be absent"
-        /// [L.rules]: trait@ResourceLimiter#contract
-        /// [Owned]: crate::specs::store::Buffer#Owned
-        /// [lent_limiter]: crate::specs::meter::LimiterRef#lent_limiter "the present value of the limiter that is lent, or none"
-        /// [`MinimumSizeOverflow`]: crate::proved::meter::MemoryError::MinimumSizeOverflow
-        /// [`ResourceLimiterDeniedAllocation`]: crate::proved::meter::MemoryError::ResourceLimiterDeniedAllocation
-        /// [`OutOfSystemMemory`]: crate::proved::meter::MemoryError::OutOfSystemMemory
+        /// Definitions: [`KeepsLoan`](crate::specs::meter::LimiterRef#KeepsLoan), [`MakesMemory`](crate::specs::store::Memory#MakesMemory), [`optional_rules`](crate::specs::meter::Limiter#optional_rules), [`Owned`](crate::specs::store::Buffer#Owned), [`lent_limiter`](crate::specs::meter::LimiterRef#lent_limiter).
         #[inline]
         pub fn new<L: ResourceLimiter>(
             ty: MemoryType,
@@ -1407,26 +1337,20 @@ mod memory {
         /// A memory of zeros at the front of a borrowed buffer, at the minimum of its type. It takes no
         /// fuel and allocates nothing, and the bytes past the minimum stay as they are.
         ///
-        /// Errors, in the order of the tests: [`MinimumSizeOverflow`] if the minimum has 2^64 bytes or
-        /// more; [`ResourceLimiterDeniedAllocation`] if the limiter doesn't permit it;
-        /// [`InvalidStaticBufferSize`] if the buffer is shorter than the minimum, of which the limiter is
+        /// Errors, in the order of the tests: `MinimumSizeOverflow` if the minimum has 2^64 bytes or
+        /// more; `ResourceLimiterDeniedAllocation` if the limiter doesn't permit it;
+        /// `InvalidStaticBufferSize` if the buffer is shorter than the minimum, of which the limiter is
         /// notified. After an error the loan has ended, and the bytes of the buffer are unchanged.
         ///
         /// # Contract
         ///
-        /// <span></span><pre><code>ensures loan: [KeepsLoan] limiter.old limiter.new
-        /// ensures made: [MakesMemory] ([optional_rules] [L.rules]) ([Lent] region.entry.now) ty
-        /// &#32;&#32;&#32;&#32;([lent_limiter] limiter.old) result ([lent_limiter] limiter.new)</code></pre>
+        /// ```text
+        /// ensures loan: KeepsLoan limiter.old limiter.new
+        /// ensures made: MakesMemory (optional_rules L.rules) (Lent region.entry.now) ty
+        ///     (lent_limiter limiter.old) result (lent_limiter limiter.new)
+        /// ```
         ///
-        /// [KeepsLoan]: crate::specs::meter::LimiterRef#KeepsLoan "r\' leads to what r leads to"
-        /// [MakesMemory]: crate::specs::store::Memory#MakesMemory "a memory of a type is made in a room"
-        /// [optional_rules]: crate::specs::meter::Limiter#optional_rules "the rules of a limiter that may be absent"
-        /// [L.rules]: trait@ResourceLimiter#contract
-        /// [Lent]: crate::specs::store::Buffer#Lent
-        /// [lent_limiter]: crate::specs::meter::LimiterRef#lent_limiter "the present value of the limiter that is lent, or none"
-        /// [`MinimumSizeOverflow`]: crate::proved::meter::MemoryError::MinimumSizeOverflow
-        /// [`ResourceLimiterDeniedAllocation`]: crate::proved::meter::MemoryError::ResourceLimiterDeniedAllocation
-        /// [`InvalidStaticBufferSize`]: crate::proved::meter::MemoryError::InvalidStaticBufferSize
+        /// Definitions: [`KeepsLoan`](crate::specs::meter::LimiterRef#KeepsLoan), [`MakesMemory`](crate::specs::store::Memory#MakesMemory), [`optional_rules`](crate::specs::meter::Limiter#optional_rules), [`Lent`](crate::specs::store::Buffer#Lent), [`lent_limiter`](crate::specs::meter::LimiterRef#lent_limiter).
         #[inline]
         pub fn new_static<L: ResourceLimiter>(
             ty: MemoryType,
@@ -1445,14 +1369,12 @@ mod memory {
         ///
         /// # Contract
         ///
-        /// <span></span><pre><code>ensures: [MakesMemory] ([optional_rules] [L.rules]) [Owned] ty ([Some] limiter.old) result
-        /// &#32;&#32;&#32;&#32;([Some] limiter.new)</code></pre>
+        /// ```text
+        /// ensures: MakesMemory (optional_rules L.rules) Owned ty (Some limiter.old) result
+        ///     (Some limiter.new)
+        /// ```
         ///
-        /// [MakesMemory]: crate::specs::store::Memory#MakesMemory "a memory of a type is made in a room"
-        /// [optional_rules]: crate::specs::meter::Limiter#optional_rules "the rules of a limiter that may be absent"
-        /// [L.rules]: trait@ResourceLimiter#contract
-        /// [Owned]: crate::specs::store::Buffer#Owned
-        /// [Some]: crate::specs::library#Some "the value x, of an \`Option\`"
+        /// Definitions: [`MakesMemory`](crate::specs::store::Memory#MakesMemory), [`optional_rules`](crate::specs::meter::Limiter#optional_rules), [`Owned`](crate::specs::store::Buffer#Owned).
         #[inline]
         pub fn new_lending<L: ResourceLimiter>(
             ty: MemoryType,
@@ -1469,14 +1391,12 @@ mod memory {
         ///
         /// # Contract
         ///
-        /// <span></span><pre><code>ensures: [MakesMemory] ([optional_rules] [L.rules]) ([Lent] region.entry.now) ty
-        /// &#32;&#32;&#32;&#32;([Some] limiter.old) result ([Some] limiter.new)</code></pre>
+        /// ```text
+        /// ensures: MakesMemory (optional_rules L.rules) (Lent region.entry.now) ty
+        ///     (Some limiter.old) result (Some limiter.new)
+        /// ```
         ///
-        /// [MakesMemory]: crate::specs::store::Memory#MakesMemory "a memory of a type is made in a room"
-        /// [optional_rules]: crate::specs::meter::Limiter#optional_rules "the rules of a limiter that may be absent"
-        /// [L.rules]: trait@ResourceLimiter#contract
-        /// [Lent]: crate::specs::store::Buffer#Lent
-        /// [Some]: crate::specs::library#Some "the value x, of an \`Option\`"
+        /// Definitions: [`MakesMemory`](crate::specs::store::Memory#MakesMemory), [`optional_rules`](crate::specs::meter::Limiter#optional_rules), [`Lent`](crate::specs::store::Buffer#Lent).
         #[inline]
         pub fn new_static_lending<L: ResourceLimiter>(
             ty: MemoryType,
@@ -1495,7 +1415,9 @@ mod memory {
         ///
         /// # Contract
         ///
-        /// <span></span><pre><code>ensures: result ≡ self.now.ty</code></pre>
+        /// ```text
+        /// ensures: result ≡ self.now.ty
+        /// ```
         #[inline]
         pub fn ty(&self) -> MemoryType {
             self.ty
@@ -1505,10 +1427,11 @@ mod memory {
         ///
         /// # Contract
         ///
-        /// <span></span><pre><code>ensures: [IsValidMemory] self.now</code></pre>
+        /// ```text
+        /// ensures: IsValidMemory self.now
+        /// ```
         ///
-        /// [IsValidMemory]: crate::specs::store::Memory#IsValidMemory "a memory of a valid type has as many whole pages as that allows (core specification, validity of memory instances)"
-        #[cfg(any(doc, test))]
+        /// Definitions: [`IsValidMemory`](crate::specs::store::Memory#IsValidMemory).
         #[inline(always)]
         pub(crate) fn tell_valid(&self) {
             let _minimum = self.ty.minimum();
@@ -1520,11 +1443,12 @@ mod memory {
         ///
         /// # Contract
         ///
-        /// <span></span><pre><code>ensures value: result ≡ [dynamic_type] self.now
-        /// ensures subtype: [IsSubtype] result self.now.ty</code></pre>
+        /// ```text
+        /// ensures value: result ≡ dynamic_type self.now
+        /// ensures subtype: IsSubtype result self.now.ty
+        /// ```
         ///
-        /// [dynamic_type]: crate::specs::store::Memory#dynamic_type "a memory\'s type with the present size as the minimum"
-        /// [IsSubtype]: crate::specs::store::MemoryType#IsSubtype "a memory of type a may be given where one of type b is asked for (core specification, import matching)"
+        /// Definitions: [`dynamic_type`](crate::specs::store::Memory#dynamic_type), [`IsSubtype`](crate::specs::store::MemoryType#IsSubtype).
         #[inline]
         pub fn dynamic_ty(&self) -> MemoryType {
             self.ty.with_minimum(self.size())
@@ -1534,12 +1458,12 @@ mod memory {
         ///
         /// # Contract
         ///
-        /// <span></span><pre><code>ensures value: result ≡ [pages_of] self.now
-        /// ensures within: [in_bounds] self.now.ty result ≡ [true]</code></pre>
+        /// ```text
+        /// ensures value: result ≡ pages_of self.now
+        /// ensures within: in_bounds self.now.ty result ≡ true
+        /// ```
         ///
-        /// [pages_of]: crate::specs::store::Memory#pages_of "the size of a memory in pages"
-        /// [in_bounds]: crate::specs::store::MemoryType#in_bounds "whether a memory of the type may have so many pages: as many as it can address, and no more than its maximum"
-        /// [true]: crate::specs::library#true "the Boolean"
+        /// Definitions: [`pages_of`](crate::specs::store::Memory#pages_of), [`in_bounds`](crate::specs::store::MemoryType#in_bounds).
         #[inline]
         pub fn size(&self) -> u64 {
             self.buffer.len() as u64 / u64::from(self.ty.page_size())
@@ -1549,11 +1473,12 @@ mod memory {
         ///
         /// # Contract
         ///
-        /// <span></span><pre><code>ensures value: result ≡ [length] self.now.bytes
-        /// ensures sized: [IsSized] self.now.ty result</code></pre>
+        /// ```text
+        /// ensures value: result ≡ length self.now.bytes
+        /// ensures sized: IsSized self.now.ty result
+        /// ```
         ///
-        /// [length]: crate::specs::library#length "the number of elements of a list"
-        /// [IsSized]: crate::specs::store::Memory#IsSized "so many bytes are whole pages, as many as the type allows"
+        /// Definitions: [`IsSized`](crate::specs::store::Memory#IsSized).
         #[inline]
         pub fn data_size(&self) -> usize {
             self.buffer.len()
@@ -1563,7 +1488,9 @@ mod memory {
         ///
         /// # Contract
         ///
-        /// <span></span><pre><code>ensures: result.now ≡ self.now.bytes</code></pre>
+        /// ```text
+        /// ensures: result.now ≡ self.now.bytes
+        /// ```
         #[inline]
         pub fn data(&self) -> &[u8] {
             self.buffer.data()
@@ -1573,20 +1500,13 @@ mod memory {
         ///
         /// # Contract
         ///
-        /// <span></span><pre><code>ensures\* writes_back: [sem] 𝓛 ([Lends] ([the_row] [R.row] [R.Region]) ([Array] [u8] 0) self.entry result
-        /// &#32;&#32;&#32;&#32;(λ ws. [memory_of] self.old.ty ([with_bytes] ([buffer_of] self.old) ws)))
-        /// ensures value: result.now ≡ self.old.bytes</code></pre>
+        /// ```text
+        /// ensures* writes_back: sem 𝓛 (Lends (the_row R.row R.Region) (Array u8 0) self.entry result
+        ///     (λ ws. memory_of self.old.ty (with_bytes (buffer_of self.old) ws)))
+        /// ensures value: result.now ≡ self.old.bytes
+        /// ```
         ///
-        /// [sem]: crate::specs::library#sem "the fixed form of a clause on a loan"
-        /// [Lends]: crate::specs::library#Lends "the result r borrows from x: what is written through r last, w, makes x the value F w"
-        /// [the_row]: crate::specs::library#the_row "the type itself, in a clause on a loan"
-        /// [R.row]: crate::specs::library#row "a type, in a clause on a loan"
-        /// [R.Region]: trait@Region#contract
-        /// [Array]: crate::specs::library#Array "in a clause on a loan: the type of a slice of T"
-        /// [u8]: crate::specs::library#u8 "the bytes, in a clause on a loan"
-        /// [memory_of]: crate::specs::store::Memory#memory_of "the memory of a type whose bytes are a buffer\'s"
-        /// [with_bytes]: crate::specs::store::Buffer#with_bytes "the buffer whose bytes were written over, by as many"
-        /// [buffer_of]: crate::specs::store::Memory#buffer_of "the buffer of its bytes"
+        /// Definitions: [`memory_of`](crate::specs::store::Memory#memory_of), [`with_bytes`](crate::specs::store::Buffer#with_bytes), [`buffer_of`](crate::specs::store::Memory#buffer_of).
         #[inline]
         pub fn data_mut(&mut self) -> &mut [u8] {
             self.buffer.data_mut()
@@ -1595,35 +1515,25 @@ mod memory {
         /// Grows by `additional` pages of zeros, and returns the old size in pages. A growth by 0 pages
         /// changes nothing and asks no limiter.
         ///
-        /// Errors, in the order of the tests: [`OutOfBoundsGrowth`] above the greatest number of pages or
-        /// the maximum, or at 2^64 bytes or more; the limiter's denial ([`OutOfBoundsGrowth`] if it says
-        /// no, [`ResourceLimiterDeniedAllocation`] if it returns an error); [`InvalidStaticBufferSize`] if
-        /// a borrowed buffer is shorter than the new size, which charges nothing; [`OutOfFuel`] if the
-        /// meter is on and the added bytes cost more than is left; [`OutOfSystemMemory`], after which the
+        /// Errors, in the order of the tests: `OutOfBoundsGrowth` above the greatest number of pages or
+        /// the maximum, or at 2^64 bytes or more; the limiter's denial (`OutOfBoundsGrowth` if it says
+        /// no, `ResourceLimiterDeniedAllocation` if it returns an error); `InvalidStaticBufferSize` if
+        /// a borrowed buffer is shorter than the new size, which charges nothing; `OutOfFuel` if the
+        /// meter is on and the added bytes cost more than is left; `OutOfSystemMemory`, after which the
         /// fuel stays spent, and which doesn't occur on a borrowed buffer. The limiter is notified of
-        /// the last three, and if it returns an error, the error is [`ResourceLimiterDeniedAllocation`]
+        /// the last three, and if it returns an error, the error is `ResourceLimiterDeniedAllocation`
         /// instead. Bytes of a borrowed buffer past the new size stay as they are.
         ///
         /// # Contract
         ///
-        /// <span></span><pre><code>ensures loan: [KeepsLoan] limiter.old limiter.new
-        /// ensures grown: [GrowsMemory] ([optional_rules] [L.rules]) additional
-        /// &#32;&#32;&#32;&#32;([metered_value] self.old ([meter_at_entry] fuel.entry) ([lent_limiter] limiter.old)) result
-        /// &#32;&#32;&#32;&#32;([metered_value] self.new ([meter_at_exit] fuel.exit) ([lent_limiter] limiter.new))</code></pre>
+        /// ```text
+        /// ensures loan: KeepsLoan limiter.old limiter.new
+        /// ensures grown: GrowsMemory (optional_rules L.rules) additional
+        ///     (metered_value self.old (meter_at_entry fuel.entry) (lent_limiter limiter.old)) result
+        ///     (metered_value self.new (meter_at_exit fuel.exit) (lent_limiter limiter.new))
+        /// ```
         ///
-        /// [KeepsLoan]: crate::specs::meter::LimiterRef#KeepsLoan "r\' leads to what r leads to"
-        /// [GrowsMemory]: crate::specs::store::Memory#GrowsMemory "a memory grows by so many pages; it returns the old size in pages"
-        /// [optional_rules]: crate::specs::meter::Limiter#optional_rules "the rules of a limiter that may be absent"
-        /// [L.rules]: trait@ResourceLimiter#contract
-        /// [metered_value]: crate::specs::store::Growth#metered_value "a value with its meter, if there is one, and its limiter"
-        /// [meter_at_entry]: crate::specs::meter::Meter#meter_at_entry "the meter that an optional reference leads to when a call begins, if there is one"
-        /// [lent_limiter]: crate::specs::meter::LimiterRef#lent_limiter "the present value of the limiter that is lent, or none"
-        /// [meter_at_exit]: crate::specs::meter::Meter#meter_at_exit "the meter that an optional reference leaves behind it when a call ends, if there is one, in the terms of a clause\'s \`.exit\`"
-        /// [`OutOfBoundsGrowth`]: crate::proved::meter::MemoryError::OutOfBoundsGrowth
-        /// [`ResourceLimiterDeniedAllocation`]: crate::proved::meter::MemoryError::ResourceLimiterDeniedAllocation
-        /// [`InvalidStaticBufferSize`]: crate::proved::meter::MemoryError::InvalidStaticBufferSize
-        /// [`OutOfFuel`]: crate::proved::meter::MemoryError::OutOfFuel
-        /// [`OutOfSystemMemory`]: crate::proved::meter::MemoryError::OutOfSystemMemory
+        /// Definitions: [`KeepsLoan`](crate::specs::meter::LimiterRef#KeepsLoan), [`GrowsMemory`](crate::specs::store::Memory#GrowsMemory), [`optional_rules`](crate::specs::meter::Limiter#optional_rules), [`metered_value`](crate::specs::store::Growth#metered_value), [`meter_at_entry`](crate::specs::meter::Meter#meter_at_entry), [`lent_limiter`](crate::specs::meter::LimiterRef#lent_limiter), [`meter_at_exit`](crate::specs::meter::Meter#meter_at_exit).
         #[inline]
         pub fn grow<L: ResourceLimiter>(
             &mut self,
@@ -1640,18 +1550,14 @@ mod memory {
         ///
         /// # Contract
         ///
-        /// <span></span><pre><code>ensures loan: [KeepsLoan] limiter.old limiter.new
-        /// ensures grown: [GrowsMemory] ([optional_rules] [L.rules]) additional
-        /// &#32;&#32;&#32;&#32;([metered_value] self.old ([Some] fuel.old) ([lent_limiter] limiter.old)) result
-        /// &#32;&#32;&#32;&#32;([metered_value] self.new ([Some] fuel.new) ([lent_limiter] limiter.new))</code></pre>
+        /// ```text
+        /// ensures loan: KeepsLoan limiter.old limiter.new
+        /// ensures grown: GrowsMemory (optional_rules L.rules) additional
+        ///     (metered_value self.old (Some fuel.old) (lent_limiter limiter.old)) result
+        ///     (metered_value self.new (Some fuel.new) (lent_limiter limiter.new))
+        /// ```
         ///
-        /// [KeepsLoan]: crate::specs::meter::LimiterRef#KeepsLoan "r\' leads to what r leads to"
-        /// [GrowsMemory]: crate::specs::store::Memory#GrowsMemory "a memory grows by so many pages; it returns the old size in pages"
-        /// [optional_rules]: crate::specs::meter::Limiter#optional_rules "the rules of a limiter that may be absent"
-        /// [L.rules]: trait@ResourceLimiter#contract
-        /// [metered_value]: crate::specs::store::Growth#metered_value "a value with its meter, if there is one, and its limiter"
-        /// [Some]: crate::specs::library#Some "the value x, of an \`Option\`"
-        /// [lent_limiter]: crate::specs::meter::LimiterRef#lent_limiter "the present value of the limiter that is lent, or none"
+        /// Definitions: [`KeepsLoan`](crate::specs::meter::LimiterRef#KeepsLoan), [`GrowsMemory`](crate::specs::store::Memory#GrowsMemory), [`optional_rules`](crate::specs::meter::Limiter#optional_rules), [`metered_value`](crate::specs::store::Growth#metered_value), [`lent_limiter`](crate::specs::meter::LimiterRef#lent_limiter).
         #[inline]
         pub fn grow_metered<L: ResourceLimiter>(
             &mut self,
@@ -1683,15 +1589,13 @@ mod memory {
         ///
         /// # Contract
         ///
-        /// <span></span><pre><code>ensures: [GrowsMemory] ([optional_rules] [L.rules]) additional
-        /// &#32;&#32;&#32;&#32;([metered_value] self.old ([Some] fuel.old) ([Some] limiter.old)) result
-        /// &#32;&#32;&#32;&#32;([metered_value] self.new ([Some] fuel.new) ([Some] limiter.new))</code></pre>
+        /// ```text
+        /// ensures: GrowsMemory (optional_rules L.rules) additional
+        ///     (metered_value self.old (Some fuel.old) (Some limiter.old)) result
+        ///     (metered_value self.new (Some fuel.new) (Some limiter.new))
+        /// ```
         ///
-        /// [GrowsMemory]: crate::specs::store::Memory#GrowsMemory "a memory grows by so many pages; it returns the old size in pages"
-        /// [optional_rules]: crate::specs::meter::Limiter#optional_rules "the rules of a limiter that may be absent"
-        /// [L.rules]: trait@ResourceLimiter#contract
-        /// [metered_value]: crate::specs::store::Growth#metered_value "a value with its meter, if there is one, and its limiter"
-        /// [Some]: crate::specs::library#Some "the value x, of an \`Option\`"
+        /// Definitions: [`GrowsMemory`](crate::specs::store::Memory#GrowsMemory), [`optional_rules`](crate::specs::meter::Limiter#optional_rules), [`metered_value`](crate::specs::store::Growth#metered_value).
         #[inline]
         pub fn grow_lending<L: ResourceLimiter>(
             &mut self,
@@ -1705,38 +1609,34 @@ mod memory {
             grown
         }
 
-        /// Fills a buffer with the bytes from an offset on. The error is [`OutOfBoundsAccess`] if they
+        /// Fills a buffer with the bytes from an offset on. The error is `OutOfBoundsAccess` if they
         /// end past the memory; then nothing is copied.
         ///
         /// # Contract
         ///
-        /// <span></span><pre><code>ensures ok: [OnOk] result ([at] self.now.bytes offset ([length] buffer.old) ≡ [Some] buffer.new)
-        /// ensures err: [IfErr] result
-        /// &#32;&#32;&#32;&#32;(λ error. (error ≡ [MemoryError.OutOfBoundsAccess])
-        /// &#32;&#32;&#32;&#32;× ([at] self.now.bytes offset ([length] buffer.old) ≡ [None]) × (buffer.new ≡ buffer.old))</code></pre>
+        /// ```text
+        /// ensures ok: OnOk result (at self.now.bytes offset (length buffer.old) ≡ Some buffer.new)
+        /// ensures err: IfErr result
+        ///     (λ error. (error ≡ MemoryError.OutOfBoundsAccess)
+        ///     × (at self.now.bytes offset (length buffer.old) ≡ None) × (buffer.new ≡ buffer.old))
+        /// ```
         ///
-        /// [OnOk]: crate::specs::library#OnOk "P, if r is a value"
-        /// [at]: crate::specs::types::Access#at "the items a to a + n - 1, or none where the list ends before them"
-        /// [length]: crate::specs::library#length "the number of elements of a list"
-        /// [Some]: crate::specs::library#Some "the value x, of an \`Option\`"
-        /// [IfErr]: crate::specs::library#IfErr "P of the error, if r is an error"
-        /// [MemoryError.OutOfBoundsAccess]: crate::proved::meter::MemoryError::OutOfBoundsAccess
-        /// [None]: crate::specs::library#None "no value, of an \`Option\`"
-        /// [`OutOfBoundsAccess`]: crate::proved::meter::MemoryError::OutOfBoundsAccess
+        /// Definitions: [`at`](crate::specs::types::Access#at).
         #[inline]
         pub fn read(&self, offset: usize, buffer: &mut [u8]) -> Result<(), MemoryError> {
             read_bytes(self.buffer.data(), offset, buffer)
         }
 
-        /// Writes bytes over those from an offset on. The error is [`OutOfBoundsAccess`] if they would
+        /// Writes bytes over those from an offset on. The error is `OutOfBoundsAccess` if they would
         /// end past the memory; then nothing is written.
         ///
         /// # Contract
         ///
-        /// <span></span><pre><code>ensures: [WritesMemory] self.old offset buffer.now result self.new</code></pre>
+        /// ```text
+        /// ensures: WritesMemory self.old offset buffer.now result self.new
+        /// ```
         ///
-        /// [WritesMemory]: crate::specs::store::Memory#WritesMemory "bytes are written over those from an offset on where they end within the memory, and nothing is written else"
-        /// [`OutOfBoundsAccess`]: crate::proved::meter::MemoryError::OutOfBoundsAccess
+        /// Definitions: [`WritesMemory`](crate::specs::store::Memory#WritesMemory).
         #[inline]
         pub fn write(&mut self, offset: usize, buffer: &[u8]) -> Result<(), MemoryError> {
             write_bytes(self.buffer.data_mut(), offset, buffer)
@@ -1744,8 +1644,8 @@ mod memory {
 
         /// Fills `len` bytes from `dst` on with a value.
         ///
-        /// Errors, in the order of the tests: [`OutOfBoundsAccess`] if they end past the memory;
-        /// [`OutOfFuel`], which is tested also if no byte is filled. Then no byte is written, and no fuel
+        /// Errors, in the order of the tests: `OutOfBoundsAccess` if they end past the memory;
+        /// `OutOfFuel`, which is tested also if no byte is filled. Then no byte is written, and no fuel
         /// taken.
         ///
         /// Core specification, memory.fill. Own: upstream's memories have no bulk instructions. This
@@ -1753,19 +1653,14 @@ mod memory {
         ///
         /// # Contract
         ///
-        /// <span></span><pre><code>ensures written: [BulkWrites] ([filled] self.old.bytes dst value len) len
-        /// &#32;&#32;&#32;&#32;([metered] self.old.bytes ([meter_at_entry] fuel.entry)) result
-        /// &#32;&#32;&#32;&#32;([metered] self.new.bytes ([meter_at_exit] fuel.exit))
-        /// ensures kept: [KeepsPlace] self.old self.new</code></pre>
+        /// ```text
+        /// ensures written: BulkWrites (filled self.old.bytes dst value len) len
+        ///     (metered self.old.bytes (meter_at_entry fuel.entry)) result
+        ///     (metered self.new.bytes (meter_at_exit fuel.exit))
+        /// ensures kept: KeepsPlace self.old self.new
+        /// ```
         ///
-        /// [BulkWrites]: crate::specs::store::Bulk#BulkWrites "A bulk instruction writes so many bytes, by what the bytes become, or none where a range ends past its list. That is tested first, then the fuel; an instruction that is refused writes and takes nothing."
-        /// [filled]: crate::specs::store::Bulk#filled "items of which so many, from dst on, are each filled with a value, or none where they end too early"
-        /// [metered]: crate::specs::store::Growth#metered "a value with its meter, if there is one, and no limiter to ask"
-        /// [meter_at_entry]: crate::specs::meter::Meter#meter_at_entry "the meter that an optional reference leads to when a call begins, if there is one"
-        /// [meter_at_exit]: crate::specs::meter::Meter#meter_at_exit "the meter that an optional reference leaves behind it when a call ends, if there is one, in the terms of a clause\'s \`.exit\`"
-        /// [KeepsPlace]: crate::specs::store::Memory#KeepsPlace "bytes are written over, and the type of the memory and its room stay"
-        /// [`OutOfBoundsAccess`]: crate::proved::meter::MemoryError::OutOfBoundsAccess
-        /// [`OutOfFuel`]: crate::proved::meter::MemoryError::OutOfFuel
+        /// Definitions: [`BulkWrites`](crate::specs::store::Bulk#BulkWrites), [`filled`](crate::specs::store::Bulk#filled), [`metered`](crate::specs::store::Growth#metered), [`meter_at_entry`](crate::specs::meter::Meter#meter_at_entry), [`meter_at_exit`](crate::specs::meter::Meter#meter_at_exit), [`KeepsPlace`](crate::specs::store::Memory#KeepsPlace).
         #[inline]
         pub fn fill(
             &mut self,
@@ -1781,16 +1676,14 @@ mod memory {
         ///
         /// # Contract
         ///
-        /// <span></span><pre><code>ensures written: [BulkWrites] ([filled] self.old.bytes dst value len) len
-        /// &#32;&#32;&#32;&#32;([metered] self.old.bytes ([Some] fuel.old)) result
-        /// &#32;&#32;&#32;&#32;([metered] self.new.bytes ([Some] fuel.new))
-        /// ensures kept: [KeepsPlace] self.old self.new</code></pre>
+        /// ```text
+        /// ensures written: BulkWrites (filled self.old.bytes dst value len) len
+        ///     (metered self.old.bytes (Some fuel.old)) result
+        ///     (metered self.new.bytes (Some fuel.new))
+        /// ensures kept: KeepsPlace self.old self.new
+        /// ```
         ///
-        /// [BulkWrites]: crate::specs::store::Bulk#BulkWrites "A bulk instruction writes so many bytes, by what the bytes become, or none where a range ends past its list. That is tested first, then the fuel; an instruction that is refused writes and takes nothing."
-        /// [filled]: crate::specs::store::Bulk#filled "items of which so many, from dst on, are each filled with a value, or none where they end too early"
-        /// [metered]: crate::specs::store::Growth#metered "a value with its meter, if there is one, and no limiter to ask"
-        /// [Some]: crate::specs::library#Some "the value x, of an \`Option\`"
-        /// [KeepsPlace]: crate::specs::store::Memory#KeepsPlace "bytes are written over, and the type of the memory and its room stay"
+        /// Definitions: [`BulkWrites`](crate::specs::store::Bulk#BulkWrites), [`filled`](crate::specs::store::Bulk#filled), [`metered`](crate::specs::store::Growth#metered), [`KeepsPlace`](crate::specs::store::Memory#KeepsPlace).
         #[inline]
         pub fn fill_metered(
             &mut self,
@@ -1805,8 +1698,8 @@ mod memory {
         /// Copies `len` bytes from `src` on over those from `dst` on. If the ranges overlap, the old
         /// bytes are copied.
         ///
-        /// Errors, in the order of the tests: [`OutOfBoundsAccess`] if a range ends past the memory;
-        /// [`OutOfFuel`], which is tested also if no byte is copied. Then no byte is written, and no fuel
+        /// Errors, in the order of the tests: `OutOfBoundsAccess` if a range ends past the memory;
+        /// `OutOfFuel`, which is tested also if no byte is copied. Then no byte is written, and no fuel
         /// taken.
         ///
         /// Core specification, memory.copy within a memory. Own: upstream's memories have no bulk
@@ -1814,19 +1707,14 @@ mod memory {
         ///
         /// # Contract
         ///
-        /// <span></span><pre><code>ensures written: [BulkWrites] ([copied] self.old.bytes dst self.old.bytes src len) len
-        /// &#32;&#32;&#32;&#32;([metered] self.old.bytes ([meter_at_entry] fuel.entry)) result
-        /// &#32;&#32;&#32;&#32;([metered] self.new.bytes ([meter_at_exit] fuel.exit))
-        /// ensures kept: [KeepsPlace] self.old self.new</code></pre>
+        /// ```text
+        /// ensures written: BulkWrites (copied self.old.bytes dst self.old.bytes src len) len
+        ///     (metered self.old.bytes (meter_at_entry fuel.entry)) result
+        ///     (metered self.new.bytes (meter_at_exit fuel.exit))
+        /// ensures kept: KeepsPlace self.old self.new
+        /// ```
         ///
-        /// [BulkWrites]: crate::specs::store::Bulk#BulkWrites "A bulk instruction writes so many bytes, by what the bytes become, or none where a range ends past its list. That is tested first, then the fuel; an instruction that is refused writes and takes nothing."
-        /// [copied]: crate::specs::store::Bulk#copied "items whose part from dst on is written over by so many items of a list from src on, or none where a list ends too early"
-        /// [metered]: crate::specs::store::Growth#metered "a value with its meter, if there is one, and no limiter to ask"
-        /// [meter_at_entry]: crate::specs::meter::Meter#meter_at_entry "the meter that an optional reference leads to when a call begins, if there is one"
-        /// [meter_at_exit]: crate::specs::meter::Meter#meter_at_exit "the meter that an optional reference leaves behind it when a call ends, if there is one, in the terms of a clause\'s \`.exit\`"
-        /// [KeepsPlace]: crate::specs::store::Memory#KeepsPlace "bytes are written over, and the type of the memory and its room stay"
-        /// [`OutOfBoundsAccess`]: crate::proved::meter::MemoryError::OutOfBoundsAccess
-        /// [`OutOfFuel`]: crate::proved::meter::MemoryError::OutOfFuel
+        /// Definitions: [`BulkWrites`](crate::specs::store::Bulk#BulkWrites), [`copied`](crate::specs::store::Bulk#copied), [`metered`](crate::specs::store::Growth#metered), [`meter_at_entry`](crate::specs::meter::Meter#meter_at_entry), [`meter_at_exit`](crate::specs::meter::Meter#meter_at_exit), [`KeepsPlace`](crate::specs::store::Memory#KeepsPlace).
         #[inline]
         pub fn copy_within(
             &mut self,
@@ -1842,16 +1730,14 @@ mod memory {
         ///
         /// # Contract
         ///
-        /// <span></span><pre><code>ensures written: [BulkWrites] ([copied] self.old.bytes dst self.old.bytes src len) len
-        /// &#32;&#32;&#32;&#32;([metered] self.old.bytes ([Some] fuel.old)) result
-        /// &#32;&#32;&#32;&#32;([metered] self.new.bytes ([Some] fuel.new))
-        /// ensures kept: [KeepsPlace] self.old self.new</code></pre>
+        /// ```text
+        /// ensures written: BulkWrites (copied self.old.bytes dst self.old.bytes src len) len
+        ///     (metered self.old.bytes (Some fuel.old)) result
+        ///     (metered self.new.bytes (Some fuel.new))
+        /// ensures kept: KeepsPlace self.old self.new
+        /// ```
         ///
-        /// [BulkWrites]: crate::specs::store::Bulk#BulkWrites "A bulk instruction writes so many bytes, by what the bytes become, or none where a range ends past its list. That is tested first, then the fuel; an instruction that is refused writes and takes nothing."
-        /// [copied]: crate::specs::store::Bulk#copied "items whose part from dst on is written over by so many items of a list from src on, or none where a list ends too early"
-        /// [metered]: crate::specs::store::Growth#metered "a value with its meter, if there is one, and no limiter to ask"
-        /// [Some]: crate::specs::library#Some "the value x, of an \`Option\`"
-        /// [KeepsPlace]: crate::specs::store::Memory#KeepsPlace "bytes are written over, and the type of the memory and its room stay"
+        /// Definitions: [`BulkWrites`](crate::specs::store::Bulk#BulkWrites), [`copied`](crate::specs::store::Bulk#copied), [`metered`](crate::specs::store::Growth#metered), [`KeepsPlace`](crate::specs::store::Memory#KeepsPlace).
         #[inline]
         pub fn copy_within_metered(
             &mut self,
@@ -1866,8 +1752,8 @@ mod memory {
         /// Copies `len` bytes of another memory, from `src` on, over the bytes of a memory from `dst`
         /// on.
         ///
-        /// Errors, in the order of the tests: [`OutOfBoundsAccess`] if a range ends past its memory;
-        /// [`OutOfFuel`], which is tested also if no byte is copied. Then no byte is written, and no fuel
+        /// Errors, in the order of the tests: `OutOfBoundsAccess` if a range ends past its memory;
+        /// `OutOfFuel`, which is tested also if no byte is copied. Then no byte is written, and no fuel
         /// taken.
         ///
         /// Core specification, memory.copy of two memories. Own: upstream's memories have no bulk
@@ -1875,20 +1761,15 @@ mod memory {
         ///
         /// # Contract
         ///
-        /// <span></span><pre><code>ensures written: [BulkWrites]
-        /// &#32;&#32;&#32;&#32;([copied] dst_memory.old.bytes dst src_memory.now.bytes src len) len
-        /// &#32;&#32;&#32;&#32;([metered] dst_memory.old.bytes ([meter_at_entry] fuel.entry)) result
-        /// &#32;&#32;&#32;&#32;([metered] dst_memory.new.bytes ([meter_at_exit] fuel.exit))
-        /// ensures kept: [KeepsPlace] dst_memory.old dst_memory.new</code></pre>
+        /// ```text
+        /// ensures written: BulkWrites
+        ///     (copied dst_memory.old.bytes dst src_memory.now.bytes src len) len
+        ///     (metered dst_memory.old.bytes (meter_at_entry fuel.entry)) result
+        ///     (metered dst_memory.new.bytes (meter_at_exit fuel.exit))
+        /// ensures kept: KeepsPlace dst_memory.old dst_memory.new
+        /// ```
         ///
-        /// [BulkWrites]: crate::specs::store::Bulk#BulkWrites "A bulk instruction writes so many bytes, by what the bytes become, or none where a range ends past its list. That is tested first, then the fuel; an instruction that is refused writes and takes nothing."
-        /// [copied]: crate::specs::store::Bulk#copied "items whose part from dst on is written over by so many items of a list from src on, or none where a list ends too early"
-        /// [metered]: crate::specs::store::Growth#metered "a value with its meter, if there is one, and no limiter to ask"
-        /// [meter_at_entry]: crate::specs::meter::Meter#meter_at_entry "the meter that an optional reference leads to when a call begins, if there is one"
-        /// [meter_at_exit]: crate::specs::meter::Meter#meter_at_exit "the meter that an optional reference leaves behind it when a call ends, if there is one, in the terms of a clause\'s \`.exit\`"
-        /// [KeepsPlace]: crate::specs::store::Memory#KeepsPlace "bytes are written over, and the type of the memory and its room stay"
-        /// [`OutOfBoundsAccess`]: crate::proved::meter::MemoryError::OutOfBoundsAccess
-        /// [`OutOfFuel`]: crate::proved::meter::MemoryError::OutOfFuel
+        /// Definitions: [`BulkWrites`](crate::specs::store::Bulk#BulkWrites), [`copied`](crate::specs::store::Bulk#copied), [`metered`](crate::specs::store::Growth#metered), [`meter_at_entry`](crate::specs::meter::Meter#meter_at_entry), [`meter_at_exit`](crate::specs::meter::Meter#meter_at_exit), [`KeepsPlace`](crate::specs::store::Memory#KeepsPlace).
         #[inline]
         pub fn copy<S: Region>(
             dst_memory: &mut LinearMemory<R>,
@@ -1905,16 +1786,14 @@ mod memory {
         ///
         /// # Contract
         ///
-        /// <span></span><pre><code>ensures written: [BulkWrites] ([copied] self.old.bytes dst src_memory.now.bytes src len) len
-        /// &#32;&#32;&#32;&#32;([metered] self.old.bytes ([Some] fuel.old)) result
-        /// &#32;&#32;&#32;&#32;([metered] self.new.bytes ([Some] fuel.new))
-        /// ensures kept: [KeepsPlace] self.old self.new</code></pre>
+        /// ```text
+        /// ensures written: BulkWrites (copied self.old.bytes dst src_memory.now.bytes src len) len
+        ///     (metered self.old.bytes (Some fuel.old)) result
+        ///     (metered self.new.bytes (Some fuel.new))
+        /// ensures kept: KeepsPlace self.old self.new
+        /// ```
         ///
-        /// [BulkWrites]: crate::specs::store::Bulk#BulkWrites "A bulk instruction writes so many bytes, by what the bytes become, or none where a range ends past its list. That is tested first, then the fuel; an instruction that is refused writes and takes nothing."
-        /// [copied]: crate::specs::store::Bulk#copied "items whose part from dst on is written over by so many items of a list from src on, or none where a list ends too early"
-        /// [metered]: crate::specs::store::Growth#metered "a value with its meter, if there is one, and no limiter to ask"
-        /// [Some]: crate::specs::library#Some "the value x, of an \`Option\`"
-        /// [KeepsPlace]: crate::specs::store::Memory#KeepsPlace "bytes are written over, and the type of the memory and its room stay"
+        /// Definitions: [`BulkWrites`](crate::specs::store::Bulk#BulkWrites), [`copied`](crate::specs::store::Bulk#copied), [`metered`](crate::specs::store::Growth#metered), [`KeepsPlace`](crate::specs::store::Memory#KeepsPlace).
         #[inline]
         pub fn copy_metered<S: Region>(
             &mut self,
@@ -1937,27 +1816,22 @@ mod memory {
         /// Copies `len` bytes of a data segment, from `src` on, over the bytes from `dst` on. A segment
         /// that was dropped has no bytes.
         ///
-        /// Errors, in the order of the tests: [`OutOfBoundsAccess`] if a range ends past the segment or
-        /// the memory; [`OutOfFuel`], which is tested also if no byte is copied. Then no byte is written,
+        /// Errors, in the order of the tests: `OutOfBoundsAccess` if a range ends past the segment or
+        /// the memory; `OutOfFuel`, which is tested also if no byte is copied. Then no byte is written,
         /// and no fuel taken.
         ///
         /// Core specification, memory.init. Own: upstream's memories have no bulk instructions.
         ///
         /// # Contract
         ///
-        /// <span></span><pre><code>ensures written: [BulkWrites] ([copied] self.old.bytes dst segment.now src len) len
-        /// &#32;&#32;&#32;&#32;([metered] self.old.bytes ([meter_at_entry] fuel.entry)) result
-        /// &#32;&#32;&#32;&#32;([metered] self.new.bytes ([meter_at_exit] fuel.exit))
-        /// ensures kept: [KeepsPlace] self.old self.new</code></pre>
+        /// ```text
+        /// ensures written: BulkWrites (copied self.old.bytes dst segment.now src len) len
+        ///     (metered self.old.bytes (meter_at_entry fuel.entry)) result
+        ///     (metered self.new.bytes (meter_at_exit fuel.exit))
+        /// ensures kept: KeepsPlace self.old self.new
+        /// ```
         ///
-        /// [BulkWrites]: crate::specs::store::Bulk#BulkWrites "A bulk instruction writes so many bytes, by what the bytes become, or none where a range ends past its list. That is tested first, then the fuel; an instruction that is refused writes and takes nothing."
-        /// [copied]: crate::specs::store::Bulk#copied "items whose part from dst on is written over by so many items of a list from src on, or none where a list ends too early"
-        /// [metered]: crate::specs::store::Growth#metered "a value with its meter, if there is one, and no limiter to ask"
-        /// [meter_at_entry]: crate::specs::meter::Meter#meter_at_entry "the meter that an optional reference leads to when a call begins, if there is one"
-        /// [meter_at_exit]: crate::specs::meter::Meter#meter_at_exit "the meter that an optional reference leaves behind it when a call ends, if there is one, in the terms of a clause\'s \`.exit\`"
-        /// [KeepsPlace]: crate::specs::store::Memory#KeepsPlace "bytes are written over, and the type of the memory and its room stay"
-        /// [`OutOfBoundsAccess`]: crate::proved::meter::MemoryError::OutOfBoundsAccess
-        /// [`OutOfFuel`]: crate::proved::meter::MemoryError::OutOfFuel
+        /// Definitions: [`BulkWrites`](crate::specs::store::Bulk#BulkWrites), [`copied`](crate::specs::store::Bulk#copied), [`metered`](crate::specs::store::Growth#metered), [`meter_at_entry`](crate::specs::meter::Meter#meter_at_entry), [`meter_at_exit`](crate::specs::meter::Meter#meter_at_exit), [`KeepsPlace`](crate::specs::store::Memory#KeepsPlace).
         #[inline]
         pub fn init(
             &mut self,
@@ -1974,16 +1848,14 @@ mod memory {
         ///
         /// # Contract
         ///
-        /// <span></span><pre><code>ensures written: [BulkWrites] ([copied] self.old.bytes dst segment.now src len) len
-        /// &#32;&#32;&#32;&#32;([metered] self.old.bytes ([Some] fuel.old)) result
-        /// &#32;&#32;&#32;&#32;([metered] self.new.bytes ([Some] fuel.new))
-        /// ensures kept: [KeepsPlace] self.old self.new</code></pre>
+        /// ```text
+        /// ensures written: BulkWrites (copied self.old.bytes dst segment.now src len) len
+        ///     (metered self.old.bytes (Some fuel.old)) result
+        ///     (metered self.new.bytes (Some fuel.new))
+        /// ensures kept: KeepsPlace self.old self.new
+        /// ```
         ///
-        /// [BulkWrites]: crate::specs::store::Bulk#BulkWrites "A bulk instruction writes so many bytes, by what the bytes become, or none where a range ends past its list. That is tested first, then the fuel; an instruction that is refused writes and takes nothing."
-        /// [copied]: crate::specs::store::Bulk#copied "items whose part from dst on is written over by so many items of a list from src on, or none where a list ends too early"
-        /// [metered]: crate::specs::store::Growth#metered "a value with its meter, if there is one, and no limiter to ask"
-        /// [Some]: crate::specs::library#Some "the value x, of an \`Option\`"
-        /// [KeepsPlace]: crate::specs::store::Memory#KeepsPlace "bytes are written over, and the type of the memory and its room stay"
+        /// Definitions: [`BulkWrites`](crate::specs::store::Bulk#BulkWrites), [`copied`](crate::specs::store::Bulk#copied), [`metered`](crate::specs::store::Growth#metered), [`KeepsPlace`](crate::specs::store::Memory#KeepsPlace).
         #[inline]
         pub fn init_metered(
             &mut self,
@@ -2041,16 +1913,14 @@ pub mod range {
             ///
             /// # Contract
             ///
-            /// <span></span><pre><code>requires few: len ≤ 4096
-            /// requires dst: dst + len ≤ [length] elements.old
-            /// requires src: src + len ≤ [length] elements.old
+            /// ```text
+            /// requires few: len ≤ 4096
+            /// requires dst: dst + len ≤ length elements.old
+            /// requires src: src + len ≤ length elements.old
             /// ensures copied: elements.new
-            /// &#32;&#32;&#32;&#32;≡ [take] dst elements.old ++ [take] len ([drop] src elements.old) ++ [drop]
-            /// &#32;&#32;&#32;&#32;(dst + len) elements.old</code></pre>
-            ///
-            /// [length]: crate::specs::library#length "the number of elements of a list"
-            /// [take]: crate::specs::library#take "the first n elements"
-            /// [drop]: crate::specs::library#drop "all but the first n elements"
+            ///     ≡ take dst elements.old ++ take len (drop src elements.old) ++ drop
+            ///     (dst + len) elements.old
+            /// ```
             fn copy_chunk(elements: &mut [Self], dst: usize, src: usize, len: usize);
         }
 
@@ -2086,16 +1956,14 @@ pub mod range {
         ///
         /// # Contract
         ///
-        /// <span></span><pre><code>requires dst: dst + len ≤ [length] elements.old
-        /// requires src: src + len ≤ [length] elements.old
-        /// ensures copied: [overwrite] elements.old dst ([take] len ([drop] src elements.old))
-        /// &#32;&#32;&#32;&#32;≡ [Some] elements.new</code></pre>
+        /// ```text
+        /// requires dst: dst + len ≤ length elements.old
+        /// requires src: src + len ≤ length elements.old
+        /// ensures copied: overwrite elements.old dst (take len (drop src elements.old))
+        ///     ≡ Some elements.new
+        /// ```
         ///
-        /// [length]: crate::specs::library#length "the number of elements of a list"
-        /// [overwrite]: crate::specs::types::Access#overwrite "xs with ys at a, or none where the list ends before them"
-        /// [take]: crate::specs::library#take "the first n elements"
-        /// [drop]: crate::specs::library#drop "all but the first n elements"
-        /// [Some]: crate::specs::library#Some "the value x, of an \`Option\`"
+        /// Definitions: [`overwrite`](crate::specs::types::Access#overwrite).
         #[inline]
         pub fn copy_overlapping<T: Chunk>(elements: &mut [T], dst: usize, src: usize, len: usize) {
             if len <= CHUNK {
@@ -2122,16 +1990,14 @@ pub mod range {
         ///
         /// # Contract
         ///
-        /// <span></span><pre><code>requires dst: dst + len ≤ [length] elements.old
-        /// requires src: src + len ≤ [length] elements.old
-        /// ensures copied: [overwrite] elements.old dst ([take] len ([drop] src elements.old))
-        /// &#32;&#32;&#32;&#32;≡ [Some] elements.new</code></pre>
+        /// ```text
+        /// requires dst: dst + len ≤ length elements.old
+        /// requires src: src + len ≤ length elements.old
+        /// ensures copied: overwrite elements.old dst (take len (drop src elements.old))
+        ///     ≡ Some elements.new
+        /// ```
         ///
-        /// [length]: crate::specs::library#length "the number of elements of a list"
-        /// [overwrite]: crate::specs::types::Access#overwrite "xs with ys at a, or none where the list ends before them"
-        /// [take]: crate::specs::library#take "the first n elements"
-        /// [drop]: crate::specs::library#drop "all but the first n elements"
-        /// [Some]: crate::specs::library#Some "the value x, of an \`Option\`"
+        /// Definitions: [`overwrite`](crate::specs::types::Access#overwrite).
         #[inline]
         pub fn copy_range<T: Chunk>(elements: &mut [T], dst: usize, src: usize, len: usize) {
             if src + len <= dst {
@@ -2147,40 +2013,34 @@ pub mod range {
     }
 
     use crate::proved::meter::MemoryError;
-    pub use copy::{Chunk, copy_overlapping, copy_range};
+    pub use copy::{CHUNK, Chunk, copy_overlapping, copy_range};
 
     /// Whether `len` items from an index on lie within a list.
     ///
     /// # Contract
     ///
-    /// <span></span><pre><code>ensures: result ≡ [nat_le] (index + len) ([length] items.now)</code></pre>
-    ///
-    /// [nat_le]: crate::specs::library#nat_le "whether m is at most n, as a Boolean"
-    /// [length]: crate::specs::library#length "the number of elements of a list"
+    /// ```text
+    /// ensures: result ≡ nat_le (index + len) (length items.now)
+    /// ```
     #[inline]
     pub fn lies_within<T>(items: &[T], index: u64, len: u64) -> bool {
         let size = items.len() as u64;
         index <= size && len <= size - index
     }
 
-    /// Fills a buffer with the bytes from an offset on. The error is [`OutOfBoundsAccess`] if they end
+    /// Fills a buffer with the bytes from an offset on. The error is `OutOfBoundsAccess` if they end
     /// past the bytes; then nothing is copied.
     ///
     /// # Contract
     ///
-    /// <span></span><pre><code>ensures ok: [OnOk] result ([at] bytes.now offset ([length] buffer.old) ≡ [Some] buffer.new)
-    /// ensures err: [IfErr] result
-    /// &#32;&#32;&#32;&#32;(λ error. (error ≡ [MemoryError.OutOfBoundsAccess])
-    /// &#32;&#32;&#32;&#32;× ([at] bytes.now offset ([length] buffer.old) ≡ [None]) × (buffer.new ≡ buffer.old))</code></pre>
+    /// ```text
+    /// ensures ok: OnOk result (at bytes.now offset (length buffer.old) ≡ Some buffer.new)
+    /// ensures err: IfErr result
+    ///     (λ error. (error ≡ MemoryError.OutOfBoundsAccess)
+    ///     × (at bytes.now offset (length buffer.old) ≡ None) × (buffer.new ≡ buffer.old))
+    /// ```
     ///
-    /// [OnOk]: crate::specs::library#OnOk "P, if r is a value"
-    /// [at]: crate::specs::types::Access#at "the items a to a + n - 1, or none where the list ends before them"
-    /// [length]: crate::specs::library#length "the number of elements of a list"
-    /// [Some]: crate::specs::library#Some "the value x, of an \`Option\`"
-    /// [IfErr]: crate::specs::library#IfErr "P of the error, if r is an error"
-    /// [MemoryError.OutOfBoundsAccess]: crate::proved::meter::MemoryError::OutOfBoundsAccess
-    /// [None]: crate::specs::library#None "no value, of an \`Option\`"
-    /// [`OutOfBoundsAccess`]: crate::proved::meter::MemoryError::OutOfBoundsAccess
+    /// Definitions: [`at`](crate::specs::types::Access#at).
     #[inline]
     pub fn read_bytes(bytes: &[u8], offset: usize, buffer: &mut [u8]) -> Result<(), MemoryError> {
         if !lies_within(bytes, offset as u64, buffer.len() as u64) {
@@ -2191,25 +2051,20 @@ pub mod range {
         Ok(())
     }
 
-    /// Writes bytes over those from an offset on. The error is [`OutOfBoundsAccess`] if they would end
+    /// Writes bytes over those from an offset on. The error is `OutOfBoundsAccess` if they would end
     /// past the bytes; then nothing is written.
     ///
     /// # Contract
     ///
-    /// <span></span><pre><code>ensures ok: [OnOk] result ([overwrite] bytes.old offset buffer.now ≡ [Some] bytes.new)
-    /// ensures err: [IfErr] result
-    /// &#32;&#32;&#32;&#32;(λ error. (error ≡ [MemoryError.OutOfBoundsAccess])
-    /// &#32;&#32;&#32;&#32;× ([overwrite] bytes.old offset buffer.now ≡ [None]) × (bytes.new ≡ bytes.old))
-    /// ensures len: [length] bytes.new ≡ [length] bytes.old</code></pre>
+    /// ```text
+    /// ensures ok: OnOk result (overwrite bytes.old offset buffer.now ≡ Some bytes.new)
+    /// ensures err: IfErr result
+    ///     (λ error. (error ≡ MemoryError.OutOfBoundsAccess)
+    ///     × (overwrite bytes.old offset buffer.now ≡ None) × (bytes.new ≡ bytes.old))
+    /// ensures len: length bytes.new ≡ length bytes.old
+    /// ```
     ///
-    /// [OnOk]: crate::specs::library#OnOk "P, if r is a value"
-    /// [overwrite]: crate::specs::types::Access#overwrite "xs with ys at a, or none where the list ends before them"
-    /// [Some]: crate::specs::library#Some "the value x, of an \`Option\`"
-    /// [IfErr]: crate::specs::library#IfErr "P of the error, if r is an error"
-    /// [MemoryError.OutOfBoundsAccess]: crate::proved::meter::MemoryError::OutOfBoundsAccess
-    /// [None]: crate::specs::library#None "no value, of an \`Option\`"
-    /// [length]: crate::specs::library#length "the number of elements of a list"
-    /// [`OutOfBoundsAccess`]: crate::proved::meter::MemoryError::OutOfBoundsAccess
+    /// Definitions: [`overwrite`](crate::specs::types::Access#overwrite).
     #[inline]
     pub fn write_bytes(bytes: &mut [u8], offset: usize, buffer: &[u8]) -> Result<(), MemoryError> {
         if !lies_within(bytes, offset as u64, buffer.len() as u64) {
@@ -2223,13 +2078,13 @@ pub mod range {
     ///
     /// # Contract
     ///
-    /// <span></span><pre><code>requires inside: index + [length] items.now ≤ [length] elements.old
-    /// ensures written: [overwrite] elements.old index items.now ≡ [Some] elements.new
-    /// ensures len: [length] elements.new ≡ [length] elements.old</code></pre>
+    /// ```text
+    /// requires inside: index + length items.now ≤ length elements.old
+    /// ensures written: overwrite elements.old index items.now ≡ Some elements.new
+    /// ensures len: length elements.new ≡ length elements.old
+    /// ```
     ///
-    /// [length]: crate::specs::library#length "the number of elements of a list"
-    /// [overwrite]: crate::specs::types::Access#overwrite "xs with ys at a, or none where the list ends before them"
-    /// [Some]: crate::specs::library#Some "the value x, of an \`Option\`"
+    /// Definitions: [`overwrite`](crate::specs::types::Access#overwrite).
     #[inline]
     pub fn write_range<T: Copy>(elements: &mut [T], index: usize, items: &[T]) {
         let part = &mut elements[index..][..items.len()];
@@ -2241,18 +2096,15 @@ pub mod range {
     ///
     /// # Contract
     ///
-    /// <span></span><pre><code>requires infallible: T.is_infallible value
+    /// ```text
+    /// requires infallible: T.is_infallible value
     /// requires same: (clone : T) → T.is_clone value clone → clone ≡ value
     /// requires start: start ≤ end
-    /// requires end: end ≤ [length] elements.old
+    /// requires end: end ≤ length elements.old
     /// ensures filled: elements.new
-    /// &#32;&#32;&#32;&#32;≡ [take] start elements.old ++ [replicate] (end - start) value ++ [drop] end elements.old
-    /// ensures len: [length] elements.new ≡ [length] elements.old</code></pre>
-    ///
-    /// [length]: crate::specs::library#length "the number of elements of a list"
-    /// [take]: crate::specs::library#take "the first n elements"
-    /// [replicate]: crate::specs::library#replicate "the list of n times x"
-    /// [drop]: crate::specs::library#drop "all but the first n elements"
+    ///     ≡ take start elements.old ++ replicate (end - start) value ++ drop end elements.old
+    /// ensures len: length elements.new ≡ length elements.old
+    /// ```
     #[inline]
     pub fn fill_range<T: Copy>(elements: &mut [T], start: usize, end: usize, value: T) {
         let part = &mut elements[start..end];
@@ -2284,10 +2136,11 @@ mod table {
 
         /// # Contract
         ///
-        /// <span></span><pre><code>output = λ error. [Some] ([segment_error_text] error)</code></pre>
+        /// ```text
+        /// output = λ error. Some (segment_error_text error)
+        /// ```
         ///
-        /// [Some]: crate::specs::library#Some "the value x, of an \`Option\`"
-        /// [segment_error_text]: crate::specs::store::Segment#segment_error_text "the text of an error of an element segment"
+        /// Definitions: [`segment_error_text`](crate::specs::store::Segment#segment_error_text).
         impl fmt::Display for SegmentError {
             #[inline]
             fn fmt(&self, f: &mut fmt::Formatter<'_>) -> fmt::Result {
@@ -2306,13 +2159,13 @@ mod table {
         ///
         /// # Model
         ///
-        /// <span></span><pre><code>Value = [SegmentValue]
+        /// ```text
+        /// Value = SegmentValue
         /// view = λ segment. record { ty = segment.ty; items = segment.items.items }
-        /// invariant = λ segment. [IsKept] segment.items.items ([vec_capacity] segment.items)</code></pre>
+        /// invariant = λ segment. IsKept segment.items.items (vec_capacity segment.items)
+        /// ```
         ///
-        /// [SegmentValue]: crate::specs::store::Segment#SegmentValue "an element segment: the type of its items, and the items"
-        /// [IsKept]: crate::specs::store::Segment#IsKept "what a segment keeps: not too many items, and without items no room for any, so no memory"
-        /// [vec_capacity]: crate::specs::library#vec_capacity "the capacity of a \`Vec\`"
+        /// Definitions: [`SegmentValue`](crate::specs::store::Segment#SegmentValue), [`IsKept`](crate::specs::store::Segment#IsKept).
         #[derive(Debug)]
         pub struct ElementSegment {
             ty: RefType,
@@ -2325,9 +2178,9 @@ mod table {
         ///
         /// # Contract
         ///
-        /// <span></span><pre><code>short: [length] items.now < 2 ^ 32</code></pre>
-        ///
-        /// [length]: crate::specs::library#length "the number of elements of a list"
+        /// ```text
+        /// short: length items.now < 2 ^ 32
+        /// ```
         #[derive(Clone, Copy, Debug)]
         pub struct ElementSegmentRef<'a> {
             ty: RefType,
@@ -2344,13 +2197,12 @@ mod table {
             ///
             /// # Contract
             ///
-            /// <span></span><pre><code>requires readable: [EachBecomes] [I.into_iter_gives] items [I.IntoIter].can_next
-            /// ensures reading: [IsReadingOf] [I.into_iter_gives] [I.IntoIter].next_gives ty items result</code></pre>
+            /// ```text
+            /// requires readable: EachBecomes I.into_iter_gives items I.IntoIter.can_next
+            /// ensures reading: IsReadingOf I.into_iter_gives I.IntoIter.next_gives ty items result
+            /// ```
             ///
-            /// [EachBecomes]: crate::specs::types::Iteration#EachBecomes "each iterator that a value becomes has a fact"
-            /// [I.into_iter_gives]: crate::specs::library#into_iter_gives "what \`into_iter\` gives for xs may be it"
-            /// [I.IntoIter]: crate::specs::library#IntoIter "the iterator that \`into_iter\` gives"
-            /// [IsReadingOf]: crate::specs::store::Segment#IsReadingOf "the answer after reading the iterator that x becomes"
+            /// Definitions: [`EachBecomes`](crate::specs::types::Iteration#EachBecomes), [`IsReadingOf`](crate::specs::store::Segment#IsReadingOf).
             #[inline]
             pub fn new<I>(ty: RefType, items: I) -> Result<Self, SegmentError>
             where
@@ -2362,28 +2214,26 @@ mod table {
 
             /// Reads references of a type up to the first `None`, which counts as the end.
             ///
-            /// It reads at most 2^32 items, and none after the end or after an error: [`TooManyItems`] at the
-            /// last of those items, [`OutOfSystemMemory`] at the item for which memory was refused.
+            /// It reads at most 2^32 items, and none after the end or after an error: `TooManyItems` at the
+            /// last of those items, `OutOfSystemMemory` at the item for which memory was refused.
             ///
             /// Own: `new` takes its iterator by value, so its contract can't say what is left of it.
             ///
             /// # Contract
             ///
-            /// <span></span><pre><code>requires readable: [I.can_next] items.old
-            /// ensures reading: [IsReading] [I.next_gives] items.old ty result items.new</code></pre>
+            /// ```text
+            /// requires readable: I.can_next items.old
+            /// ensures reading: IsReading I.next_gives items.old ty result items.new
+            /// ```
             ///
-            /// [I.can_next]: crate::specs::library#can_next "whether \`next\` may be called on the iterator"
-            /// [IsReading]: crate::specs::store::Segment#IsReading "the answer after calls from s to t: the segment of all items that came, or the refusal"
-            /// [I.next_gives]: crate::specs::library#next_gives "\`next\` on it may give x and leave it\'"
-            /// [`TooManyItems`]: crate::proved::store::SegmentError::TooManyItems
-            /// [`OutOfSystemMemory`]: crate::proved::store::SegmentError::OutOfSystemMemory
+            /// Definitions: [`IsReading`](crate::specs::store::Segment#IsReading).
             #[inline]
             pub fn read<I>(ty: RefType, items: &mut I) -> Result<Self, SegmentError>
             where
                 I: Iterator<Item = RawRef>,
             {
                 let mut read = Vec::new();
-                while read.len() < MAX_ITEMS {
+                'items: while read.len() < MAX_ITEMS {
                     let Some(item) = items.next() else {
                         return Ok(ElementSegment { ty, items: read });
                     };
@@ -2401,11 +2251,13 @@ mod table {
             ///
             /// # Contract
             ///
-            /// <span></span><pre><code>ensures: [segment_of] result ≡ self.now</code></pre>
+            /// ```text
+            /// ensures: segment_of result ≡ self.now
+            /// ```
             ///
-            /// [segment_of]: crate::specs::store::Segment#segment_of "the segment that is shared"
+            /// Definitions: [`segment_of`](crate::specs::store::Segment#segment_of).
             #[inline]
-            pub fn as_ref(&self) -> ElementSegmentRef<'_> {
+            pub fn as_ref(&self) -> ElementSegmentRef {
                 ElementSegmentRef::from(self)
             }
 
@@ -2413,7 +2265,9 @@ mod table {
             ///
             /// # Contract
             ///
-            /// <span></span><pre><code>ensures: result ≡ self.now.ty</code></pre>
+            /// ```text
+            /// ensures: result ≡ self.now.ty
+            /// ```
             #[inline]
             pub fn ty(&self) -> RefType {
                 self.ty
@@ -2423,7 +2277,9 @@ mod table {
             ///
             /// # Contract
             ///
-            /// <span></span><pre><code>ensures: result.now ≡ self.now.items</code></pre>
+            /// ```text
+            /// ensures: result.now ≡ self.now.items
+            /// ```
             #[inline]
             pub fn items(&self) -> &[RawRef] {
                 self.items.as_slice()
@@ -2433,9 +2289,9 @@ mod table {
             ///
             /// # Contract
             ///
-            /// <span></span><pre><code>ensures: result ≡ [length] self.now.items</code></pre>
-            ///
-            /// [length]: crate::specs::library#length "the number of elements of a list"
+            /// ```text
+            /// ensures: result ≡ length self.now.items
+            /// ```
             #[inline]
             pub fn size(&self) -> u32 {
                 self.items.len() as u32
@@ -2445,9 +2301,11 @@ mod table {
             ///
             /// # Contract
             ///
-            /// <span></span><pre><code>ensures: self.new ≡ [dropped] self.old</code></pre>
+            /// ```text
+            /// ensures: self.new ≡ dropped self.old
+            /// ```
             ///
-            /// [dropped]: crate::specs::store::Segment#dropped "the segment without its items"
+            /// Definitions: [`dropped`](crate::specs::store::Segment#dropped).
             #[inline]
             pub fn drop_items(&mut self) {
                 self.items = Vec::new();
@@ -2456,9 +2314,11 @@ mod table {
 
         /// # Contract
         ///
-        /// <span></span><pre><code>from_gives = λ segment shared. [segment_of] shared ≡ segment.now</code></pre>
+        /// ```text
+        /// from_gives = λ segment shared. segment_of shared ≡ segment.now
+        /// ```
         ///
-        /// [segment_of]: crate::specs::store::Segment#segment_of "the segment that is shared"
+        /// Definitions: [`segment_of`](crate::specs::store::Segment#segment_of).
         impl<'a> From<&'a ElementSegment> for ElementSegmentRef<'a> {
             #[inline]
             fn from(segment: &'a ElementSegment) -> Self {
@@ -2474,9 +2334,11 @@ mod table {
             ///
             /// # Contract
             ///
-            /// <span></span><pre><code>ensures: result ≡ ([segment_of] self.entry).ty</code></pre>
+            /// ```text
+            /// ensures: result ≡ (segment_of self.entry).ty
+            /// ```
             ///
-            /// [segment_of]: crate::specs::store::Segment#segment_of "the segment that is shared"
+            /// Definitions: [`segment_of`](crate::specs::store::Segment#segment_of).
             #[inline]
             pub fn ty(self) -> RefType {
                 self.ty
@@ -2486,9 +2348,11 @@ mod table {
             ///
             /// # Contract
             ///
-            /// <span></span><pre><code>ensures: result.now ≡ ([segment_of] self.entry).items</code></pre>
+            /// ```text
+            /// ensures: result.now ≡ (segment_of self.entry).items
+            /// ```
             ///
-            /// [segment_of]: crate::specs::store::Segment#segment_of "the segment that is shared"
+            /// Definitions: [`segment_of`](crate::specs::store::Segment#segment_of).
             #[inline]
             pub fn items(self) -> &'a [RawRef] {
                 self.items
@@ -2498,10 +2362,11 @@ mod table {
             ///
             /// # Contract
             ///
-            /// <span></span><pre><code>ensures: result ≡ [length] ([segment_of] self.entry).items</code></pre>
+            /// ```text
+            /// ensures: result ≡ length (segment_of self.entry).items
+            /// ```
             ///
-            /// [length]: crate::specs::library#length "the number of elements of a list"
-            /// [segment_of]: crate::specs::store::Segment#segment_of "the segment that is shared"
+            /// Definitions: [`segment_of`](crate::specs::store::Segment#segment_of).
             #[inline]
             pub fn size(self) -> u32 {
                 self.items.len() as u32
@@ -2522,21 +2387,22 @@ mod table {
         ///
         /// # Model
         ///
-        /// <span></span><pre><code>Value = [TableTypeValue]
+        /// ```text
+        /// Value = TableTypeValue
         /// view = λ t. record
-        /// &#32;&#32;&#32;&#32;{ index = t.index; element = t.element; minimum = t.minimum; maximum = t.maximum }
-        /// invariant = λ t. [IsValid]
-        /// &#32;&#32;&#32;&#32;(record {
-        /// &#32;&#32;&#32;&#32;index = t.index;
-        /// &#32;&#32;&#32;&#32;element = t.element;
-        /// &#32;&#32;&#32;&#32;minimum = t.minimum;
-        /// &#32;&#32;&#32;&#32;maximum = t.maximum;
-        /// &#32;&#32;&#32;&#32;})
+        ///     { index = t.index; element = t.element; minimum = t.minimum; maximum = t.maximum }
+        /// invariant = λ t. IsValid
+        ///     (record {
+        ///     index = t.index;
+        ///     element = t.element;
+        ///     minimum = t.minimum;
+        ///     maximum = t.maximum;
+        ///     })
         /// inverse = λ t. record
-        /// &#32;&#32;&#32;&#32;{ index = t.index; element = t.element; minimum = t.minimum; maximum = t.maximum }</code></pre>
+        ///     { index = t.index; element = t.element; minimum = t.minimum; maximum = t.maximum }
+        /// ```
         ///
-        /// [TableTypeValue]: crate::specs::store::TableType#TableTypeValue "a table type: its index type, the type of its elements, and its limits in elements"
-        /// [IsValid]: crate::specs::store::TableType#IsValid "the limits are below the number of indices, the minimum not above the maximum"
+        /// Definitions: [`TableTypeValue`](crate::specs::store::TableType#TableTypeValue), [`IsValid`](crate::specs::store::TableType#IsValid).
         #[derive(Clone, Copy, Debug, PartialEq, Eq)]
         pub struct TableType {
             index: IndexType,
@@ -2554,12 +2420,11 @@ mod table {
             ///
             /// # Contract
             ///
-            /// <span></span><pre><code>requires ordered: [IfSome] maximum (λ most. minimum ≤ most)
+            /// ```text
+            /// requires ordered: IfSome maximum (λ most. minimum ≤ most)
             /// ensures value: result
-            /// &#32;&#32;&#32;&#32;≡ record { index = [I32]; element = element; minimum = minimum; maximum = maximum }</code></pre>
-            ///
-            /// [IfSome]: crate::specs::library#IfSome "P of the value, if there is one"
-            /// [I32]: crate::proved::types::IndexType::I32
+            ///     ≡ record { index = I32; element = element; minimum = minimum; maximum = maximum }
+            /// ```
             #[inline]
             pub fn new(element: RefType, minimum: u32, maximum: Option<u32>) -> Self {
                 assert!(
@@ -2582,12 +2447,11 @@ mod table {
             ///
             /// # Contract
             ///
-            /// <span></span><pre><code>requires ordered: [IfSome] maximum (λ most. minimum ≤ most)
+            /// ```text
+            /// requires ordered: IfSome maximum (λ most. minimum ≤ most)
             /// ensures value: result
-            /// &#32;&#32;&#32;&#32;≡ record { index = [I64]; element = element; minimum = minimum; maximum = maximum }</code></pre>
-            ///
-            /// [IfSome]: crate::specs::library#IfSome "P of the value, if there is one"
-            /// [I64]: crate::proved::types::IndexType::I64
+            ///     ≡ record { index = I64; element = element; minimum = minimum; maximum = maximum }
+            /// ```
             #[inline]
             pub fn new64(element: RefType, minimum: u64, maximum: Option<u64>) -> Self {
                 assert!(
@@ -2606,10 +2470,9 @@ mod table {
             ///
             /// # Contract
             ///
-            /// <span></span><pre><code>ensures: [IsTrue] result ↔ (self.now.index ≡ [I64])</code></pre>
-            ///
-            /// [IsTrue]: crate::specs::library#IsTrue "b is true"
-            /// [I64]: crate::proved::types::IndexType::I64
+            /// ```text
+            /// ensures: IsTrue result ↔ (self.now.index ≡ I64)
+            /// ```
             #[inline]
             pub fn is_64(&self) -> bool {
                 self.index.is_64()
@@ -2619,7 +2482,9 @@ mod table {
             ///
             /// # Contract
             ///
-            /// <span></span><pre><code>ensures: result ≡ self.now.index</code></pre>
+            /// ```text
+            /// ensures: result ≡ self.now.index
+            /// ```
             #[inline]
             pub fn index_ty(&self) -> IndexType {
                 self.index
@@ -2629,7 +2494,9 @@ mod table {
             ///
             /// # Contract
             ///
-            /// <span></span><pre><code>ensures: result ≡ self.now.element</code></pre>
+            /// ```text
+            /// ensures: result ≡ self.now.element
+            /// ```
             #[inline]
             pub fn element(&self) -> RefType {
                 self.element
@@ -2639,10 +2506,12 @@ mod table {
             ///
             /// # Contract
             ///
-            /// <span></span><pre><code>ensures value: result ≡ self.now.minimum
-            /// ensures valid: [IsValid] self.now</code></pre>
+            /// ```text
+            /// ensures value: result ≡ self.now.minimum
+            /// ensures valid: IsValid self.now
+            /// ```
             ///
-            /// [IsValid]: crate::specs::store::TableType#IsValid "the limits are below the number of indices, the minimum not above the maximum"
+            /// Definitions: [`IsValid`](crate::specs::store::TableType#IsValid).
             #[inline]
             pub fn minimum(&self) -> u64 {
                 self.minimum
@@ -2652,7 +2521,9 @@ mod table {
             ///
             /// # Contract
             ///
-            /// <span></span><pre><code>ensures: result ≡ self.now.maximum</code></pre>
+            /// ```text
+            /// ensures: result ≡ self.now.maximum
+            /// ```
             #[inline]
             pub fn maximum(&self) -> Option<u64> {
                 self.maximum
@@ -2664,10 +2535,11 @@ mod table {
             ///
             /// # Contract
             ///
-            /// <span></span><pre><code>ensures: [IsTrue] result ↔ [IsSubtype] self.now other.now</code></pre>
+            /// ```text
+            /// ensures: IsTrue result ↔ IsSubtype self.now other.now
+            /// ```
             ///
-            /// [IsTrue]: crate::specs::library#IsTrue "b is true"
-            /// [IsSubtype]: crate::specs::store::TableType#IsSubtype "a table of type a may be given where one of type b is asked for (core specification, import matching)"
+            /// Definitions: [`IsSubtype`](crate::specs::store::TableType#IsSubtype).
             #[inline]
             pub fn is_subtype_of(&self, other: &Self) -> bool {
                 self.index == other.index
@@ -2680,16 +2552,14 @@ mod table {
             ///
             /// # Contract
             ///
-            /// <span></span><pre><code>ensures: [MatchResult] result
-            /// &#32;&#32;&#32;&#32;(λ \_. [same_type] self.element ty ≡ [true])
-            /// &#32;&#32;&#32;&#32;(λ error. (error ≡ [TableError.ElementTypeMismatch])
-            /// &#32;&#32;&#32;&#32;× ([same_type] self.element ty ≡ [false]))</code></pre>
+            /// ```text
+            /// ensures: MatchResult result
+            ///     (λ _. same_type self.element ty ≡ true)
+            ///     (λ error. (error ≡ TableError.ElementTypeMismatch)
+            ///     × (same_type self.element ty ≡ false))
+            /// ```
             ///
-            /// [MatchResult]: crate::specs::library#MatchResult "P of the value, or Q of the error"
-            /// [same_type]: crate::specs::store::TableType#same_type "whether two reference types are the same"
-            /// [true]: crate::specs::library#true "the Boolean"
-            /// [TableError.ElementTypeMismatch]: crate::proved::meter::TableError::ElementTypeMismatch
-            /// [false]: crate::specs::library#false "the Boolean"
+            /// Definitions: [`same_type`](crate::specs::store::TableType#same_type).
             #[inline]
             pub(crate) fn ensure_element_type_matches(self, ty: RefType) -> Result<(), TableError> {
                 if self.element != ty {
@@ -2702,13 +2572,13 @@ mod table {
             ///
             /// # Contract
             ///
-            /// <span></span><pre><code>requires indexable: [is_indexable] self minimum ≡ [true]
-            /// requires within: [is_within_maximum] self minimum ≡ [true]
-            /// ensures value: result ≡ record self { minimum = minimum }</code></pre>
+            /// ```text
+            /// requires indexable: is_indexable self minimum ≡ true
+            /// requires within: is_within_maximum self minimum ≡ true
+            /// ensures value: result ≡ record self { minimum = minimum }
+            /// ```
             ///
-            /// [is_indexable]: crate::specs::store::TableType#is_indexable "whether a table of the type may have so many elements: fewer than there are indices"
-            /// [true]: crate::specs::library#true "the Boolean"
-            /// [is_within_maximum]: crate::specs::store::TableType#is_within_maximum "whether so many elements are no more than the maximum, if there is one"
+            /// Definitions: [`is_indexable`](crate::specs::store::TableType#is_indexable), [`is_within_maximum`](crate::specs::store::TableType#is_within_maximum).
             #[inline]
             pub(super) fn with_minimum(self, minimum: u64) -> Self {
                 TableType { minimum, ..self }
@@ -2718,14 +2588,13 @@ mod table {
             ///
             /// # Contract
             ///
-            /// <span></span><pre><code>ensures: [MatchOption] result
-            /// &#32;&#32;&#32;&#32;([is_indexable] self (size + delta) ≡ [false])
-            /// &#32;&#32;&#32;&#32;(λ grown. ([is_indexable] self (size + delta) ≡ [true]) × (grown ≡ size + delta))</code></pre>
+            /// ```text
+            /// ensures: MatchOption result
+            ///     (is_indexable self (size + delta) ≡ false)
+            ///     (λ grown. (is_indexable self (size + delta) ≡ true) × (grown ≡ size + delta))
+            /// ```
             ///
-            /// [MatchOption]: crate::specs::library#MatchOption "P where there is no value, else Q of the value"
-            /// [is_indexable]: crate::specs::store::TableType#is_indexable "whether a table of the type may have so many elements: fewer than there are indices"
-            /// [false]: crate::specs::library#false "the Boolean"
-            /// [true]: crate::specs::library#true "the Boolean"
+            /// Definitions: [`is_indexable`](crate::specs::store::TableType#is_indexable).
             #[inline]
             pub(crate) fn grown_size(self, size: u64, delta: u64) -> Option<usize> {
                 let grown = size.checked_add(delta)?;
@@ -2739,9 +2608,11 @@ mod table {
             ///
             /// # Contract
             ///
-            /// <span></span><pre><code>ensures: result ≡ [is_indexable] self size</code></pre>
+            /// ```text
+            /// ensures: result ≡ is_indexable self size
+            /// ```
             ///
-            /// [is_indexable]: crate::specs::store::TableType#is_indexable "whether a table of the type may have so many elements: fewer than there are indices"
+            /// Definitions: [`is_indexable`](crate::specs::store::TableType#is_indexable).
             #[inline]
             pub(crate) fn indexes_size(self, size: usize) -> bool {
                 size as u64 <= most_elements(self.index)
@@ -2751,7 +2622,9 @@ mod table {
             ///
             /// # Contract
             ///
-            /// <span></span><pre><code>ensures: result ≡ self.maximum</code></pre>
+            /// ```text
+            /// ensures: result ≡ self.maximum
+            /// ```
             #[inline]
             pub(crate) fn maximum_size(self) -> Option<usize> {
                 self.maximum.map(|maximum| maximum as usize)
@@ -2761,9 +2634,11 @@ mod table {
             ///
             /// # Contract
             ///
-            /// <span></span><pre><code>ensures: result ≡ [is_within_maximum] self size</code></pre>
+            /// ```text
+            /// ensures: result ≡ is_within_maximum self size
+            /// ```
             ///
-            /// [is_within_maximum]: crate::specs::store::TableType#is_within_maximum "whether so many elements are no more than the maximum, if there is one"
+            /// Definitions: [`is_within_maximum`](crate::specs::store::TableType#is_within_maximum).
             #[inline]
             pub(crate) fn allows_size(self, size: usize) -> bool {
                 self.maximum.is_none_or(|maximum| size as u64 <= maximum)
@@ -2774,9 +2649,11 @@ mod table {
         ///
         /// # Contract
         ///
-        /// <span></span><pre><code>ensures: result ≡ 2 ^ [address_bits] index - 1</code></pre>
+        /// ```text
+        /// ensures: result ≡ 2 ^ address_bits index - 1
+        /// ```
         ///
-        /// [address_bits]: crate::specs::types::IndexType#address_bits "how many bits an address has"
+        /// Definitions: [`address_bits`](crate::specs::types::IndexType#address_bits).
         #[inline]
         fn most_elements(index: IndexType) -> u64 {
             match index {
@@ -2810,13 +2687,13 @@ mod table {
     ///
     /// # Model
     ///
-    /// <span></span><pre><code>Value = [TableValue]
+    /// ```text
+    /// Value = TableValue
     /// view = λ t. record { ty = t.ty; elements = t.elements.items }
-    /// invariant = λ t. [IsSized] t.ty ([length] t.elements.items)</code></pre>
+    /// invariant = λ t. IsSized t.ty (length t.elements.items)
+    /// ```
     ///
-    /// [TableValue]: crate::specs::store::Table#TableValue "a table: its type, and its elements, each a reference or 0 for null"
-    /// [IsSized]: crate::specs::store::Table#IsSized "so many elements are as many as the type allows"
-    /// [length]: crate::specs::library#length "the number of elements of a list"
+    /// Definitions: [`TableValue`](crate::specs::store::Table#TableValue), [`IsSized`](crate::specs::store::Table#IsSized).
     #[derive(Debug)]
     pub struct Table {
         ty: TableType,
@@ -2827,23 +2704,18 @@ mod table {
         /// A table at the minimum of its type, each element of which is the given reference. It takes
         /// no fuel.
         ///
-        /// Errors, in the order of the tests: [`ElementTypeMismatch`]; [`ResourceLimiterDeniedAllocation`]
-        /// if the limiter doesn't permit it; [`OutOfSystemMemory`], of which the limiter is notified.
+        /// Errors, in the order of the tests: `ElementTypeMismatch`; `ResourceLimiterDeniedAllocation`
+        /// if the limiter doesn't permit it; `OutOfSystemMemory`, of which the limiter is notified.
         ///
         /// # Contract
         ///
-        /// <span></span><pre><code>ensures loan: [KeepsLoan] limiter.old limiter.new
-        /// ensures made: [MakesTable] ([optional_rules] [L.rules]) ty init ([lent_limiter] limiter.old) result
-        /// &#32;&#32;&#32;&#32;([lent_limiter] limiter.new)</code></pre>
+        /// ```text
+        /// ensures loan: KeepsLoan limiter.old limiter.new
+        /// ensures made: MakesTable (optional_rules L.rules) ty init (lent_limiter limiter.old) result
+        ///     (lent_limiter limiter.new)
+        /// ```
         ///
-        /// [KeepsLoan]: crate::specs::meter::LimiterRef#KeepsLoan "r\' leads to what r leads to"
-        /// [MakesTable]: crate::specs::store::Table#MakesTable "a table of a type is made of a reference"
-        /// [optional_rules]: crate::specs::meter::Limiter#optional_rules "the rules of a limiter that may be absent"
-        /// [L.rules]: trait@ResourceLimiter#contract
-        /// [lent_limiter]: crate::specs::meter::LimiterRef#lent_limiter "the present value of the limiter that is lent, or none"
-        /// [`ElementTypeMismatch`]: crate::proved::meter::TableError::ElementTypeMismatch
-        /// [`ResourceLimiterDeniedAllocation`]: crate::proved::meter::TableError::ResourceLimiterDeniedAllocation
-        /// [`OutOfSystemMemory`]: crate::proved::meter::TableError::OutOfSystemMemory
+        /// Definitions: [`KeepsLoan`](crate::specs::meter::LimiterRef#KeepsLoan), [`MakesTable`](crate::specs::store::Table#MakesTable), [`optional_rules`](crate::specs::meter::Limiter#optional_rules), [`lent_limiter`](crate::specs::meter::LimiterRef#lent_limiter).
         #[inline]
         pub fn new<L: ResourceLimiter>(
             ty: TableType,
@@ -2865,13 +2737,12 @@ mod table {
         ///
         /// # Contract
         ///
-        /// <span></span><pre><code>ensures: [MakesTable] ([optional_rules] [L.rules]) ty init ([Some] limiter.old) result
-        /// &#32;&#32;&#32;&#32;([Some] limiter.new)</code></pre>
+        /// ```text
+        /// ensures: MakesTable (optional_rules L.rules) ty init (Some limiter.old) result
+        ///     (Some limiter.new)
+        /// ```
         ///
-        /// [MakesTable]: crate::specs::store::Table#MakesTable "a table of a type is made of a reference"
-        /// [optional_rules]: crate::specs::meter::Limiter#optional_rules "the rules of a limiter that may be absent"
-        /// [L.rules]: trait@ResourceLimiter#contract
-        /// [Some]: crate::specs::library#Some "the value x, of an \`Option\`"
+        /// Definitions: [`MakesTable`](crate::specs::store::Table#MakesTable), [`optional_rules`](crate::specs::meter::Limiter#optional_rules).
         #[inline]
         pub fn new_lending<L: ResourceLimiter>(
             ty: TableType,
@@ -2888,7 +2759,9 @@ mod table {
         ///
         /// # Contract
         ///
-        /// <span></span><pre><code>ensures: result ≡ self.now.ty</code></pre>
+        /// ```text
+        /// ensures: result ≡ self.now.ty
+        /// ```
         #[inline]
         pub fn ty(&self) -> TableType {
             self.ty
@@ -2898,10 +2771,11 @@ mod table {
         ///
         /// # Contract
         ///
-        /// <span></span><pre><code>ensures: [IsValidTable] self.now</code></pre>
+        /// ```text
+        /// ensures: IsValidTable self.now
+        /// ```
         ///
-        /// [IsValidTable]: crate::specs::store::Table#IsValidTable "a table of a valid type has as many elements as that allows (core specification, validity of table instances)"
-        #[cfg(any(doc, test))]
+        /// Definitions: [`IsValidTable`](crate::specs::store::Table#IsValidTable).
         #[inline(always)]
         pub(crate) fn tell_valid(&self) {
             let _minimum = self.ty.minimum();
@@ -2913,11 +2787,12 @@ mod table {
         ///
         /// # Contract
         ///
-        /// <span></span><pre><code>ensures value: result ≡ [dynamic_type] self.now
-        /// ensures subtype: [IsSubtype] result self.now.ty</code></pre>
+        /// ```text
+        /// ensures value: result ≡ dynamic_type self.now
+        /// ensures subtype: IsSubtype result self.now.ty
+        /// ```
         ///
-        /// [dynamic_type]: crate::specs::store::Table#dynamic_type "a table\'s type with the present size as the minimum"
-        /// [IsSubtype]: crate::specs::store::TableType#IsSubtype "a table of type a may be given where one of type b is asked for (core specification, import matching)"
+        /// Definitions: [`dynamic_type`](crate::specs::store::Table#dynamic_type), [`IsSubtype`](crate::specs::store::TableType#IsSubtype).
         #[inline]
         pub fn dynamic_ty(&self) -> TableType {
             self.ty.with_minimum(self.size())
@@ -2927,36 +2802,31 @@ mod table {
         ///
         /// # Contract
         ///
-        /// <span></span><pre><code>ensures value: result ≡ [size_of] self.now
-        /// ensures sized: [IsSized] self.now.ty result</code></pre>
+        /// ```text
+        /// ensures value: result ≡ size_of self.now
+        /// ensures sized: IsSized self.now.ty result
+        /// ```
         ///
-        /// [size_of]: crate::specs::store::Table#size_of "how many elements a table has"
-        /// [IsSized]: crate::specs::store::Table#IsSized "so many elements are as many as the type allows"
+        /// Definitions: [`size_of`](crate::specs::store::Table#size_of), [`IsSized`](crate::specs::store::Table#IsSized).
         #[inline]
         pub fn size(&self) -> u64 {
             self.elements.len() as u64
         }
 
         /// Grows by `delta` elements, each the given reference, and returns the old size. The type of
-        /// the reference is tested first, also in a growth by 0 ([`ElementTypeMismatch`]); the rest is as
+        /// the reference is tested first, also in a growth by 0 (`ElementTypeMismatch`); the rest is as
         /// in `grow_raw`.
         ///
         /// # Contract
         ///
-        /// <span></span><pre><code>ensures loan: [KeepsLoan] limiter.old limiter.new
-        /// ensures grown: [GrowsTable] ([optional_rules] [L.rules]) delta init
-        /// &#32;&#32;&#32;&#32;([metered_value] self.old ([meter_at_entry] fuel.entry) ([lent_limiter] limiter.old)) result
-        /// &#32;&#32;&#32;&#32;([metered_value] self.new ([meter_at_exit] fuel.exit) ([lent_limiter] limiter.new))</code></pre>
+        /// ```text
+        /// ensures loan: KeepsLoan limiter.old limiter.new
+        /// ensures grown: GrowsTable (optional_rules L.rules) delta init
+        ///     (metered_value self.old (meter_at_entry fuel.entry) (lent_limiter limiter.old)) result
+        ///     (metered_value self.new (meter_at_exit fuel.exit) (lent_limiter limiter.new))
+        /// ```
         ///
-        /// [KeepsLoan]: crate::specs::meter::LimiterRef#KeepsLoan "r\' leads to what r leads to"
-        /// [GrowsTable]: crate::specs::store::Table#GrowsTable "a table grows by n elements, each a reference that has a type, which is tested first"
-        /// [optional_rules]: crate::specs::meter::Limiter#optional_rules "the rules of a limiter that may be absent"
-        /// [L.rules]: trait@ResourceLimiter#contract
-        /// [metered_value]: crate::specs::store::Growth#metered_value "a value with its meter, if there is one, and its limiter"
-        /// [meter_at_entry]: crate::specs::meter::Meter#meter_at_entry "the meter that an optional reference leads to when a call begins, if there is one"
-        /// [lent_limiter]: crate::specs::meter::LimiterRef#lent_limiter "the present value of the limiter that is lent, or none"
-        /// [meter_at_exit]: crate::specs::meter::Meter#meter_at_exit "the meter that an optional reference leaves behind it when a call ends, if there is one, in the terms of a clause\'s \`.exit\`"
-        /// [`ElementTypeMismatch`]: crate::proved::meter::TableError::ElementTypeMismatch
+        /// Definitions: [`KeepsLoan`](crate::specs::meter::LimiterRef#KeepsLoan), [`GrowsTable`](crate::specs::store::Table#GrowsTable), [`optional_rules`](crate::specs::meter::Limiter#optional_rules), [`metered_value`](crate::specs::store::Growth#metered_value), [`meter_at_entry`](crate::specs::meter::Meter#meter_at_entry), [`lent_limiter`](crate::specs::meter::LimiterRef#lent_limiter), [`meter_at_exit`](crate::specs::meter::Meter#meter_at_exit).
         #[inline]
         pub fn grow<L: ResourceLimiter>(
             &mut self,
@@ -2974,18 +2844,14 @@ mod table {
         ///
         /// # Contract
         ///
-        /// <span></span><pre><code>ensures loan: [KeepsLoan] limiter.old limiter.new
-        /// ensures grown: [GrowsTable] ([optional_rules] [L.rules]) delta init
-        /// &#32;&#32;&#32;&#32;([metered_value] self.old ([Some] fuel.old) ([lent_limiter] limiter.old)) result
-        /// &#32;&#32;&#32;&#32;([metered_value] self.new ([Some] fuel.new) ([lent_limiter] limiter.new))</code></pre>
+        /// ```text
+        /// ensures loan: KeepsLoan limiter.old limiter.new
+        /// ensures grown: GrowsTable (optional_rules L.rules) delta init
+        ///     (metered_value self.old (Some fuel.old) (lent_limiter limiter.old)) result
+        ///     (metered_value self.new (Some fuel.new) (lent_limiter limiter.new))
+        /// ```
         ///
-        /// [KeepsLoan]: crate::specs::meter::LimiterRef#KeepsLoan "r\' leads to what r leads to"
-        /// [GrowsTable]: crate::specs::store::Table#GrowsTable "a table grows by n elements, each a reference that has a type, which is tested first"
-        /// [optional_rules]: crate::specs::meter::Limiter#optional_rules "the rules of a limiter that may be absent"
-        /// [L.rules]: trait@ResourceLimiter#contract
-        /// [metered_value]: crate::specs::store::Growth#metered_value "a value with its meter, if there is one, and its limiter"
-        /// [Some]: crate::specs::library#Some "the value x, of an \`Option\`"
-        /// [lent_limiter]: crate::specs::meter::LimiterRef#lent_limiter "the present value of the limiter that is lent, or none"
+        /// Definitions: [`KeepsLoan`](crate::specs::meter::LimiterRef#KeepsLoan), [`GrowsTable`](crate::specs::store::Table#GrowsTable), [`optional_rules`](crate::specs::meter::Limiter#optional_rules), [`metered_value`](crate::specs::store::Growth#metered_value), [`lent_limiter`](crate::specs::meter::LimiterRef#lent_limiter).
         #[inline]
         pub fn grow_metered<L: ResourceLimiter>(
             &mut self,
@@ -3005,15 +2871,13 @@ mod table {
         ///
         /// # Contract
         ///
-        /// <span></span><pre><code>ensures: [GrowsTable] ([optional_rules] [L.rules]) delta init
-        /// &#32;&#32;&#32;&#32;([metered_value] self.old ([Some] fuel.old) ([Some] limiter.old)) result
-        /// &#32;&#32;&#32;&#32;([metered_value] self.new ([Some] fuel.new) ([Some] limiter.new))</code></pre>
+        /// ```text
+        /// ensures: GrowsTable (optional_rules L.rules) delta init
+        ///     (metered_value self.old (Some fuel.old) (Some limiter.old)) result
+        ///     (metered_value self.new (Some fuel.new) (Some limiter.new))
+        /// ```
         ///
-        /// [GrowsTable]: crate::specs::store::Table#GrowsTable "a table grows by n elements, each a reference that has a type, which is tested first"
-        /// [optional_rules]: crate::specs::meter::Limiter#optional_rules "the rules of a limiter that may be absent"
-        /// [L.rules]: trait@ResourceLimiter#contract
-        /// [metered_value]: crate::specs::store::Growth#metered_value "a value with its meter, if there is one, and its limiter"
-        /// [Some]: crate::specs::library#Some "the value x, of an \`Option\`"
+        /// Definitions: [`GrowsTable`](crate::specs::store::Table#GrowsTable), [`optional_rules`](crate::specs::meter::Limiter#optional_rules), [`metered_value`](crate::specs::store::Growth#metered_value).
         #[inline]
         pub fn grow_lending<L: ResourceLimiter>(
             &mut self,
@@ -3031,32 +2895,23 @@ mod table {
         /// Grows by `delta` elements, each the given reference, and returns the old size. A growth by 0
         /// changes nothing and asks no limiter.
         ///
-        /// Errors, in the order of the tests: [`GrowOutOfBounds`] if there would be as many elements as
-        /// indices, 2^32 or 2^64; the limiter's denial ([`GrowOutOfBounds`] if it says no,
-        /// [`ResourceLimiterDeniedAllocation`] if it returns an error); [`GrowOutOfBounds`] above the
-        /// maximum; [`OutOfFuel`] if the meter is on and the new elements cost more than is left;
-        /// [`OutOfSystemMemory`], after which the fuel stays spent. The limiter is notified of the last
-        /// three, and if it returns an error, the error is [`ResourceLimiterDeniedAllocation`] instead.
+        /// Errors, in the order of the tests: `GrowOutOfBounds` if there would be as many elements as
+        /// indices, 2^32 or 2^64; the limiter's denial (`GrowOutOfBounds` if it says no,
+        /// `ResourceLimiterDeniedAllocation` if it returns an error); `GrowOutOfBounds` above the
+        /// maximum; `OutOfFuel` if the meter is on and the new elements cost more than is left;
+        /// `OutOfSystemMemory`, after which the fuel stays spent. The limiter is notified of the last
+        /// three, and if it returns an error, the error is `ResourceLimiterDeniedAllocation` instead.
         ///
         /// # Contract
         ///
-        /// <span></span><pre><code>ensures loan: [KeepsLoan] limiter.old limiter.new
-        /// ensures grown: [GrowsTableRaw] ([optional_rules] [L.rules]) delta init
-        /// &#32;&#32;&#32;&#32;([metered_value] self.old ([meter_at_entry] fuel.entry) ([lent_limiter] limiter.old)) result
-        /// &#32;&#32;&#32;&#32;([metered_value] self.new ([meter_at_exit] fuel.exit) ([lent_limiter] limiter.new))</code></pre>
+        /// ```text
+        /// ensures loan: KeepsLoan limiter.old limiter.new
+        /// ensures grown: GrowsTableRaw (optional_rules L.rules) delta init
+        ///     (metered_value self.old (meter_at_entry fuel.entry) (lent_limiter limiter.old)) result
+        ///     (metered_value self.new (meter_at_exit fuel.exit) (lent_limiter limiter.new))
+        /// ```
         ///
-        /// [KeepsLoan]: crate::specs::meter::LimiterRef#KeepsLoan "r\' leads to what r leads to"
-        /// [GrowsTableRaw]: crate::specs::store::Table#GrowsTableRaw "a table grows by n elements; it returns the old size"
-        /// [optional_rules]: crate::specs::meter::Limiter#optional_rules "the rules of a limiter that may be absent"
-        /// [L.rules]: trait@ResourceLimiter#contract
-        /// [metered_value]: crate::specs::store::Growth#metered_value "a value with its meter, if there is one, and its limiter"
-        /// [meter_at_entry]: crate::specs::meter::Meter#meter_at_entry "the meter that an optional reference leads to when a call begins, if there is one"
-        /// [lent_limiter]: crate::specs::meter::LimiterRef#lent_limiter "the present value of the limiter that is lent, or none"
-        /// [meter_at_exit]: crate::specs::meter::Meter#meter_at_exit "the meter that an optional reference leaves behind it when a call ends, if there is one, in the terms of a clause\'s \`.exit\`"
-        /// [`GrowOutOfBounds`]: crate::proved::meter::TableError::GrowOutOfBounds
-        /// [`ResourceLimiterDeniedAllocation`]: crate::proved::meter::TableError::ResourceLimiterDeniedAllocation
-        /// [`OutOfFuel`]: crate::proved::meter::TableError::OutOfFuel
-        /// [`OutOfSystemMemory`]: crate::proved::meter::TableError::OutOfSystemMemory
+        /// Definitions: [`KeepsLoan`](crate::specs::meter::LimiterRef#KeepsLoan), [`GrowsTableRaw`](crate::specs::store::Table#GrowsTableRaw), [`optional_rules`](crate::specs::meter::Limiter#optional_rules), [`metered_value`](crate::specs::store::Growth#metered_value), [`meter_at_entry`](crate::specs::meter::Meter#meter_at_entry), [`lent_limiter`](crate::specs::meter::LimiterRef#lent_limiter), [`meter_at_exit`](crate::specs::meter::Meter#meter_at_exit).
         #[inline]
         pub fn grow_raw<L: ResourceLimiter>(
             &mut self,
@@ -3070,18 +2925,14 @@ mod table {
 
         /// # Contract
         ///
-        /// <span></span><pre><code>ensures loan: [KeepsLoan] limiter.old limiter.new
-        /// ensures grown: [GrowsTableRaw] ([optional_rules] [L.rules]) delta init
-        /// &#32;&#32;&#32;&#32;([metered_value] self.old ([Some] fuel.old) ([lent_limiter] limiter.old)) result
-        /// &#32;&#32;&#32;&#32;([metered_value] self.new ([Some] fuel.new) ([lent_limiter] limiter.new))</code></pre>
+        /// ```text
+        /// ensures loan: KeepsLoan limiter.old limiter.new
+        /// ensures grown: GrowsTableRaw (optional_rules L.rules) delta init
+        ///     (metered_value self.old (Some fuel.old) (lent_limiter limiter.old)) result
+        ///     (metered_value self.new (Some fuel.new) (lent_limiter limiter.new))
+        /// ```
         ///
-        /// [KeepsLoan]: crate::specs::meter::LimiterRef#KeepsLoan "r\' leads to what r leads to"
-        /// [GrowsTableRaw]: crate::specs::store::Table#GrowsTableRaw "a table grows by n elements; it returns the old size"
-        /// [optional_rules]: crate::specs::meter::Limiter#optional_rules "the rules of a limiter that may be absent"
-        /// [L.rules]: trait@ResourceLimiter#contract
-        /// [metered_value]: crate::specs::store::Growth#metered_value "a value with its meter, if there is one, and its limiter"
-        /// [Some]: crate::specs::library#Some "the value x, of an \`Option\`"
-        /// [lent_limiter]: crate::specs::meter::LimiterRef#lent_limiter "the present value of the limiter that is lent, or none"
+        /// Definitions: [`KeepsLoan`](crate::specs::meter::LimiterRef#KeepsLoan), [`GrowsTableRaw`](crate::specs::store::Table#GrowsTableRaw), [`optional_rules`](crate::specs::meter::Limiter#optional_rules), [`metered_value`](crate::specs::store::Growth#metered_value), [`lent_limiter`](crate::specs::meter::LimiterRef#lent_limiter).
         #[inline]
         fn grow_raw_metered<L: ResourceLimiter>(
             &mut self,
@@ -3122,15 +2973,13 @@ mod table {
         ///
         /// # Contract
         ///
-        /// <span></span><pre><code>ensures: [GrowsTableRaw] ([optional_rules] [L.rules]) delta init
-        /// &#32;&#32;&#32;&#32;([metered_value] self.old ([Some] fuel.old) ([Some] limiter.old)) result
-        /// &#32;&#32;&#32;&#32;([metered_value] self.new ([Some] fuel.new) ([Some] limiter.new))</code></pre>
+        /// ```text
+        /// ensures: GrowsTableRaw (optional_rules L.rules) delta init
+        ///     (metered_value self.old (Some fuel.old) (Some limiter.old)) result
+        ///     (metered_value self.new (Some fuel.new) (Some limiter.new))
+        /// ```
         ///
-        /// [GrowsTableRaw]: crate::specs::store::Table#GrowsTableRaw "a table grows by n elements; it returns the old size"
-        /// [optional_rules]: crate::specs::meter::Limiter#optional_rules "the rules of a limiter that may be absent"
-        /// [L.rules]: trait@ResourceLimiter#contract
-        /// [metered_value]: crate::specs::store::Growth#metered_value "a value with its meter, if there is one, and its limiter"
-        /// [Some]: crate::specs::library#Some "the value x, of an \`Option\`"
+        /// Definitions: [`GrowsTableRaw`](crate::specs::store::Table#GrowsTableRaw), [`optional_rules`](crate::specs::meter::Limiter#optional_rules), [`metered_value`](crate::specs::store::Growth#metered_value).
         #[inline]
         pub fn grow_raw_lending<L: ResourceLimiter>(
             &mut self,
@@ -3149,40 +2998,43 @@ mod table {
         ///
         /// # Contract
         ///
-        /// <span></span><pre><code>ensures: result ≡ [element_at] self.now index</code></pre>
+        /// ```text
+        /// ensures: result ≡ element_at self.now index
+        /// ```
         ///
-        /// [element_at]: crate::specs::store::Table#element_at "the element at an index with its type, or none past the end"
+        /// Definitions: [`element_at`](crate::specs::store::Table#element_at).
         #[inline]
         pub fn get(&self, index: u64) -> Option<TypedRawRef> {
             let raw = *self.elements.as_slice().get(index as usize)?;
             Some(TypedRawRef::new(raw, self.ty.element()))
         }
 
-        /// Sets the element at an index. Errors, in the order of the tests: [`ElementTypeMismatch`],
-        /// [`SetOutOfBounds`].
+        /// Sets the element at an index. Errors, in the order of the tests: `ElementTypeMismatch`,
+        /// `SetOutOfBounds`.
         ///
         /// # Contract
         ///
-        /// <span></span><pre><code>ensures: [SetsTable] index value self.old result self.new</code></pre>
+        /// ```text
+        /// ensures: SetsTable index value self.old result self.new
+        /// ```
         ///
-        /// [SetsTable]: crate::specs::store::Table#SetsTable "the element at an index is set to a reference that has a type, which is tested first"
-        /// [`ElementTypeMismatch`]: crate::proved::meter::TableError::ElementTypeMismatch
-        /// [`SetOutOfBounds`]: crate::proved::meter::TableError::SetOutOfBounds
+        /// Definitions: [`SetsTable`](crate::specs::store::Table#SetsTable).
         #[inline]
         pub fn set(&mut self, index: u64, value: TypedRawRef) -> Result<(), TableError> {
             self.ty.ensure_element_type_matches(value.ty)?;
             self.set_raw(index, value.raw)
         }
 
-        /// Sets the element at an index. The error is [`SetOutOfBounds`] past the end. The type of the
+        /// Sets the element at an index. The error is `SetOutOfBounds` past the end. The type of the
         /// reference isn't tested: that is up to the caller.
         ///
         /// # Contract
         ///
-        /// <span></span><pre><code>ensures: [SetsTableRaw] index value self.old result self.new</code></pre>
+        /// ```text
+        /// ensures: SetsTableRaw index value self.old result self.new
+        /// ```
         ///
-        /// [SetsTableRaw]: crate::specs::store::Table#SetsTableRaw "the element at an index is set to a reference; past the end it is refused, and the table stays"
-        /// [`SetOutOfBounds`]: crate::proved::meter::TableError::SetOutOfBounds
+        /// Definitions: [`SetsTableRaw`](crate::specs::store::Table#SetsTableRaw).
         #[inline]
         pub fn set_raw(&mut self, index: u64, value: RawRef) -> Result<(), TableError> {
             let index = index as usize;
@@ -3195,24 +3047,18 @@ mod table {
 
         /// Copies `len` items of an element segment, from `src` on, over the elements from `dst` on.
         ///
-        /// Errors, in the order of the tests: [`ElementTypeMismatch`]; [`InitOutOfBounds`] if a range ends
-        /// past the segment or the table; [`OutOfFuel`]. Copying no items costs no fuel.
+        /// Errors, in the order of the tests: `ElementTypeMismatch`; `InitOutOfBounds` if a range ends
+        /// past the segment or the table; `OutOfFuel`. Copying no items costs no fuel.
         ///
         /// # Contract
         ///
-        /// <span></span><pre><code>ensures: [WritesTable] ([initialization_of] dst src len ([segment_of] element.entry))
-        /// &#32;&#32;&#32;&#32;([metered] self.old ([meter_at_entry] fuel.entry)) result
-        /// &#32;&#32;&#32;&#32;([metered] self.new ([meter_at_exit] fuel.exit))</code></pre>
+        /// ```text
+        /// ensures: WritesTable (initialization_of dst src len (segment_of element.entry))
+        ///     (metered self.old (meter_at_entry fuel.entry)) result
+        ///     (metered self.new (meter_at_exit fuel.exit))
+        /// ```
         ///
-        /// [WritesTable]: crate::specs::store::Table#WritesTable "a part of a table is written over"
-        /// [initialization_of]: crate::specs::store::Table#initialization_of "so many items from src on of an element segment are copied over the elements from dst on; no item is free"
-        /// [segment_of]: crate::specs::store::Segment#segment_of "the segment that is shared"
-        /// [metered]: crate::specs::store::Growth#metered "a value with its meter, if there is one, and no limiter to ask"
-        /// [meter_at_entry]: crate::specs::meter::Meter#meter_at_entry "the meter that an optional reference leads to when a call begins, if there is one"
-        /// [meter_at_exit]: crate::specs::meter::Meter#meter_at_exit "the meter that an optional reference leaves behind it when a call ends, if there is one, in the terms of a clause\'s \`.exit\`"
-        /// [`ElementTypeMismatch`]: crate::proved::meter::TableError::ElementTypeMismatch
-        /// [`InitOutOfBounds`]: crate::proved::meter::TableError::InitOutOfBounds
-        /// [`OutOfFuel`]: crate::proved::meter::TableError::OutOfFuel
+        /// Definitions: [`WritesTable`](crate::specs::store::Table#WritesTable), [`initialization_of`](crate::specs::store::Table#initialization_of), [`segment_of`](crate::specs::store::Segment#segment_of), [`metered`](crate::specs::store::Growth#metered), [`meter_at_entry`](crate::specs::meter::Meter#meter_at_entry), [`meter_at_exit`](crate::specs::meter::Meter#meter_at_exit).
         #[inline]
         pub fn init(
             &mut self,
@@ -3231,14 +3077,12 @@ mod table {
         ///
         /// # Contract
         ///
-        /// <span></span><pre><code>ensures: [WritesTable] ([initialization_of] dst src len ([segment_of] element.entry))
-        /// &#32;&#32;&#32;&#32;([metered] self.old ([Some] fuel.old)) result ([metered] self.new ([Some] fuel.new))</code></pre>
+        /// ```text
+        /// ensures: WritesTable (initialization_of dst src len (segment_of element.entry))
+        ///     (metered self.old (Some fuel.old)) result (metered self.new (Some fuel.new))
+        /// ```
         ///
-        /// [WritesTable]: crate::specs::store::Table#WritesTable "a part of a table is written over"
-        /// [initialization_of]: crate::specs::store::Table#initialization_of "so many items from src on of an element segment are copied over the elements from dst on; no item is free"
-        /// [segment_of]: crate::specs::store::Segment#segment_of "the segment that is shared"
-        /// [metered]: crate::specs::store::Growth#metered "a value with its meter, if there is one, and no limiter to ask"
-        /// [Some]: crate::specs::library#Some "the value x, of an \`Option\`"
+        /// Definitions: [`WritesTable`](crate::specs::store::Table#WritesTable), [`initialization_of`](crate::specs::store::Table#initialization_of), [`segment_of`](crate::specs::store::Segment#segment_of), [`metered`](crate::specs::store::Growth#metered).
         #[inline]
         pub fn init_metered(
             &mut self,
@@ -3256,23 +3100,18 @@ mod table {
         /// Copies `len` elements of another table, from `src` on, over the elements of a table from
         /// `dst` on.
         ///
-        /// Errors, in the order of the tests: [`ElementTypeMismatch`]; [`CopyOutOfBounds`] if a range ends
-        /// past its table; [`OutOfFuel`], which is tested also if no element is copied.
+        /// Errors, in the order of the tests: `ElementTypeMismatch`; `CopyOutOfBounds` if a range ends
+        /// past its table; `OutOfFuel`, which is tested also if no element is copied.
         ///
         /// # Contract
         ///
-        /// <span></span><pre><code>ensures: [WritesTable] ([copy_of] dst src len src_table.now)
-        /// &#32;&#32;&#32;&#32;([metered] dst_table.old ([meter_at_entry] fuel.entry)) result
-        /// &#32;&#32;&#32;&#32;([metered] dst_table.new ([meter_at_exit] fuel.exit))</code></pre>
+        /// ```text
+        /// ensures: WritesTable (copy_of dst src len src_table.now)
+        ///     (metered dst_table.old (meter_at_entry fuel.entry)) result
+        ///     (metered dst_table.new (meter_at_exit fuel.exit))
+        /// ```
         ///
-        /// [WritesTable]: crate::specs::store::Table#WritesTable "a part of a table is written over"
-        /// [copy_of]: crate::specs::store::Table#copy_of "so many elements from src on of a table, perhaps the same one, are copied over those from dst on"
-        /// [metered]: crate::specs::store::Growth#metered "a value with its meter, if there is one, and no limiter to ask"
-        /// [meter_at_entry]: crate::specs::meter::Meter#meter_at_entry "the meter that an optional reference leads to when a call begins, if there is one"
-        /// [meter_at_exit]: crate::specs::meter::Meter#meter_at_exit "the meter that an optional reference leaves behind it when a call ends, if there is one, in the terms of a clause\'s \`.exit\`"
-        /// [`ElementTypeMismatch`]: crate::proved::meter::TableError::ElementTypeMismatch
-        /// [`CopyOutOfBounds`]: crate::proved::meter::TableError::CopyOutOfBounds
-        /// [`OutOfFuel`]: crate::proved::meter::TableError::OutOfFuel
+        /// Definitions: [`WritesTable`](crate::specs::store::Table#WritesTable), [`copy_of`](crate::specs::store::Table#copy_of), [`metered`](crate::specs::store::Growth#metered), [`meter_at_entry`](crate::specs::meter::Meter#meter_at_entry), [`meter_at_exit`](crate::specs::meter::Meter#meter_at_exit).
         #[inline]
         pub fn copy(
             dst_table: &mut Table,
@@ -3291,13 +3130,12 @@ mod table {
         ///
         /// # Contract
         ///
-        /// <span></span><pre><code>ensures: [WritesTable] ([copy_of] dst src len src_table.now)
-        /// &#32;&#32;&#32;&#32;([metered] self.old ([Some] fuel.old)) result ([metered] self.new ([Some] fuel.new))</code></pre>
+        /// ```text
+        /// ensures: WritesTable (copy_of dst src len src_table.now)
+        ///     (metered self.old (Some fuel.old)) result (metered self.new (Some fuel.new))
+        /// ```
         ///
-        /// [WritesTable]: crate::specs::store::Table#WritesTable "a part of a table is written over"
-        /// [copy_of]: crate::specs::store::Table#copy_of "so many elements from src on of a table, perhaps the same one, are copied over those from dst on"
-        /// [metered]: crate::specs::store::Growth#metered "a value with its meter, if there is one, and no limiter to ask"
-        /// [Some]: crate::specs::library#Some "the value x, of an \`Option\`"
+        /// Definitions: [`WritesTable`](crate::specs::store::Table#WritesTable), [`copy_of`](crate::specs::store::Table#copy_of), [`metered`](crate::specs::store::Growth#metered).
         #[inline]
         pub fn copy_metered(
             &mut self,
@@ -3325,22 +3163,18 @@ mod table {
         /// Copies `len` elements from `src` on over those from `dst` on. If the ranges overlap, the old
         /// elements are copied.
         ///
-        /// Errors, in the order of the tests: [`CopyOutOfBounds`] if a range ends past the table;
-        /// [`OutOfFuel`], which is tested also if no element is copied.
+        /// Errors, in the order of the tests: `CopyOutOfBounds` if a range ends past the table;
+        /// `OutOfFuel`, which is tested also if no element is copied.
         ///
         /// # Contract
         ///
-        /// <span></span><pre><code>ensures: [WritesTable] ([copy_of] dst src len self.old)
-        /// &#32;&#32;&#32;&#32;([metered] self.old ([meter_at_entry] fuel.entry)) result
-        /// &#32;&#32;&#32;&#32;([metered] self.new ([meter_at_exit] fuel.exit))</code></pre>
+        /// ```text
+        /// ensures: WritesTable (copy_of dst src len self.old)
+        ///     (metered self.old (meter_at_entry fuel.entry)) result
+        ///     (metered self.new (meter_at_exit fuel.exit))
+        /// ```
         ///
-        /// [WritesTable]: crate::specs::store::Table#WritesTable "a part of a table is written over"
-        /// [copy_of]: crate::specs::store::Table#copy_of "so many elements from src on of a table, perhaps the same one, are copied over those from dst on"
-        /// [metered]: crate::specs::store::Growth#metered "a value with its meter, if there is one, and no limiter to ask"
-        /// [meter_at_entry]: crate::specs::meter::Meter#meter_at_entry "the meter that an optional reference leads to when a call begins, if there is one"
-        /// [meter_at_exit]: crate::specs::meter::Meter#meter_at_exit "the meter that an optional reference leaves behind it when a call ends, if there is one, in the terms of a clause\'s \`.exit\`"
-        /// [`CopyOutOfBounds`]: crate::proved::meter::TableError::CopyOutOfBounds
-        /// [`OutOfFuel`]: crate::proved::meter::TableError::OutOfFuel
+        /// Definitions: [`WritesTable`](crate::specs::store::Table#WritesTable), [`copy_of`](crate::specs::store::Table#copy_of), [`metered`](crate::specs::store::Growth#metered), [`meter_at_entry`](crate::specs::meter::Meter#meter_at_entry), [`meter_at_exit`](crate::specs::meter::Meter#meter_at_exit).
         #[inline]
         pub fn copy_within(
             &mut self,
@@ -3358,13 +3192,12 @@ mod table {
         ///
         /// # Contract
         ///
-        /// <span></span><pre><code>ensures: [WritesTable] ([copy_of] dst src len self.old)
-        /// &#32;&#32;&#32;&#32;([metered] self.old ([Some] fuel.old)) result ([metered] self.new ([Some] fuel.new))</code></pre>
+        /// ```text
+        /// ensures: WritesTable (copy_of dst src len self.old)
+        ///     (metered self.old (Some fuel.old)) result (metered self.new (Some fuel.new))
+        /// ```
         ///
-        /// [WritesTable]: crate::specs::store::Table#WritesTable "a part of a table is written over"
-        /// [copy_of]: crate::specs::store::Table#copy_of "so many elements from src on of a table, perhaps the same one, are copied over those from dst on"
-        /// [metered]: crate::specs::store::Growth#metered "a value with its meter, if there is one, and no limiter to ask"
-        /// [Some]: crate::specs::library#Some "the value x, of an \`Option\`"
+        /// Definitions: [`WritesTable`](crate::specs::store::Table#WritesTable), [`copy_of`](crate::specs::store::Table#copy_of), [`metered`](crate::specs::store::Growth#metered).
         #[inline]
         pub fn copy_within_metered(
             &mut self,
@@ -3377,20 +3210,17 @@ mod table {
         }
 
         /// Fills `len` elements from `dst` on with a reference. The type of the reference is tested
-        /// first ([`ElementTypeMismatch`]); the rest is as in `fill_raw`.
+        /// first (`ElementTypeMismatch`); the rest is as in `fill_raw`.
         ///
         /// # Contract
         ///
-        /// <span></span><pre><code>ensures: [WritesTable] ([filling_of] dst val len)
-        /// &#32;&#32;&#32;&#32;([metered] self.old ([meter_at_entry] fuel.entry)) result
-        /// &#32;&#32;&#32;&#32;([metered] self.new ([meter_at_exit] fuel.exit))</code></pre>
+        /// ```text
+        /// ensures: WritesTable (filling_of dst val len)
+        ///     (metered self.old (meter_at_entry fuel.entry)) result
+        ///     (metered self.new (meter_at_exit fuel.exit))
+        /// ```
         ///
-        /// [WritesTable]: crate::specs::store::Table#WritesTable "a part of a table is written over"
-        /// [filling_of]: crate::specs::store::Table#filling_of "so many elements from dst on are filled with a reference, whose type is tested"
-        /// [metered]: crate::specs::store::Growth#metered "a value with its meter, if there is one, and no limiter to ask"
-        /// [meter_at_entry]: crate::specs::meter::Meter#meter_at_entry "the meter that an optional reference leads to when a call begins, if there is one"
-        /// [meter_at_exit]: crate::specs::meter::Meter#meter_at_exit "the meter that an optional reference leaves behind it when a call ends, if there is one, in the terms of a clause\'s \`.exit\`"
-        /// [`ElementTypeMismatch`]: crate::proved::meter::TableError::ElementTypeMismatch
+        /// Definitions: [`WritesTable`](crate::specs::store::Table#WritesTable), [`filling_of`](crate::specs::store::Table#filling_of), [`metered`](crate::specs::store::Growth#metered), [`meter_at_entry`](crate::specs::meter::Meter#meter_at_entry), [`meter_at_exit`](crate::specs::meter::Meter#meter_at_exit).
         #[inline]
         pub fn fill(
             &mut self,
@@ -3408,13 +3238,12 @@ mod table {
         ///
         /// # Contract
         ///
-        /// <span></span><pre><code>ensures: [WritesTable] ([filling_of] dst val len)
-        /// &#32;&#32;&#32;&#32;([metered] self.old ([Some] fuel.old)) result ([metered] self.new ([Some] fuel.new))</code></pre>
+        /// ```text
+        /// ensures: WritesTable (filling_of dst val len)
+        ///     (metered self.old (Some fuel.old)) result (metered self.new (Some fuel.new))
+        /// ```
         ///
-        /// [WritesTable]: crate::specs::store::Table#WritesTable "a part of a table is written over"
-        /// [filling_of]: crate::specs::store::Table#filling_of "so many elements from dst on are filled with a reference, whose type is tested"
-        /// [metered]: crate::specs::store::Growth#metered "a value with its meter, if there is one, and no limiter to ask"
-        /// [Some]: crate::specs::library#Some "the value x, of an \`Option\`"
+        /// Definitions: [`WritesTable`](crate::specs::store::Table#WritesTable), [`filling_of`](crate::specs::store::Table#filling_of), [`metered`](crate::specs::store::Growth#metered).
         #[inline]
         pub fn fill_metered(
             &mut self,
@@ -3428,22 +3257,18 @@ mod table {
         }
 
         /// Fills `len` elements from `dst` on with a reference. Errors, in the order of the tests:
-        /// [`FillOutOfBounds`] if they end past the table; [`OutOfFuel`], which is tested also if no
+        /// `FillOutOfBounds` if they end past the table; `OutOfFuel`, which is tested also if no
         /// element is filled.
         ///
         /// # Contract
         ///
-        /// <span></span><pre><code>ensures: [WritesTable] ([raw_filling_of] dst val len)
-        /// &#32;&#32;&#32;&#32;([metered] self.old ([meter_at_entry] fuel.entry)) result
-        /// &#32;&#32;&#32;&#32;([metered] self.new ([meter_at_exit] fuel.exit))</code></pre>
+        /// ```text
+        /// ensures: WritesTable (raw_filling_of dst val len)
+        ///     (metered self.old (meter_at_entry fuel.entry)) result
+        ///     (metered self.new (meter_at_exit fuel.exit))
+        /// ```
         ///
-        /// [WritesTable]: crate::specs::store::Table#WritesTable "a part of a table is written over"
-        /// [raw_filling_of]: crate::specs::store::Table#raw_filling_of "so many elements from dst on are filled with a reference, whose type isn\'t tested"
-        /// [metered]: crate::specs::store::Growth#metered "a value with its meter, if there is one, and no limiter to ask"
-        /// [meter_at_entry]: crate::specs::meter::Meter#meter_at_entry "the meter that an optional reference leads to when a call begins, if there is one"
-        /// [meter_at_exit]: crate::specs::meter::Meter#meter_at_exit "the meter that an optional reference leaves behind it when a call ends, if there is one, in the terms of a clause\'s \`.exit\`"
-        /// [`FillOutOfBounds`]: crate::proved::meter::TableError::FillOutOfBounds
-        /// [`OutOfFuel`]: crate::proved::meter::TableError::OutOfFuel
+        /// Definitions: [`WritesTable`](crate::specs::store::Table#WritesTable), [`raw_filling_of`](crate::specs::store::Table#raw_filling_of), [`metered`](crate::specs::store::Growth#metered), [`meter_at_entry`](crate::specs::meter::Meter#meter_at_entry), [`meter_at_exit`](crate::specs::meter::Meter#meter_at_exit).
         #[inline]
         pub fn fill_raw(
             &mut self,
@@ -3457,13 +3282,12 @@ mod table {
 
         /// # Contract
         ///
-        /// <span></span><pre><code>ensures: [WritesTable] ([raw_filling_of] dst val len)
-        /// &#32;&#32;&#32;&#32;([metered] self.old ([Some] fuel.old)) result ([metered] self.new ([Some] fuel.new))</code></pre>
+        /// ```text
+        /// ensures: WritesTable (raw_filling_of dst val len)
+        ///     (metered self.old (Some fuel.old)) result (metered self.new (Some fuel.new))
+        /// ```
         ///
-        /// [WritesTable]: crate::specs::store::Table#WritesTable "a part of a table is written over"
-        /// [raw_filling_of]: crate::specs::store::Table#raw_filling_of "so many elements from dst on are filled with a reference, whose type isn\'t tested"
-        /// [metered]: crate::specs::store::Growth#metered "a value with its meter, if there is one, and no limiter to ask"
-        /// [Some]: crate::specs::library#Some "the value x, of an \`Option\`"
+        /// Definitions: [`WritesTable`](crate::specs::store::Table#WritesTable), [`raw_filling_of`](crate::specs::store::Table#raw_filling_of), [`metered`](crate::specs::store::Growth#metered).
         #[inline]
         fn fill_raw_metered(
             &mut self,
@@ -3480,12 +3304,12 @@ mod table {
     ///
     /// # Contract
     ///
-    /// <span></span><pre><code>requires inside: index < [length] elements.old
-    /// ensures written: [overwrite] elements.old index (value ∷ \[\]) ≡ [Some] elements.new</code></pre>
+    /// ```text
+    /// requires inside: index < length elements.old
+    /// ensures written: overwrite elements.old index (value ∷ []) ≡ Some elements.new
+    /// ```
     ///
-    /// [length]: crate::specs::library#length "the number of elements of a list"
-    /// [overwrite]: crate::specs::types::Access#overwrite "xs with ys at a, or none where the list ends before them"
-    /// [Some]: crate::specs::library#Some "the value x, of an \`Option\`"
+    /// Definitions: [`overwrite`](crate::specs::types::Access#overwrite).
     #[inline]
     fn set_item(elements: &mut [RawRef], index: usize, value: RawRef) {
         elements[index] = value;

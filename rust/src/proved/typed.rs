@@ -21,10 +21,11 @@ mod global {
 
     /// # Contract
     ///
-    /// <span></span><pre><code>output = λ error. [Some] ([global_error_text] error)</code></pre>
+    /// ```text
+    /// output = λ error. Some (global_error_text error)
+    /// ```
     ///
-    /// [Some]: crate::specs::library#Some "the value x, of an \`Option\`"
-    /// [global_error_text]: crate::specs::typed::Global#global_error_text "the text of an error of a global variable"
+    /// Definitions: [`global_error_text`](crate::specs::typed::Global#global_error_text).
     impl fmt::Display for GlobalError {
         #[inline]
         fn fmt(&self, f: &mut fmt::Formatter<'_>) -> fmt::Result {
@@ -55,10 +56,9 @@ mod global {
         ///
         /// # Contract
         ///
-        /// <span></span><pre><code>ensures: [IsTrue] result ↔ (self.now ≡ [Mutability.Const])</code></pre>
-        ///
-        /// [IsTrue]: crate::specs::library#IsTrue "b is true"
-        /// [Mutability.Const]: crate::proved::typed::Mutability::Const
+        /// ```text
+        /// ensures: IsTrue result ↔ (self.now ≡ Mutability.Const)
+        /// ```
         #[inline]
         pub fn is_const(&self) -> bool {
             matches!(self, Mutability::Const)
@@ -68,10 +68,9 @@ mod global {
         ///
         /// # Contract
         ///
-        /// <span></span><pre><code>ensures: [IsTrue] result ↔ (self.now ≡ [Mutability.Var])</code></pre>
-        ///
-        /// [IsTrue]: crate::specs::library#IsTrue "b is true"
-        /// [Mutability.Var]: crate::proved::typed::Mutability::Var
+        /// ```text
+        /// ensures: IsTrue result ↔ (self.now ≡ Mutability.Var)
+        /// ```
         #[inline]
         pub fn is_mut(&self) -> bool {
             matches!(self, Mutability::Var)
@@ -94,7 +93,9 @@ mod global {
         ///
         /// # Contract
         ///
-        /// <span></span><pre><code>ensures: result ≡ record { content = content; mutability = mutability }</code></pre>
+        /// ```text
+        /// ensures: result ≡ record { content = content; mutability = mutability }
+        /// ```
         #[inline]
         pub fn new(content: ValType, mutability: Mutability) -> GlobalType {
             GlobalType {
@@ -107,7 +108,9 @@ mod global {
         ///
         /// # Contract
         ///
-        /// <span></span><pre><code>ensures: result ≡ self.now.content</code></pre>
+        /// ```text
+        /// ensures: result ≡ self.now.content
+        /// ```
         #[inline]
         pub fn content(&self) -> ValType {
             self.content
@@ -117,7 +120,9 @@ mod global {
         ///
         /// # Contract
         ///
-        /// <span></span><pre><code>ensures: result ≡ self.now.mutability</code></pre>
+        /// ```text
+        /// ensures: result ≡ self.now.mutability
+        /// ```
         #[inline]
         pub fn mutability(&self) -> Mutability {
             self.mutability
@@ -128,28 +133,15 @@ mod global {
     ///
     /// Core specification 4.2, global instances. Upstream: `wasmi_core::Global`.
     ///
-    /// # Examples
-    ///
-    /// ```
-    /// use wasmi_core_proved::{Global, GlobalError, GlobalType, Mutability, TypedRawVal, ValType};
-    ///
-    /// let ty = GlobalType::new(ValType::I32, Mutability::Var);
-    /// let mut global = Global::new(7_i32.into(), ty);
-    /// global.set(TypedRawVal::from(-8_i32))?;
-    /// assert_eq!(i32::from(global.get()), -8);
-    /// assert!(matches!(global.set(TypedRawVal::from(1_u64)), Err(GlobalError::TypeMismatch)));
-    ///
-    /// let mut constant = Global::new(7_i32.into(), GlobalType::new(ValType::I32, Mutability::Const));
-    /// assert!(matches!(constant.set(TypedRawVal::from(8_i32)), Err(GlobalError::ImmutableWrite)));
-    /// # Ok::<(), GlobalError>(())
-    /// ```
-    ///
     /// # Model
     ///
-    /// <span></span><pre><code>Value = [GlobalInstance]
-    /// view = λ global. record { value = global.value; ty = global.ty }</code></pre>
+    /// ```text
+    /// Value = GlobalInstance
+    /// view = λ global. record { value = global.value; ty = global.ty }
+    /// ```
     ///
-    /// [GlobalInstance]: crate::specs::typed::Global#GlobalInstance "a global variable: its present value and its type"
+    /// Definitions: [`GlobalInstance`](crate::specs::typed::Global#GlobalInstance).
+    #[doc = examples!(typed Global)]
     #[derive(Debug)]
     pub struct Global {
         pub(crate) value: RawVal,
@@ -161,7 +153,9 @@ mod global {
         ///
         /// # Contract
         ///
-        /// <span></span><pre><code>ensures: result ≡ record { value = value; ty = ty }</code></pre>
+        /// ```text
+        /// ensures: result ≡ record { value = value; ty = ty }
+        /// ```
         #[inline]
         pub fn new(value: RawVal, ty: GlobalType) -> Global {
             Global { value, ty }
@@ -171,7 +165,9 @@ mod global {
         ///
         /// # Contract
         ///
-        /// <span></span><pre><code>ensures: result ≡ self.now.ty</code></pre>
+        /// ```text
+        /// ensures: result ≡ self.now.ty
+        /// ```
         #[inline]
         pub fn ty(&self) -> GlobalType {
             self.ty
@@ -179,15 +175,15 @@ mod global {
 
         /// Writes `new_value`, where the variable is no constant and the value is of its type.
         ///
-        /// Errors, in this order: [`ImmutableWrite`], [`TypeMismatch`].
+        /// Errors, in this order: `ImmutableWrite`, `TypeMismatch`.
         ///
         /// # Contract
         ///
-        /// <span></span><pre><code>ensures: [SetsGlobal] self.old new_value result self.new</code></pre>
+        /// ```text
+        /// ensures: SetsGlobal self.old new_value result self.new
+        /// ```
         ///
-        /// [SetsGlobal]: crate::specs::typed::Global#SetsGlobal "a global variable is set, unless it is a constant or the value is of another type, in this order"
-        /// [`ImmutableWrite`]: crate::proved::typed::GlobalError::ImmutableWrite
-        /// [`TypeMismatch`]: crate::proved::typed::GlobalError::TypeMismatch
+        /// Definitions: [`SetsGlobal`](crate::specs::typed::Global#SetsGlobal).
         #[inline]
         pub fn set(&mut self, new_value: TypedRawVal) -> Result<(), GlobalError> {
             if self.ty.mutability.is_const() {
@@ -204,7 +200,9 @@ mod global {
         ///
         /// # Contract
         ///
-        /// <span></span><pre><code>ensures: result ≡ record { ty = self.now.ty.content; raw = self.now.value }</code></pre>
+        /// ```text
+        /// ensures: result ≡ record { ty = self.now.ty.content; raw = self.now.value }
+        /// ```
         #[inline]
         pub fn get(&self) -> TypedRawVal {
             TypedRawVal::new(self.ty.content, self.value)
@@ -214,7 +212,9 @@ mod global {
         ///
         /// # Contract
         ///
-        /// <span></span><pre><code>ensures: result.now ≡ self.now.value</code></pre>
+        /// ```text
+        /// ensures: result.now ≡ self.now.value
+        /// ```
         #[inline]
         pub fn get_raw(&self) -> &RawVal {
             &self.value
@@ -230,13 +230,13 @@ mod global {
         ///
         /// # Contract
         ///
-        /// <span></span><pre><code>requires variable: self.old.ty.mutability ≡ [Mutability.Var]
-        /// ensures\* writes_back: [sem] 𝓛 ([LendsValue] self.entry result)
-        /// ensures value: result.now ≡ self.old.value</code></pre>
+        /// ```text
+        /// requires variable: self.old.ty.mutability ≡ Mutability.Var
+        /// ensures* writes_back: sem 𝓛 (LendsValue self.entry result)
+        /// ensures value: result.now ≡ self.old.value
+        /// ```
         ///
-        /// [Mutability.Var]: crate::proved::typed::Mutability::Var
-        /// [sem]: crate::specs::library#sem "the fixed form of a clause on a loan"
-        /// [LendsValue]: crate::specs::typed::Lending#LendsValue "the global variable ends with the last value behind r"
+        /// Definitions: [`LendsValue`](crate::specs::typed::Lending#LendsValue).
         #[inline]
         pub(crate) fn get_raw_mut(&mut self) -> &mut RawVal {
             assert!(!self.ty.mutability.is_const(), "the variable is a constant");
@@ -265,12 +265,11 @@ mod shift_amount {
     ///
     /// # Model
     ///
-    /// <span></span><pre><code>Value = [ℕ]
+    /// ```text
+    /// Value = ℕ
     /// view = λ amount. amount.bits
-    /// inverse = λ [bits]. record { [bits] = [bits] }</code></pre>
-    ///
-    /// [ℕ]: crate::specs::library#%E2%84%95 "the whole numbers from 0 on"
-    /// [bits]: crate::specs::library#bits "the number of bits of a width"
+    /// inverse = λ bits. record { bits = bits }
+    /// ```
     #[derive(Clone, Copy, PartialEq, Eq)]
     pub struct ShiftAmount {
         bits: u8,
@@ -278,9 +277,9 @@ mod shift_amount {
 
     /// # Contract
     ///
-    /// <span></span><pre><code>from_gives = λ [bits] amount. amount ≡ [bits]</code></pre>
-    ///
-    /// [bits]: crate::specs::library#bits "the number of bits of a width"
+    /// ```text
+    /// from_gives = λ bits amount. amount ≡ bits
+    /// ```
     impl From<u8> for ShiftAmount {
         #[inline]
         fn from(bits: u8) -> ShiftAmount {
@@ -290,9 +289,9 @@ mod shift_amount {
 
     /// # Contract
     ///
-    /// <span></span><pre><code>from_gives = λ amount [bits]. [bits] ≡ amount</code></pre>
-    ///
-    /// [bits]: crate::specs::library#bits "the number of bits of a width"
+    /// ```text
+    /// from_gives = λ amount bits. bits ≡ amount
+    /// ```
     impl From<ShiftAmount> for u8 {
         #[inline]
         fn from(amount: ShiftAmount) -> u8 {
@@ -316,20 +315,19 @@ mod shift_amount {
         ///
         /// # Contract
         ///
-        /// <span></span><pre><code>ensures: result ≡ [shift_amount] ([bits] Self.Lane.width) (Self.ShiftSource.number source)</code></pre>
+        /// ```text
+        /// ensures: result ≡ shift_amount (bits Self.Lane.width) (Self.ShiftSource.number source)
+        /// ```
         ///
-        /// [shift_amount]: crate::specs::typed::ShiftAmount#shift_amount "the remainder of a number by a width in bits, 0 or more; none where that is 0"
-        /// [bits]: crate::specs::library#bits "the number of bits of a width"
+        /// Definitions: [`shift_amount`](crate::specs::typed::ShiftAmount#shift_amount).
         fn into_shift_amount(source: Self::ShiftSource) -> Option<ShiftAmount>;
     }
 
     /// # Contract
     ///
-    /// <span></span><pre><code>ensures: result ≡ (if [bits] == 0 then [None] else [Some] [bits])</code></pre>
-    ///
-    /// [bits]: crate::specs::library#bits "the number of bits of a width"
-    /// [None]: crate::specs::library#None "no value, of an \`Option\`"
-    /// [Some]: crate::specs::library#Some "the value x, of an \`Option\`"
+    /// ```text
+    /// ensures: result ≡ (if bits == 0 then None else Some bits)
+    /// ```
     #[inline]
     fn unless_zero(bits: u8) -> Option<ShiftAmount> {
         if bits == 0 {
@@ -507,10 +505,10 @@ mod typed {
     ///
     /// # Contract
     ///
-    /// <span></span><pre><code><i>\-\- The value type, in contracts.</i>
-    /// TY: [ValType]</code></pre>
-    ///
-    /// [ValType]: crate::proved::types::ValType
+    /// ```text
+    /// -- The value type, in contracts.
+    /// TY: ValType
+    /// ```
     pub trait Typed {
         /// The value type.
         const TY: ValType;
@@ -524,9 +522,9 @@ mod typed {
     ///
     /// # Contract
     ///
-    /// <span></span><pre><code>TY = [types.I32]</code></pre>
-    ///
-    /// [types.I32]: crate::proved::types::ValType::I32
+    /// ```text
+    /// TY = types.I32
+    /// ```
     impl<T: TypedI32> Typed for T {
         const TY: ValType = ValType::I32;
     }
@@ -553,63 +551,63 @@ mod typed {
 
     /// # Contract
     ///
-    /// <span></span><pre><code>TY = [types.I64]</code></pre>
-    ///
-    /// [types.I64]: crate::proved::types::ValType::I64
+    /// ```text
+    /// TY = types.I64
+    /// ```
     impl Typed for i64 {
         const TY: ValType = ValType::I64;
     }
 
     /// # Contract
     ///
-    /// <span></span><pre><code>TY = [types.I64]</code></pre>
-    ///
-    /// [types.I64]: crate::proved::types::ValType::I64
+    /// ```text
+    /// TY = types.I64
+    /// ```
     impl Typed for u64 {
         const TY: ValType = ValType::I64;
     }
 
     /// # Contract
     ///
-    /// <span></span><pre><code>TY = [types.I64]</code></pre>
-    ///
-    /// [types.I64]: crate::proved::types::ValType::I64
+    /// ```text
+    /// TY = types.I64
+    /// ```
     impl Typed for NonZero<i64> {
         const TY: ValType = ValType::I64;
     }
 
     /// # Contract
     ///
-    /// <span></span><pre><code>TY = [types.I64]</code></pre>
-    ///
-    /// [types.I64]: crate::proved::types::ValType::I64
+    /// ```text
+    /// TY = types.I64
+    /// ```
     impl Typed for NonZero<u64> {
         const TY: ValType = ValType::I64;
     }
 
     /// # Contract
     ///
-    /// <span></span><pre><code>TY = [types.F32]</code></pre>
-    ///
-    /// [types.F32]: crate::proved::types::ValType::F32
+    /// ```text
+    /// TY = types.F32
+    /// ```
     impl Typed for F32 {
         const TY: ValType = ValType::F32;
     }
 
     /// # Contract
     ///
-    /// <span></span><pre><code>TY = [types.F64]</code></pre>
-    ///
-    /// [types.F64]: crate::proved::types::ValType::F64
+    /// ```text
+    /// TY = types.F64
+    /// ```
     impl Typed for F64 {
         const TY: ValType = ValType::F64;
     }
 
     /// # Contract
     ///
-    /// <span></span><pre><code>TY = [types.V128]</code></pre>
-    ///
-    /// [types.V128]: crate::proved::types::ValType::V128
+    /// ```text
+    /// TY = types.V128
+    /// ```
     impl Typed for V128 {
         const TY: ValType = ValType::V128;
     }
@@ -617,17 +615,7 @@ mod typed {
     /// A raw value with its type.
     ///
     /// Upstream: `wasmi_core::TypedRawVal`.
-    ///
-    /// # Examples
-    ///
-    /// ```
-    /// use wasmi_core_proved::{RawVal, TypedRawVal, ValType};
-    ///
-    /// let value = TypedRawVal::from(-3_i64);
-    /// assert_eq!((value.ty(), i64::from(value)), (ValType::I64, -3));
-    /// let same = TypedRawVal::new(ValType::I64, RawVal::from(-3_i64));
-    /// assert_eq!(value, same);
-    /// ```
+    #[doc = examples!(typed TypedRawVal)]
     #[derive(Clone, Copy, PartialEq, Eq)]
     pub struct TypedRawVal {
         /// The type.
@@ -641,7 +629,9 @@ mod typed {
         ///
         /// # Contract
         ///
-        /// <span></span><pre><code>ensures: result ≡ record { ty = ty; raw = raw }</code></pre>
+        /// ```text
+        /// ensures: result ≡ record { ty = ty; raw = raw }
+        /// ```
         #[inline]
         pub fn new(ty: ValType, raw: RawVal) -> TypedRawVal {
             TypedRawVal { ty, raw }
@@ -651,7 +641,9 @@ mod typed {
         ///
         /// # Contract
         ///
-        /// <span></span><pre><code>ensures: result ≡ self.now.ty</code></pre>
+        /// ```text
+        /// ensures: result ≡ self.now.ty
+        /// ```
         #[inline]
         pub fn ty(&self) -> ValType {
             self.ty
@@ -661,7 +653,9 @@ mod typed {
         ///
         /// # Contract
         ///
-        /// <span></span><pre><code>ensures: result ≡ self.now.raw</code></pre>
+        /// ```text
+        /// ensures: result ≡ self.now.raw
+        /// ```
         #[inline]
         pub fn raw(&self) -> RawVal {
             self.raw
@@ -670,10 +664,9 @@ mod typed {
 
     /// # Contract
     ///
-    /// <span></span><pre><code>from_gives = λ value typed. (typed.ty ≡ [T.TY]) × ([T.converts] value typed.raw)</code></pre>
-    ///
-    /// [T.TY]: trait@Typed#contract
-    /// [T.converts]: crate::specs::library#converts "what \`From\` or \`Into\` gives for x may be y"
+    /// ```text
+    /// from_gives = λ value typed. (typed.ty ≡ T.TY) × (T.converts value typed.raw)
+    /// ```
     impl<T: Typed + Into<RawVal>> From<T> for TypedRawVal {
         #[inline]
         fn from(value: T) -> TypedRawVal {
@@ -686,7 +679,9 @@ mod typed {
 
     /// # Contract
     ///
-    /// <span></span><pre><code>from_gives = λ typed raw. raw ≡ typed.raw</code></pre>
+    /// ```text
+    /// from_gives = λ typed raw. raw ≡ typed.raw
+    /// ```
     impl From<TypedRawVal> for RawVal {
         #[inline]
         fn from(typed: TypedRawVal) -> RawVal {
@@ -696,9 +691,11 @@ mod typed {
 
     /// # Contract
     ///
-    /// <span></span><pre><code>from_gives = λ typed value. value ≡ [bool_in] typed.raw</code></pre>
+    /// ```text
+    /// from_gives = λ typed value. value ≡ bool_in typed.raw
+    /// ```
     ///
-    /// [bool_in]: crate::specs::raw::RawVal#bool_in "whether the low word is not 0"
+    /// Definitions: [`bool_in`](crate::specs::raw::RawVal#bool_in).
     impl From<TypedRawVal> for bool {
         #[inline]
         fn from(typed: TypedRawVal) -> bool {
@@ -708,10 +705,11 @@ mod typed {
 
     /// # Contract
     ///
-    /// <span></span><pre><code>from_gives = λ typed value. value ≡ [signed_in] [w8] typed.raw</code></pre>
+    /// ```text
+    /// from_gives = λ typed value. value ≡ signed_in w8 typed.raw
+    /// ```
     ///
-    /// [signed_in]: crate::specs::raw::RawVal#signed_in "the low bits of a raw value, as many as a width has, read signed"
-    /// [w8]: crate::specs::library#w8 "the widths of integers in bits"
+    /// Definitions: [`signed_in`](crate::specs::raw::RawVal#signed_in).
     impl From<TypedRawVal> for i8 {
         #[inline]
         fn from(typed: TypedRawVal) -> i8 {
@@ -721,10 +719,11 @@ mod typed {
 
     /// # Contract
     ///
-    /// <span></span><pre><code>from_gives = λ typed value. value ≡ [signed_in] [w16] typed.raw</code></pre>
+    /// ```text
+    /// from_gives = λ typed value. value ≡ signed_in w16 typed.raw
+    /// ```
     ///
-    /// [signed_in]: crate::specs::raw::RawVal#signed_in "the low bits of a raw value, as many as a width has, read signed"
-    /// [w16]: crate::specs::library#w16 "the widths of integers in bits"
+    /// Definitions: [`signed_in`](crate::specs::raw::RawVal#signed_in).
     impl From<TypedRawVal> for i16 {
         #[inline]
         fn from(typed: TypedRawVal) -> i16 {
@@ -734,10 +733,11 @@ mod typed {
 
     /// # Contract
     ///
-    /// <span></span><pre><code>from_gives = λ typed value. value ≡ [signed_in] [w32] typed.raw</code></pre>
+    /// ```text
+    /// from_gives = λ typed value. value ≡ signed_in w32 typed.raw
+    /// ```
     ///
-    /// [signed_in]: crate::specs::raw::RawVal#signed_in "the low bits of a raw value, as many as a width has, read signed"
-    /// [w32]: crate::specs::library#w32 "the widths of integers in bits"
+    /// Definitions: [`signed_in`](crate::specs::raw::RawVal#signed_in).
     impl From<TypedRawVal> for i32 {
         #[inline]
         fn from(typed: TypedRawVal) -> i32 {
@@ -747,10 +747,11 @@ mod typed {
 
     /// # Contract
     ///
-    /// <span></span><pre><code>from_gives = λ typed value. value ≡ [signed_in] [w64] typed.raw</code></pre>
+    /// ```text
+    /// from_gives = λ typed value. value ≡ signed_in w64 typed.raw
+    /// ```
     ///
-    /// [signed_in]: crate::specs::raw::RawVal#signed_in "the low bits of a raw value, as many as a width has, read signed"
-    /// [w64]: crate::specs::library#w64 "the widths of integers in bits"
+    /// Definitions: [`signed_in`](crate::specs::raw::RawVal#signed_in).
     impl From<TypedRawVal> for i64 {
         #[inline]
         fn from(typed: TypedRawVal) -> i64 {
@@ -760,10 +761,11 @@ mod typed {
 
     /// # Contract
     ///
-    /// <span></span><pre><code>from_gives = λ typed value. value ≡ [unsigned_in] [w8] typed.raw</code></pre>
+    /// ```text
+    /// from_gives = λ typed value. value ≡ unsigned_in w8 typed.raw
+    /// ```
     ///
-    /// [unsigned_in]: crate::specs::raw::RawVal#unsigned_in "the low word cut to a width: the unsigned integer, and the signed one"
-    /// [w8]: crate::specs::library#w8 "the widths of integers in bits"
+    /// Definitions: [`unsigned_in`](crate::specs::raw::RawVal#unsigned_in).
     impl From<TypedRawVal> for u8 {
         #[inline]
         fn from(typed: TypedRawVal) -> u8 {
@@ -773,10 +775,11 @@ mod typed {
 
     /// # Contract
     ///
-    /// <span></span><pre><code>from_gives = λ typed value. value ≡ [unsigned_in] [w16] typed.raw</code></pre>
+    /// ```text
+    /// from_gives = λ typed value. value ≡ unsigned_in w16 typed.raw
+    /// ```
     ///
-    /// [unsigned_in]: crate::specs::raw::RawVal#unsigned_in "the low word cut to a width: the unsigned integer, and the signed one"
-    /// [w16]: crate::specs::library#w16 "the widths of integers in bits"
+    /// Definitions: [`unsigned_in`](crate::specs::raw::RawVal#unsigned_in).
     impl From<TypedRawVal> for u16 {
         #[inline]
         fn from(typed: TypedRawVal) -> u16 {
@@ -786,10 +789,11 @@ mod typed {
 
     /// # Contract
     ///
-    /// <span></span><pre><code>from_gives = λ typed value. value ≡ [unsigned_in] [w32] typed.raw</code></pre>
+    /// ```text
+    /// from_gives = λ typed value. value ≡ unsigned_in w32 typed.raw
+    /// ```
     ///
-    /// [unsigned_in]: crate::specs::raw::RawVal#unsigned_in "the low word cut to a width: the unsigned integer, and the signed one"
-    /// [w32]: crate::specs::library#w32 "the widths of integers in bits"
+    /// Definitions: [`unsigned_in`](crate::specs::raw::RawVal#unsigned_in).
     impl From<TypedRawVal> for u32 {
         #[inline]
         fn from(typed: TypedRawVal) -> u32 {
@@ -799,10 +803,11 @@ mod typed {
 
     /// # Contract
     ///
-    /// <span></span><pre><code>from_gives = λ typed value. value ≡ [unsigned_in] [w64] typed.raw</code></pre>
+    /// ```text
+    /// from_gives = λ typed value. value ≡ unsigned_in w64 typed.raw
+    /// ```
     ///
-    /// [unsigned_in]: crate::specs::raw::RawVal#unsigned_in "the low word cut to a width: the unsigned integer, and the signed one"
-    /// [w64]: crate::specs::library#w64 "the widths of integers in bits"
+    /// Definitions: [`unsigned_in`](crate::specs::raw::RawVal#unsigned_in).
     impl From<TypedRawVal> for u64 {
         #[inline]
         fn from(typed: TypedRawVal) -> u64 {
@@ -812,9 +817,11 @@ mod typed {
 
     /// # Contract
     ///
-    /// <span></span><pre><code>from_gives = λ typed value. value ≡ [vector_in] typed.raw</code></pre>
+    /// ```text
+    /// from_gives = λ typed value. value ≡ vector_in typed.raw
+    /// ```
     ///
-    /// [vector_in]: crate::specs::raw::RawVal#vector_in "the vector of both words"
+    /// Definitions: [`vector_in`](crate::specs::raw::RawVal#vector_in).
     impl From<TypedRawVal> for V128 {
         #[inline]
         fn from(typed: TypedRawVal) -> V128 {
@@ -846,7 +853,9 @@ mod typed_ref {
         ///
         /// # Contract
         ///
-        /// <span></span><pre><code>ensures: result ≡ record { raw = raw; ty = ty }</code></pre>
+        /// ```text
+        /// ensures: result ≡ record { raw = raw; ty = ty }
+        /// ```
         #[inline]
         pub fn new(raw: RawRef, ty: RefType) -> TypedRawRef {
             TypedRawRef { raw, ty }
@@ -856,7 +865,9 @@ mod typed_ref {
         ///
         /// # Contract
         ///
-        /// <span></span><pre><code>ensures: result ≡ record { raw = 0; ty = ty }</code></pre>
+        /// ```text
+        /// ensures: result ≡ record { raw = 0; ty = ty }
+        /// ```
         #[inline]
         pub fn null(ty: RefType) -> TypedRawRef {
             TypedRawRef {
@@ -869,7 +880,9 @@ mod typed_ref {
         ///
         /// # Contract
         ///
-        /// <span></span><pre><code>ensures: result ≡ self.now.raw</code></pre>
+        /// ```text
+        /// ensures: result ≡ self.now.raw
+        /// ```
         #[inline]
         pub fn raw(&self) -> RawRef {
             self.raw
@@ -879,7 +892,9 @@ mod typed_ref {
         ///
         /// # Contract
         ///
-        /// <span></span><pre><code>ensures: result ≡ self.now.ty</code></pre>
+        /// ```text
+        /// ensures: result ≡ self.now.ty
+        /// ```
         #[inline]
         pub fn ty(&self) -> RefType {
             self.ty
@@ -888,11 +903,12 @@ mod typed_ref {
 
     /// # Contract
     ///
-    /// <span></span><pre><code>from_gives = λ reference typed. typed
-    /// &#32;&#32;&#32;&#32;≡ record { ty = [value_of] reference.ty; raw = [raw_of] reference.raw }</code></pre>
+    /// ```text
+    /// from_gives = λ reference typed. typed
+    ///     ≡ record { ty = value_of reference.ty; raw = raw_of reference.raw }
+    /// ```
     ///
-    /// [value_of]: crate::specs::types::Value#value_of "the value type of a reference type"
-    /// [raw_of]: crate::specs::raw::RawVal#raw_of "the low word is n, and the high word is 0"
+    /// Definitions: [`value_of`](crate::specs::types::Value#value_of), [`raw_of`](crate::specs::raw::RawVal#raw_of).
     impl From<TypedRawRef> for TypedRawVal {
         #[inline]
         fn from(reference: TypedRawRef) -> TypedRawVal {
@@ -908,10 +924,11 @@ mod typed_ref {
 
     /// # Contract
     ///
-    /// <span></span><pre><code>output = λ \_. [Some] [not_a_reference_text]</code></pre>
+    /// ```text
+    /// output = λ _. Some not_a_reference_text
+    /// ```
     ///
-    /// [Some]: crate::specs::library#Some "the value x, of an \`Option\`"
-    /// [not_a_reference_text]: crate::specs::typed::TypedRef#not_a_reference_text "the text of the error where a value is no reference"
+    /// Definitions: [`not_a_reference_text`](crate::specs::typed::TypedRef#not_a_reference_text).
     impl fmt::Display for NotAReference {
         #[inline]
         fn fmt(&self, f: &mut fmt::Formatter<'_>) -> fmt::Result {
@@ -923,9 +940,11 @@ mod typed_ref {
 
     /// # Contract
     ///
-    /// <span></span><pre><code>try_from_gives = [IsReference]</code></pre>
+    /// ```text
+    /// try_from_gives = IsReference
+    /// ```
     ///
-    /// [IsReference]: crate::specs::typed::TypedRef#IsReference "the answer is the reference that a typed raw value is, or the error where its type is none of references"
+    /// Definitions: [`IsReference`](crate::specs::typed::TypedRef#IsReference).
     impl TypedRawRef {
         #[inline]
         pub(crate) fn of_value(typed: TypedRawVal) -> Result<TypedRawRef, NotAReference> {

@@ -3,9 +3,9 @@ mod func_type {
     //! Function types, and the errors of making one.
 
     use crate::proved::types::ValType;
-    use crate::rattle::Vec;
     use crate::rattle::alloc::AllocError;
     use crate::rattle::rc::RcSlice;
+    use crate::rattle::{TryClone, Vec};
     use core::cmp::Ordering;
     use core::error::Error;
     use core::fmt;
@@ -26,10 +26,11 @@ mod func_type {
 
     /// # Contract
     ///
-    /// <span></span><pre><code>output = λ error. [Some] ([func_type_error_text] error)</code></pre>
+    /// ```text
+    /// output = λ error. Some (func_type_error_text error)
+    /// ```
     ///
-    /// [Some]: crate::specs::library#Some "the value x, of an \`Option\`"
-    /// [func_type_error_text]: crate::specs::types::FuncTypeError#func_type_error_text "the text of an error of a function type"
+    /// Definitions: [`func_type_error_text`](crate::specs::types::FuncTypeError#func_type_error_text).
     impl fmt::Display for FuncTypeError {
         #[inline]
         fn fmt(&self, f: &mut fmt::Formatter<'_>) -> fmt::Result {
@@ -51,13 +52,13 @@ mod func_type {
     ///
     /// # Model
     ///
-    /// <span></span><pre><code>Value = [FunctionType]
-    /// view = λ ty. [function_type_of] ty.inner
-    /// invariant = λ ty. [IsKept] ty.inner</code></pre>
+    /// ```text
+    /// Value = FunctionType
+    /// view = λ ty. function_type_of ty.inner
+    /// invariant = λ ty. IsKept ty.inner
+    /// ```
     ///
-    /// [FunctionType]: crate::specs::types::FunctionType#FunctionType "the parameters and the results of a function"
-    /// [function_type_of]: crate::specs::types::FuncTypeInner#function_type_of "the function type that is kept"
-    /// [IsKept]: crate::specs::types::FuncTypeInner#IsKept "at most 21 entries stand inline, and more on the heap, of at most 1,000 parameters and 1,000 results"
+    /// Definitions: [`FunctionType`](crate::specs::types::FunctionType#FunctionType), [`function_type_of`](crate::specs::types::FuncTypeInner#function_type_of), [`IsKept`](crate::specs::types::FuncTypeInner#IsKept).
     pub struct FuncType {
         inner: FuncTypeInner,
     }
@@ -93,20 +94,16 @@ mod func_type {
         ///
         /// # Contract
         ///
-        /// <span></span><pre><code>requires params: [EachBecomes] [P.into_iter_gives] params [P.IntoIter].can_next
-        /// requires results: [EachBecomes] [P.into_iter_gives] params
-        /// &#32;&#32;&#32;&#32;(λ first. [EachBecomes] [R.into_iter_gives] results
-        /// &#32;&#32;&#32;&#32;(λ second. [AfterAll] [P.IntoIter].next_gives first ([R.IntoIter].can_next second)))
-        /// ensures reading: [IsReadingOf] [P.into_iter_gives] [P.IntoIter].next_gives [R.into_iter_gives]
-        /// &#32;&#32;&#32;&#32;[R.IntoIter].next_gives params results result</code></pre>
+        /// ```text
+        /// requires params: EachBecomes P.into_iter_gives params P.IntoIter.can_next
+        /// requires results: EachBecomes P.into_iter_gives params
+        ///     (λ first. EachBecomes R.into_iter_gives results
+        ///     (λ second. AfterAll P.IntoIter.next_gives first (R.IntoIter.can_next second)))
+        /// ensures reading: IsReadingOf P.into_iter_gives P.IntoIter.next_gives R.into_iter_gives
+        ///     R.IntoIter.next_gives params results result
+        /// ```
         ///
-        /// [EachBecomes]: crate::specs::types::Iteration#EachBecomes "each iterator that a value becomes has a fact"
-        /// [P.into_iter_gives]: crate::specs::library#into_iter_gives "what \`into_iter\` gives for xs may be it"
-        /// [P.IntoIter]: crate::specs::library#IntoIter "the iterator that \`into_iter\` gives"
-        /// [R.into_iter_gives]: crate::specs::library#into_iter_gives "what \`into_iter\` gives for xs may be it"
-        /// [AfterAll]: crate::specs::types::Reading#AfterAll "a fact that holds once calls from s gave all types, and then the end"
-        /// [R.IntoIter]: crate::specs::library#IntoIter "the iterator that \`into_iter\` gives"
-        /// [IsReadingOf]: crate::specs::types::Reading#IsReadingOf "the answer after reading the iterators that x and y become"
+        /// Definitions: [`EachBecomes`](crate::specs::types::Iteration#EachBecomes), [`AfterAll`](crate::specs::types::Reading#AfterAll), [`IsReadingOf`](crate::specs::types::Reading#IsReadingOf).
         #[inline]
         pub fn new<P, R>(params: P, results: R) -> Result<Self, FuncTypeError>
         where
@@ -131,18 +128,15 @@ mod func_type {
         ///
         /// # Contract
         ///
-        /// <span></span><pre><code>requires params: [P.can_next] params.old
-        /// requires results: [AfterAll] [P.next_gives] params.old ([R.can_next] results.old)
-        /// ensures reading: [IsReading] [P.next_gives] [R.next_gives] params.old results.old result
-        /// &#32;&#32;&#32;&#32;params.new
-        /// &#32;&#32;&#32;&#32;results.new</code></pre>
+        /// ```text
+        /// requires params: P.can_next params.old
+        /// requires results: AfterAll P.next_gives params.old (R.can_next results.old)
+        /// ensures reading: IsReading P.next_gives R.next_gives params.old results.old result
+        ///     params.new
+        ///     results.new
+        /// ```
         ///
-        /// [P.can_next]: crate::specs::library#can_next "whether \`next\` may be called on the iterator"
-        /// [AfterAll]: crate::specs::types::Reading#AfterAll "a fact that holds once calls from s gave all types, and then the end"
-        /// [P.next_gives]: crate::specs::library#next_gives "\`next\` on it may give x and leave it\'"
-        /// [R.can_next]: crate::specs::library#can_next "whether \`next\` may be called on the iterator"
-        /// [IsReading]: crate::specs::types::Reading#IsReading "the answer after calls from p to p\' and from r to r\': the function type of all that came, or the refusal"
-        /// [R.next_gives]: crate::specs::library#next_gives "\`next\` on it may give x and leave it\'"
+        /// Definitions: [`AfterAll`](crate::specs::types::Reading#AfterAll), [`IsReading`](crate::specs::types::Reading#IsReading).
         #[inline]
         pub fn read<P, R>(params: &mut P, results: &mut R) -> Result<Self, FuncTypeError>
         where
@@ -162,19 +156,14 @@ mod func_type {
         ///
         /// # Contract
         ///
-        /// <span></span><pre><code>requires count: [length] [entries].now ≡ len_params + len_results
+        /// ```text
+        /// requires count: length entries.now ≡ len_params + len_results
         /// requires params: len_params ≤ 1000
         /// requires results: len_results ≤ 1000
-        /// ensures params: [IfOk] result (λ ty. ty.params ≡ [take] len_params [entries].now)
-        /// ensures results: [IfOk] result (λ ty. ty.results ≡ [drop] len_params [entries].now)
-        /// ensures refused: [IsErr] result → 21 < [length] [entries].now</code></pre>
-        ///
-        /// [length]: crate::specs::library#length "the number of elements of a list"
-        /// [entries]: crate::specs::types::FunctionType#entries "the parameters, then the results"
-        /// [IfOk]: crate::specs::library#IfOk "P of the value, if r is a value"
-        /// [take]: crate::specs::library#take "the first n elements"
-        /// [drop]: crate::specs::library#drop "all but the first n elements"
-        /// [IsErr]: crate::specs::library#IsErr "r is an error"
+        /// ensures params: IfOk result (λ ty. ty.params ≡ take len_params entries.now)
+        /// ensures results: IfOk result (λ ty. ty.results ≡ drop len_params entries.now)
+        /// ensures refused: IsErr result → 21 < length entries.now
+        /// ```
         #[inline]
         fn from_entries(
             entries: &Entries,
@@ -204,7 +193,9 @@ mod func_type {
         ///
         /// # Contract
         ///
-        /// <span></span><pre><code>ensures: result.now ≡ self.now.params</code></pre>
+        /// ```text
+        /// ensures: result.now ≡ self.now.params
+        /// ```
         #[inline]
         pub fn params(&self) -> &[ValType] {
             self.params_results().0
@@ -214,7 +205,9 @@ mod func_type {
         ///
         /// # Contract
         ///
-        /// <span></span><pre><code>ensures: result.now ≡ self.now.results</code></pre>
+        /// ```text
+        /// ensures: result.now ≡ self.now.results
+        /// ```
         #[inline]
         pub fn results(&self) -> &[ValType] {
             self.params_results().1
@@ -224,9 +217,9 @@ mod func_type {
         ///
         /// # Contract
         ///
-        /// <span></span><pre><code>ensures: result ≡ [length] self.now.params</code></pre>
-        ///
-        /// [length]: crate::specs::library#length "the number of elements of a list"
+        /// ```text
+        /// ensures: result ≡ length self.now.params
+        /// ```
         #[inline]
         pub fn len_params(&self) -> u16 {
             match &self.inner {
@@ -239,9 +232,9 @@ mod func_type {
         ///
         /// # Contract
         ///
-        /// <span></span><pre><code>ensures: result ≡ [length] self.now.results</code></pre>
-        ///
-        /// [length]: crate::specs::library#length "the number of elements of a list"
+        /// ```text
+        /// ensures: result ≡ length self.now.results
+        /// ```
         #[inline]
         pub fn len_results(&self) -> u16 {
             match &self.inner {
@@ -257,8 +250,10 @@ mod func_type {
         ///
         /// # Contract
         ///
-        /// <span></span><pre><code>ensures params: result.0.now ≡ self.now.params
-        /// ensures results: result.1.now ≡ self.now.results</code></pre>
+        /// ```text
+        /// ensures params: result.0.now ≡ self.now.params
+        /// ensures results: result.1.now ≡ self.now.results
+        /// ```
         #[inline]
         pub fn params_results(&self) -> (&[ValType], &[ValType]) {
             self.entries().split_at(usize::from(self.len_params()))
@@ -268,17 +263,15 @@ mod func_type {
         ///
         /// # Contract
         ///
-        /// <span></span><pre><code>ensures big: result.0 ≡ [not] ([nat_le] ([entry_count] self.now) 21)
-        /// ensures params: result.1 ≡ [length] self.now.params
+        /// ```text
+        /// ensures big: result.0 ≡ not (nat_le (entry_count self.now) 21)
+        /// ensures params: result.1 ≡ length self.now.params
         /// ensures results: result.2
-        /// &#32;&#32;&#32;&#32;≡ (if [nat_le] ([entry_count] self.now) 21 then [length] self.now.results else 0)
-        /// ensures entries: result.3.now ≡ [entries] self.now</code></pre>
+        ///     ≡ (if nat_le (entry_count self.now) 21 then length self.now.results else 0)
+        /// ensures entries: result.3.now ≡ entries self.now
+        /// ```
         ///
-        /// [not]: crate::specs::library#not "the other Boolean"
-        /// [nat_le]: crate::specs::library#nat_le "whether m is at most n, as a Boolean"
-        /// [entry_count]: crate::specs::types::FunctionType#entry_count "how many parameters and results there are together"
-        /// [length]: crate::specs::library#length "the number of elements of a list"
-        /// [entries]: crate::specs::types::FunctionType#entries "the parameters, then the results"
+        /// Definitions: [`entry_count`](crate::specs::types::FunctionType#entry_count), [`entries`](crate::specs::types::FunctionType#entries).
         #[inline]
         fn order_key(&self) -> (bool, u16, u16, &[ValType]) {
             let entries = self.entries();
@@ -291,9 +284,11 @@ mod func_type {
         ///
         /// # Contract
         ///
-        /// <span></span><pre><code>ensures: result.now ≡ [entries] self.now</code></pre>
+        /// ```text
+        /// ensures: result.now ≡ entries self.now
+        /// ```
         ///
-        /// [entries]: crate::specs::types::FunctionType#entries "the parameters, then the results"
+        /// Definitions: [`entries`](crate::specs::types::FunctionType#entries).
         #[inline]
         fn entries(&self) -> &[ValType] {
             match &self.inner {
@@ -309,18 +304,20 @@ mod func_type {
 
     /// # Contract
     ///
-    /// <span></span><pre><code>is_clone = λ ty copy. copy ≡ ty</code></pre>
+    /// ```text
+    /// is_clone = λ ty copy. copy ≡ ty
+    /// ```
     impl crate::rattle::TryClone for FuncType {
         /// The same function type. Memory can be refused only where it has more than 21 entries.
         ///
         /// # Contract
         ///
-        /// <span></span><pre><code>ensures is_clone: [IfOk] result (λ copy. copy ≡ self.now)
-        /// ensures refused: [IsErr] result → 21 < [entry_count] self.now</code></pre>
+        /// ```text
+        /// ensures is_clone: IfOk result (λ copy. copy ≡ self.now)
+        /// ensures refused: IsErr result → 21 < entry_count self.now
+        /// ```
         ///
-        /// [IfOk]: crate::specs::library#IfOk "P of the value, if r is a value"
-        /// [IsErr]: crate::specs::library#IsErr "r is an error"
-        /// [entry_count]: crate::specs::types::FunctionType#entry_count "how many parameters and results there are together"
+        /// Definitions: [`entry_count`](crate::specs::types::FunctionType#entry_count).
         #[inline]
         fn try_clone(&self) -> Result<Self, AllocError> {
             Ok(FuncType {
@@ -348,17 +345,20 @@ mod func_type {
 
     /// # Contract
     ///
-    /// <span></span><pre><code>eq = [same_lists] ⟦\<ValType as PartialEq>⟧.eq</code></pre>
+    /// ```text
+    /// eq = same_lists ⟦<ValType as PartialEq>⟧.eq
+    /// ```
     ///
-    /// [same_lists]: crate::specs::types::FunctionType#same_lists "whether both lists are the same, by a test of value types"
+    /// Definitions: [`same_lists`](crate::specs::types::FunctionType#same_lists).
     impl PartialEq for FuncType {
         /// # Contract
         ///
-        /// <span></span><pre><code>ensures eq: result ≡ [same_lists] ⟦\<ValType as PartialEq>⟧.eq self.now other.now
-        /// ensures same: [IsTrue] result ↔ (self.now ≡ other.now)</code></pre>
+        /// ```text
+        /// ensures eq: result ≡ same_lists ⟦<ValType as PartialEq>⟧.eq self.now other.now
+        /// ensures same: IsTrue result ↔ (self.now ≡ other.now)
+        /// ```
         ///
-        /// [same_lists]: crate::specs::types::FunctionType#same_lists "whether both lists are the same, by a test of value types"
-        /// [IsTrue]: crate::specs::library#IsTrue "b is true"
+        /// Definitions: [`same_lists`](crate::specs::types::FunctionType#same_lists).
         #[inline]
         fn eq(&self, other: &Self) -> bool {
             self.params_results() == other.params_results()
@@ -369,20 +369,21 @@ mod func_type {
 
     /// # Contract
     ///
-    /// <span></span><pre><code>cmp = [function_type_cmp]
-    /// total = [on_texts] [order_key]</code></pre>
+    /// ```text
+    /// cmp = function_type_cmp
+    /// total = on_texts order_key
+    /// ```
     ///
-    /// [function_type_cmp]: crate::specs::types::FunctionType#function_type_cmp "the order of two function types"
-    /// [on_texts]: crate::specs::library#on_texts "the order of lists, element by element, by a number for each"
-    /// [order_key]: crate::specs::types::FunctionType#order_key "what function types are ordered by, place by place: small ones (at most 21 entries) come first, then the number of parameters counts, among small ones then that of results, then the entries"
+    /// Definitions: [`function_type_cmp`](crate::specs::types::FunctionType#function_type_cmp), [`order_key`](crate::specs::types::FunctionType#order_key).
     impl Ord for FuncType {
         /// # Contract
         ///
-        /// <span></span><pre><code>ensures cmp: result ≡ [function_type_cmp] self.now other.now
-        /// ensures equal: (result ≡ [Ordering].Equal) ↔ (self.now ≡ other.now)</code></pre>
+        /// ```text
+        /// ensures cmp: result ≡ function_type_cmp self.now other.now
+        /// ensures equal: (result ≡ Ordering.Equal) ↔ (self.now ≡ other.now)
+        /// ```
         ///
-        /// [function_type_cmp]: crate::specs::types::FunctionType#function_type_cmp "the order of two function types"
-        /// [Ordering]: crate::specs::library#Ordering "less, equal or greater"
+        /// Definitions: [`function_type_cmp`](crate::specs::types::FunctionType#function_type_cmp).
         #[inline]
         fn cmp(&self, other: &Self) -> Ordering {
             self.order_key().cmp(&other.order_key())
@@ -391,10 +392,11 @@ mod func_type {
 
     /// # Contract
     ///
-    /// <span></span><pre><code>partial_cmp = [as_partial_cmp] [function_type_cmp]</code></pre>
+    /// ```text
+    /// partial_cmp = as_partial_cmp function_type_cmp
+    /// ```
     ///
-    /// [as_partial_cmp]: crate::specs::library#as_partial_cmp "the order \`cmp\`, as \`partial_cmp\` gives it"
-    /// [function_type_cmp]: crate::specs::types::FunctionType#function_type_cmp "the order of two function types"
+    /// Definitions: [`function_type_cmp`](crate::specs::types::FunctionType#function_type_cmp).
     impl PartialOrd for FuncType {
         #[inline]
         fn partial_cmp(&self, other: &Self) -> Option<Ordering> {
@@ -404,9 +406,11 @@ mod func_type {
 
     /// # Contract
     ///
-    /// <span></span><pre><code>hash_input = [lists_input] ⟦\<ValType as Hash>⟧.hash_input</code></pre>
+    /// ```text
+    /// hash_input = lists_input ⟦<ValType as Hash>⟧.hash_input
+    /// ```
     ///
-    /// [lists_input]: crate::specs::types::FunctionType#lists_input "what a function type gives to a hasher: the parameters, then the results"
+    /// Definitions: [`lists_input`](crate::specs::types::FunctionType#lists_input).
     impl Hash for FuncType {
         #[inline]
         fn hash<H: Hasher>(&self, state: &mut H) {
@@ -429,16 +433,14 @@ mod func_type {
     ///
     /// # Model
     ///
-    /// <span></span><pre><code>Value = [List] [ValType]
-    /// view = λ [entries]. [take] [entries].len [entries].inline ++ [entries].rest.items
-    /// invariant = λ [entries]. ([length] [entries].inline ≡ 21) × ([entries].len ≤ 21)
-    /// &#32;&#32;&#32;&#32;× ([entries].len < 21 → [entries].rest.items ≡ \[\])</code></pre>
+    /// ```text
+    /// Value = List ValType
+    /// view = λ entries. take entries.len entries.inline ++ entries.rest.items
+    /// invariant = λ entries. (length entries.inline ≡ 21) × (entries.len ≤ 21)
+    ///     × (entries.len < 21 → entries.rest.items ≡ [])
+    /// ```
     ///
-    /// [List]: crate::specs::library#List "the finite lists"
-    /// [ValType]: crate::proved::types::ValType
-    /// [entries]: crate::specs::types::FunctionType#entries "the parameters, then the results"
-    /// [take]: crate::specs::library#take "the first n elements"
-    /// [length]: crate::specs::library#length "the number of elements of a list"
+    /// Definitions: [`entries`](crate::specs::types::FunctionType#entries).
     struct Entries {
         /// The first 21 entries, then types that mean nothing.
         inline: [ValType; INLINE_SIZE],
@@ -451,7 +453,9 @@ mod func_type {
     impl Entries {
         /// # Contract
         ///
-        /// <span></span><pre><code>ensures: result ≡ \[\]</code></pre>
+        /// ```text
+        /// ensures: result ≡ []
+        /// ```
         #[inline]
         fn new() -> Self {
             Entries {
@@ -465,12 +469,10 @@ mod func_type {
         ///
         /// # Contract
         ///
-        /// <span></span><pre><code>ensures ok: [OnOk] result (self.new ≡ self.old ++ ty ∷ \[\])
-        /// ensures refused: [OnErr] result (21 ≤ [length] self.old)</code></pre>
-        ///
-        /// [OnOk]: crate::specs::library#OnOk "P, if r is a value"
-        /// [OnErr]: crate::specs::library#OnErr "P, if r is an error"
-        /// [length]: crate::specs::library#length "the number of elements of a list"
+        /// ```text
+        /// ensures ok: OnOk result (self.new ≡ self.old ++ ty ∷ [])
+        /// ensures refused: OnErr result (21 ≤ length self.old)
+        /// ```
         #[inline]
         fn push(&mut self, ty: ValType) -> Result<(), AllocError> {
             if self.len < INLINE_SIZE {
@@ -486,13 +488,13 @@ mod func_type {
         ///
         /// # Contract
         ///
-        /// <span></span><pre><code>requires readable: [I.can_next] types.old
-        /// ensures read: [ReadsNextType] [I.next_gives] [I.can_next] types.old self.old result types.new
-        /// &#32;&#32;&#32;&#32;self.new</code></pre>
+        /// ```text
+        /// requires readable: I.can_next types.old
+        /// ensures read: ReadsNextType I.next_gives I.can_next types.old self.old result types.new
+        ///     self.new
+        /// ```
         ///
-        /// [I.can_next]: crate::specs::library#can_next "whether \`next\` may be called on the iterator"
-        /// [ReadsNextType]: crate::specs::types::Reading#ReadsNextType "a call from s to t gave a type that was appended, or was refused memory after 21, or gave the end"
-        /// [I.next_gives]: crate::specs::library#next_gives "\`next\` on it may give x and leave it\'"
+        /// Definitions: [`ReadsNextType`](crate::specs::types::Reading#ReadsNextType).
         #[inline]
         fn push_next<I>(&mut self, types: &mut I) -> Result<bool, AllocError>
         where
@@ -511,18 +513,15 @@ mod func_type {
         ///
         /// # Contract
         ///
-        /// <span></span><pre><code>requires readable: [I.can_next] types.old
-        /// ensures ok: [IfOk] result
-        /// &#32;&#32;&#32;&#32;(λ count. [ReadsTypes] [I.next_gives] types.old self.old count types.new self.new)
-        /// ensures err: [IfErr] result
-        /// &#32;&#32;&#32;&#32;(λ error. [IsReadingRefusal] [I.next_gives] too_many types.old self.old error types.new)</code></pre>
+        /// ```text
+        /// requires readable: I.can_next types.old
+        /// ensures ok: IfOk result
+        ///     (λ count. ReadsTypes I.next_gives types.old self.old count types.new self.new)
+        /// ensures err: IfErr result
+        ///     (λ error. IsReadingRefusal I.next_gives too_many types.old self.old error types.new)
+        /// ```
         ///
-        /// [I.can_next]: crate::specs::library#can_next "whether \`next\` may be called on the iterator"
-        /// [IfOk]: crate::specs::library#IfOk "P of the value, if r is a value"
-        /// [ReadsTypes]: crate::specs::types::Reading#ReadsTypes "calls from s to t gave so many types, at most 1,000, and then the end; they follow those before"
-        /// [I.next_gives]: crate::specs::library#next_gives "\`next\` on it may give x and leave it\'"
-        /// [IfErr]: crate::specs::library#IfErr "P of the error, if r is an error"
-        /// [IsReadingRefusal]: crate::specs::types::Reading#IsReadingRefusal "why a part was not read"
+        /// Definitions: [`ReadsTypes`](crate::specs::types::Reading#ReadsTypes), [`IsReadingRefusal`](crate::specs::types::Reading#IsReadingRefusal).
         #[inline]
         fn read<I>(&mut self, types: &mut I, too_many: FuncTypeError) -> Result<u16, FuncTypeError>
         where
@@ -557,7 +556,9 @@ pub mod hint {
     ///
     /// # Contract
     ///
-    /// <span></span><pre><code>ensures: result ≡ condition</code></pre>
+    /// ```text
+    /// ensures: result ≡ condition
+    /// ```
     #[inline]
     pub fn likely(condition: bool) -> bool {
         if !condition {
@@ -572,7 +573,9 @@ pub mod hint {
     ///
     /// # Contract
     ///
-    /// <span></span><pre><code>ensures: result ≡ condition</code></pre>
+    /// ```text
+    /// ensures: result ≡ condition
+    /// ```
     #[inline]
     pub fn unlikely(condition: bool) -> bool {
         if condition {
@@ -612,9 +615,11 @@ mod index_ty {
         ///
         /// # Contract
         ///
-        /// <span></span><pre><code>ensures: result ≡ [address_type] self.now</code></pre>
+        /// ```text
+        /// ensures: result ≡ address_type self.now
+        /// ```
         ///
-        /// [address_type]: crate::specs::types::IndexType#address_type "the value type of an address"
+        /// Definitions: [`address_type`](crate::specs::types::IndexType#address_type).
         #[inline]
         pub fn ty(&self) -> ValType {
             match self {
@@ -627,10 +632,9 @@ mod index_ty {
         ///
         /// # Contract
         ///
-        /// <span></span><pre><code>ensures: [IsTrue] result ↔ (self.now ≡ [IndexType.I64])</code></pre>
-        ///
-        /// [IsTrue]: crate::specs::library#IsTrue "b is true"
-        /// [IndexType.I64]: crate::proved::types::IndexType::I64
+        /// ```text
+        /// ensures: IsTrue result ↔ (self.now ≡ IndexType.I64)
+        /// ```
         #[inline]
         pub fn is_64(&self) -> bool {
             matches!(self, Self::I64)
@@ -640,9 +644,11 @@ mod index_ty {
         ///
         /// # Contract
         ///
-        /// <span></span><pre><code>ensures: result ≡ 2 ^ [address_bits] self.now</code></pre>
+        /// ```text
+        /// ensures: result ≡ 2 ^ address_bits self.now
+        /// ```
         ///
-        /// [address_bits]: crate::specs::types::IndexType#address_bits "how many bits an address has"
+        /// Definitions: [`address_bits`](crate::specs::types::IndexType#address_bits).
         #[inline]
         pub fn max_size(&self) -> u128 {
             const MAX_SIZE_32: u128 = 1 << 32;
@@ -657,9 +663,11 @@ mod index_ty {
         ///
         /// # Contract
         ///
-        /// <span></span><pre><code>ensures: result ≡ [narrower] self.now other.now</code></pre>
+        /// ```text
+        /// ensures: result ≡ narrower self.now other.now
+        /// ```
         ///
-        /// [narrower]: crate::specs::types::IndexType#narrower "the narrower of two address types"
+        /// Definitions: [`narrower`](crate::specs::types::IndexType#narrower).
         #[inline]
         pub fn min(&self, other: &Self) -> Self {
             match (self, other) {
@@ -673,7 +681,7 @@ mod trap {
     //! Traps: why a call ended early.
 
     use crate::proved::types::HostError;
-    use alloc::string::String;
+    use ::alloc::string::String;
     use core::error::Error;
     use core::fmt;
 
@@ -684,8 +692,10 @@ mod trap {
     ///
     /// # Model
     ///
-    /// <span></span><pre><code>Value = TrapReason H
-    /// view = λ trap. trap.reason</code></pre>
+    /// ```text
+    /// Value = TrapReason H
+    /// view = λ trap. trap.reason
+    /// ```
     #[derive(Debug)]
     pub struct Trap<H> {
         reason: TrapReason<H>,
@@ -704,7 +714,9 @@ mod trap {
         ///
         /// # Contract
         ///
-        /// <span></span><pre><code>ensures: result ≡ reason.Message message</code></pre>
+        /// ```text
+        /// ensures: result ≡ reason.Message message
+        /// ```
         #[inline]
         pub fn new(message: String) -> Self {
             Trap {
@@ -716,7 +728,9 @@ mod trap {
         ///
         /// # Contract
         ///
-        /// <span></span><pre><code>ensures: result ≡ reason.I32Exit status</code></pre>
+        /// ```text
+        /// ensures: result ≡ reason.I32Exit status
+        /// ```
         #[inline]
         pub fn i32_exit(status: i32) -> Self {
             Trap {
@@ -728,9 +742,11 @@ mod trap {
         ///
         /// # Contract
         ///
-        /// <span></span><pre><code>ensures: result ≡ [exit_status_of] self.now</code></pre>
+        /// ```text
+        /// ensures: result ≡ exit_status_of self.now
+        /// ```
         ///
-        /// [exit_status_of]: crate::specs::types::TrapReason#exit_status_of "the exit status of a reason, if it is one"
+        /// Definitions: [`exit_status_of`](crate::specs::types::TrapReason#exit_status_of).
         #[inline]
         pub fn i32_exit_status(&self) -> Option<i32> {
             match &self.reason {
@@ -743,9 +759,11 @@ mod trap {
         ///
         /// # Contract
         ///
-        /// <span></span><pre><code>ensures: result ≡ [code_of] self.now</code></pre>
+        /// ```text
+        /// ensures: result ≡ code_of self.now
+        /// ```
         ///
-        /// [code_of]: crate::specs::types::TrapReason#code_of "the trap code of a reason, if it is one"
+        /// Definitions: [`code_of`](crate::specs::types::TrapReason#code_of).
         #[inline]
         pub fn trap_code(&self) -> Option<TrapCode> {
             match &self.reason {
@@ -758,10 +776,11 @@ mod trap {
         ///
         /// # Contract
         ///
-        /// <span></span><pre><code>ensures: [option_copied] result ≡ [host_error_of] self.now</code></pre>
+        /// ```text
+        /// ensures: option_copied result ≡ host_error_of self.now
+        /// ```
         ///
-        /// [option_copied]: crate::specs::library#option_copied "the value behind an optional reference, if there is one"
-        /// [host_error_of]: crate::specs::types::TrapReason#host_error_of "the host\'s error of a reason, if it is one"
+        /// Definitions: [`host_error_of`](crate::specs::types::TrapReason#host_error_of).
         #[inline]
         pub fn downcast_ref(&self) -> Option<&H> {
             match &self.reason {
@@ -774,17 +793,13 @@ mod trap {
         ///
         /// # Contract
         ///
-        /// <span></span><pre><code>ensures\* writes_back: [sem] 𝓛 ([LendsIf] ([the_row] [H.row]) [H.row] self.entry result
-        /// &#32;&#32;&#32;&#32;([with_host_error] self.old) self.old)
-        /// ensures value: [option_copied_mut] result ≡ [host_error_of] self.old</code></pre>
+        /// ```text
+        /// ensures* writes_back: sem 𝓛 (LendsIf (the_row H.row) H.row self.entry result
+        ///     (with_host_error self.old) self.old)
+        /// ensures value: option_copied_mut result ≡ host_error_of self.old
+        /// ```
         ///
-        /// [sem]: crate::specs::library#sem "the fixed form of a clause on a loan"
-        /// [LendsIf]: crate::specs::library#LendsIf "as \`Lends\` where the result is a value; else x is v"
-        /// [the_row]: crate::specs::library#the_row "the type itself, in a clause on a loan"
-        /// [H.row]: crate::specs::library#row "a type, in a clause on a loan"
-        /// [with_host_error]: crate::specs::types::TrapReason#with_host_error "the reason with another error of the host, if it carries one"
-        /// [option_copied_mut]: crate::specs::library#option_copied_mut "the value behind an optional \`&mut\`, if there is one"
-        /// [host_error_of]: crate::specs::types::TrapReason#host_error_of "the host\'s error of a reason, if it is one"
+        /// Definitions: [`with_host_error`](crate::specs::types::TrapReason#with_host_error), [`host_error_of`](crate::specs::types::TrapReason#host_error_of).
         #[inline]
         pub fn downcast_mut(&mut self) -> Option<&mut H> {
             self.reason.as_host_mut()
@@ -794,9 +809,11 @@ mod trap {
         ///
         /// # Contract
         ///
-        /// <span></span><pre><code>ensures: result ≡ [host_error_of] self</code></pre>
+        /// ```text
+        /// ensures: result ≡ host_error_of self
+        /// ```
         ///
-        /// [host_error_of]: crate::specs::types::TrapReason#host_error_of "the host\'s error of a reason, if it is one"
+        /// Definitions: [`host_error_of`](crate::specs::types::TrapReason#host_error_of).
         #[inline]
         pub fn downcast(self) -> Option<H> {
             match self.reason {
@@ -809,17 +826,13 @@ mod trap {
     impl<H> TrapReason<H> {
         /// # Contract
         ///
-        /// <span></span><pre><code>ensures\* writes_back: [sem] 𝓛 ([LendsIf] ([the_row] [H.row]) [H.row] self.entry result
-        /// &#32;&#32;&#32;&#32;([with_host_error] self.old) self.old)
-        /// ensures value: [option_copied_mut] result ≡ [host_error_of] self.old</code></pre>
+        /// ```text
+        /// ensures* writes_back: sem 𝓛 (LendsIf (the_row H.row) H.row self.entry result
+        ///     (with_host_error self.old) self.old)
+        /// ensures value: option_copied_mut result ≡ host_error_of self.old
+        /// ```
         ///
-        /// [sem]: crate::specs::library#sem "the fixed form of a clause on a loan"
-        /// [LendsIf]: crate::specs::library#LendsIf "as \`Lends\` where the result is a value; else x is v"
-        /// [the_row]: crate::specs::library#the_row "the type itself, in a clause on a loan"
-        /// [H.row]: crate::specs::library#row "a type, in a clause on a loan"
-        /// [with_host_error]: crate::specs::types::TrapReason#with_host_error "the reason with another error of the host, if it carries one"
-        /// [option_copied_mut]: crate::specs::library#option_copied_mut "the value behind an optional \`&mut\`, if there is one"
-        /// [host_error_of]: crate::specs::types::TrapReason#host_error_of "the host\'s error of a reason, if it is one"
+        /// Definitions: [`with_host_error`](crate::specs::types::TrapReason#with_host_error), [`host_error_of`](crate::specs::types::TrapReason#host_error_of).
         #[inline]
         fn as_host_mut(&mut self) -> Option<&mut H> {
             match self {
@@ -831,10 +844,11 @@ mod trap {
 
     /// # Contract
     ///
-    /// <span></span><pre><code>output = [text_of] [H.output]</code></pre>
+    /// ```text
+    /// output = text_of H.output
+    /// ```
     ///
-    /// [text_of]: crate::specs::types::TrapReason#text_of "the text of a reason, where \`host_text\` is that of the host\'s error"
-    /// [H.output]: crate::specs::library#output "what \`Display\` prints of x, if it is known"
+    /// Definitions: [`text_of`](crate::specs::types::TrapReason#text_of).
     impl<H: HostError> fmt::Display for Trap<H> {
         #[inline]
         fn fmt(&self, f: &mut fmt::Formatter<'_>) -> fmt::Result {
@@ -851,7 +865,9 @@ mod trap {
 
     /// # Contract
     ///
-    /// <span></span><pre><code>from_gives = λ code trap. trap ≡ reason.InstructionTrap code</code></pre>
+    /// ```text
+    /// from_gives = λ code trap. trap ≡ reason.InstructionTrap code
+    /// ```
     impl<H: HostError> From<TrapCode> for Trap<H> {
         #[inline]
         fn from(code: TrapCode) -> Self {
@@ -863,7 +879,9 @@ mod trap {
 
     /// # Contract
     ///
-    /// <span></span><pre><code>from_gives = λ error trap. trap ≡ reason.Host error</code></pre>
+    /// ```text
+    /// from_gives = λ error trap. trap ≡ reason.Host error
+    /// ```
     impl<H: HostError> From<H> for Trap<H> {
         #[inline]
         fn from(error: H) -> Self {
@@ -916,9 +934,11 @@ mod trap {
         ///
         /// # Contract
         ///
-        /// <span></span><pre><code>ensures: result.now ≡ [code_message] self.now</code></pre>
+        /// ```text
+        /// ensures: result.now ≡ code_message self.now
+        /// ```
         ///
-        /// [code_message]: crate::specs::types::Trap#code_message "the text of a trap code"
+        /// Definitions: [`code_message`](crate::specs::types::Trap#code_message).
         #[inline]
         pub fn trap_message(&self) -> &'static str {
             match self {
@@ -940,10 +960,11 @@ mod trap {
 
     /// # Contract
     ///
-    /// <span></span><pre><code>output = λ code. [Some] ([code_message] code)</code></pre>
+    /// ```text
+    /// output = λ code. Some (code_message code)
+    /// ```
     ///
-    /// [Some]: crate::specs::library#Some "the value x, of an \`Option\`"
-    /// [code_message]: crate::specs::types::Trap#code_message "the text of a trap code"
+    /// Definitions: [`code_message`](crate::specs::types::Trap#code_message).
     impl fmt::Display for TrapCode {
         #[inline]
         fn fmt(&self, f: &mut fmt::Formatter<'_>) -> fmt::Result {
@@ -953,9 +974,11 @@ mod trap {
 
     /// # Contract
     ///
-    /// <span></span><pre><code>from_gives = λ code number. number ≡ [code_number] code</code></pre>
+    /// ```text
+    /// from_gives = λ code number. number ≡ code_number code
+    /// ```
     ///
-    /// [code_number]: crate::specs::types::Trap#code_number "the number that stands for a trap code"
+    /// Definitions: [`code_number`](crate::specs::types::Trap#code_number).
     impl From<TrapCode> for u8 {
         #[inline]
         fn from(code: TrapCode) -> u8 {
@@ -965,9 +988,11 @@ mod trap {
 
     /// # Contract
     ///
-    /// <span></span><pre><code>try_from_gives = [IsCodeOf]</code></pre>
+    /// ```text
+    /// try_from_gives = IsCodeOf
+    /// ```
     ///
-    /// [IsCodeOf]: crate::specs::types::Trap#IsCodeOf "the answer is the trap code with this number, or the error where no trap code has it"
+    /// Definitions: [`IsCodeOf`](crate::specs::types::Trap#IsCodeOf).
     impl TryFrom<u8> for TrapCode {
         type Error = InvalidTrapCode;
 
@@ -1020,9 +1045,11 @@ mod value {
         ///
         /// # Contract
         ///
-        /// <span></span><pre><code>ensures: result ≡ [is_number_type] self.now</code></pre>
+        /// ```text
+        /// ensures: result ≡ is_number_type self.now
+        /// ```
         ///
-        /// [is_number_type]: crate::specs::types::Value#is_number_type "whether a value type is a number type"
+        /// Definitions: [`is_number_type`](crate::specs::types::Value#is_number_type).
         #[inline]
         pub fn is_num(&self) -> bool {
             matches!(self, Self::I32 | Self::I64 | Self::F32 | Self::F64)
@@ -1032,10 +1059,11 @@ mod value {
         ///
         /// # Contract
         ///
-        /// <span></span><pre><code>ensures: result ≡ [is_some] ([reference_of] self.now)</code></pre>
+        /// ```text
+        /// ensures: result ≡ is_some (reference_of self.now)
+        /// ```
         ///
-        /// [is_some]: crate::specs::library#is_some "whether there is a value, as a Boolean"
-        /// [reference_of]: crate::specs::types::Value#reference_of "the reference type of a value type, if it is one"
+        /// Definitions: [`reference_of`](crate::specs::types::Value#reference_of).
         #[inline]
         pub fn is_ref(&self) -> bool {
             matches!(self, Self::FuncRef | Self::ExternRef)
@@ -1045,9 +1073,11 @@ mod value {
         ///
         /// # Contract
         ///
-        /// <span></span><pre><code>ensures: result ≡ [reference_of] self.now</code></pre>
+        /// ```text
+        /// ensures: result ≡ reference_of self.now
+        /// ```
         ///
-        /// [reference_of]: crate::specs::types::Value#reference_of "the reference type of a value type, if it is one"
+        /// Definitions: [`reference_of`](crate::specs::types::Value#reference_of).
         #[inline]
         pub fn as_ref(&self) -> Option<RefType> {
             match self {
@@ -1071,9 +1101,11 @@ mod value {
 
     /// # Contract
     ///
-    /// <span></span><pre><code>from_gives = λ ty value. value ≡ [value_of] ty</code></pre>
+    /// ```text
+    /// from_gives = λ ty value. value ≡ value_of ty
+    /// ```
     ///
-    /// [value_of]: crate::specs::types::Value#value_of "the value type of a reference type"
+    /// Definitions: [`value_of`](crate::specs::types::Value#value_of).
     impl From<RefType> for ValType {
         #[inline]
         fn from(ty: RefType) -> ValType {

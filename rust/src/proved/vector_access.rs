@@ -21,12 +21,11 @@ pub mod simd {
         ///
         /// # Contract
         ///
-        /// <span></span><pre><code>ensures: result ≡ [loaded] 8 ([vector.widen_s] [w8] [w16]) memory.now (ptr + offset)</code></pre>
+        /// ```text
+        /// ensures: result ≡ loaded 8 (vector.widen_s w8 w16) memory.now (ptr + offset)
+        /// ```
         ///
-        /// [loaded]: crate::specs::accesses::LoadStore#loaded "what a load of n bytes at a gives"
-        /// [vector.widen_s]: crate::specs::widening::WideningTable#widen_s "the lanes of a number of 64 bits read signed, at twice their width"
-        /// [w8]: crate::specs::library#w8 "the widths of integers in bits"
-        /// [w16]: crate::specs::library#w16 "the widths of integers in bits"
+        /// Definitions: [`loaded`](crate::specs::accesses::LoadStore#loaded), [`widen_s`](crate::specs::widening::WideningTable#widen_s).
         #[inline]
         pub fn v128_load8x8_s(memory: &[u8], ptr: u64, offset: u64) -> Result<V128, TrapCode> {
             Ok(v128_widen8x8_s(load::<u64>(memory, ptr, offset)?))
@@ -36,12 +35,11 @@ pub mod simd {
         ///
         /// # Contract
         ///
-        /// <span></span><pre><code>ensures: result ≡ [loaded] 8 ([vector.widen_s] [w8] [w16]) memory.now address</code></pre>
+        /// ```text
+        /// ensures: result ≡ loaded 8 (vector.widen_s w8 w16) memory.now address
+        /// ```
         ///
-        /// [loaded]: crate::specs::accesses::LoadStore#loaded "what a load of n bytes at a gives"
-        /// [vector.widen_s]: crate::specs::widening::WideningTable#widen_s "the lanes of a number of 64 bits read signed, at twice their width"
-        /// [w8]: crate::specs::library#w8 "the widths of integers in bits"
-        /// [w16]: crate::specs::library#w16 "the widths of integers in bits"
+        /// Definitions: [`loaded`](crate::specs::accesses::LoadStore#loaded), [`widen_s`](crate::specs::widening::WideningTable#widen_s).
         #[inline]
         pub fn v128_load8x8_s_at(memory: &[u8], address: usize) -> Result<V128, TrapCode> {
             Ok(v128_widen8x8_s(load_at::<u64>(memory, address)?))
@@ -51,12 +49,11 @@ pub mod simd {
         ///
         /// # Contract
         ///
-        /// <span></span><pre><code>ensures: result ≡ [loaded] 8 ([vector.widen_u] [w8] [w16]) memory.now (ptr + offset)</code></pre>
+        /// ```text
+        /// ensures: result ≡ loaded 8 (vector.widen_u w8 w16) memory.now (ptr + offset)
+        /// ```
         ///
-        /// [loaded]: crate::specs::accesses::LoadStore#loaded "what a load of n bytes at a gives"
-        /// [vector.widen_u]: crate::specs::widening::WideningTable#widen_u "the lanes of a number of 64 bits read unsigned, at twice their width"
-        /// [w8]: crate::specs::library#w8 "the widths of integers in bits"
-        /// [w16]: crate::specs::library#w16 "the widths of integers in bits"
+        /// Definitions: [`loaded`](crate::specs::accesses::LoadStore#loaded), [`widen_u`](crate::specs::widening::WideningTable#widen_u).
         #[inline]
         pub fn v128_load8x8_u(memory: &[u8], ptr: u64, offset: u64) -> Result<V128, TrapCode> {
             Ok(v128_widen8x8_u(load::<u64>(memory, ptr, offset)?))
@@ -66,12 +63,11 @@ pub mod simd {
         ///
         /// # Contract
         ///
-        /// <span></span><pre><code>ensures: result ≡ [loaded] 8 ([vector.widen_u] [w8] [w16]) memory.now address</code></pre>
+        /// ```text
+        /// ensures: result ≡ loaded 8 (vector.widen_u w8 w16) memory.now address
+        /// ```
         ///
-        /// [loaded]: crate::specs::accesses::LoadStore#loaded "what a load of n bytes at a gives"
-        /// [vector.widen_u]: crate::specs::widening::WideningTable#widen_u "the lanes of a number of 64 bits read unsigned, at twice their width"
-        /// [w8]: crate::specs::library#w8 "the widths of integers in bits"
-        /// [w16]: crate::specs::library#w16 "the widths of integers in bits"
+        /// Definitions: [`loaded`](crate::specs::accesses::LoadStore#loaded), [`widen_u`](crate::specs::widening::WideningTable#widen_u).
         #[inline]
         pub fn v128_load8x8_u_at(memory: &[u8], address: usize) -> Result<V128, TrapCode> {
             Ok(v128_widen8x8_u(load_at::<u64>(memory, address)?))
@@ -81,12 +77,11 @@ pub mod simd {
         ///
         /// # Contract
         ///
-        /// <span></span><pre><code>ensures: result ≡ [loaded] 8 ([vector.widen_s] [w16] [w32]) memory.now (ptr + offset)</code></pre>
+        /// ```text
+        /// ensures: result ≡ loaded 8 (vector.widen_s w16 w32) memory.now (ptr + offset)
+        /// ```
         ///
-        /// [loaded]: crate::specs::accesses::LoadStore#loaded "what a load of n bytes at a gives"
-        /// [vector.widen_s]: crate::specs::widening::WideningTable#widen_s "the lanes of a number of 64 bits read signed, at twice their width"
-        /// [w16]: crate::specs::library#w16 "the widths of integers in bits"
-        /// [w32]: crate::specs::library#w32 "the widths of integers in bits"
+        /// Definitions: [`loaded`](crate::specs::accesses::LoadStore#loaded), [`widen_s`](crate::specs::widening::WideningTable#widen_s).
         #[inline]
         pub fn v128_load16x4_s(memory: &[u8], ptr: u64, offset: u64) -> Result<V128, TrapCode> {
             Ok(v128_widen16x4_s(load::<u64>(memory, ptr, offset)?))
@@ -96,12 +91,11 @@ pub mod simd {
         ///
         /// # Contract
         ///
-        /// <span></span><pre><code>ensures: result ≡ [loaded] 8 ([vector.widen_s] [w16] [w32]) memory.now address</code></pre>
+        /// ```text
+        /// ensures: result ≡ loaded 8 (vector.widen_s w16 w32) memory.now address
+        /// ```
         ///
-        /// [loaded]: crate::specs::accesses::LoadStore#loaded "what a load of n bytes at a gives"
-        /// [vector.widen_s]: crate::specs::widening::WideningTable#widen_s "the lanes of a number of 64 bits read signed, at twice their width"
-        /// [w16]: crate::specs::library#w16 "the widths of integers in bits"
-        /// [w32]: crate::specs::library#w32 "the widths of integers in bits"
+        /// Definitions: [`loaded`](crate::specs::accesses::LoadStore#loaded), [`widen_s`](crate::specs::widening::WideningTable#widen_s).
         #[inline]
         pub fn v128_load16x4_s_at(memory: &[u8], address: usize) -> Result<V128, TrapCode> {
             Ok(v128_widen16x4_s(load_at::<u64>(memory, address)?))
@@ -111,12 +105,11 @@ pub mod simd {
         ///
         /// # Contract
         ///
-        /// <span></span><pre><code>ensures: result ≡ [loaded] 8 ([vector.widen_u] [w16] [w32]) memory.now (ptr + offset)</code></pre>
+        /// ```text
+        /// ensures: result ≡ loaded 8 (vector.widen_u w16 w32) memory.now (ptr + offset)
+        /// ```
         ///
-        /// [loaded]: crate::specs::accesses::LoadStore#loaded "what a load of n bytes at a gives"
-        /// [vector.widen_u]: crate::specs::widening::WideningTable#widen_u "the lanes of a number of 64 bits read unsigned, at twice their width"
-        /// [w16]: crate::specs::library#w16 "the widths of integers in bits"
-        /// [w32]: crate::specs::library#w32 "the widths of integers in bits"
+        /// Definitions: [`loaded`](crate::specs::accesses::LoadStore#loaded), [`widen_u`](crate::specs::widening::WideningTable#widen_u).
         #[inline]
         pub fn v128_load16x4_u(memory: &[u8], ptr: u64, offset: u64) -> Result<V128, TrapCode> {
             Ok(v128_widen16x4_u(load::<u64>(memory, ptr, offset)?))
@@ -126,12 +119,11 @@ pub mod simd {
         ///
         /// # Contract
         ///
-        /// <span></span><pre><code>ensures: result ≡ [loaded] 8 ([vector.widen_u] [w16] [w32]) memory.now address</code></pre>
+        /// ```text
+        /// ensures: result ≡ loaded 8 (vector.widen_u w16 w32) memory.now address
+        /// ```
         ///
-        /// [loaded]: crate::specs::accesses::LoadStore#loaded "what a load of n bytes at a gives"
-        /// [vector.widen_u]: crate::specs::widening::WideningTable#widen_u "the lanes of a number of 64 bits read unsigned, at twice their width"
-        /// [w16]: crate::specs::library#w16 "the widths of integers in bits"
-        /// [w32]: crate::specs::library#w32 "the widths of integers in bits"
+        /// Definitions: [`loaded`](crate::specs::accesses::LoadStore#loaded), [`widen_u`](crate::specs::widening::WideningTable#widen_u).
         #[inline]
         pub fn v128_load16x4_u_at(memory: &[u8], address: usize) -> Result<V128, TrapCode> {
             Ok(v128_widen16x4_u(load_at::<u64>(memory, address)?))
@@ -141,12 +133,11 @@ pub mod simd {
         ///
         /// # Contract
         ///
-        /// <span></span><pre><code>ensures: result ≡ [loaded] 8 ([vector.widen_s] [w32] [w64]) memory.now (ptr + offset)</code></pre>
+        /// ```text
+        /// ensures: result ≡ loaded 8 (vector.widen_s w32 w64) memory.now (ptr + offset)
+        /// ```
         ///
-        /// [loaded]: crate::specs::accesses::LoadStore#loaded "what a load of n bytes at a gives"
-        /// [vector.widen_s]: crate::specs::widening::WideningTable#widen_s "the lanes of a number of 64 bits read signed, at twice their width"
-        /// [w32]: crate::specs::library#w32 "the widths of integers in bits"
-        /// [w64]: crate::specs::library#w64 "the widths of integers in bits"
+        /// Definitions: [`loaded`](crate::specs::accesses::LoadStore#loaded), [`widen_s`](crate::specs::widening::WideningTable#widen_s).
         #[inline]
         pub fn v128_load32x2_s(memory: &[u8], ptr: u64, offset: u64) -> Result<V128, TrapCode> {
             Ok(v128_widen32x2_s(load::<u64>(memory, ptr, offset)?))
@@ -156,12 +147,11 @@ pub mod simd {
         ///
         /// # Contract
         ///
-        /// <span></span><pre><code>ensures: result ≡ [loaded] 8 ([vector.widen_s] [w32] [w64]) memory.now address</code></pre>
+        /// ```text
+        /// ensures: result ≡ loaded 8 (vector.widen_s w32 w64) memory.now address
+        /// ```
         ///
-        /// [loaded]: crate::specs::accesses::LoadStore#loaded "what a load of n bytes at a gives"
-        /// [vector.widen_s]: crate::specs::widening::WideningTable#widen_s "the lanes of a number of 64 bits read signed, at twice their width"
-        /// [w32]: crate::specs::library#w32 "the widths of integers in bits"
-        /// [w64]: crate::specs::library#w64 "the widths of integers in bits"
+        /// Definitions: [`loaded`](crate::specs::accesses::LoadStore#loaded), [`widen_s`](crate::specs::widening::WideningTable#widen_s).
         #[inline]
         pub fn v128_load32x2_s_at(memory: &[u8], address: usize) -> Result<V128, TrapCode> {
             Ok(v128_widen32x2_s(load_at::<u64>(memory, address)?))
@@ -171,12 +161,11 @@ pub mod simd {
         ///
         /// # Contract
         ///
-        /// <span></span><pre><code>ensures: result ≡ [loaded] 8 ([vector.widen_u] [w32] [w64]) memory.now (ptr + offset)</code></pre>
+        /// ```text
+        /// ensures: result ≡ loaded 8 (vector.widen_u w32 w64) memory.now (ptr + offset)
+        /// ```
         ///
-        /// [loaded]: crate::specs::accesses::LoadStore#loaded "what a load of n bytes at a gives"
-        /// [vector.widen_u]: crate::specs::widening::WideningTable#widen_u "the lanes of a number of 64 bits read unsigned, at twice their width"
-        /// [w32]: crate::specs::library#w32 "the widths of integers in bits"
-        /// [w64]: crate::specs::library#w64 "the widths of integers in bits"
+        /// Definitions: [`loaded`](crate::specs::accesses::LoadStore#loaded), [`widen_u`](crate::specs::widening::WideningTable#widen_u).
         #[inline]
         pub fn v128_load32x2_u(memory: &[u8], ptr: u64, offset: u64) -> Result<V128, TrapCode> {
             Ok(v128_widen32x2_u(load::<u64>(memory, ptr, offset)?))
@@ -186,12 +175,11 @@ pub mod simd {
         ///
         /// # Contract
         ///
-        /// <span></span><pre><code>ensures: result ≡ [loaded] 8 ([vector.widen_u] [w32] [w64]) memory.now address</code></pre>
+        /// ```text
+        /// ensures: result ≡ loaded 8 (vector.widen_u w32 w64) memory.now address
+        /// ```
         ///
-        /// [loaded]: crate::specs::accesses::LoadStore#loaded "what a load of n bytes at a gives"
-        /// [vector.widen_u]: crate::specs::widening::WideningTable#widen_u "the lanes of a number of 64 bits read unsigned, at twice their width"
-        /// [w32]: crate::specs::library#w32 "the widths of integers in bits"
-        /// [w64]: crate::specs::library#w64 "the widths of integers in bits"
+        /// Definitions: [`loaded`](crate::specs::accesses::LoadStore#loaded), [`widen_u`](crate::specs::widening::WideningTable#widen_u).
         #[inline]
         pub fn v128_load32x2_u_at(memory: &[u8], address: usize) -> Result<V128, TrapCode> {
             Ok(v128_widen32x2_u(load_at::<u64>(memory, address)?))
@@ -211,11 +199,11 @@ pub mod simd {
         ///
         /// # Contract
         ///
-        /// <span></span><pre><code>ensures: result ≡ [loaded] 1 ([with_lane] [w8] v lane) memory.now (ptr + offset)</code></pre>
+        /// ```text
+        /// ensures: result ≡ loaded 1 (with_lane w8 v lane) memory.now (ptr + offset)
+        /// ```
         ///
-        /// [loaded]: crate::specs::accesses::LoadStore#loaded "what a load of n bytes at a gives"
-        /// [with_lane]: crate::specs::lanes::Vector#with_lane "v with n in lane k"
-        /// [w8]: crate::specs::library#w8 "the widths of integers in bits"
+        /// Definitions: [`loaded`](crate::specs::accesses::LoadStore#loaded), [`with_lane`](crate::specs::lanes::Vector#with_lane).
         #[inline]
         pub fn v128_load8_lane(
             memory: &[u8],
@@ -231,11 +219,11 @@ pub mod simd {
         ///
         /// # Contract
         ///
-        /// <span></span><pre><code>ensures: result ≡ [loaded] 1 ([with_lane] [w8] v lane) memory.now address</code></pre>
+        /// ```text
+        /// ensures: result ≡ loaded 1 (with_lane w8 v lane) memory.now address
+        /// ```
         ///
-        /// [loaded]: crate::specs::accesses::LoadStore#loaded "what a load of n bytes at a gives"
-        /// [with_lane]: crate::specs::lanes::Vector#with_lane "v with n in lane k"
-        /// [w8]: crate::specs::library#w8 "the widths of integers in bits"
+        /// Definitions: [`loaded`](crate::specs::accesses::LoadStore#loaded), [`with_lane`](crate::specs::lanes::Vector#with_lane).
         #[inline]
         pub fn v128_load8_lane_at(
             memory: &[u8],
@@ -250,11 +238,11 @@ pub mod simd {
         ///
         /// # Contract
         ///
-        /// <span></span><pre><code>ensures: result ≡ [loaded] 2 ([with_lane] [w16] v lane) memory.now (ptr + offset)</code></pre>
+        /// ```text
+        /// ensures: result ≡ loaded 2 (with_lane w16 v lane) memory.now (ptr + offset)
+        /// ```
         ///
-        /// [loaded]: crate::specs::accesses::LoadStore#loaded "what a load of n bytes at a gives"
-        /// [with_lane]: crate::specs::lanes::Vector#with_lane "v with n in lane k"
-        /// [w16]: crate::specs::library#w16 "the widths of integers in bits"
+        /// Definitions: [`loaded`](crate::specs::accesses::LoadStore#loaded), [`with_lane`](crate::specs::lanes::Vector#with_lane).
         #[inline]
         pub fn v128_load16_lane(
             memory: &[u8],
@@ -270,11 +258,11 @@ pub mod simd {
         ///
         /// # Contract
         ///
-        /// <span></span><pre><code>ensures: result ≡ [loaded] 2 ([with_lane] [w16] v lane) memory.now address</code></pre>
+        /// ```text
+        /// ensures: result ≡ loaded 2 (with_lane w16 v lane) memory.now address
+        /// ```
         ///
-        /// [loaded]: crate::specs::accesses::LoadStore#loaded "what a load of n bytes at a gives"
-        /// [with_lane]: crate::specs::lanes::Vector#with_lane "v with n in lane k"
-        /// [w16]: crate::specs::library#w16 "the widths of integers in bits"
+        /// Definitions: [`loaded`](crate::specs::accesses::LoadStore#loaded), [`with_lane`](crate::specs::lanes::Vector#with_lane).
         #[inline]
         pub fn v128_load16_lane_at(
             memory: &[u8],
@@ -289,11 +277,11 @@ pub mod simd {
         ///
         /// # Contract
         ///
-        /// <span></span><pre><code>ensures: result ≡ [loaded] 4 ([with_lane] [w32] v lane) memory.now (ptr + offset)</code></pre>
+        /// ```text
+        /// ensures: result ≡ loaded 4 (with_lane w32 v lane) memory.now (ptr + offset)
+        /// ```
         ///
-        /// [loaded]: crate::specs::accesses::LoadStore#loaded "what a load of n bytes at a gives"
-        /// [with_lane]: crate::specs::lanes::Vector#with_lane "v with n in lane k"
-        /// [w32]: crate::specs::library#w32 "the widths of integers in bits"
+        /// Definitions: [`loaded`](crate::specs::accesses::LoadStore#loaded), [`with_lane`](crate::specs::lanes::Vector#with_lane).
         #[inline]
         pub fn v128_load32_lane(
             memory: &[u8],
@@ -309,11 +297,11 @@ pub mod simd {
         ///
         /// # Contract
         ///
-        /// <span></span><pre><code>ensures: result ≡ [loaded] 4 ([with_lane] [w32] v lane) memory.now address</code></pre>
+        /// ```text
+        /// ensures: result ≡ loaded 4 (with_lane w32 v lane) memory.now address
+        /// ```
         ///
-        /// [loaded]: crate::specs::accesses::LoadStore#loaded "what a load of n bytes at a gives"
-        /// [with_lane]: crate::specs::lanes::Vector#with_lane "v with n in lane k"
-        /// [w32]: crate::specs::library#w32 "the widths of integers in bits"
+        /// Definitions: [`loaded`](crate::specs::accesses::LoadStore#loaded), [`with_lane`](crate::specs::lanes::Vector#with_lane).
         #[inline]
         pub fn v128_load32_lane_at(
             memory: &[u8],
@@ -328,11 +316,11 @@ pub mod simd {
         ///
         /// # Contract
         ///
-        /// <span></span><pre><code>ensures: result ≡ [loaded] 8 ([with_lane] [w64] v lane) memory.now (ptr + offset)</code></pre>
+        /// ```text
+        /// ensures: result ≡ loaded 8 (with_lane w64 v lane) memory.now (ptr + offset)
+        /// ```
         ///
-        /// [loaded]: crate::specs::accesses::LoadStore#loaded "what a load of n bytes at a gives"
-        /// [with_lane]: crate::specs::lanes::Vector#with_lane "v with n in lane k"
-        /// [w64]: crate::specs::library#w64 "the widths of integers in bits"
+        /// Definitions: [`loaded`](crate::specs::accesses::LoadStore#loaded), [`with_lane`](crate::specs::lanes::Vector#with_lane).
         #[inline]
         pub fn v128_load64_lane(
             memory: &[u8],
@@ -348,11 +336,11 @@ pub mod simd {
         ///
         /// # Contract
         ///
-        /// <span></span><pre><code>ensures: result ≡ [loaded] 8 ([with_lane] [w64] v lane) memory.now address</code></pre>
+        /// ```text
+        /// ensures: result ≡ loaded 8 (with_lane w64 v lane) memory.now address
+        /// ```
         ///
-        /// [loaded]: crate::specs::accesses::LoadStore#loaded "what a load of n bytes at a gives"
-        /// [with_lane]: crate::specs::lanes::Vector#with_lane "v with n in lane k"
-        /// [w64]: crate::specs::library#w64 "the widths of integers in bits"
+        /// Definitions: [`loaded`](crate::specs::accesses::LoadStore#loaded), [`with_lane`](crate::specs::lanes::Vector#with_lane).
         #[inline]
         pub fn v128_load64_lane_at(
             memory: &[u8],
@@ -367,13 +355,12 @@ pub mod simd {
         ///
         /// # Contract
         ///
-        /// <span></span><pre><code>ensures: [IsStore] memory.old (ptr + offset)
-        /// &#32;&#32;&#32;&#32;([le_bytes] 1 ([lanes.lane] [w8] v lane)) memory.new result</code></pre>
+        /// ```text
+        /// ensures: IsStore memory.old (ptr + offset)
+        ///     (le_bytes 1 (lanes.lane w8 v lane)) memory.new result
+        /// ```
         ///
-        /// [IsStore]: crate::specs::accesses::LoadStore#IsStore "a store of ys at a: the memory has them there, or the store traps and the memory is the same"
-        /// [le_bytes]: crate::specs::types::Bytes#le_bytes "the k bytes of a number below 256 to the power k"
-        /// [lanes.lane]: crate::specs::lanes::Lane#lane "lane i of the vector v"
-        /// [w8]: crate::specs::library#w8 "the widths of integers in bits"
+        /// Definitions: [`IsStore`](crate::specs::accesses::LoadStore#IsStore), [`le_bytes`](crate::specs::types::Bytes#le_bytes), [`lane`](crate::specs::lanes::Lane#lane).
         #[inline]
         pub fn v128_store8_lane(
             memory: &mut [u8],
@@ -389,12 +376,11 @@ pub mod simd {
         ///
         /// # Contract
         ///
-        /// <span></span><pre><code>ensures: [IsStore] memory.old address ([le_bytes] 1 ([lanes.lane] [w8] v lane)) memory.new result</code></pre>
+        /// ```text
+        /// ensures: IsStore memory.old address (le_bytes 1 (lanes.lane w8 v lane)) memory.new result
+        /// ```
         ///
-        /// [IsStore]: crate::specs::accesses::LoadStore#IsStore "a store of ys at a: the memory has them there, or the store traps and the memory is the same"
-        /// [le_bytes]: crate::specs::types::Bytes#le_bytes "the k bytes of a number below 256 to the power k"
-        /// [lanes.lane]: crate::specs::lanes::Lane#lane "lane i of the vector v"
-        /// [w8]: crate::specs::library#w8 "the widths of integers in bits"
+        /// Definitions: [`IsStore`](crate::specs::accesses::LoadStore#IsStore), [`le_bytes`](crate::specs::types::Bytes#le_bytes), [`lane`](crate::specs::lanes::Lane#lane).
         #[inline]
         pub fn v128_store8_lane_at(
             memory: &mut [u8],
@@ -409,13 +395,12 @@ pub mod simd {
         ///
         /// # Contract
         ///
-        /// <span></span><pre><code>ensures: [IsStore] memory.old (ptr + offset)
-        /// &#32;&#32;&#32;&#32;([le_bytes] 2 ([lanes.lane] [w16] v lane)) memory.new result</code></pre>
+        /// ```text
+        /// ensures: IsStore memory.old (ptr + offset)
+        ///     (le_bytes 2 (lanes.lane w16 v lane)) memory.new result
+        /// ```
         ///
-        /// [IsStore]: crate::specs::accesses::LoadStore#IsStore "a store of ys at a: the memory has them there, or the store traps and the memory is the same"
-        /// [le_bytes]: crate::specs::types::Bytes#le_bytes "the k bytes of a number below 256 to the power k"
-        /// [lanes.lane]: crate::specs::lanes::Lane#lane "lane i of the vector v"
-        /// [w16]: crate::specs::library#w16 "the widths of integers in bits"
+        /// Definitions: [`IsStore`](crate::specs::accesses::LoadStore#IsStore), [`le_bytes`](crate::specs::types::Bytes#le_bytes), [`lane`](crate::specs::lanes::Lane#lane).
         #[inline]
         pub fn v128_store16_lane(
             memory: &mut [u8],
@@ -431,12 +416,11 @@ pub mod simd {
         ///
         /// # Contract
         ///
-        /// <span></span><pre><code>ensures: [IsStore] memory.old address ([le_bytes] 2 ([lanes.lane] [w16] v lane)) memory.new result</code></pre>
+        /// ```text
+        /// ensures: IsStore memory.old address (le_bytes 2 (lanes.lane w16 v lane)) memory.new result
+        /// ```
         ///
-        /// [IsStore]: crate::specs::accesses::LoadStore#IsStore "a store of ys at a: the memory has them there, or the store traps and the memory is the same"
-        /// [le_bytes]: crate::specs::types::Bytes#le_bytes "the k bytes of a number below 256 to the power k"
-        /// [lanes.lane]: crate::specs::lanes::Lane#lane "lane i of the vector v"
-        /// [w16]: crate::specs::library#w16 "the widths of integers in bits"
+        /// Definitions: [`IsStore`](crate::specs::accesses::LoadStore#IsStore), [`le_bytes`](crate::specs::types::Bytes#le_bytes), [`lane`](crate::specs::lanes::Lane#lane).
         #[inline]
         pub fn v128_store16_lane_at(
             memory: &mut [u8],
@@ -451,13 +435,12 @@ pub mod simd {
         ///
         /// # Contract
         ///
-        /// <span></span><pre><code>ensures: [IsStore] memory.old (ptr + offset)
-        /// &#32;&#32;&#32;&#32;([le_bytes] 4 ([lanes.lane] [w32] v lane)) memory.new result</code></pre>
+        /// ```text
+        /// ensures: IsStore memory.old (ptr + offset)
+        ///     (le_bytes 4 (lanes.lane w32 v lane)) memory.new result
+        /// ```
         ///
-        /// [IsStore]: crate::specs::accesses::LoadStore#IsStore "a store of ys at a: the memory has them there, or the store traps and the memory is the same"
-        /// [le_bytes]: crate::specs::types::Bytes#le_bytes "the k bytes of a number below 256 to the power k"
-        /// [lanes.lane]: crate::specs::lanes::Lane#lane "lane i of the vector v"
-        /// [w32]: crate::specs::library#w32 "the widths of integers in bits"
+        /// Definitions: [`IsStore`](crate::specs::accesses::LoadStore#IsStore), [`le_bytes`](crate::specs::types::Bytes#le_bytes), [`lane`](crate::specs::lanes::Lane#lane).
         #[inline]
         pub fn v128_store32_lane(
             memory: &mut [u8],
@@ -473,12 +456,11 @@ pub mod simd {
         ///
         /// # Contract
         ///
-        /// <span></span><pre><code>ensures: [IsStore] memory.old address ([le_bytes] 4 ([lanes.lane] [w32] v lane)) memory.new result</code></pre>
+        /// ```text
+        /// ensures: IsStore memory.old address (le_bytes 4 (lanes.lane w32 v lane)) memory.new result
+        /// ```
         ///
-        /// [IsStore]: crate::specs::accesses::LoadStore#IsStore "a store of ys at a: the memory has them there, or the store traps and the memory is the same"
-        /// [le_bytes]: crate::specs::types::Bytes#le_bytes "the k bytes of a number below 256 to the power k"
-        /// [lanes.lane]: crate::specs::lanes::Lane#lane "lane i of the vector v"
-        /// [w32]: crate::specs::library#w32 "the widths of integers in bits"
+        /// Definitions: [`IsStore`](crate::specs::accesses::LoadStore#IsStore), [`le_bytes`](crate::specs::types::Bytes#le_bytes), [`lane`](crate::specs::lanes::Lane#lane).
         #[inline]
         pub fn v128_store32_lane_at(
             memory: &mut [u8],
@@ -493,13 +475,12 @@ pub mod simd {
         ///
         /// # Contract
         ///
-        /// <span></span><pre><code>ensures: [IsStore] memory.old (ptr + offset)
-        /// &#32;&#32;&#32;&#32;([le_bytes] 8 ([lanes.lane] [w64] v lane)) memory.new result</code></pre>
+        /// ```text
+        /// ensures: IsStore memory.old (ptr + offset)
+        ///     (le_bytes 8 (lanes.lane w64 v lane)) memory.new result
+        /// ```
         ///
-        /// [IsStore]: crate::specs::accesses::LoadStore#IsStore "a store of ys at a: the memory has them there, or the store traps and the memory is the same"
-        /// [le_bytes]: crate::specs::types::Bytes#le_bytes "the k bytes of a number below 256 to the power k"
-        /// [lanes.lane]: crate::specs::lanes::Lane#lane "lane i of the vector v"
-        /// [w64]: crate::specs::library#w64 "the widths of integers in bits"
+        /// Definitions: [`IsStore`](crate::specs::accesses::LoadStore#IsStore), [`le_bytes`](crate::specs::types::Bytes#le_bytes), [`lane`](crate::specs::lanes::Lane#lane).
         #[inline]
         pub fn v128_store64_lane(
             memory: &mut [u8],
@@ -515,12 +496,11 @@ pub mod simd {
         ///
         /// # Contract
         ///
-        /// <span></span><pre><code>ensures: [IsStore] memory.old address ([le_bytes] 8 ([lanes.lane] [w64] v lane)) memory.new result</code></pre>
+        /// ```text
+        /// ensures: IsStore memory.old address (le_bytes 8 (lanes.lane w64 v lane)) memory.new result
+        /// ```
         ///
-        /// [IsStore]: crate::specs::accesses::LoadStore#IsStore "a store of ys at a: the memory has them there, or the store traps and the memory is the same"
-        /// [le_bytes]: crate::specs::types::Bytes#le_bytes "the k bytes of a number below 256 to the power k"
-        /// [lanes.lane]: crate::specs::lanes::Lane#lane "lane i of the vector v"
-        /// [w64]: crate::specs::library#w64 "the widths of integers in bits"
+        /// Definitions: [`IsStore`](crate::specs::accesses::LoadStore#IsStore), [`le_bytes`](crate::specs::types::Bytes#le_bytes), [`lane`](crate::specs::lanes::Lane#lane).
         #[inline]
         pub fn v128_store64_lane_at(
             memory: &mut [u8],
@@ -544,11 +524,11 @@ pub mod simd {
         ///
         /// # Contract
         ///
-        /// <span></span><pre><code>ensures: result ≡ [loaded] 1 ([splat_of] [w8]) memory.now (ptr + offset)</code></pre>
+        /// ```text
+        /// ensures: result ≡ loaded 1 (splat_of w8) memory.now (ptr + offset)
+        /// ```
         ///
-        /// [loaded]: crate::specs::accesses::LoadStore#loaded "what a load of n bytes at a gives"
-        /// [splat_of]: crate::specs::lanes::Vector#splat_of "n in each lane"
-        /// [w8]: crate::specs::library#w8 "the widths of integers in bits"
+        /// Definitions: [`loaded`](crate::specs::accesses::LoadStore#loaded), [`splat_of`](crate::specs::lanes::Vector#splat_of).
         #[inline]
         pub fn v128_load8_splat(memory: &[u8], ptr: u64, offset: u64) -> Result<V128, TrapCode> {
             Ok(on_vectors::splat::<U8x16>(load::<u8>(memory, ptr, offset)?))
@@ -558,11 +538,11 @@ pub mod simd {
         ///
         /// # Contract
         ///
-        /// <span></span><pre><code>ensures: result ≡ [loaded] 1 ([splat_of] [w8]) memory.now address</code></pre>
+        /// ```text
+        /// ensures: result ≡ loaded 1 (splat_of w8) memory.now address
+        /// ```
         ///
-        /// [loaded]: crate::specs::accesses::LoadStore#loaded "what a load of n bytes at a gives"
-        /// [splat_of]: crate::specs::lanes::Vector#splat_of "n in each lane"
-        /// [w8]: crate::specs::library#w8 "the widths of integers in bits"
+        /// Definitions: [`loaded`](crate::specs::accesses::LoadStore#loaded), [`splat_of`](crate::specs::lanes::Vector#splat_of).
         #[inline]
         pub fn v128_load8_splat_at(memory: &[u8], address: usize) -> Result<V128, TrapCode> {
             Ok(on_vectors::splat::<U8x16>(load_at::<u8>(memory, address)?))
@@ -572,11 +552,11 @@ pub mod simd {
         ///
         /// # Contract
         ///
-        /// <span></span><pre><code>ensures: result ≡ [loaded] 2 ([splat_of] [w16]) memory.now (ptr + offset)</code></pre>
+        /// ```text
+        /// ensures: result ≡ loaded 2 (splat_of w16) memory.now (ptr + offset)
+        /// ```
         ///
-        /// [loaded]: crate::specs::accesses::LoadStore#loaded "what a load of n bytes at a gives"
-        /// [splat_of]: crate::specs::lanes::Vector#splat_of "n in each lane"
-        /// [w16]: crate::specs::library#w16 "the widths of integers in bits"
+        /// Definitions: [`loaded`](crate::specs::accesses::LoadStore#loaded), [`splat_of`](crate::specs::lanes::Vector#splat_of).
         #[inline]
         pub fn v128_load16_splat(memory: &[u8], ptr: u64, offset: u64) -> Result<V128, TrapCode> {
             Ok(on_vectors::splat::<U16x8>(load::<u16>(
@@ -588,11 +568,11 @@ pub mod simd {
         ///
         /// # Contract
         ///
-        /// <span></span><pre><code>ensures: result ≡ [loaded] 2 ([splat_of] [w16]) memory.now address</code></pre>
+        /// ```text
+        /// ensures: result ≡ loaded 2 (splat_of w16) memory.now address
+        /// ```
         ///
-        /// [loaded]: crate::specs::accesses::LoadStore#loaded "what a load of n bytes at a gives"
-        /// [splat_of]: crate::specs::lanes::Vector#splat_of "n in each lane"
-        /// [w16]: crate::specs::library#w16 "the widths of integers in bits"
+        /// Definitions: [`loaded`](crate::specs::accesses::LoadStore#loaded), [`splat_of`](crate::specs::lanes::Vector#splat_of).
         #[inline]
         pub fn v128_load16_splat_at(memory: &[u8], address: usize) -> Result<V128, TrapCode> {
             Ok(on_vectors::splat::<U16x8>(load_at::<u16>(memory, address)?))
@@ -602,11 +582,11 @@ pub mod simd {
         ///
         /// # Contract
         ///
-        /// <span></span><pre><code>ensures: result ≡ [loaded] 4 ([splat_of] [w32]) memory.now (ptr + offset)</code></pre>
+        /// ```text
+        /// ensures: result ≡ loaded 4 (splat_of w32) memory.now (ptr + offset)
+        /// ```
         ///
-        /// [loaded]: crate::specs::accesses::LoadStore#loaded "what a load of n bytes at a gives"
-        /// [splat_of]: crate::specs::lanes::Vector#splat_of "n in each lane"
-        /// [w32]: crate::specs::library#w32 "the widths of integers in bits"
+        /// Definitions: [`loaded`](crate::specs::accesses::LoadStore#loaded), [`splat_of`](crate::specs::lanes::Vector#splat_of).
         #[inline]
         pub fn v128_load32_splat(memory: &[u8], ptr: u64, offset: u64) -> Result<V128, TrapCode> {
             Ok(on_vectors::splat::<U32x4>(load::<u32>(
@@ -618,11 +598,11 @@ pub mod simd {
         ///
         /// # Contract
         ///
-        /// <span></span><pre><code>ensures: result ≡ [loaded] 4 ([splat_of] [w32]) memory.now address</code></pre>
+        /// ```text
+        /// ensures: result ≡ loaded 4 (splat_of w32) memory.now address
+        /// ```
         ///
-        /// [loaded]: crate::specs::accesses::LoadStore#loaded "what a load of n bytes at a gives"
-        /// [splat_of]: crate::specs::lanes::Vector#splat_of "n in each lane"
-        /// [w32]: crate::specs::library#w32 "the widths of integers in bits"
+        /// Definitions: [`loaded`](crate::specs::accesses::LoadStore#loaded), [`splat_of`](crate::specs::lanes::Vector#splat_of).
         #[inline]
         pub fn v128_load32_splat_at(memory: &[u8], address: usize) -> Result<V128, TrapCode> {
             Ok(on_vectors::splat::<U32x4>(load_at::<u32>(memory, address)?))
@@ -632,11 +612,11 @@ pub mod simd {
         ///
         /// # Contract
         ///
-        /// <span></span><pre><code>ensures: result ≡ [loaded] 8 ([splat_of] [w64]) memory.now (ptr + offset)</code></pre>
+        /// ```text
+        /// ensures: result ≡ loaded 8 (splat_of w64) memory.now (ptr + offset)
+        /// ```
         ///
-        /// [loaded]: crate::specs::accesses::LoadStore#loaded "what a load of n bytes at a gives"
-        /// [splat_of]: crate::specs::lanes::Vector#splat_of "n in each lane"
-        /// [w64]: crate::specs::library#w64 "the widths of integers in bits"
+        /// Definitions: [`loaded`](crate::specs::accesses::LoadStore#loaded), [`splat_of`](crate::specs::lanes::Vector#splat_of).
         #[inline]
         pub fn v128_load64_splat(memory: &[u8], ptr: u64, offset: u64) -> Result<V128, TrapCode> {
             Ok(on_vectors::splat::<U64x2>(load::<u64>(
@@ -648,11 +628,11 @@ pub mod simd {
         ///
         /// # Contract
         ///
-        /// <span></span><pre><code>ensures: result ≡ [loaded] 8 ([splat_of] [w64]) memory.now address</code></pre>
+        /// ```text
+        /// ensures: result ≡ loaded 8 (splat_of w64) memory.now address
+        /// ```
         ///
-        /// [loaded]: crate::specs::accesses::LoadStore#loaded "what a load of n bytes at a gives"
-        /// [splat_of]: crate::specs::lanes::Vector#splat_of "n in each lane"
-        /// [w64]: crate::specs::library#w64 "the widths of integers in bits"
+        /// Definitions: [`loaded`](crate::specs::accesses::LoadStore#loaded), [`splat_of`](crate::specs::lanes::Vector#splat_of).
         #[inline]
         pub fn v128_load64_splat_at(memory: &[u8], address: usize) -> Result<V128, TrapCode> {
             Ok(on_vectors::splat::<U64x2>(load_at::<u64>(memory, address)?))
@@ -662,11 +642,11 @@ pub mod simd {
         ///
         /// # Contract
         ///
-        /// <span></span><pre><code>ensures: result ≡ [loaded] 4 ([vector.low_zero] [w32]) memory.now (ptr + offset)</code></pre>
+        /// ```text
+        /// ensures: result ≡ loaded 4 (vector.low_zero w32) memory.now (ptr + offset)
+        /// ```
         ///
-        /// [loaded]: crate::specs::accesses::LoadStore#loaded "what a load of n bytes at a gives"
-        /// [vector.low_zero]: crate::specs::widening::WideningTable#low_zero "the vector with the number in lane 0, and 0 in the others"
-        /// [w32]: crate::specs::library#w32 "the widths of integers in bits"
+        /// Definitions: [`loaded`](crate::specs::accesses::LoadStore#loaded), [`low_zero`](crate::specs::widening::WideningTable#low_zero).
         #[inline]
         pub fn v128_load32_zero(memory: &[u8], ptr: u64, offset: u64) -> Result<V128, TrapCode> {
             Ok(v128_low32_zero(load::<u32>(memory, ptr, offset)?))
@@ -676,11 +656,11 @@ pub mod simd {
         ///
         /// # Contract
         ///
-        /// <span></span><pre><code>ensures: result ≡ [loaded] 4 ([vector.low_zero] [w32]) memory.now address</code></pre>
+        /// ```text
+        /// ensures: result ≡ loaded 4 (vector.low_zero w32) memory.now address
+        /// ```
         ///
-        /// [loaded]: crate::specs::accesses::LoadStore#loaded "what a load of n bytes at a gives"
-        /// [vector.low_zero]: crate::specs::widening::WideningTable#low_zero "the vector with the number in lane 0, and 0 in the others"
-        /// [w32]: crate::specs::library#w32 "the widths of integers in bits"
+        /// Definitions: [`loaded`](crate::specs::accesses::LoadStore#loaded), [`low_zero`](crate::specs::widening::WideningTable#low_zero).
         #[inline]
         pub fn v128_load32_zero_at(memory: &[u8], address: usize) -> Result<V128, TrapCode> {
             Ok(v128_low32_zero(load_at::<u32>(memory, address)?))
@@ -690,11 +670,11 @@ pub mod simd {
         ///
         /// # Contract
         ///
-        /// <span></span><pre><code>ensures: result ≡ [loaded] 8 ([vector.low_zero] [w64]) memory.now (ptr + offset)</code></pre>
+        /// ```text
+        /// ensures: result ≡ loaded 8 (vector.low_zero w64) memory.now (ptr + offset)
+        /// ```
         ///
-        /// [loaded]: crate::specs::accesses::LoadStore#loaded "what a load of n bytes at a gives"
-        /// [vector.low_zero]: crate::specs::widening::WideningTable#low_zero "the vector with the number in lane 0, and 0 in the others"
-        /// [w64]: crate::specs::library#w64 "the widths of integers in bits"
+        /// Definitions: [`loaded`](crate::specs::accesses::LoadStore#loaded), [`low_zero`](crate::specs::widening::WideningTable#low_zero).
         #[inline]
         pub fn v128_load64_zero(memory: &[u8], ptr: u64, offset: u64) -> Result<V128, TrapCode> {
             Ok(v128_low64_zero(load::<u64>(memory, ptr, offset)?))
@@ -704,11 +684,11 @@ pub mod simd {
         ///
         /// # Contract
         ///
-        /// <span></span><pre><code>ensures: result ≡ [loaded] 8 ([vector.low_zero] [w64]) memory.now address</code></pre>
+        /// ```text
+        /// ensures: result ≡ loaded 8 (vector.low_zero w64) memory.now address
+        /// ```
         ///
-        /// [loaded]: crate::specs::accesses::LoadStore#loaded "what a load of n bytes at a gives"
-        /// [vector.low_zero]: crate::specs::widening::WideningTable#low_zero "the vector with the number in lane 0, and 0 in the others"
-        /// [w64]: crate::specs::library#w64 "the widths of integers in bits"
+        /// Definitions: [`loaded`](crate::specs::accesses::LoadStore#loaded), [`low_zero`](crate::specs::widening::WideningTable#low_zero).
         #[inline]
         pub fn v128_load64_zero_at(memory: &[u8], address: usize) -> Result<V128, TrapCode> {
             Ok(v128_low64_zero(load_at::<u64>(memory, address)?))
@@ -725,9 +705,11 @@ pub mod simd {
         ///
         /// # Contract
         ///
-        /// <span></span><pre><code>ensures: result ≡ [loaded] 16 (λ n. n) memory.now (ptr + offset)</code></pre>
+        /// ```text
+        /// ensures: result ≡ loaded 16 (λ n. n) memory.now (ptr + offset)
+        /// ```
         ///
-        /// [loaded]: crate::specs::accesses::LoadStore#loaded "what a load of n bytes at a gives"
+        /// Definitions: [`loaded`](crate::specs::accesses::LoadStore#loaded).
         #[inline]
         pub fn v128_load(memory: &[u8], ptr: u64, offset: u64) -> Result<V128, TrapCode> {
             Ok(V128::from(load::<u128>(memory, ptr, offset)?))
@@ -737,9 +719,11 @@ pub mod simd {
         ///
         /// # Contract
         ///
-        /// <span></span><pre><code>ensures: result ≡ [loaded] 16 (λ n. n) memory.now address</code></pre>
+        /// ```text
+        /// ensures: result ≡ loaded 16 (λ n. n) memory.now address
+        /// ```
         ///
-        /// [loaded]: crate::specs::accesses::LoadStore#loaded "what a load of n bytes at a gives"
+        /// Definitions: [`loaded`](crate::specs::accesses::LoadStore#loaded).
         #[inline]
         pub fn v128_load_at(memory: &[u8], address: usize) -> Result<V128, TrapCode> {
             Ok(V128::from(load_at::<u128>(memory, address)?))
@@ -749,10 +733,11 @@ pub mod simd {
         ///
         /// # Contract
         ///
-        /// <span></span><pre><code>ensures: [IsStore] memory.old (ptr + offset) ([le_bytes] 16 value) memory.new result</code></pre>
+        /// ```text
+        /// ensures: IsStore memory.old (ptr + offset) (le_bytes 16 value) memory.new result
+        /// ```
         ///
-        /// [IsStore]: crate::specs::accesses::LoadStore#IsStore "a store of ys at a: the memory has them there, or the store traps and the memory is the same"
-        /// [le_bytes]: crate::specs::types::Bytes#le_bytes "the k bytes of a number below 256 to the power k"
+        /// Definitions: [`IsStore`](crate::specs::accesses::LoadStore#IsStore), [`le_bytes`](crate::specs::types::Bytes#le_bytes).
         #[inline]
         pub fn v128_store(
             memory: &mut [u8],
@@ -767,10 +752,11 @@ pub mod simd {
         ///
         /// # Contract
         ///
-        /// <span></span><pre><code>ensures: [IsStore] memory.old address ([le_bytes] 16 value) memory.new result</code></pre>
+        /// ```text
+        /// ensures: IsStore memory.old address (le_bytes 16 value) memory.new result
+        /// ```
         ///
-        /// [IsStore]: crate::specs::accesses::LoadStore#IsStore "a store of ys at a: the memory has them there, or the store traps and the memory is the same"
-        /// [le_bytes]: crate::specs::types::Bytes#le_bytes "the k bytes of a number below 256 to the power k"
+        /// Definitions: [`IsStore`](crate::specs::accesses::LoadStore#IsStore), [`le_bytes`](crate::specs::types::Bytes#le_bytes).
         #[inline]
         pub fn v128_store_at(
             memory: &mut [u8],

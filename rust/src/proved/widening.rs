@@ -10,23 +10,19 @@ pub mod laws {
     ///
     /// # Contract
     ///
-    /// <span></span><pre><code>ensures unary: (narrow wide : [Width]) (first : [ℕ]) (read : [ℕ] → A) (row : A → [ℕ]) (v i : [ℕ])
-    /// &#32;&#32;&#32;&#32;→ i < [lane_count] wide
-    /// &#32;&#32;&#32;&#32;→ [lane] wide ([half_unary] narrow wide first read row v) i
-    /// &#32;&#32;&#32;&#32;≡ row (read ([lane] narrow v (first + i))) % 2 ^ [bits] wide
-    /// ensures binary: (narrow wide : [Width]) (first : [ℕ]) (read : [ℕ] → A) (row : A → A → [ℕ]) (a b i : [ℕ])
-    /// &#32;&#32;&#32;&#32;→ i < [lane_count] wide
-    /// &#32;&#32;&#32;&#32;→ [lane] wide ([half_binary] narrow wide first read row a b) i
-    /// &#32;&#32;&#32;&#32;≡ row (read ([lane] narrow a (first + i)))
-    /// &#32;&#32;&#32;&#32;(read ([lane] narrow b (first + i))) % 2 ^ [bits] wide</code></pre>
+    /// ```text
+    /// ensures unary: (narrow wide : Width) (first : ℕ) (read : ℕ → A) (row : A → ℕ) (v i : ℕ)
+    ///     → i < lane_count wide
+    ///     → lane wide (half_unary narrow wide first read row v) i
+    ///     ≡ row (read (lane narrow v (first + i))) % 2 ^ bits wide
+    /// ensures binary: (narrow wide : Width) (first : ℕ) (read : ℕ → A) (row : A → A → ℕ) (a b i : ℕ)
+    ///     → i < lane_count wide
+    ///     → lane wide (half_binary narrow wide first read row a b) i
+    ///     ≡ row (read (lane narrow a (first + i)))
+    ///     (read (lane narrow b (first + i))) % 2 ^ bits wide
+    /// ```
     ///
-    /// [Width]: crate::specs::library#Width "the widths of integers: 8, 16, 32, 64 or 128 bits"
-    /// [ℕ]: crate::specs::library#%E2%84%95 "the whole numbers from 0 on"
-    /// [lane_count]: crate::specs::widening::Widening#lane_count "how many lanes of a width a vector has"
-    /// [lane]: crate::specs::lanes::Lane#lane "lane i of the vector v"
-    /// [half_unary]: crate::specs::widening::Widening#half_unary "the wide vector whose lane i is the row of the narrow lane first + i: first is 0 for the lower half, and \`lane_count wide\` for the upper"
-    /// [bits]: crate::specs::library#bits "the number of bits of a width"
-    /// [half_binary]: crate::specs::widening::Widening#half_binary "the wide vector whose lane i is the row of the narrow lanes at first + i of two vectors"
+    /// Definitions: [`lane_count`](crate::specs::widening::Widening#lane_count), [`lane`](crate::specs::lanes::Lane#lane), [`half_unary`](crate::specs::widening::Widening#half_unary), [`half_binary`](crate::specs::widening::Widening#half_binary).
     #[inline]
     pub fn lanes_of_halves<A>() {}
 
@@ -35,27 +31,20 @@ pub mod laws {
     ///
     /// # Contract
     ///
-    /// <span></span><pre><code>ensures low_s: (narrow wide : [Width]) (v i : [ℕ]) → [bits] narrow ≤ [bits] wide → i < [lane_count] wide
-    /// &#32;&#32;&#32;&#32;→ [signed] wide ([lane] wide ([vector.extend_low_s] narrow wide v) i)
-    /// &#32;&#32;&#32;&#32;≡ [signed] narrow ([lane] narrow v i)
-    /// ensures low_u: (narrow wide : [Width]) (v i : [ℕ]) → [bits] narrow ≤ [bits] wide → i < [lane_count] wide
-    /// &#32;&#32;&#32;&#32;→ [lane] wide ([vector.extend_low_u] narrow wide v) i ≡ [lane] narrow v i
-    /// ensures high_s: (narrow wide : [Width]) (v i : [ℕ]) → [bits] narrow ≤ [bits] wide → i < [lane_count] wide
-    /// &#32;&#32;&#32;&#32;→ [signed] wide ([lane] wide ([vector.extend_high_s] narrow wide v) i)
-    /// &#32;&#32;&#32;&#32;≡ [signed] narrow ([lane] narrow v ([lane_count] wide + i))
-    /// ensures high_u: (narrow wide : [Width]) (v i : [ℕ]) → [bits] narrow ≤ [bits] wide → i < [lane_count] wide
-    /// &#32;&#32;&#32;&#32;→ [lane] wide ([vector.extend_high_u] narrow wide v) i ≡ [lane] narrow v ([lane_count] wide + i)</code></pre>
+    /// ```text
+    /// ensures low_s: (narrow wide : Width) (v i : ℕ) → bits narrow ≤ bits wide → i < lane_count wide
+    ///     → signed wide (lane wide (vector.extend_low_s narrow wide v) i)
+    ///     ≡ signed narrow (lane narrow v i)
+    /// ensures low_u: (narrow wide : Width) (v i : ℕ) → bits narrow ≤ bits wide → i < lane_count wide
+    ///     → lane wide (vector.extend_low_u narrow wide v) i ≡ lane narrow v i
+    /// ensures high_s: (narrow wide : Width) (v i : ℕ) → bits narrow ≤ bits wide → i < lane_count wide
+    ///     → signed wide (lane wide (vector.extend_high_s narrow wide v) i)
+    ///     ≡ signed narrow (lane narrow v (lane_count wide + i))
+    /// ensures high_u: (narrow wide : Width) (v i : ℕ) → bits narrow ≤ bits wide → i < lane_count wide
+    ///     → lane wide (vector.extend_high_u narrow wide v) i ≡ lane narrow v (lane_count wide + i)
+    /// ```
     ///
-    /// [Width]: crate::specs::library#Width "the widths of integers: 8, 16, 32, 64 or 128 bits"
-    /// [ℕ]: crate::specs::library#%E2%84%95 "the whole numbers from 0 on"
-    /// [bits]: crate::specs::library#bits "the number of bits of a width"
-    /// [lane_count]: crate::specs::widening::Widening#lane_count "how many lanes of a width a vector has"
-    /// [signed]: crate::specs::library#cast_signed "the number from 0 up to 2 ^ w read as signed, in two\'s complement"
-    /// [lane]: crate::specs::lanes::Lane#lane "lane i of the vector v"
-    /// [vector.extend_low_s]: crate::specs::widening::WideningTable#extend_low_s "the low lanes read signed, at twice their width"
-    /// [vector.extend_low_u]: crate::specs::widening::WideningTable#extend_low_u "the low lanes read unsigned, at twice their width"
-    /// [vector.extend_high_s]: crate::specs::widening::WideningTable#extend_high_s "the high lanes read signed, at twice their width"
-    /// [vector.extend_high_u]: crate::specs::widening::WideningTable#extend_high_u "the high lanes read unsigned, at twice their width"
+    /// Definitions: [`lane_count`](crate::specs::widening::Widening#lane_count), [`lane`](crate::specs::lanes::Lane#lane), [`extend_low_s`](crate::specs::widening::WideningTable#extend_low_s), [`extend_low_u`](crate::specs::widening::WideningTable#extend_low_u), [`extend_high_s`](crate::specs::widening::WideningTable#extend_high_s), [`extend_high_u`](crate::specs::widening::WideningTable#extend_high_u).
     #[inline]
     pub fn extended_lanes() {}
 
@@ -64,15 +53,12 @@ pub mod laws {
     ///
     /// # Contract
     ///
-    /// <span></span><pre><code>ensures below: (w : [Width]) (z : [ℤ]) → [wrap] w z < 2 ^ [bits] w
-    /// ensures signed: (w : [Width]) (z : [ℤ]) → [FitsSigned] w z → [signed] w ([wrap] w z) ≡ z</code></pre>
+    /// ```text
+    /// ensures below: (w : Width) (z : ℤ) → wrap w z < 2 ^ bits w
+    /// ensures signed: (w : Width) (z : ℤ) → FitsSigned w z → signed w (wrap w z) ≡ z
+    /// ```
     ///
-    /// [Width]: crate::specs::library#Width "the widths of integers: 8, 16, 32, 64 or 128 bits"
-    /// [ℤ]: crate::specs::library#%E2%84%A4 "the whole numbers, with a sign"
-    /// [wrap]: crate::specs::types::Wrapping#wrap "the number below 2 ^ w that differs from z by a multiple of 2 ^ w"
-    /// [bits]: crate::specs::library#bits "the number of bits of a width"
-    /// [FitsSigned]: crate::specs::library#FitsSigned "z is in the range of the signed integers of a width"
-    /// [signed]: crate::specs::library#cast_signed "the number from 0 up to 2 ^ w read as signed, in two\'s complement"
+    /// Definitions: [`wrap`](crate::specs::types::Wrapping#wrap).
     #[inline]
     pub fn wrapped_numbers() {}
 
@@ -81,24 +67,20 @@ pub mod laws {
     ///
     /// # Contract
     ///
-    /// <span></span><pre><code>ensures unary: (narrow wide : [Width]) (read : [ℕ] → A) (row : A → A → [ℕ]) (v i : [ℕ])
-    /// &#32;&#32;&#32;&#32;→ i < [lane_count] wide
-    /// &#32;&#32;&#32;&#32;→ [lane] wide ([pairwise_unary] narrow wide read row v) i
-    /// &#32;&#32;&#32;&#32;≡ row (read ([lane] narrow v (2 \* i)))
-    /// &#32;&#32;&#32;&#32;(read ([lane] narrow v (2 \* i + 1))) % 2 ^ [bits] wide
-    /// ensures binary: (narrow wide : [Width]) (read : [ℕ] → A) (row : A → A → A → A → [ℕ]) (a b i : [ℕ])
-    /// &#32;&#32;&#32;&#32;→ i < [lane_count] wide
-    /// &#32;&#32;&#32;&#32;→ [lane] wide ([pairwise_binary] narrow wide read row a b) i
-    /// &#32;&#32;&#32;&#32;≡ row (read ([lane] narrow a (2 \* i))) (read ([lane] narrow a (2 \* i + 1)))
-    /// &#32;&#32;&#32;&#32;(read ([lane] narrow b (2 \* i))) (read ([lane] narrow b (2 \* i + 1))) % 2 ^ [bits] wide</code></pre>
+    /// ```text
+    /// ensures unary: (narrow wide : Width) (read : ℕ → A) (row : A → A → ℕ) (v i : ℕ)
+    ///     → i < lane_count wide
+    ///     → lane wide (pairwise_unary narrow wide read row v) i
+    ///     ≡ row (read (lane narrow v (2 * i)))
+    ///     (read (lane narrow v (2 * i + 1))) % 2 ^ bits wide
+    /// ensures binary: (narrow wide : Width) (read : ℕ → A) (row : A → A → A → A → ℕ) (a b i : ℕ)
+    ///     → i < lane_count wide
+    ///     → lane wide (pairwise_binary narrow wide read row a b) i
+    ///     ≡ row (read (lane narrow a (2 * i))) (read (lane narrow a (2 * i + 1)))
+    ///     (read (lane narrow b (2 * i))) (read (lane narrow b (2 * i + 1))) % 2 ^ bits wide
+    /// ```
     ///
-    /// [Width]: crate::specs::library#Width "the widths of integers: 8, 16, 32, 64 or 128 bits"
-    /// [ℕ]: crate::specs::library#%E2%84%95 "the whole numbers from 0 on"
-    /// [lane_count]: crate::specs::widening::Widening#lane_count "how many lanes of a width a vector has"
-    /// [lane]: crate::specs::lanes::Lane#lane "lane i of the vector v"
-    /// [pairwise_unary]: crate::specs::widening::Widening#pairwise_unary "the wide vector whose lane i is the row of the narrow lanes 2 \* i and 2 \* i + 1 of a vector"
-    /// [bits]: crate::specs::library#bits "the number of bits of a width"
-    /// [pairwise_binary]: crate::specs::widening::Widening#pairwise_binary "the wide vector whose lane i is the row of the narrow lanes 2 \* i and 2 \* i + 1 of two vectors"
+    /// Definitions: [`lane_count`](crate::specs::widening::Widening#lane_count), [`lane`](crate::specs::lanes::Lane#lane), [`pairwise_unary`](crate::specs::widening::Widening#pairwise_unary), [`pairwise_binary`](crate::specs::widening::Widening#pairwise_binary).
     #[inline]
     pub fn pairwise_lanes<A>() {}
 
@@ -108,21 +90,18 @@ pub mod laws {
     ///
     /// # Contract
     ///
-    /// <span></span><pre><code>ensures low: (wide narrow : [Width]) (read : [ℕ] → A) (row : A → [ℕ]) (low high i : [ℕ])
-    /// &#32;&#32;&#32;&#32;→ i < [lane_count] wide → i < [lane_count] narrow
-    /// &#32;&#32;&#32;&#32;→ [lane] narrow ([from_low_high] wide narrow read row low high) i
-    /// &#32;&#32;&#32;&#32;≡ row (read ([lane] wide low i)) % 2 ^ [bits] narrow
-    /// ensures high: (wide narrow : [Width]) (read : [ℕ] → A) (row : A → [ℕ]) (low high i : [ℕ])
-    /// &#32;&#32;&#32;&#32;→ [lane_count] wide + i < [lane_count] narrow
-    /// &#32;&#32;&#32;&#32;→ [lane] narrow ([from_low_high] wide narrow read row low high) ([lane_count] wide + i)
-    /// &#32;&#32;&#32;&#32;≡ row (read ([lane] wide high i)) % 2 ^ [bits] narrow</code></pre>
+    /// ```text
+    /// ensures low: (wide narrow : Width) (read : ℕ → A) (row : A → ℕ) (low high i : ℕ)
+    ///     → i < lane_count wide → i < lane_count narrow
+    ///     → lane narrow (from_low_high wide narrow read row low high) i
+    ///     ≡ row (read (lane wide low i)) % 2 ^ bits narrow
+    /// ensures high: (wide narrow : Width) (read : ℕ → A) (row : A → ℕ) (low high i : ℕ)
+    ///     → lane_count wide + i < lane_count narrow
+    ///     → lane narrow (from_low_high wide narrow read row low high) (lane_count wide + i)
+    ///     ≡ row (read (lane wide high i)) % 2 ^ bits narrow
+    /// ```
     ///
-    /// [Width]: crate::specs::library#Width "the widths of integers: 8, 16, 32, 64 or 128 bits"
-    /// [ℕ]: crate::specs::library#%E2%84%95 "the whole numbers from 0 on"
-    /// [lane_count]: crate::specs::widening::Widening#lane_count "how many lanes of a width a vector has"
-    /// [lane]: crate::specs::lanes::Lane#lane "lane i of the vector v"
-    /// [from_low_high]: crate::specs::widening::Widening#from_low_high "the narrow vector of the rows of the wide lanes of \`low\`, and then those of \`high\`"
-    /// [bits]: crate::specs::library#bits "the number of bits of a width"
+    /// Definitions: [`lane_count`](crate::specs::widening::Widening#lane_count), [`lane`](crate::specs::lanes::Lane#lane), [`from_low_high`](crate::specs::widening::Widening#from_low_high).
     #[inline]
     pub fn lanes_of_wide_lanes<A>() {}
 
@@ -131,22 +110,17 @@ pub mod laws {
     ///
     /// # Contract
     ///
-    /// <span></span><pre><code>ensures bit: (w : [Width]) (read : [ℕ] → A) (test : A → [Bool]) (v i : [ℕ]) → i < [lane_count] w
-    /// &#32;&#32;&#32;&#32;→ [bit_at] ([lane_bits] w read test v) i ≡ (if test (read ([lane] w v i)) then 1 else 0)
-    /// ensures below: (w : [Width]) (read : [ℕ] → A) (test : A → [Bool]) (v : [ℕ])
-    /// &#32;&#32;&#32;&#32;→ [lane_bits] w read test v < 2 ^ [lane_count] w
-    /// ensures bit_of_test: (n : [ℕ]) (test : [ℕ] → [Bool]) (i : [ℕ]) → i < n
-    /// &#32;&#32;&#32;&#32;→ [bit_at] ([first_bits] n test) i ≡ (if test i then 1 else 0)
-    /// ensures tests_below: (n : [ℕ]) (test : [ℕ] → [Bool]) → [first_bits] n test < 2 ^ n</code></pre>
+    /// ```text
+    /// ensures bit: (w : Width) (read : ℕ → A) (test : A → Bool) (v i : ℕ) → i < lane_count w
+    ///     → bit_at (lane_bits w read test v) i ≡ (if test (read (lane w v i)) then 1 else 0)
+    /// ensures below: (w : Width) (read : ℕ → A) (test : A → Bool) (v : ℕ)
+    ///     → lane_bits w read test v < 2 ^ lane_count w
+    /// ensures bit_of_test: (n : ℕ) (test : ℕ → Bool) (i : ℕ) → i < n
+    ///     → bit_at (first_bits n test) i ≡ (if test i then 1 else 0)
+    /// ensures tests_below: (n : ℕ) (test : ℕ → Bool) → first_bits n test < 2 ^ n
+    /// ```
     ///
-    /// [Width]: crate::specs::library#Width "the widths of integers: 8, 16, 32, 64 or 128 bits"
-    /// [ℕ]: crate::specs::library#%E2%84%95 "the whole numbers from 0 on"
-    /// [Bool]: crate::specs::library#Bool "the Booleans \`true\` and \`false\`"
-    /// [lane_count]: crate::specs::widening::Widening#lane_count "how many lanes of a width a vector has"
-    /// [bit_at]: crate::specs::library#bit_at "bit i of n, as 0 or 1; bit 0 is the lowest"
-    /// [lane_bits]: crate::specs::widening::Widening#lane_bits "the number whose bit i is 1 where the test holds of lane i"
-    /// [lane]: crate::specs::lanes::Lane#lane "lane i of the vector v"
-    /// [first_bits]: crate::specs::widening::Widening#first_bits "the number whose bit i, of the lowest n, is 1 where the test holds of i, and whose others are 0"
+    /// Definitions: [`lane_count`](crate::specs::widening::Widening#lane_count), [`lane_bits`](crate::specs::widening::Widening#lane_bits), [`lane`](crate::specs::lanes::Lane#lane), [`first_bits`](crate::specs::widening::Widening#first_bits).
     #[inline]
     pub fn bits_of_lanes<A>() {}
 
@@ -155,20 +129,15 @@ pub mod laws {
     ///
     /// # Contract
     ///
-    /// <span></span><pre><code>ensures lanes: (w : [Width]) (read : [ℕ] → A) (test : A → [Bool]) (v : [ℕ])
-    /// &#32;&#32;&#32;&#32;→ [IsTrue] ([every_lane] w read test v)
-    /// &#32;&#32;&#32;&#32;↔ ((i : [ℕ]) → i < [lane_count] w → [IsTrue] (test (read ([lane] w v i))))
-    /// ensures numbers: (n : [ℕ]) (test : [ℕ] → [Bool])
-    /// &#32;&#32;&#32;&#32;→ [IsTrue] ([holds_below] n test) ↔ ((i : [ℕ]) → i < n → [IsTrue] (test i))</code></pre>
+    /// ```text
+    /// ensures lanes: (w : Width) (read : ℕ → A) (test : A → Bool) (v : ℕ)
+    ///     → IsTrue (every_lane w read test v)
+    ///     ↔ ((i : ℕ) → i < lane_count w → IsTrue (test (read (lane w v i))))
+    /// ensures numbers: (n : ℕ) (test : ℕ → Bool)
+    ///     → IsTrue (holds_below n test) ↔ ((i : ℕ) → i < n → IsTrue (test i))
+    /// ```
     ///
-    /// [Width]: crate::specs::library#Width "the widths of integers: 8, 16, 32, 64 or 128 bits"
-    /// [ℕ]: crate::specs::library#%E2%84%95 "the whole numbers from 0 on"
-    /// [Bool]: crate::specs::library#Bool "the Booleans \`true\` and \`false\`"
-    /// [IsTrue]: crate::specs::library#IsTrue "b is true"
-    /// [every_lane]: crate::specs::widening::Widening#every_lane "whether the test holds of every lane"
-    /// [lane_count]: crate::specs::widening::Widening#lane_count "how many lanes of a width a vector has"
-    /// [lane]: crate::specs::lanes::Lane#lane "lane i of the vector v"
-    /// [holds_below]: crate::specs::widening::Widening#holds_below "whether the test holds of each number below n"
+    /// Definitions: [`every_lane`](crate::specs::widening::Widening#every_lane), [`lane_count`](crate::specs::widening::Widening#lane_count), [`lane`](crate::specs::lanes::Lane#lane), [`holds_below`](crate::specs::widening::Widening#holds_below).
     #[inline]
     pub fn tests_of_lanes<A>() {}
 }
@@ -193,12 +162,11 @@ pub mod simd {
         ///
         /// # Contract
         ///
-        /// <span></span><pre><code>ensures lanes: (i : [ℕ]) → i < 8 → [slice_index] result i ≡ [lane] [w8] v (2 \* i)</code></pre>
+        /// ```text
+        /// ensures lanes: (i : ℕ) → i < 8 → slice_index result i ≡ lane w8 v (2 * i)
+        /// ```
         ///
-        /// [ℕ]: crate::specs::library#%E2%84%95 "the whole numbers from 0 on"
-        /// [slice_index]: crate::specs::library#slice_index "element i of a list of numbers; 0 past its end"
-        /// [lane]: crate::specs::lanes::Lane#lane "lane i of the vector v"
-        /// [w8]: crate::specs::library#w8 "the widths of integers in bits"
+        /// Definitions: [`lane`](crate::specs::lanes::Lane#lane).
         #[inline(always)]
         pub(super) fn even_u8x16(v: V128) -> u16x8 {
             u16::lanes_of(v) & u16x8::splat(0xff)
@@ -208,12 +176,11 @@ pub mod simd {
         ///
         /// # Contract
         ///
-        /// <span></span><pre><code>ensures lanes: (i : [ℕ]) → i < 8 → [slice_index] result i ≡ [lane] [w8] v (2 \* i + 1)</code></pre>
+        /// ```text
+        /// ensures lanes: (i : ℕ) → i < 8 → slice_index result i ≡ lane w8 v (2 * i + 1)
+        /// ```
         ///
-        /// [ℕ]: crate::specs::library#%E2%84%95 "the whole numbers from 0 on"
-        /// [slice_index]: crate::specs::library#slice_index "element i of a list of numbers; 0 past its end"
-        /// [lane]: crate::specs::lanes::Lane#lane "lane i of the vector v"
-        /// [w8]: crate::specs::library#w8 "the widths of integers in bits"
+        /// Definitions: [`lane`](crate::specs::lanes::Lane#lane).
         #[inline(always)]
         pub(super) fn odd_u8x16(v: V128) -> u16x8 {
             u16::lanes_of(v) >> 8
@@ -223,16 +190,12 @@ pub mod simd {
         ///
         /// # Contract
         ///
-        /// <span></span><pre><code>ensures lanes: (i : [ℕ]) → i < 8
-        /// &#32;&#32;&#32;&#32;→ [slice_index] result i ≡ [cast_unsigned] [w16] ([signed] [w8] ([lane] [w8] v (2 \* i)))</code></pre>
+        /// ```text
+        /// ensures lanes: (i : ℕ) → i < 8
+        ///     → slice_index result i ≡ cast_unsigned w16 (signed w8 (lane w8 v (2 * i)))
+        /// ```
         ///
-        /// [ℕ]: crate::specs::library#%E2%84%95 "the whole numbers from 0 on"
-        /// [slice_index]: crate::specs::library#slice_index "element i of a list of numbers; 0 past its end"
-        /// [cast_unsigned]: crate::specs::library#cast_unsigned "the signed number as one from 0 up to 2 ^ w, in two\'s complement"
-        /// [w16]: crate::specs::library#w16 "the widths of integers in bits"
-        /// [signed]: crate::specs::library#cast_signed "the number from 0 up to 2 ^ w read as signed, in two\'s complement"
-        /// [w8]: crate::specs::library#w8 "the widths of integers in bits"
-        /// [lane]: crate::specs::lanes::Lane#lane "lane i of the vector v"
+        /// Definitions: [`lane`](crate::specs::lanes::Lane#lane).
         #[inline(always)]
         pub(super) fn even_i8x16(v: V128) -> u16x8 {
             u16x8::from_le_bytes(((i16x8_of(v) << 8) >> 8).to_le_bytes())
@@ -242,16 +205,12 @@ pub mod simd {
         ///
         /// # Contract
         ///
-        /// <span></span><pre><code>ensures lanes: (i : [ℕ]) → i < 8
-        /// &#32;&#32;&#32;&#32;→ [slice_index] result i ≡ [cast_unsigned] [w16] ([signed] [w8] ([lane] [w8] v (2 \* i + 1)))</code></pre>
+        /// ```text
+        /// ensures lanes: (i : ℕ) → i < 8
+        ///     → slice_index result i ≡ cast_unsigned w16 (signed w8 (lane w8 v (2 * i + 1)))
+        /// ```
         ///
-        /// [ℕ]: crate::specs::library#%E2%84%95 "the whole numbers from 0 on"
-        /// [slice_index]: crate::specs::library#slice_index "element i of a list of numbers; 0 past its end"
-        /// [cast_unsigned]: crate::specs::library#cast_unsigned "the signed number as one from 0 up to 2 ^ w, in two\'s complement"
-        /// [w16]: crate::specs::library#w16 "the widths of integers in bits"
-        /// [signed]: crate::specs::library#cast_signed "the number from 0 up to 2 ^ w read as signed, in two\'s complement"
-        /// [w8]: crate::specs::library#w8 "the widths of integers in bits"
-        /// [lane]: crate::specs::lanes::Lane#lane "lane i of the vector v"
+        /// Definitions: [`lane`](crate::specs::lanes::Lane#lane).
         #[inline(always)]
         pub(super) fn odd_i8x16(v: V128) -> u16x8 {
             u16x8::from_le_bytes((i16x8_of(v) >> 8).to_le_bytes())
@@ -261,12 +220,11 @@ pub mod simd {
         ///
         /// # Contract
         ///
-        /// <span></span><pre><code>ensures lanes: (i : [ℕ]) → i < 4 → [slice_index] result i ≡ [lane] [w16] v (2 \* i)</code></pre>
+        /// ```text
+        /// ensures lanes: (i : ℕ) → i < 4 → slice_index result i ≡ lane w16 v (2 * i)
+        /// ```
         ///
-        /// [ℕ]: crate::specs::library#%E2%84%95 "the whole numbers from 0 on"
-        /// [slice_index]: crate::specs::library#slice_index "element i of a list of numbers; 0 past its end"
-        /// [lane]: crate::specs::lanes::Lane#lane "lane i of the vector v"
-        /// [w16]: crate::specs::library#w16 "the widths of integers in bits"
+        /// Definitions: [`lane`](crate::specs::lanes::Lane#lane).
         #[inline(always)]
         pub(super) fn even_u16x8(v: V128) -> u32x4 {
             u32::lanes_of(v) & u32x4::splat(0xffff)
@@ -276,12 +234,11 @@ pub mod simd {
         ///
         /// # Contract
         ///
-        /// <span></span><pre><code>ensures lanes: (i : [ℕ]) → i < 4 → [slice_index] result i ≡ [lane] [w16] v (2 \* i + 1)</code></pre>
+        /// ```text
+        /// ensures lanes: (i : ℕ) → i < 4 → slice_index result i ≡ lane w16 v (2 * i + 1)
+        /// ```
         ///
-        /// [ℕ]: crate::specs::library#%E2%84%95 "the whole numbers from 0 on"
-        /// [slice_index]: crate::specs::library#slice_index "element i of a list of numbers; 0 past its end"
-        /// [lane]: crate::specs::lanes::Lane#lane "lane i of the vector v"
-        /// [w16]: crate::specs::library#w16 "the widths of integers in bits"
+        /// Definitions: [`lane`](crate::specs::lanes::Lane#lane).
         #[inline(always)]
         pub(super) fn odd_u16x8(v: V128) -> u32x4 {
             u32::lanes_of(v) >> 16
@@ -291,16 +248,12 @@ pub mod simd {
         ///
         /// # Contract
         ///
-        /// <span></span><pre><code>ensures lanes: (i : [ℕ]) → i < 4
-        /// &#32;&#32;&#32;&#32;→ [slice_index] result i ≡ [cast_unsigned] [w32] ([signed] [w16] ([lane] [w16] v (2 \* i)))</code></pre>
+        /// ```text
+        /// ensures lanes: (i : ℕ) → i < 4
+        ///     → slice_index result i ≡ cast_unsigned w32 (signed w16 (lane w16 v (2 * i)))
+        /// ```
         ///
-        /// [ℕ]: crate::specs::library#%E2%84%95 "the whole numbers from 0 on"
-        /// [slice_index]: crate::specs::library#slice_index "element i of a list of numbers; 0 past its end"
-        /// [cast_unsigned]: crate::specs::library#cast_unsigned "the signed number as one from 0 up to 2 ^ w, in two\'s complement"
-        /// [w32]: crate::specs::library#w32 "the widths of integers in bits"
-        /// [signed]: crate::specs::library#cast_signed "the number from 0 up to 2 ^ w read as signed, in two\'s complement"
-        /// [w16]: crate::specs::library#w16 "the widths of integers in bits"
-        /// [lane]: crate::specs::lanes::Lane#lane "lane i of the vector v"
+        /// Definitions: [`lane`](crate::specs::lanes::Lane#lane).
         #[inline(always)]
         pub(super) fn even_i16x8(v: V128) -> u32x4 {
             u32x4::from_le_bytes(((i32x4_of(v) << 16) >> 16).to_le_bytes())
@@ -310,16 +263,12 @@ pub mod simd {
         ///
         /// # Contract
         ///
-        /// <span></span><pre><code>ensures lanes: (i : [ℕ]) → i < 4
-        /// &#32;&#32;&#32;&#32;→ [slice_index] result i ≡ [cast_unsigned] [w32] ([signed] [w16] ([lane] [w16] v (2 \* i + 1)))</code></pre>
+        /// ```text
+        /// ensures lanes: (i : ℕ) → i < 4
+        ///     → slice_index result i ≡ cast_unsigned w32 (signed w16 (lane w16 v (2 * i + 1)))
+        /// ```
         ///
-        /// [ℕ]: crate::specs::library#%E2%84%95 "the whole numbers from 0 on"
-        /// [slice_index]: crate::specs::library#slice_index "element i of a list of numbers; 0 past its end"
-        /// [cast_unsigned]: crate::specs::library#cast_unsigned "the signed number as one from 0 up to 2 ^ w, in two\'s complement"
-        /// [w32]: crate::specs::library#w32 "the widths of integers in bits"
-        /// [signed]: crate::specs::library#cast_signed "the number from 0 up to 2 ^ w read as signed, in two\'s complement"
-        /// [w16]: crate::specs::library#w16 "the widths of integers in bits"
-        /// [lane]: crate::specs::lanes::Lane#lane "lane i of the vector v"
+        /// Definitions: [`lane`](crate::specs::lanes::Lane#lane).
         #[inline(always)]
         pub(super) fn odd_i16x8(v: V128) -> u32x4 {
             u32x4::from_le_bytes((i32x4_of(v) >> 16).to_le_bytes())
@@ -340,11 +289,11 @@ pub mod simd {
         ///
         /// # Contract
         ///
-        /// <span></span><pre><code>ensures: result ≡ [vector.extend_low_s] [w8] [w16] v</code></pre>
+        /// ```text
+        /// ensures: result ≡ vector.extend_low_s w8 w16 v
+        /// ```
         ///
-        /// [vector.extend_low_s]: crate::specs::widening::WideningTable#extend_low_s "the low lanes read signed, at twice their width"
-        /// [w8]: crate::specs::library#w8 "the widths of integers in bits"
-        /// [w16]: crate::specs::library#w16 "the widths of integers in bits"
+        /// Definitions: [`extend_low_s`](crate::specs::widening::WideningTable#extend_low_s).
         #[inline]
         pub fn i16x8_extend_low_i8x16_s(v: V128) -> V128 {
             u16::vector_of(low_i8x16(v))
@@ -354,11 +303,11 @@ pub mod simd {
         ///
         /// # Contract
         ///
-        /// <span></span><pre><code>ensures: result ≡ [vector.extend_low_u] [w8] [w16] v</code></pre>
+        /// ```text
+        /// ensures: result ≡ vector.extend_low_u w8 w16 v
+        /// ```
         ///
-        /// [vector.extend_low_u]: crate::specs::widening::WideningTable#extend_low_u "the low lanes read unsigned, at twice their width"
-        /// [w8]: crate::specs::library#w8 "the widths of integers in bits"
-        /// [w16]: crate::specs::library#w16 "the widths of integers in bits"
+        /// Definitions: [`extend_low_u`](crate::specs::widening::WideningTable#extend_low_u).
         #[inline]
         pub fn i16x8_extend_low_i8x16_u(v: V128) -> V128 {
             u16::vector_of(low_u8x16(v))
@@ -368,11 +317,11 @@ pub mod simd {
         ///
         /// # Contract
         ///
-        /// <span></span><pre><code>ensures: result ≡ [vector.extend_high_s] [w8] [w16] v</code></pre>
+        /// ```text
+        /// ensures: result ≡ vector.extend_high_s w8 w16 v
+        /// ```
         ///
-        /// [vector.extend_high_s]: crate::specs::widening::WideningTable#extend_high_s "the high lanes read signed, at twice their width"
-        /// [w8]: crate::specs::library#w8 "the widths of integers in bits"
-        /// [w16]: crate::specs::library#w16 "the widths of integers in bits"
+        /// Definitions: [`extend_high_s`](crate::specs::widening::WideningTable#extend_high_s).
         #[inline]
         pub fn i16x8_extend_high_i8x16_s(v: V128) -> V128 {
             u16::vector_of(high_i8x16(v))
@@ -382,11 +331,11 @@ pub mod simd {
         ///
         /// # Contract
         ///
-        /// <span></span><pre><code>ensures: result ≡ [vector.extend_high_u] [w8] [w16] v</code></pre>
+        /// ```text
+        /// ensures: result ≡ vector.extend_high_u w8 w16 v
+        /// ```
         ///
-        /// [vector.extend_high_u]: crate::specs::widening::WideningTable#extend_high_u "the high lanes read unsigned, at twice their width"
-        /// [w8]: crate::specs::library#w8 "the widths of integers in bits"
-        /// [w16]: crate::specs::library#w16 "the widths of integers in bits"
+        /// Definitions: [`extend_high_u`](crate::specs::widening::WideningTable#extend_high_u).
         #[inline]
         pub fn i16x8_extend_high_i8x16_u(v: V128) -> V128 {
             u16::vector_of(high_u8x16(v))
@@ -396,11 +345,11 @@ pub mod simd {
         ///
         /// # Contract
         ///
-        /// <span></span><pre><code>ensures: result ≡ [vector.extend_low_s] [w16] [w32] v</code></pre>
+        /// ```text
+        /// ensures: result ≡ vector.extend_low_s w16 w32 v
+        /// ```
         ///
-        /// [vector.extend_low_s]: crate::specs::widening::WideningTable#extend_low_s "the low lanes read signed, at twice their width"
-        /// [w16]: crate::specs::library#w16 "the widths of integers in bits"
-        /// [w32]: crate::specs::library#w32 "the widths of integers in bits"
+        /// Definitions: [`extend_low_s`](crate::specs::widening::WideningTable#extend_low_s).
         #[inline]
         pub fn i32x4_extend_low_i16x8_s(v: V128) -> V128 {
             u32::vector_of(low_i16x8(v))
@@ -410,11 +359,11 @@ pub mod simd {
         ///
         /// # Contract
         ///
-        /// <span></span><pre><code>ensures: result ≡ [vector.extend_low_u] [w16] [w32] v</code></pre>
+        /// ```text
+        /// ensures: result ≡ vector.extend_low_u w16 w32 v
+        /// ```
         ///
-        /// [vector.extend_low_u]: crate::specs::widening::WideningTable#extend_low_u "the low lanes read unsigned, at twice their width"
-        /// [w16]: crate::specs::library#w16 "the widths of integers in bits"
-        /// [w32]: crate::specs::library#w32 "the widths of integers in bits"
+        /// Definitions: [`extend_low_u`](crate::specs::widening::WideningTable#extend_low_u).
         #[inline]
         pub fn i32x4_extend_low_i16x8_u(v: V128) -> V128 {
             u32::vector_of(low_u16x8(v))
@@ -424,11 +373,11 @@ pub mod simd {
         ///
         /// # Contract
         ///
-        /// <span></span><pre><code>ensures: result ≡ [vector.extend_high_s] [w16] [w32] v</code></pre>
+        /// ```text
+        /// ensures: result ≡ vector.extend_high_s w16 w32 v
+        /// ```
         ///
-        /// [vector.extend_high_s]: crate::specs::widening::WideningTable#extend_high_s "the high lanes read signed, at twice their width"
-        /// [w16]: crate::specs::library#w16 "the widths of integers in bits"
-        /// [w32]: crate::specs::library#w32 "the widths of integers in bits"
+        /// Definitions: [`extend_high_s`](crate::specs::widening::WideningTable#extend_high_s).
         #[inline]
         pub fn i32x4_extend_high_i16x8_s(v: V128) -> V128 {
             u32::vector_of(high_i16x8(v))
@@ -438,11 +387,11 @@ pub mod simd {
         ///
         /// # Contract
         ///
-        /// <span></span><pre><code>ensures: result ≡ [vector.extend_high_u] [w16] [w32] v</code></pre>
+        /// ```text
+        /// ensures: result ≡ vector.extend_high_u w16 w32 v
+        /// ```
         ///
-        /// [vector.extend_high_u]: crate::specs::widening::WideningTable#extend_high_u "the high lanes read unsigned, at twice their width"
-        /// [w16]: crate::specs::library#w16 "the widths of integers in bits"
-        /// [w32]: crate::specs::library#w32 "the widths of integers in bits"
+        /// Definitions: [`extend_high_u`](crate::specs::widening::WideningTable#extend_high_u).
         #[inline]
         pub fn i32x4_extend_high_i16x8_u(v: V128) -> V128 {
             u32::vector_of(high_u16x8(v))
@@ -452,11 +401,11 @@ pub mod simd {
         ///
         /// # Contract
         ///
-        /// <span></span><pre><code>ensures: result ≡ [vector.extend_low_s] [w32] [w64] v</code></pre>
+        /// ```text
+        /// ensures: result ≡ vector.extend_low_s w32 w64 v
+        /// ```
         ///
-        /// [vector.extend_low_s]: crate::specs::widening::WideningTable#extend_low_s "the low lanes read signed, at twice their width"
-        /// [w32]: crate::specs::library#w32 "the widths of integers in bits"
-        /// [w64]: crate::specs::library#w64 "the widths of integers in bits"
+        /// Definitions: [`extend_low_s`](crate::specs::widening::WideningTable#extend_low_s).
         #[inline]
         pub fn i64x2_extend_low_i32x4_s(v: V128) -> V128 {
             u64::vector_of(low_i32x4(v))
@@ -466,11 +415,11 @@ pub mod simd {
         ///
         /// # Contract
         ///
-        /// <span></span><pre><code>ensures: result ≡ [vector.extend_low_u] [w32] [w64] v</code></pre>
+        /// ```text
+        /// ensures: result ≡ vector.extend_low_u w32 w64 v
+        /// ```
         ///
-        /// [vector.extend_low_u]: crate::specs::widening::WideningTable#extend_low_u "the low lanes read unsigned, at twice their width"
-        /// [w32]: crate::specs::library#w32 "the widths of integers in bits"
-        /// [w64]: crate::specs::library#w64 "the widths of integers in bits"
+        /// Definitions: [`extend_low_u`](crate::specs::widening::WideningTable#extend_low_u).
         #[inline]
         pub fn i64x2_extend_low_i32x4_u(v: V128) -> V128 {
             u64::vector_of(low_u32x4(v))
@@ -480,11 +429,11 @@ pub mod simd {
         ///
         /// # Contract
         ///
-        /// <span></span><pre><code>ensures: result ≡ [vector.extend_high_s] [w32] [w64] v</code></pre>
+        /// ```text
+        /// ensures: result ≡ vector.extend_high_s w32 w64 v
+        /// ```
         ///
-        /// [vector.extend_high_s]: crate::specs::widening::WideningTable#extend_high_s "the high lanes read signed, at twice their width"
-        /// [w32]: crate::specs::library#w32 "the widths of integers in bits"
-        /// [w64]: crate::specs::library#w64 "the widths of integers in bits"
+        /// Definitions: [`extend_high_s`](crate::specs::widening::WideningTable#extend_high_s).
         #[inline]
         pub fn i64x2_extend_high_i32x4_s(v: V128) -> V128 {
             u64::vector_of(high_i32x4(v))
@@ -494,11 +443,11 @@ pub mod simd {
         ///
         /// # Contract
         ///
-        /// <span></span><pre><code>ensures: result ≡ [vector.extend_high_u] [w32] [w64] v</code></pre>
+        /// ```text
+        /// ensures: result ≡ vector.extend_high_u w32 w64 v
+        /// ```
         ///
-        /// [vector.extend_high_u]: crate::specs::widening::WideningTable#extend_high_u "the high lanes read unsigned, at twice their width"
-        /// [w32]: crate::specs::library#w32 "the widths of integers in bits"
-        /// [w64]: crate::specs::library#w64 "the widths of integers in bits"
+        /// Definitions: [`extend_high_u`](crate::specs::widening::WideningTable#extend_high_u).
         #[inline]
         pub fn i64x2_extend_high_i32x4_u(v: V128) -> V128 {
             u64::vector_of(high_u32x4(v))
@@ -510,11 +459,11 @@ pub mod simd {
         ///
         /// # Contract
         ///
-        /// <span></span><pre><code>ensures: result ≡ [vector.widen_s] [w8] [w16] number</code></pre>
+        /// ```text
+        /// ensures: result ≡ vector.widen_s w8 w16 number
+        /// ```
         ///
-        /// [vector.widen_s]: crate::specs::widening::WideningTable#widen_s "the lanes of a number of 64 bits read signed, at twice their width"
-        /// [w8]: crate::specs::library#w8 "the widths of integers in bits"
-        /// [w16]: crate::specs::library#w16 "the widths of integers in bits"
+        /// Definitions: [`widen_s`](crate::specs::widening::WideningTable#widen_s).
         #[inline]
         pub fn v128_widen8x8_s(number: u64) -> V128 {
             i16x8_extend_low_i8x16_s(V128::from_word_pair(number, 0))
@@ -526,11 +475,11 @@ pub mod simd {
         ///
         /// # Contract
         ///
-        /// <span></span><pre><code>ensures: result ≡ [vector.widen_u] [w8] [w16] number</code></pre>
+        /// ```text
+        /// ensures: result ≡ vector.widen_u w8 w16 number
+        /// ```
         ///
-        /// [vector.widen_u]: crate::specs::widening::WideningTable#widen_u "the lanes of a number of 64 bits read unsigned, at twice their width"
-        /// [w8]: crate::specs::library#w8 "the widths of integers in bits"
-        /// [w16]: crate::specs::library#w16 "the widths of integers in bits"
+        /// Definitions: [`widen_u`](crate::specs::widening::WideningTable#widen_u).
         #[inline]
         pub fn v128_widen8x8_u(number: u64) -> V128 {
             i16x8_extend_low_i8x16_u(V128::from_word_pair(number, 0))
@@ -542,11 +491,11 @@ pub mod simd {
         ///
         /// # Contract
         ///
-        /// <span></span><pre><code>ensures: result ≡ [vector.widen_s] [w16] [w32] number</code></pre>
+        /// ```text
+        /// ensures: result ≡ vector.widen_s w16 w32 number
+        /// ```
         ///
-        /// [vector.widen_s]: crate::specs::widening::WideningTable#widen_s "the lanes of a number of 64 bits read signed, at twice their width"
-        /// [w16]: crate::specs::library#w16 "the widths of integers in bits"
-        /// [w32]: crate::specs::library#w32 "the widths of integers in bits"
+        /// Definitions: [`widen_s`](crate::specs::widening::WideningTable#widen_s).
         #[inline]
         pub fn v128_widen16x4_s(number: u64) -> V128 {
             i32x4_extend_low_i16x8_s(V128::from_word_pair(number, 0))
@@ -558,11 +507,11 @@ pub mod simd {
         ///
         /// # Contract
         ///
-        /// <span></span><pre><code>ensures: result ≡ [vector.widen_u] [w16] [w32] number</code></pre>
+        /// ```text
+        /// ensures: result ≡ vector.widen_u w16 w32 number
+        /// ```
         ///
-        /// [vector.widen_u]: crate::specs::widening::WideningTable#widen_u "the lanes of a number of 64 bits read unsigned, at twice their width"
-        /// [w16]: crate::specs::library#w16 "the widths of integers in bits"
-        /// [w32]: crate::specs::library#w32 "the widths of integers in bits"
+        /// Definitions: [`widen_u`](crate::specs::widening::WideningTable#widen_u).
         #[inline]
         pub fn v128_widen16x4_u(number: u64) -> V128 {
             i32x4_extend_low_i16x8_u(V128::from_word_pair(number, 0))
@@ -574,11 +523,11 @@ pub mod simd {
         ///
         /// # Contract
         ///
-        /// <span></span><pre><code>ensures: result ≡ [vector.widen_s] [w32] [w64] number</code></pre>
+        /// ```text
+        /// ensures: result ≡ vector.widen_s w32 w64 number
+        /// ```
         ///
-        /// [vector.widen_s]: crate::specs::widening::WideningTable#widen_s "the lanes of a number of 64 bits read signed, at twice their width"
-        /// [w32]: crate::specs::library#w32 "the widths of integers in bits"
-        /// [w64]: crate::specs::library#w64 "the widths of integers in bits"
+        /// Definitions: [`widen_s`](crate::specs::widening::WideningTable#widen_s).
         #[inline]
         pub fn v128_widen32x2_s(number: u64) -> V128 {
             i64x2_extend_low_i32x4_s(V128::from_word_pair(number, 0))
@@ -590,11 +539,11 @@ pub mod simd {
         ///
         /// # Contract
         ///
-        /// <span></span><pre><code>ensures: result ≡ [vector.widen_u] [w32] [w64] number</code></pre>
+        /// ```text
+        /// ensures: result ≡ vector.widen_u w32 w64 number
+        /// ```
         ///
-        /// [vector.widen_u]: crate::specs::widening::WideningTable#widen_u "the lanes of a number of 64 bits read unsigned, at twice their width"
-        /// [w32]: crate::specs::library#w32 "the widths of integers in bits"
-        /// [w64]: crate::specs::library#w64 "the widths of integers in bits"
+        /// Definitions: [`widen_u`](crate::specs::widening::WideningTable#widen_u).
         #[inline]
         pub fn v128_widen32x2_u(number: u64) -> V128 {
             i64x2_extend_low_i32x4_u(V128::from_word_pair(number, 0))
@@ -606,10 +555,11 @@ pub mod simd {
         ///
         /// # Contract
         ///
-        /// <span></span><pre><code>ensures: result ≡ [vector.low_zero] [w32] number</code></pre>
+        /// ```text
+        /// ensures: result ≡ vector.low_zero w32 number
+        /// ```
         ///
-        /// [vector.low_zero]: crate::specs::widening::WideningTable#low_zero "the vector with the number in lane 0, and 0 in the others"
-        /// [w32]: crate::specs::library#w32 "the widths of integers in bits"
+        /// Definitions: [`low_zero`](crate::specs::widening::WideningTable#low_zero).
         #[inline]
         pub fn v128_low32_zero(number: u32) -> V128 {
             v128_low64_zero(u64::from(number))
@@ -621,10 +571,11 @@ pub mod simd {
         ///
         /// # Contract
         ///
-        /// <span></span><pre><code>ensures: result ≡ [vector.low_zero] [w64] number</code></pre>
+        /// ```text
+        /// ensures: result ≡ vector.low_zero w64 number
+        /// ```
         ///
-        /// [vector.low_zero]: crate::specs::widening::WideningTable#low_zero "the vector with the number in lane 0, and 0 in the others"
-        /// [w64]: crate::specs::library#w64 "the widths of integers in bits"
+        /// Definitions: [`low_zero`](crate::specs::widening::WideningTable#low_zero).
         #[inline]
         pub fn v128_low64_zero(number: u64) -> V128 {
             u32::vector_of(lower_half_alone(V128::from_word_pair(number, 0)))
@@ -634,10 +585,11 @@ pub mod simd {
         // stores.
         /// # Contract
         ///
-        /// <span></span><pre><code>ensures: result ≡ [lane] [w32] v 0 ∷ [lane] [w32] v 1 ∷ 0 ∷ 0 ∷ \[\]</code></pre>
+        /// ```text
+        /// ensures: result ≡ lane w32 v 0 ∷ lane w32 v 1 ∷ 0 ∷ 0 ∷ []
+        /// ```
         ///
-        /// [lane]: crate::specs::lanes::Lane#lane "lane i of the vector v"
-        /// [w32]: crate::specs::library#w32 "the widths of integers in bits"
+        /// Definitions: [`lane`](crate::specs::lanes::Lane#lane).
         #[inline(always)]
         fn lower_half_alone(v: V128) -> u32x4 {
             u32::lanes_of(v).shuffle(u32x4::splat(0), [0, 1, 4, 5])
@@ -658,11 +610,11 @@ pub mod simd {
         ///
         /// # Contract
         ///
-        /// <span></span><pre><code>ensures: result ≡ [vector.extmul_low_s] [w8] [w16] lhs rhs</code></pre>
+        /// ```text
+        /// ensures: result ≡ vector.extmul_low_s w8 w16 lhs rhs
+        /// ```
         ///
-        /// [vector.extmul_low_s]: crate::specs::widening::WideningTable#extmul_low_s "the products of the low lanes read signed, at twice their width"
-        /// [w8]: crate::specs::library#w8 "the widths of integers in bits"
-        /// [w16]: crate::specs::library#w16 "the widths of integers in bits"
+        /// Definitions: [`extmul_low_s`](crate::specs::widening::WideningTable#extmul_low_s).
         #[inline]
         pub fn i16x8_extmul_low_i8x16_s(lhs: V128, rhs: V128) -> V128 {
             u16::vector_of(product_of_u16x8(low_i8x16(lhs), low_i8x16(rhs)))
@@ -672,11 +624,11 @@ pub mod simd {
         ///
         /// # Contract
         ///
-        /// <span></span><pre><code>ensures: result ≡ [vector.extmul_low_u] [w8] [w16] lhs rhs</code></pre>
+        /// ```text
+        /// ensures: result ≡ vector.extmul_low_u w8 w16 lhs rhs
+        /// ```
         ///
-        /// [vector.extmul_low_u]: crate::specs::widening::WideningTable#extmul_low_u "the products of the low lanes read unsigned, at twice their width"
-        /// [w8]: crate::specs::library#w8 "the widths of integers in bits"
-        /// [w16]: crate::specs::library#w16 "the widths of integers in bits"
+        /// Definitions: [`extmul_low_u`](crate::specs::widening::WideningTable#extmul_low_u).
         #[inline]
         pub fn i16x8_extmul_low_i8x16_u(lhs: V128, rhs: V128) -> V128 {
             u16::vector_of(product_of_u16x8(low_u8x16(lhs), low_u8x16(rhs)))
@@ -686,11 +638,11 @@ pub mod simd {
         ///
         /// # Contract
         ///
-        /// <span></span><pre><code>ensures: result ≡ [vector.extmul_high_s] [w8] [w16] lhs rhs</code></pre>
+        /// ```text
+        /// ensures: result ≡ vector.extmul_high_s w8 w16 lhs rhs
+        /// ```
         ///
-        /// [vector.extmul_high_s]: crate::specs::widening::WideningTable#extmul_high_s "the products of the high lanes read signed, at twice their width"
-        /// [w8]: crate::specs::library#w8 "the widths of integers in bits"
-        /// [w16]: crate::specs::library#w16 "the widths of integers in bits"
+        /// Definitions: [`extmul_high_s`](crate::specs::widening::WideningTable#extmul_high_s).
         #[inline]
         pub fn i16x8_extmul_high_i8x16_s(lhs: V128, rhs: V128) -> V128 {
             u16::vector_of(product_of_u16x8(high_i8x16(lhs), high_i8x16(rhs)))
@@ -700,11 +652,11 @@ pub mod simd {
         ///
         /// # Contract
         ///
-        /// <span></span><pre><code>ensures: result ≡ [vector.extmul_high_u] [w8] [w16] lhs rhs</code></pre>
+        /// ```text
+        /// ensures: result ≡ vector.extmul_high_u w8 w16 lhs rhs
+        /// ```
         ///
-        /// [vector.extmul_high_u]: crate::specs::widening::WideningTable#extmul_high_u "the products of the high lanes read unsigned, at twice their width"
-        /// [w8]: crate::specs::library#w8 "the widths of integers in bits"
-        /// [w16]: crate::specs::library#w16 "the widths of integers in bits"
+        /// Definitions: [`extmul_high_u`](crate::specs::widening::WideningTable#extmul_high_u).
         #[inline]
         pub fn i16x8_extmul_high_i8x16_u(lhs: V128, rhs: V128) -> V128 {
             u16::vector_of(product_of_u16x8(high_u8x16(lhs), high_u8x16(rhs)))
@@ -714,11 +666,11 @@ pub mod simd {
         ///
         /// # Contract
         ///
-        /// <span></span><pre><code>ensures: result ≡ [vector.extmul_low_s] [w16] [w32] lhs rhs</code></pre>
+        /// ```text
+        /// ensures: result ≡ vector.extmul_low_s w16 w32 lhs rhs
+        /// ```
         ///
-        /// [vector.extmul_low_s]: crate::specs::widening::WideningTable#extmul_low_s "the products of the low lanes read signed, at twice their width"
-        /// [w16]: crate::specs::library#w16 "the widths of integers in bits"
-        /// [w32]: crate::specs::library#w32 "the widths of integers in bits"
+        /// Definitions: [`extmul_low_s`](crate::specs::widening::WideningTable#extmul_low_s).
         #[inline]
         pub fn i32x4_extmul_low_i16x8_s(lhs: V128, rhs: V128) -> V128 {
             u32::vector_of(product_of_u32x4(low_i16x8(lhs), low_i16x8(rhs)))
@@ -728,11 +680,11 @@ pub mod simd {
         ///
         /// # Contract
         ///
-        /// <span></span><pre><code>ensures: result ≡ [vector.extmul_low_u] [w16] [w32] lhs rhs</code></pre>
+        /// ```text
+        /// ensures: result ≡ vector.extmul_low_u w16 w32 lhs rhs
+        /// ```
         ///
-        /// [vector.extmul_low_u]: crate::specs::widening::WideningTable#extmul_low_u "the products of the low lanes read unsigned, at twice their width"
-        /// [w16]: crate::specs::library#w16 "the widths of integers in bits"
-        /// [w32]: crate::specs::library#w32 "the widths of integers in bits"
+        /// Definitions: [`extmul_low_u`](crate::specs::widening::WideningTable#extmul_low_u).
         #[inline]
         pub fn i32x4_extmul_low_i16x8_u(lhs: V128, rhs: V128) -> V128 {
             u32::vector_of(product_of_u32x4(low_u16x8(lhs), low_u16x8(rhs)))
@@ -742,11 +694,11 @@ pub mod simd {
         ///
         /// # Contract
         ///
-        /// <span></span><pre><code>ensures: result ≡ [vector.extmul_high_s] [w16] [w32] lhs rhs</code></pre>
+        /// ```text
+        /// ensures: result ≡ vector.extmul_high_s w16 w32 lhs rhs
+        /// ```
         ///
-        /// [vector.extmul_high_s]: crate::specs::widening::WideningTable#extmul_high_s "the products of the high lanes read signed, at twice their width"
-        /// [w16]: crate::specs::library#w16 "the widths of integers in bits"
-        /// [w32]: crate::specs::library#w32 "the widths of integers in bits"
+        /// Definitions: [`extmul_high_s`](crate::specs::widening::WideningTable#extmul_high_s).
         #[inline]
         pub fn i32x4_extmul_high_i16x8_s(lhs: V128, rhs: V128) -> V128 {
             u32::vector_of(product_of_u32x4(high_i16x8(lhs), high_i16x8(rhs)))
@@ -756,11 +708,11 @@ pub mod simd {
         ///
         /// # Contract
         ///
-        /// <span></span><pre><code>ensures: result ≡ [vector.extmul_high_u] [w16] [w32] lhs rhs</code></pre>
+        /// ```text
+        /// ensures: result ≡ vector.extmul_high_u w16 w32 lhs rhs
+        /// ```
         ///
-        /// [vector.extmul_high_u]: crate::specs::widening::WideningTable#extmul_high_u "the products of the high lanes read unsigned, at twice their width"
-        /// [w16]: crate::specs::library#w16 "the widths of integers in bits"
-        /// [w32]: crate::specs::library#w32 "the widths of integers in bits"
+        /// Definitions: [`extmul_high_u`](crate::specs::widening::WideningTable#extmul_high_u).
         #[inline]
         pub fn i32x4_extmul_high_i16x8_u(lhs: V128, rhs: V128) -> V128 {
             u32::vector_of(product_of_u32x4(high_u16x8(lhs), high_u16x8(rhs)))
@@ -770,11 +722,11 @@ pub mod simd {
         ///
         /// # Contract
         ///
-        /// <span></span><pre><code>ensures: result ≡ [vector.extmul_low_s] [w32] [w64] lhs rhs</code></pre>
+        /// ```text
+        /// ensures: result ≡ vector.extmul_low_s w32 w64 lhs rhs
+        /// ```
         ///
-        /// [vector.extmul_low_s]: crate::specs::widening::WideningTable#extmul_low_s "the products of the low lanes read signed, at twice their width"
-        /// [w32]: crate::specs::library#w32 "the widths of integers in bits"
-        /// [w64]: crate::specs::library#w64 "the widths of integers in bits"
+        /// Definitions: [`extmul_low_s`](crate::specs::widening::WideningTable#extmul_low_s).
         #[inline]
         pub fn i64x2_extmul_low_i32x4_s(lhs: V128, rhs: V128) -> V128 {
             u64::vector_of(product_of_u64x2(low_i32x4(lhs), low_i32x4(rhs)))
@@ -784,11 +736,11 @@ pub mod simd {
         ///
         /// # Contract
         ///
-        /// <span></span><pre><code>ensures: result ≡ [vector.extmul_low_u] [w32] [w64] lhs rhs</code></pre>
+        /// ```text
+        /// ensures: result ≡ vector.extmul_low_u w32 w64 lhs rhs
+        /// ```
         ///
-        /// [vector.extmul_low_u]: crate::specs::widening::WideningTable#extmul_low_u "the products of the low lanes read unsigned, at twice their width"
-        /// [w32]: crate::specs::library#w32 "the widths of integers in bits"
-        /// [w64]: crate::specs::library#w64 "the widths of integers in bits"
+        /// Definitions: [`extmul_low_u`](crate::specs::widening::WideningTable#extmul_low_u).
         #[inline]
         pub fn i64x2_extmul_low_i32x4_u(lhs: V128, rhs: V128) -> V128 {
             u64::vector_of(product_of_u64x2(low_u32x4(lhs), low_u32x4(rhs)))
@@ -798,11 +750,11 @@ pub mod simd {
         ///
         /// # Contract
         ///
-        /// <span></span><pre><code>ensures: result ≡ [vector.extmul_high_s] [w32] [w64] lhs rhs</code></pre>
+        /// ```text
+        /// ensures: result ≡ vector.extmul_high_s w32 w64 lhs rhs
+        /// ```
         ///
-        /// [vector.extmul_high_s]: crate::specs::widening::WideningTable#extmul_high_s "the products of the high lanes read signed, at twice their width"
-        /// [w32]: crate::specs::library#w32 "the widths of integers in bits"
-        /// [w64]: crate::specs::library#w64 "the widths of integers in bits"
+        /// Definitions: [`extmul_high_s`](crate::specs::widening::WideningTable#extmul_high_s).
         #[inline]
         pub fn i64x2_extmul_high_i32x4_s(lhs: V128, rhs: V128) -> V128 {
             u64::vector_of(product_of_u64x2(high_i32x4(lhs), high_i32x4(rhs)))
@@ -812,11 +764,11 @@ pub mod simd {
         ///
         /// # Contract
         ///
-        /// <span></span><pre><code>ensures: result ≡ [vector.extmul_high_u] [w32] [w64] lhs rhs</code></pre>
+        /// ```text
+        /// ensures: result ≡ vector.extmul_high_u w32 w64 lhs rhs
+        /// ```
         ///
-        /// [vector.extmul_high_u]: crate::specs::widening::WideningTable#extmul_high_u "the products of the high lanes read unsigned, at twice their width"
-        /// [w32]: crate::specs::library#w32 "the widths of integers in bits"
-        /// [w64]: crate::specs::library#w64 "the widths of integers in bits"
+        /// Definitions: [`extmul_high_u`](crate::specs::widening::WideningTable#extmul_high_u).
         #[inline]
         pub fn i64x2_extmul_high_i32x4_u(lhs: V128, rhs: V128) -> V128 {
             u64::vector_of(product_of_u64x2(high_u32x4(lhs), high_u32x4(rhs)))
@@ -835,12 +787,11 @@ pub mod simd {
         ///
         /// # Contract
         ///
-        /// <span></span><pre><code>ensures lanes: (i : [ℕ]) → i < 8 → [slice_index] result i ≡ [lane] [w8] v i</code></pre>
+        /// ```text
+        /// ensures lanes: (i : ℕ) → i < 8 → slice_index result i ≡ lane w8 v i
+        /// ```
         ///
-        /// [ℕ]: crate::specs::library#%E2%84%95 "the whole numbers from 0 on"
-        /// [slice_index]: crate::specs::library#slice_index "element i of a list of numbers; 0 past its end"
-        /// [lane]: crate::specs::lanes::Lane#lane "lane i of the vector v"
-        /// [w8]: crate::specs::library#w8 "the widths of integers in bits"
+        /// Definitions: [`lane`](crate::specs::lanes::Lane#lane).
         #[inline(always)]
         pub(super) fn low_u8x16(v: V128) -> u16x8 {
             bytes_of(v).extract::<0, 8>().cast::<u16>()
@@ -850,12 +801,11 @@ pub mod simd {
         ///
         /// # Contract
         ///
-        /// <span></span><pre><code>ensures lanes: (i : [ℕ]) → i < 8 → [slice_index] result i ≡ [lane] [w8] v (8 + i)</code></pre>
+        /// ```text
+        /// ensures lanes: (i : ℕ) → i < 8 → slice_index result i ≡ lane w8 v (8 + i)
+        /// ```
         ///
-        /// [ℕ]: crate::specs::library#%E2%84%95 "the whole numbers from 0 on"
-        /// [slice_index]: crate::specs::library#slice_index "element i of a list of numbers; 0 past its end"
-        /// [lane]: crate::specs::lanes::Lane#lane "lane i of the vector v"
-        /// [w8]: crate::specs::library#w8 "the widths of integers in bits"
+        /// Definitions: [`lane`](crate::specs::lanes::Lane#lane).
         #[inline(always)]
         pub(super) fn high_u8x16(v: V128) -> u16x8 {
             bytes_of(v).extract::<8, 8>().cast::<u16>()
@@ -865,16 +815,12 @@ pub mod simd {
         ///
         /// # Contract
         ///
-        /// <span></span><pre><code>ensures lanes: (i : [ℕ]) → i < 8
-        /// &#32;&#32;&#32;&#32;→ [slice_index] result i ≡ [cast_unsigned] [w16] ([signed] [w8] ([lane] [w8] v i))</code></pre>
+        /// ```text
+        /// ensures lanes: (i : ℕ) → i < 8
+        ///     → slice_index result i ≡ cast_unsigned w16 (signed w8 (lane w8 v i))
+        /// ```
         ///
-        /// [ℕ]: crate::specs::library#%E2%84%95 "the whole numbers from 0 on"
-        /// [slice_index]: crate::specs::library#slice_index "element i of a list of numbers; 0 past its end"
-        /// [cast_unsigned]: crate::specs::library#cast_unsigned "the signed number as one from 0 up to 2 ^ w, in two\'s complement"
-        /// [w16]: crate::specs::library#w16 "the widths of integers in bits"
-        /// [signed]: crate::specs::library#cast_signed "the number from 0 up to 2 ^ w read as signed, in two\'s complement"
-        /// [w8]: crate::specs::library#w8 "the widths of integers in bits"
-        /// [lane]: crate::specs::lanes::Lane#lane "lane i of the vector v"
+        /// Definitions: [`lane`](crate::specs::lanes::Lane#lane).
         #[inline(always)]
         pub(super) fn low_i8x16(v: V128) -> u16x8 {
             sign_copied(low_u8x16(v))
@@ -884,16 +830,12 @@ pub mod simd {
         ///
         /// # Contract
         ///
-        /// <span></span><pre><code>ensures lanes: (i : [ℕ]) → i < 8
-        /// &#32;&#32;&#32;&#32;→ [slice_index] result i ≡ [cast_unsigned] [w16] ([signed] [w8] ([lane] [w8] v (8 + i)))</code></pre>
+        /// ```text
+        /// ensures lanes: (i : ℕ) → i < 8
+        ///     → slice_index result i ≡ cast_unsigned w16 (signed w8 (lane w8 v (8 + i)))
+        /// ```
         ///
-        /// [ℕ]: crate::specs::library#%E2%84%95 "the whole numbers from 0 on"
-        /// [slice_index]: crate::specs::library#slice_index "element i of a list of numbers; 0 past its end"
-        /// [cast_unsigned]: crate::specs::library#cast_unsigned "the signed number as one from 0 up to 2 ^ w, in two\'s complement"
-        /// [w16]: crate::specs::library#w16 "the widths of integers in bits"
-        /// [signed]: crate::specs::library#cast_signed "the number from 0 up to 2 ^ w read as signed, in two\'s complement"
-        /// [w8]: crate::specs::library#w8 "the widths of integers in bits"
-        /// [lane]: crate::specs::lanes::Lane#lane "lane i of the vector v"
+        /// Definitions: [`lane`](crate::specs::lanes::Lane#lane).
         #[inline(always)]
         pub(super) fn high_i8x16(v: V128) -> u16x8 {
             sign_copied(high_u8x16(v))
@@ -902,15 +844,10 @@ pub mod simd {
         // Numbers of 8 bits, the sign copied to 16: their highest bit is flipped, and taken off again.
         /// # Contract
         ///
-        /// <span></span><pre><code>ensures lanes: (i x : [ℕ]) → i < 8 → [slice_index] bytes i ≡ x → x < 2 ^ 8
-        /// &#32;&#32;&#32;&#32;→ [slice_index] result i ≡ [cast_unsigned] [w16] ([signed] [w8] x)</code></pre>
-        ///
-        /// [ℕ]: crate::specs::library#%E2%84%95 "the whole numbers from 0 on"
-        /// [slice_index]: crate::specs::library#slice_index "element i of a list of numbers; 0 past its end"
-        /// [cast_unsigned]: crate::specs::library#cast_unsigned "the signed number as one from 0 up to 2 ^ w, in two\'s complement"
-        /// [w16]: crate::specs::library#w16 "the widths of integers in bits"
-        /// [signed]: crate::specs::library#cast_signed "the number from 0 up to 2 ^ w read as signed, in two\'s complement"
-        /// [w8]: crate::specs::library#w8 "the widths of integers in bits"
+        /// ```text
+        /// ensures lanes: (i x : ℕ) → i < 8 → slice_index bytes i ≡ x → x < 2 ^ 8
+        ///     → slice_index result i ≡ cast_unsigned w16 (signed w8 x)
+        /// ```
         #[inline(always)]
         fn sign_copied(bytes: u16x8) -> u16x8 {
             let tops = u16x8::splat(0x80);
@@ -921,12 +858,11 @@ pub mod simd {
         ///
         /// # Contract
         ///
-        /// <span></span><pre><code>ensures lanes: (i : [ℕ]) → i < 4 → [slice_index] result i ≡ [lane] [w16] v i</code></pre>
+        /// ```text
+        /// ensures lanes: (i : ℕ) → i < 4 → slice_index result i ≡ lane w16 v i
+        /// ```
         ///
-        /// [ℕ]: crate::specs::library#%E2%84%95 "the whole numbers from 0 on"
-        /// [slice_index]: crate::specs::library#slice_index "element i of a list of numbers; 0 past its end"
-        /// [lane]: crate::specs::lanes::Lane#lane "lane i of the vector v"
-        /// [w16]: crate::specs::library#w16 "the widths of integers in bits"
+        /// Definitions: [`lane`](crate::specs::lanes::Lane#lane).
         #[inline(always)]
         pub(super) fn low_u16x8(v: V128) -> u32x4 {
             u16::lanes_of(v).extract::<0, 4>().cast::<u32>()
@@ -936,12 +872,11 @@ pub mod simd {
         ///
         /// # Contract
         ///
-        /// <span></span><pre><code>ensures lanes: (i : [ℕ]) → i < 4 → [slice_index] result i ≡ [lane] [w16] v (4 + i)</code></pre>
+        /// ```text
+        /// ensures lanes: (i : ℕ) → i < 4 → slice_index result i ≡ lane w16 v (4 + i)
+        /// ```
         ///
-        /// [ℕ]: crate::specs::library#%E2%84%95 "the whole numbers from 0 on"
-        /// [slice_index]: crate::specs::library#slice_index "element i of a list of numbers; 0 past its end"
-        /// [lane]: crate::specs::lanes::Lane#lane "lane i of the vector v"
-        /// [w16]: crate::specs::library#w16 "the widths of integers in bits"
+        /// Definitions: [`lane`](crate::specs::lanes::Lane#lane).
         #[inline(always)]
         pub(super) fn high_u16x8(v: V128) -> u32x4 {
             u16::lanes_of(v).extract::<4, 4>().cast::<u32>()
@@ -951,16 +886,12 @@ pub mod simd {
         ///
         /// # Contract
         ///
-        /// <span></span><pre><code>ensures lanes: (i : [ℕ]) → i < 4
-        /// &#32;&#32;&#32;&#32;→ [slice_index] result i ≡ [cast_unsigned] [w32] ([signed] [w16] ([lane] [w16] v i))</code></pre>
+        /// ```text
+        /// ensures lanes: (i : ℕ) → i < 4
+        ///     → slice_index result i ≡ cast_unsigned w32 (signed w16 (lane w16 v i))
+        /// ```
         ///
-        /// [ℕ]: crate::specs::library#%E2%84%95 "the whole numbers from 0 on"
-        /// [slice_index]: crate::specs::library#slice_index "element i of a list of numbers; 0 past its end"
-        /// [cast_unsigned]: crate::specs::library#cast_unsigned "the signed number as one from 0 up to 2 ^ w, in two\'s complement"
-        /// [w32]: crate::specs::library#w32 "the widths of integers in bits"
-        /// [signed]: crate::specs::library#cast_signed "the number from 0 up to 2 ^ w read as signed, in two\'s complement"
-        /// [w16]: crate::specs::library#w16 "the widths of integers in bits"
-        /// [lane]: crate::specs::lanes::Lane#lane "lane i of the vector v"
+        /// Definitions: [`lane`](crate::specs::lanes::Lane#lane).
         #[inline(always)]
         pub(super) fn low_i16x8(v: V128) -> u32x4 {
             let items = i16x8_of(v).extract::<0, 4>().cast::<i32>();
@@ -971,16 +902,12 @@ pub mod simd {
         ///
         /// # Contract
         ///
-        /// <span></span><pre><code>ensures lanes: (i : [ℕ]) → i < 4
-        /// &#32;&#32;&#32;&#32;→ [slice_index] result i ≡ [cast_unsigned] [w32] ([signed] [w16] ([lane] [w16] v (4 + i)))</code></pre>
+        /// ```text
+        /// ensures lanes: (i : ℕ) → i < 4
+        ///     → slice_index result i ≡ cast_unsigned w32 (signed w16 (lane w16 v (4 + i)))
+        /// ```
         ///
-        /// [ℕ]: crate::specs::library#%E2%84%95 "the whole numbers from 0 on"
-        /// [slice_index]: crate::specs::library#slice_index "element i of a list of numbers; 0 past its end"
-        /// [cast_unsigned]: crate::specs::library#cast_unsigned "the signed number as one from 0 up to 2 ^ w, in two\'s complement"
-        /// [w32]: crate::specs::library#w32 "the widths of integers in bits"
-        /// [signed]: crate::specs::library#cast_signed "the number from 0 up to 2 ^ w read as signed, in two\'s complement"
-        /// [w16]: crate::specs::library#w16 "the widths of integers in bits"
-        /// [lane]: crate::specs::lanes::Lane#lane "lane i of the vector v"
+        /// Definitions: [`lane`](crate::specs::lanes::Lane#lane).
         #[inline(always)]
         pub(super) fn high_i16x8(v: V128) -> u32x4 {
             let items = i16x8_of(v).extract::<4, 4>().cast::<i32>();
@@ -993,12 +920,11 @@ pub mod simd {
         ///
         /// # Contract
         ///
-        /// <span></span><pre><code>ensures lanes: (i : [ℕ]) → i < 2 → [slice_index] result i ≡ [lane] [w32] v i</code></pre>
+        /// ```text
+        /// ensures lanes: (i : ℕ) → i < 2 → slice_index result i ≡ lane w32 v i
+        /// ```
         ///
-        /// [ℕ]: crate::specs::library#%E2%84%95 "the whole numbers from 0 on"
-        /// [slice_index]: crate::specs::library#slice_index "element i of a list of numbers; 0 past its end"
-        /// [lane]: crate::specs::lanes::Lane#lane "lane i of the vector v"
-        /// [w32]: crate::specs::library#w32 "the widths of integers in bits"
+        /// Definitions: [`lane`](crate::specs::lanes::Lane#lane).
         #[inline(always)]
         pub(super) fn low_u32x4(v: V128) -> u64x2 {
             let items = u32::lanes_of(v).shuffle(u32x4::splat(0), [0, 4, 1, 5]);
@@ -1009,12 +935,11 @@ pub mod simd {
         ///
         /// # Contract
         ///
-        /// <span></span><pre><code>ensures lanes: (i : [ℕ]) → i < 2 → [slice_index] result i ≡ [lane] [w32] v (2 + i)</code></pre>
+        /// ```text
+        /// ensures lanes: (i : ℕ) → i < 2 → slice_index result i ≡ lane w32 v (2 + i)
+        /// ```
         ///
-        /// [ℕ]: crate::specs::library#%E2%84%95 "the whole numbers from 0 on"
-        /// [slice_index]: crate::specs::library#slice_index "element i of a list of numbers; 0 past its end"
-        /// [lane]: crate::specs::lanes::Lane#lane "lane i of the vector v"
-        /// [w32]: crate::specs::library#w32 "the widths of integers in bits"
+        /// Definitions: [`lane`](crate::specs::lanes::Lane#lane).
         #[inline(always)]
         pub(super) fn high_u32x4(v: V128) -> u64x2 {
             let items = u32::lanes_of(v).shuffle(u32x4::splat(0), [2, 4, 3, 5]);
@@ -1025,16 +950,12 @@ pub mod simd {
         ///
         /// # Contract
         ///
-        /// <span></span><pre><code>ensures lanes: (i : [ℕ]) → i < 2
-        /// &#32;&#32;&#32;&#32;→ [slice_index] result i ≡ [cast_unsigned] [w64] ([signed] [w32] ([lane] [w32] v i))</code></pre>
+        /// ```text
+        /// ensures lanes: (i : ℕ) → i < 2
+        ///     → slice_index result i ≡ cast_unsigned w64 (signed w32 (lane w32 v i))
+        /// ```
         ///
-        /// [ℕ]: crate::specs::library#%E2%84%95 "the whole numbers from 0 on"
-        /// [slice_index]: crate::specs::library#slice_index "element i of a list of numbers; 0 past its end"
-        /// [cast_unsigned]: crate::specs::library#cast_unsigned "the signed number as one from 0 up to 2 ^ w, in two\'s complement"
-        /// [w64]: crate::specs::library#w64 "the widths of integers in bits"
-        /// [signed]: crate::specs::library#cast_signed "the number from 0 up to 2 ^ w read as signed, in two\'s complement"
-        /// [w32]: crate::specs::library#w32 "the widths of integers in bits"
-        /// [lane]: crate::specs::lanes::Lane#lane "lane i of the vector v"
+        /// Definitions: [`lane`](crate::specs::lanes::Lane#lane).
         #[inline(always)]
         pub(super) fn low_i32x4(v: V128) -> u64x2 {
             let items = i32x4_of(v).extract::<0, 2>().cast::<i64>();
@@ -1045,16 +966,12 @@ pub mod simd {
         ///
         /// # Contract
         ///
-        /// <span></span><pre><code>ensures lanes: (i : [ℕ]) → i < 2
-        /// &#32;&#32;&#32;&#32;→ [slice_index] result i ≡ [cast_unsigned] [w64] ([signed] [w32] ([lane] [w32] v (2 + i)))</code></pre>
+        /// ```text
+        /// ensures lanes: (i : ℕ) → i < 2
+        ///     → slice_index result i ≡ cast_unsigned w64 (signed w32 (lane w32 v (2 + i)))
+        /// ```
         ///
-        /// [ℕ]: crate::specs::library#%E2%84%95 "the whole numbers from 0 on"
-        /// [slice_index]: crate::specs::library#slice_index "element i of a list of numbers; 0 past its end"
-        /// [cast_unsigned]: crate::specs::library#cast_unsigned "the signed number as one from 0 up to 2 ^ w, in two\'s complement"
-        /// [w64]: crate::specs::library#w64 "the widths of integers in bits"
-        /// [signed]: crate::specs::library#cast_signed "the number from 0 up to 2 ^ w read as signed, in two\'s complement"
-        /// [w32]: crate::specs::library#w32 "the widths of integers in bits"
-        /// [lane]: crate::specs::lanes::Lane#lane "lane i of the vector v"
+        /// Definitions: [`lane`](crate::specs::lanes::Lane#lane).
         #[inline(always)]
         pub(super) fn high_i32x4(v: V128) -> u64x2 {
             let items = i32x4_of(v).extract::<2, 2>().cast::<i64>();
@@ -1072,11 +989,11 @@ pub mod simd {
         ///
         /// # Contract
         ///
-        /// <span></span><pre><code>ensures: result ≡ [vector.narrow_s] [w16] [w8] low high</code></pre>
+        /// ```text
+        /// ensures: result ≡ vector.narrow_s w16 w8 low high
+        /// ```
         ///
-        /// [vector.narrow_s]: crate::specs::widening::WideningTable#narrow_s "the lanes of two vectors read signed, clamped to the signed range of half their width"
-        /// [w16]: crate::specs::library#w16 "the widths of integers in bits"
-        /// [w8]: crate::specs::library#w8 "the widths of integers in bits"
+        /// Definitions: [`narrow_s`](crate::specs::widening::WideningTable#narrow_s).
         #[inline]
         pub fn i8x16_narrow_i16x8_s(low: V128, high: V128) -> V128 {
             from_low_high::<I16x8, I8x16, _>(low, high, |x| clamped_i8(x))
@@ -1087,11 +1004,11 @@ pub mod simd {
         ///
         /// # Contract
         ///
-        /// <span></span><pre><code>ensures: result ≡ [vector.narrow_u] [w16] [w8] low high</code></pre>
+        /// ```text
+        /// ensures: result ≡ vector.narrow_u w16 w8 low high
+        /// ```
         ///
-        /// [vector.narrow_u]: crate::specs::widening::WideningTable#narrow_u "the lanes of two vectors read signed, clamped to the unsigned range of half their width"
-        /// [w16]: crate::specs::library#w16 "the widths of integers in bits"
-        /// [w8]: crate::specs::library#w8 "the widths of integers in bits"
+        /// Definitions: [`narrow_u`](crate::specs::widening::WideningTable#narrow_u).
         #[inline]
         pub fn i8x16_narrow_i16x8_u(low: V128, high: V128) -> V128 {
             from_low_high::<I16x8, I8x16, _>(low, high, clamped_u8)
@@ -1102,11 +1019,11 @@ pub mod simd {
         ///
         /// # Contract
         ///
-        /// <span></span><pre><code>ensures: result ≡ [vector.narrow_s] [w32] [w16] low high</code></pre>
+        /// ```text
+        /// ensures: result ≡ vector.narrow_s w32 w16 low high
+        /// ```
         ///
-        /// [vector.narrow_s]: crate::specs::widening::WideningTable#narrow_s "the lanes of two vectors read signed, clamped to the signed range of half their width"
-        /// [w32]: crate::specs::library#w32 "the widths of integers in bits"
-        /// [w16]: crate::specs::library#w16 "the widths of integers in bits"
+        /// Definitions: [`narrow_s`](crate::specs::widening::WideningTable#narrow_s).
         #[inline]
         pub fn i16x8_narrow_i32x4_s(low: V128, high: V128) -> V128 {
             from_low_high::<I32x4, I16x8, _>(low, high, |x| clamped_i16(x))
@@ -1117,11 +1034,11 @@ pub mod simd {
         ///
         /// # Contract
         ///
-        /// <span></span><pre><code>ensures: result ≡ [vector.narrow_u] [w32] [w16] low high</code></pre>
+        /// ```text
+        /// ensures: result ≡ vector.narrow_u w32 w16 low high
+        /// ```
         ///
-        /// [vector.narrow_u]: crate::specs::widening::WideningTable#narrow_u "the lanes of two vectors read signed, clamped to the unsigned range of half their width"
-        /// [w32]: crate::specs::library#w32 "the widths of integers in bits"
-        /// [w16]: crate::specs::library#w16 "the widths of integers in bits"
+        /// Definitions: [`narrow_u`](crate::specs::widening::WideningTable#narrow_u).
         #[inline]
         pub fn i16x8_narrow_i32x4_u(low: V128, high: V128) -> V128 {
             from_low_high::<I32x4, I16x8, _>(low, high, clamped_u16)
@@ -1130,11 +1047,9 @@ pub mod simd {
         // The item of a lane that holds the number, clamped to the unsigned range of 8 bits.
         /// # Contract
         ///
-        /// <span></span><pre><code>ensures: [cast_unsigned] [w8] result ≡ [clamp_unsigned] [w8] x</code></pre>
-        ///
-        /// [cast_unsigned]: crate::specs::library#cast_unsigned "the signed number as one from 0 up to 2 ^ w, in two\'s complement"
-        /// [w8]: crate::specs::library#w8 "the widths of integers in bits"
-        /// [clamp_unsigned]: crate::specs::library#clamp_unsigned "the number from 0 up to 2 ^ w that is nearest to z"
+        /// ```text
+        /// ensures: cast_unsigned w8 result ≡ clamp_unsigned w8 x
+        /// ```
         #[inline]
         fn clamped_u8(x: i16) -> i8 {
             (x.clamp(0, 255) as u8).cast_signed()
@@ -1143,11 +1058,9 @@ pub mod simd {
         // The item of a lane that holds the number, clamped to the unsigned range of 16 bits.
         /// # Contract
         ///
-        /// <span></span><pre><code>ensures: [cast_unsigned] [w16] result ≡ [clamp_unsigned] [w16] x</code></pre>
-        ///
-        /// [cast_unsigned]: crate::specs::library#cast_unsigned "the signed number as one from 0 up to 2 ^ w, in two\'s complement"
-        /// [w16]: crate::specs::library#w16 "the widths of integers in bits"
-        /// [clamp_unsigned]: crate::specs::library#clamp_unsigned "the number from 0 up to 2 ^ w that is nearest to z"
+        /// ```text
+        /// ensures: cast_unsigned w16 result ≡ clamp_unsigned w16 x
+        /// ```
         #[inline]
         fn clamped_u16(x: i32) -> i16 {
             (x.clamp(0, 65535) as u16).cast_signed()
@@ -1167,11 +1080,11 @@ pub mod simd {
         ///
         /// # Contract
         ///
-        /// <span></span><pre><code>ensures: result ≡ [vector.extadd_pairwise_s] [w8] [w16] v</code></pre>
+        /// ```text
+        /// ensures: result ≡ vector.extadd_pairwise_s w8 w16 v
+        /// ```
         ///
-        /// [vector.extadd_pairwise_s]: crate::specs::widening::WideningTable#extadd_pairwise_s "the sums of each two adjacent lanes read signed, at twice their width"
-        /// [w8]: crate::specs::library#w8 "the widths of integers in bits"
-        /// [w16]: crate::specs::library#w16 "the widths of integers in bits"
+        /// Definitions: [`extadd_pairwise_s`](crate::specs::widening::WideningTable#extadd_pairwise_s).
         #[inline]
         pub fn i16x8_extadd_pairwise_i8x16_s(v: V128) -> V128 {
             sums_of_u16x8(even_i8x16(v), odd_i8x16(v))
@@ -1181,11 +1094,11 @@ pub mod simd {
         ///
         /// # Contract
         ///
-        /// <span></span><pre><code>ensures: result ≡ [vector.extadd_pairwise_u] [w8] [w16] v</code></pre>
+        /// ```text
+        /// ensures: result ≡ vector.extadd_pairwise_u w8 w16 v
+        /// ```
         ///
-        /// [vector.extadd_pairwise_u]: crate::specs::widening::WideningTable#extadd_pairwise_u "the sums of each two adjacent lanes read unsigned, at twice their width"
-        /// [w8]: crate::specs::library#w8 "the widths of integers in bits"
-        /// [w16]: crate::specs::library#w16 "the widths of integers in bits"
+        /// Definitions: [`extadd_pairwise_u`](crate::specs::widening::WideningTable#extadd_pairwise_u).
         #[inline]
         pub fn i16x8_extadd_pairwise_i8x16_u(v: V128) -> V128 {
             sums_of_u16x8(even_u8x16(v), odd_u8x16(v))
@@ -1195,11 +1108,11 @@ pub mod simd {
         ///
         /// # Contract
         ///
-        /// <span></span><pre><code>ensures: result ≡ [vector.extadd_pairwise_s] [w16] [w32] v</code></pre>
+        /// ```text
+        /// ensures: result ≡ vector.extadd_pairwise_s w16 w32 v
+        /// ```
         ///
-        /// [vector.extadd_pairwise_s]: crate::specs::widening::WideningTable#extadd_pairwise_s "the sums of each two adjacent lanes read signed, at twice their width"
-        /// [w16]: crate::specs::library#w16 "the widths of integers in bits"
-        /// [w32]: crate::specs::library#w32 "the widths of integers in bits"
+        /// Definitions: [`extadd_pairwise_s`](crate::specs::widening::WideningTable#extadd_pairwise_s).
         #[inline]
         pub fn i32x4_extadd_pairwise_i16x8_s(v: V128) -> V128 {
             sums_of_u32x4(even_i16x8(v), odd_i16x8(v))
@@ -1209,11 +1122,11 @@ pub mod simd {
         ///
         /// # Contract
         ///
-        /// <span></span><pre><code>ensures: result ≡ [vector.extadd_pairwise_u] [w16] [w32] v</code></pre>
+        /// ```text
+        /// ensures: result ≡ vector.extadd_pairwise_u w16 w32 v
+        /// ```
         ///
-        /// [vector.extadd_pairwise_u]: crate::specs::widening::WideningTable#extadd_pairwise_u "the sums of each two adjacent lanes read unsigned, at twice their width"
-        /// [w16]: crate::specs::library#w16 "the widths of integers in bits"
-        /// [w32]: crate::specs::library#w32 "the widths of integers in bits"
+        /// Definitions: [`extadd_pairwise_u`](crate::specs::widening::WideningTable#extadd_pairwise_u).
         #[inline]
         pub fn i32x4_extadd_pairwise_i16x8_u(v: V128) -> V128 {
             sums_of_u32x4(even_u16x8(v), odd_u16x8(v))
@@ -1223,11 +1136,11 @@ pub mod simd {
         ///
         /// # Contract
         ///
-        /// <span></span><pre><code>ensures: result ≡ [vector.dot_s] [w16] [w32] lhs rhs</code></pre>
+        /// ```text
+        /// ensures: result ≡ vector.dot_s w16 w32 lhs rhs
+        /// ```
         ///
-        /// [vector.dot_s]: crate::specs::widening::WideningTable#dot_s "the sums of the products of each two adjacent lanes of two vectors, read signed, modulo 2 to the wide width"
-        /// [w16]: crate::specs::library#w16 "the widths of integers in bits"
-        /// [w32]: crate::specs::library#w32 "the widths of integers in bits"
+        /// Definitions: [`dot_s`](crate::specs::widening::WideningTable#dot_s).
         #[inline]
         pub fn i32x4_dot_i16x8_s(lhs: V128, rhs: V128) -> V128 {
             let evens = product_of_u32x4(even_i16x8(lhs), even_i16x8(rhs));
@@ -1239,9 +1152,11 @@ pub mod simd {
         ///
         /// # Contract
         ///
-        /// <span></span><pre><code>ensures: result ≡ [vector.relaxed_dot_s] lhs rhs</code></pre>
+        /// ```text
+        /// ensures: result ≡ vector.relaxed_dot_s lhs rhs
+        /// ```
         ///
-        /// [vector.relaxed_dot_s]: crate::specs::widening::WideningTable#relaxed_dot_s "the sums of the products of each two adjacent lanes of 8 bits, all read signed, modulo 2 ^ 16"
+        /// Definitions: [`relaxed_dot_s`](crate::specs::widening::WideningTable#relaxed_dot_s).
         #[inline]
         pub fn i16x8_relaxed_dot_i8x16_i7x16_s(lhs: V128, rhs: V128) -> V128 {
             let evens = product_of_u16x8(even_i8x16(lhs), even_i8x16(rhs));
@@ -1259,10 +1174,11 @@ pub mod simd {
         ///
         /// # Contract
         ///
-        /// <span></span><pre><code>ensures: result ≡ [vector.all_true] [w8] v</code></pre>
+        /// ```text
+        /// ensures: result ≡ vector.all_true w8 v
+        /// ```
         ///
-        /// [vector.all_true]: crate::specs::widening::WideningTable#all_true "whether no lane is 0"
-        /// [w8]: crate::specs::library#w8 "the widths of integers in bits"
+        /// Definitions: [`all_true`](crate::specs::widening::WideningTable#all_true).
         #[inline]
         pub fn i8x16_all_true(v: V128) -> bool {
             no_zero::<u8>(v)
@@ -1272,10 +1188,11 @@ pub mod simd {
         ///
         /// # Contract
         ///
-        /// <span></span><pre><code>ensures: result ≡ [vector.all_true] [w16] v</code></pre>
+        /// ```text
+        /// ensures: result ≡ vector.all_true w16 v
+        /// ```
         ///
-        /// [vector.all_true]: crate::specs::widening::WideningTable#all_true "whether no lane is 0"
-        /// [w16]: crate::specs::library#w16 "the widths of integers in bits"
+        /// Definitions: [`all_true`](crate::specs::widening::WideningTable#all_true).
         #[inline]
         pub fn i16x8_all_true(v: V128) -> bool {
             no_zero::<u16>(v)
@@ -1285,10 +1202,11 @@ pub mod simd {
         ///
         /// # Contract
         ///
-        /// <span></span><pre><code>ensures: result ≡ [vector.all_true] [w32] v</code></pre>
+        /// ```text
+        /// ensures: result ≡ vector.all_true w32 v
+        /// ```
         ///
-        /// [vector.all_true]: crate::specs::widening::WideningTable#all_true "whether no lane is 0"
-        /// [w32]: crate::specs::library#w32 "the widths of integers in bits"
+        /// Definitions: [`all_true`](crate::specs::widening::WideningTable#all_true).
         #[inline]
         pub fn i32x4_all_true(v: V128) -> bool {
             no_zero::<u32>(v)
@@ -1298,10 +1216,11 @@ pub mod simd {
         ///
         /// # Contract
         ///
-        /// <span></span><pre><code>ensures: result ≡ [vector.all_true] [w64] v</code></pre>
+        /// ```text
+        /// ensures: result ≡ vector.all_true w64 v
+        /// ```
         ///
-        /// [vector.all_true]: crate::specs::widening::WideningTable#all_true "whether no lane is 0"
-        /// [w64]: crate::specs::library#w64 "the widths of integers in bits"
+        /// Definitions: [`all_true`](crate::specs::widening::WideningTable#all_true).
         #[inline]
         pub fn i64x2_all_true(v: V128) -> bool {
             no_zero::<u64>(v)
@@ -1311,9 +1230,11 @@ pub mod simd {
         ///
         /// # Contract
         ///
-        /// <span></span><pre><code>ensures: result ≡ [vector.any_true] v</code></pre>
+        /// ```text
+        /// ensures: result ≡ vector.any_true v
+        /// ```
         ///
-        /// [vector.any_true]: crate::specs::widening::WideningTable#any_true "whether a bit of the vector is set"
+        /// Definitions: [`any_true`](crate::specs::widening::WideningTable#any_true).
         #[inline]
         pub fn v128_any_true(v: V128) -> bool {
             v.as_u128() != 0
@@ -1323,10 +1244,11 @@ pub mod simd {
         ///
         /// # Contract
         ///
-        /// <span></span><pre><code>ensures: result ≡ [vector.bitmask] [w8] v</code></pre>
+        /// ```text
+        /// ensures: result ≡ vector.bitmask w8 v
+        /// ```
         ///
-        /// [vector.bitmask]: crate::specs::widening::WideningTable#bitmask "the number whose bit i is the highest bit of lane i"
-        /// [w8]: crate::specs::library#w8 "the widths of integers in bits"
+        /// Definitions: [`bitmask`](crate::specs::widening::WideningTable#bitmask).
         #[inline]
         pub fn i8x16_bitmask(v: V128) -> u32 {
             let (low, high) = v.words();
@@ -1337,10 +1259,11 @@ pub mod simd {
         ///
         /// # Contract
         ///
-        /// <span></span><pre><code>ensures: result ≡ [vector.bitmask] [w16] v</code></pre>
+        /// ```text
+        /// ensures: result ≡ vector.bitmask w16 v
+        /// ```
         ///
-        /// [vector.bitmask]: crate::specs::widening::WideningTable#bitmask "the number whose bit i is the highest bit of lane i"
-        /// [w16]: crate::specs::library#w16 "the widths of integers in bits"
+        /// Definitions: [`bitmask`](crate::specs::widening::WideningTable#bitmask).
         #[inline]
         pub fn i16x8_bitmask(v: V128) -> u32 {
             let (low, high) = v.words();
@@ -1353,10 +1276,11 @@ pub mod simd {
         ///
         /// # Contract
         ///
-        /// <span></span><pre><code>ensures: result ≡ [vector.bitmask] [w32] v</code></pre>
+        /// ```text
+        /// ensures: result ≡ vector.bitmask w32 v
+        /// ```
         ///
-        /// [vector.bitmask]: crate::specs::widening::WideningTable#bitmask "the number whose bit i is the highest bit of lane i"
-        /// [w32]: crate::specs::library#w32 "the widths of integers in bits"
+        /// Definitions: [`bitmask`](crate::specs::widening::WideningTable#bitmask).
         #[inline]
         pub fn i32x4_bitmask(v: V128) -> u32 {
             let (low, high) = v.words();
@@ -1369,10 +1293,11 @@ pub mod simd {
         ///
         /// # Contract
         ///
-        /// <span></span><pre><code>ensures: result ≡ [vector.bitmask] [w64] v</code></pre>
+        /// ```text
+        /// ensures: result ≡ vector.bitmask w64 v
+        /// ```
         ///
-        /// [vector.bitmask]: crate::specs::widening::WideningTable#bitmask "the number whose bit i is the highest bit of lane i"
-        /// [w64]: crate::specs::library#w64 "the widths of integers in bits"
+        /// Definitions: [`bitmask`](crate::specs::widening::WideningTable#bitmask).
         #[inline]
         pub fn i64x2_bitmask(v: V128) -> u32 {
             let (low, high) = v.words();
@@ -1381,10 +1306,11 @@ pub mod simd {
 
         /// # Contract
         ///
-        /// <span></span><pre><code>ensures: result ≡ [vector.all_true] [T.width] v</code></pre>
+        /// ```text
+        /// ensures: result ≡ vector.all_true T.width v
+        /// ```
         ///
-        /// [vector.all_true]: crate::specs::widening::WideningTable#all_true "whether no lane is 0"
-        /// [T.width]: trait@WordLane#contract
+        /// Definitions: [`all_true`](crate::specs::widening::WideningTable#all_true).
         #[inline(always)]
         fn no_zero<T: WordLane>(v: V128) -> bool {
             let (low, high) = v.words();
@@ -1395,17 +1321,13 @@ pub mod simd {
         // doesn't matter.
         /// # Contract
         ///
-        /// <span></span><pre><code>ensures: result
-        /// &#32;&#32;&#32;&#32;≡ [holds_below] ([lanes_in_word] [T.width])
-        /// &#32;&#32;&#32;&#32;(λ i. [not] ([nat_eq] ([field] ([bits] [T.width] \* i) ([bits] [T.width]) word) 0))</code></pre>
+        /// ```text
+        /// ensures: result
+        ///     ≡ holds_below (lanes_in_word T.width)
+        ///     (λ i. not (nat_eq (field (bits T.width * i) (bits T.width) word) 0))
+        /// ```
         ///
-        /// [holds_below]: crate::specs::widening::Widening#holds_below "whether the test holds of each number below n"
-        /// [lanes_in_word]: crate::specs::lanes::Words#lanes_in_word "how many lanes of a width a word has"
-        /// [T.width]: trait@WordLane#contract
-        /// [not]: crate::specs::library#not "the other Boolean"
-        /// [nat_eq]: crate::specs::library#nat_eq "whether two numbers are equal, as a Boolean"
-        /// [field]: crate::specs::lanes::Words#field "the number in the bits of v from start to start + width - 1"
-        /// [bits]: crate::specs::library#bits "the number of bits of a width"
+        /// Definitions: [`holds_below`](crate::specs::widening::Widening#holds_below), [`lanes_in_word`](crate::specs::lanes::Words#lanes_in_word), [`field`](crate::specs::lanes::Words#field).
         #[inline(always)]
         fn no_zero_in_word<T: WordLane>(word: u64) -> bool {
             word.wrapping_sub(T::ONES) & !word & T::TOPS == 0
@@ -1415,11 +1337,11 @@ pub mod simd {
         // in the highest byte.
         /// # Contract
         ///
-        /// <span></span><pre><code>ensures: result ≡ [first_bits] 8 (λ i. [nat_le] (2 ^ 7) ([field] (8 \* i) 8 word))</code></pre>
+        /// ```text
+        /// ensures: result ≡ first_bits 8 (λ i. nat_le (2 ^ 7) (field (8 * i) 8 word))
+        /// ```
         ///
-        /// [first_bits]: crate::specs::widening::Widening#first_bits "the number whose bit i, of the lowest n, is 1 where the test holds of i, and whose others are 0"
-        /// [nat_le]: crate::specs::library#nat_le "whether m is at most n, as a Boolean"
-        /// [field]: crate::specs::lanes::Words#field "the number in the bits of v from start to start + width - 1"
+        /// Definitions: [`first_bits`](crate::specs::widening::Widening#first_bits), [`field`](crate::specs::lanes::Words#field).
         #[inline(always)]
         fn tops_of_8(word: u64) -> u32 {
             ((word & u8::TOPS).wrapping_mul(0x0002_0408_1020_4081) >> 56) as u32
@@ -1427,11 +1349,11 @@ pub mod simd {
 
         /// # Contract
         ///
-        /// <span></span><pre><code>ensures: result ≡ [first_bits] 1 (λ i. [nat_le] (2 ^ 63) ([field] (64 \* i) 64 word))</code></pre>
+        /// ```text
+        /// ensures: result ≡ first_bits 1 (λ i. nat_le (2 ^ 63) (field (64 * i) 64 word))
+        /// ```
         ///
-        /// [first_bits]: crate::specs::widening::Widening#first_bits "the number whose bit i, of the lowest n, is 1 where the test holds of i, and whose others are 0"
-        /// [nat_le]: crate::specs::library#nat_le "whether m is at most n, as a Boolean"
-        /// [field]: crate::specs::lanes::Words#field "the number in the bits of v from start to start + width - 1"
+        /// Definitions: [`first_bits`](crate::specs::widening::Widening#first_bits), [`field`](crate::specs::lanes::Words#field).
         #[inline(always)]
         fn tops_of_64(word: u64) -> u32 {
             (word >> 63) as u32
@@ -1451,9 +1373,11 @@ pub mod simd {
         ///
         /// # Contract
         ///
-        /// <span></span><pre><code>ensures: result ≡ [vector.relaxed_swizzle] a s</code></pre>
+        /// ```text
+        /// ensures: result ≡ vector.relaxed_swizzle a s
+        /// ```
         ///
-        /// [vector.relaxed_swizzle]: crate::specs::widening::WideningTable#relaxed_swizzle "the lanes of the first vector at the indices in the second, 0 for an index above 15"
+        /// Definitions: [`relaxed_swizzle`](crate::specs::widening::WideningTable#relaxed_swizzle).
         #[inline]
         pub fn i8x16_relaxed_swizzle(a: V128, s: V128) -> V128 {
             i8x16_swizzle(a, s)
@@ -1463,9 +1387,11 @@ pub mod simd {
         ///
         /// # Contract
         ///
-        /// <span></span><pre><code>ensures: result ≡ [vector.relaxed_laneselect] a b c</code></pre>
+        /// ```text
+        /// ensures: result ≡ vector.relaxed_laneselect a b c
+        /// ```
         ///
-        /// [vector.relaxed_laneselect]: crate::specs::widening::WideningTable#relaxed_laneselect "each bit of the first vector where the mask has a one, else of the second"
+        /// Definitions: [`relaxed_laneselect`](crate::specs::widening::WideningTable#relaxed_laneselect).
         #[inline]
         pub fn i8x16_relaxed_laneselect(a: V128, b: V128, c: V128) -> V128 {
             v128_bitselect(a, b, c)
@@ -1475,9 +1401,11 @@ pub mod simd {
         ///
         /// # Contract
         ///
-        /// <span></span><pre><code>ensures: result ≡ [vector.relaxed_laneselect] a b c</code></pre>
+        /// ```text
+        /// ensures: result ≡ vector.relaxed_laneselect a b c
+        /// ```
         ///
-        /// [vector.relaxed_laneselect]: crate::specs::widening::WideningTable#relaxed_laneselect "each bit of the first vector where the mask has a one, else of the second"
+        /// Definitions: [`relaxed_laneselect`](crate::specs::widening::WideningTable#relaxed_laneselect).
         #[inline]
         pub fn i16x8_relaxed_laneselect(a: V128, b: V128, c: V128) -> V128 {
             v128_bitselect(a, b, c)
@@ -1487,9 +1415,11 @@ pub mod simd {
         ///
         /// # Contract
         ///
-        /// <span></span><pre><code>ensures: result ≡ [vector.relaxed_laneselect] a b c</code></pre>
+        /// ```text
+        /// ensures: result ≡ vector.relaxed_laneselect a b c
+        /// ```
         ///
-        /// [vector.relaxed_laneselect]: crate::specs::widening::WideningTable#relaxed_laneselect "each bit of the first vector where the mask has a one, else of the second"
+        /// Definitions: [`relaxed_laneselect`](crate::specs::widening::WideningTable#relaxed_laneselect).
         #[inline]
         pub fn i32x4_relaxed_laneselect(a: V128, b: V128, c: V128) -> V128 {
             v128_bitselect(a, b, c)
@@ -1499,9 +1429,11 @@ pub mod simd {
         ///
         /// # Contract
         ///
-        /// <span></span><pre><code>ensures: result ≡ [vector.relaxed_laneselect] a b c</code></pre>
+        /// ```text
+        /// ensures: result ≡ vector.relaxed_laneselect a b c
+        /// ```
         ///
-        /// [vector.relaxed_laneselect]: crate::specs::widening::WideningTable#relaxed_laneselect "each bit of the first vector where the mask has a one, else of the second"
+        /// Definitions: [`relaxed_laneselect`](crate::specs::widening::WideningTable#relaxed_laneselect).
         #[inline]
         pub fn i64x2_relaxed_laneselect(a: V128, b: V128, c: V128) -> V128 {
             v128_bitselect(a, b, c)
@@ -1511,9 +1443,11 @@ pub mod simd {
         ///
         /// # Contract
         ///
-        /// <span></span><pre><code>ensures: result ≡ [vector.relaxed_q15mulr_s] a b</code></pre>
+        /// ```text
+        /// ensures: result ≡ vector.relaxed_q15mulr_s a b
+        /// ```
         ///
-        /// [vector.relaxed_q15mulr_s]: crate::specs::widening::WideningTable#relaxed_q15mulr_s "the rounded products of q15 numbers, clamped to the signed range"
+        /// Definitions: [`relaxed_q15mulr_s`](crate::specs::widening::WideningTable#relaxed_q15mulr_s).
         #[inline]
         pub fn i16x8_relaxed_q15mulr_s(a: V128, b: V128) -> V128 {
             i16x8_q15mulr_sat_s(a, b)
@@ -1524,9 +1458,11 @@ pub mod simd {
         ///
         /// # Contract
         ///
-        /// <span></span><pre><code>ensures: result ≡ [vector.relaxed_dot_add_s] lhs rhs c</code></pre>
+        /// ```text
+        /// ensures: result ≡ vector.relaxed_dot_add_s lhs rhs c
+        /// ```
         ///
-        /// [vector.relaxed_dot_add_s]: crate::specs::widening::WideningTable#relaxed_dot_add_s "the sums of each two adjacent lanes of relaxed_dot_s, read signed, and of the lanes of a third vector, modulo 2 ^ 32"
+        /// Definitions: [`relaxed_dot_add_s`](crate::specs::widening::WideningTable#relaxed_dot_add_s).
         #[inline]
         pub fn i32x4_relaxed_dot_i8x16_i7x16_add_s(lhs: V128, rhs: V128, c: V128) -> V128 {
             let dot = i16x8_relaxed_dot_i8x16_i7x16_s(lhs, rhs);
@@ -1552,10 +1488,11 @@ pub mod simd {
         ///
         /// # Contract
         ///
-        /// <span></span><pre><code>ensures: result ≡ [vector.shl] [w8] v amount</code></pre>
+        /// ```text
+        /// ensures: result ≡ vector.shl w8 v amount
+        /// ```
         ///
-        /// [vector.shl]: crate::specs::widening::WideningTable#shl "each lane shifted to the left by the amount modulo the width"
-        /// [w8]: crate::specs::library#w8 "the widths of integers in bits"
+        /// Definitions: [`shl`](crate::specs::widening::WideningTable#shl).
         #[inline]
         pub fn i8x16_shl(v: V128, amount: u32) -> V128 {
             shifted_left::<u8>(v, amount)
@@ -1565,10 +1502,11 @@ pub mod simd {
         ///
         /// # Contract
         ///
-        /// <span></span><pre><code>ensures: result ≡ [vector.shr_s] [w8] v amount</code></pre>
+        /// ```text
+        /// ensures: result ≡ vector.shr_s w8 v amount
+        /// ```
         ///
-        /// [vector.shr_s]: crate::specs::widening::WideningTable#shr_s "each lane shifted to the right by the amount modulo the width, with its sign from above"
-        /// [w8]: crate::specs::library#w8 "the widths of integers in bits"
+        /// Definitions: [`shr_s`](crate::specs::widening::WideningTable#shr_s).
         #[inline]
         pub fn i8x16_shr_s(v: V128, amount: u32) -> V128 {
             // What the lanes were moved by is a multiple of what they are divided by.
@@ -1584,10 +1522,11 @@ pub mod simd {
         ///
         /// # Contract
         ///
-        /// <span></span><pre><code>ensures: result ≡ [vector.shr_u] [w8] v amount</code></pre>
+        /// ```text
+        /// ensures: result ≡ vector.shr_u w8 v amount
+        /// ```
         ///
-        /// [vector.shr_u]: crate::specs::widening::WideningTable#shr_u "each lane shifted to the right by the amount modulo the width, with zeros from above"
-        /// [w8]: crate::specs::library#w8 "the widths of integers in bits"
+        /// Definitions: [`shr_u`](crate::specs::widening::WideningTable#shr_u).
         #[inline]
         pub fn i8x16_shr_u(v: V128, amount: u32) -> V128 {
             shifted_right::<u8>(v, amount)
@@ -1597,10 +1536,11 @@ pub mod simd {
         ///
         /// # Contract
         ///
-        /// <span></span><pre><code>ensures: result ≡ [vector.shl] [w16] v amount</code></pre>
+        /// ```text
+        /// ensures: result ≡ vector.shl w16 v amount
+        /// ```
         ///
-        /// [vector.shl]: crate::specs::widening::WideningTable#shl "each lane shifted to the left by the amount modulo the width"
-        /// [w16]: crate::specs::library#w16 "the widths of integers in bits"
+        /// Definitions: [`shl`](crate::specs::widening::WideningTable#shl).
         #[inline]
         pub fn i16x8_shl(v: V128, amount: u32) -> V128 {
             shifted_left::<u16>(v, amount)
@@ -1610,10 +1550,11 @@ pub mod simd {
         ///
         /// # Contract
         ///
-        /// <span></span><pre><code>ensures: result ≡ [vector.shr_s] [w16] v amount</code></pre>
+        /// ```text
+        /// ensures: result ≡ vector.shr_s w16 v amount
+        /// ```
         ///
-        /// [vector.shr_s]: crate::specs::widening::WideningTable#shr_s "each lane shifted to the right by the amount modulo the width, with its sign from above"
-        /// [w16]: crate::specs::library#w16 "the widths of integers in bits"
+        /// Definitions: [`shr_s`](crate::specs::widening::WideningTable#shr_s).
         #[inline]
         pub fn i16x8_shr_s(v: V128, amount: u32) -> V128 {
             on_vectors::unary::<I16x8, _>(v, |x| x.wrapping_shr(amount))
@@ -1623,10 +1564,11 @@ pub mod simd {
         ///
         /// # Contract
         ///
-        /// <span></span><pre><code>ensures: result ≡ [vector.shr_u] [w16] v amount</code></pre>
+        /// ```text
+        /// ensures: result ≡ vector.shr_u w16 v amount
+        /// ```
         ///
-        /// [vector.shr_u]: crate::specs::widening::WideningTable#shr_u "each lane shifted to the right by the amount modulo the width, with zeros from above"
-        /// [w16]: crate::specs::library#w16 "the widths of integers in bits"
+        /// Definitions: [`shr_u`](crate::specs::widening::WideningTable#shr_u).
         #[inline]
         pub fn i16x8_shr_u(v: V128, amount: u32) -> V128 {
             shifted_right::<u16>(v, amount)
@@ -1636,10 +1578,11 @@ pub mod simd {
         ///
         /// # Contract
         ///
-        /// <span></span><pre><code>ensures: result ≡ [vector.shl] [w32] v amount</code></pre>
+        /// ```text
+        /// ensures: result ≡ vector.shl w32 v amount
+        /// ```
         ///
-        /// [vector.shl]: crate::specs::widening::WideningTable#shl "each lane shifted to the left by the amount modulo the width"
-        /// [w32]: crate::specs::library#w32 "the widths of integers in bits"
+        /// Definitions: [`shl`](crate::specs::widening::WideningTable#shl).
         #[inline]
         pub fn i32x4_shl(v: V128, amount: u32) -> V128 {
             shifted_left::<u32>(v, amount)
@@ -1649,10 +1592,11 @@ pub mod simd {
         ///
         /// # Contract
         ///
-        /// <span></span><pre><code>ensures: result ≡ [vector.shr_s] [w32] v amount</code></pre>
+        /// ```text
+        /// ensures: result ≡ vector.shr_s w32 v amount
+        /// ```
         ///
-        /// [vector.shr_s]: crate::specs::widening::WideningTable#shr_s "each lane shifted to the right by the amount modulo the width, with its sign from above"
-        /// [w32]: crate::specs::library#w32 "the widths of integers in bits"
+        /// Definitions: [`shr_s`](crate::specs::widening::WideningTable#shr_s).
         #[inline]
         pub fn i32x4_shr_s(v: V128, amount: u32) -> V128 {
             on_vectors::unary::<I32x4, _>(v, |x| x.wrapping_shr(amount))
@@ -1662,10 +1606,11 @@ pub mod simd {
         ///
         /// # Contract
         ///
-        /// <span></span><pre><code>ensures: result ≡ [vector.shr_u] [w32] v amount</code></pre>
+        /// ```text
+        /// ensures: result ≡ vector.shr_u w32 v amount
+        /// ```
         ///
-        /// [vector.shr_u]: crate::specs::widening::WideningTable#shr_u "each lane shifted to the right by the amount modulo the width, with zeros from above"
-        /// [w32]: crate::specs::library#w32 "the widths of integers in bits"
+        /// Definitions: [`shr_u`](crate::specs::widening::WideningTable#shr_u).
         #[inline]
         pub fn i32x4_shr_u(v: V128, amount: u32) -> V128 {
             shifted_right::<u32>(v, amount)
@@ -1675,10 +1620,11 @@ pub mod simd {
         ///
         /// # Contract
         ///
-        /// <span></span><pre><code>ensures: result ≡ [vector.shl] [w64] v amount</code></pre>
+        /// ```text
+        /// ensures: result ≡ vector.shl w64 v amount
+        /// ```
         ///
-        /// [vector.shl]: crate::specs::widening::WideningTable#shl "each lane shifted to the left by the amount modulo the width"
-        /// [w64]: crate::specs::library#w64 "the widths of integers in bits"
+        /// Definitions: [`shl`](crate::specs::widening::WideningTable#shl).
         #[inline]
         pub fn i64x2_shl(v: V128, amount: u32) -> V128 {
             from_u64x2(u64x2_of(v) << u64x2::splat(u64::from(amount % 64)))
@@ -1688,10 +1634,11 @@ pub mod simd {
         ///
         /// # Contract
         ///
-        /// <span></span><pre><code>ensures: result ≡ [vector.shr_s] [w64] v amount</code></pre>
+        /// ```text
+        /// ensures: result ≡ vector.shr_s w64 v amount
+        /// ```
         ///
-        /// [vector.shr_s]: crate::specs::widening::WideningTable#shr_s "each lane shifted to the right by the amount modulo the width, with its sign from above"
-        /// [w64]: crate::specs::library#w64 "the widths of integers in bits"
+        /// Definitions: [`shr_s`](crate::specs::widening::WideningTable#shr_s).
         #[inline]
         pub fn i64x2_shr_s(v: V128, amount: u32) -> V128 {
             on_vectors::unary::<I64x2, _>(v, |x| x.wrapping_shr(amount))
@@ -1701,10 +1648,11 @@ pub mod simd {
         ///
         /// # Contract
         ///
-        /// <span></span><pre><code>ensures: result ≡ [vector.shr_u] [w64] v amount</code></pre>
+        /// ```text
+        /// ensures: result ≡ vector.shr_u w64 v amount
+        /// ```
         ///
-        /// [vector.shr_u]: crate::specs::widening::WideningTable#shr_u "each lane shifted to the right by the amount modulo the width, with zeros from above"
-        /// [w64]: crate::specs::library#w64 "the widths of integers in bits"
+        /// Definitions: [`shr_u`](crate::specs::widening::WideningTable#shr_u).
         #[inline]
         pub fn i64x2_shr_u(v: V128, amount: u32) -> V128 {
             from_u64x2(u64x2_of(v) >> u64x2::splat(u64::from(amount % 64)))
@@ -1712,9 +1660,11 @@ pub mod simd {
 
         /// # Contract
         ///
-        /// <span></span><pre><code>ensures: result ≡ [vector.shl] T.width v amount</code></pre>
+        /// ```text
+        /// ensures: result ≡ vector.shl T.width v amount
+        /// ```
         ///
-        /// [vector.shl]: crate::specs::widening::WideningTable#shl "each lane shifted to the left by the amount modulo the width"
+        /// Definitions: [`shl`](crate::specs::widening::WideningTable#shl).
         #[inline(always)]
         fn shifted_left<T: NarrowLane>(v: V128, amount: u32) -> V128 {
             let amount = u64::from(amount % T::BITS);
@@ -1724,9 +1674,11 @@ pub mod simd {
 
         /// # Contract
         ///
-        /// <span></span><pre><code>ensures: result ≡ [vector.shr_u] T.width v amount</code></pre>
+        /// ```text
+        /// ensures: result ≡ vector.shr_u T.width v amount
+        /// ```
         ///
-        /// [vector.shr_u]: crate::specs::widening::WideningTable#shr_u "each lane shifted to the right by the amount modulo the width, with zeros from above"
+        /// Definitions: [`shr_u`](crate::specs::widening::WideningTable#shr_u).
         #[inline(always)]
         fn shifted_right<T: NarrowLane>(v: V128, amount: u32) -> V128 {
             let amount = u64::from(amount % T::BITS);
@@ -1738,11 +1690,10 @@ pub mod simd {
         ///
         /// # Contract
         ///
-        /// <span></span><pre><code>ensures lanes: (i : [ℕ]) → i < 16
-        /// &#32;&#32;&#32;&#32;→ [slice_index] result i ≡ ([slice_index] a i + (2 ^ 8 - [slice_index] b i)) % 2 ^ 8</code></pre>
-        ///
-        /// [ℕ]: crate::specs::library#%E2%84%95 "the whole numbers from 0 on"
-        /// [slice_index]: crate::specs::library#slice_index "element i of a list of numbers; 0 past its end"
+        /// ```text
+        /// ensures lanes: (i : ℕ) → i < 16
+        ///     → slice_index result i ≡ (slice_index a i + (2 ^ 8 - slice_index b i)) % 2 ^ 8
+        /// ```
         #[inline(always)]
         fn difference_of_u8x16(a: u8x16, b: u8x16) -> u8x16 {
             a - b
@@ -1752,12 +1703,12 @@ pub mod simd {
         ///
         /// # Contract
         ///
-        /// <span></span><pre><code>requires amount: amount < 8
-        /// ensures lanes: (i : [ℕ]) → i < 16 → [lane] [w8] result i ≡ 2 ^ (7 - amount)</code></pre>
+        /// ```text
+        /// requires amount: amount < 8
+        /// ensures lanes: (i : ℕ) → i < 16 → lane w8 result i ≡ 2 ^ (7 - amount)
+        /// ```
         ///
-        /// [ℕ]: crate::specs::library#%E2%84%95 "the whole numbers from 0 on"
-        /// [lane]: crate::specs::lanes::Lane#lane "lane i of the vector v"
-        /// [w8]: crate::specs::library#w8 "the widths of integers in bits"
+        /// Definitions: [`lane`](crate::specs::lanes::Lane#lane).
         #[inline(always)]
         fn half_shifted(amount: u64) -> V128 {
             V128::from(HALVES_OF_8[amount as usize])
@@ -1789,13 +1740,13 @@ pub mod simd {
             ///
             /// # Contract
             ///
-            /// <span></span><pre><code>requires dropped: dropped < [bits] Self.width
+            /// ```text
+            /// requires dropped: dropped < bits Self.width
             /// ensures masks: result
-            /// &#32;&#32;&#32;&#32;≡ [replicate] 2 ([in_each_lane] Self.width (2 ^ ([bits] Self.width - dropped) - 1))</code></pre>
+            ///     ≡ replicate 2 (in_each_lane Self.width (2 ^ (bits Self.width - dropped) - 1))
+            /// ```
             ///
-            /// [bits]: crate::specs::library#bits "the number of bits of a width"
-            /// [replicate]: crate::specs::library#replicate "the list of n times x"
-            /// [in_each_lane]: crate::specs::lanes::Words#in_each_lane "the word with n in each lane of one width"
+            /// Definitions: [`in_each_lane`](crate::specs::lanes::Words#in_each_lane).
             fn shift_masks(dropped: u64) -> u64x2;
         }
 
@@ -1897,14 +1848,11 @@ pub mod simd {
         ///
         /// # Contract
         ///
-        /// <span></span><pre><code>ensures lanes: (i : [ℕ]) → i < 8 → [slice_index_or] result i ([pos] 0) ≡ [signed] [w16] ([lane] [w16] v i)</code></pre>
+        /// ```text
+        /// ensures lanes: (i : ℕ) → i < 8 → slice_index_or result i (pos 0) ≡ signed w16 (lane w16 v i)
+        /// ```
         ///
-        /// [ℕ]: crate::specs::library#%E2%84%95 "the whole numbers from 0 on"
-        /// [slice_index_or]: crate::specs::library#slice_index_or "element i of a list; x past its end"
-        /// [pos]: crate::specs::library#pos "the number n, as one with a sign"
-        /// [signed]: crate::specs::library#cast_signed "the number from 0 up to 2 ^ w read as signed, in two\'s complement"
-        /// [w16]: crate::specs::library#w16 "the widths of integers in bits"
-        /// [lane]: crate::specs::lanes::Lane#lane "lane i of the vector v"
+        /// Definitions: [`lane`](crate::specs::lanes::Lane#lane).
         #[inline(always)]
         pub(super) fn i16x8_of(v: V128) -> i16x8 {
             i16x8::from_le_bytes(bytes_of(v))
@@ -1914,14 +1862,11 @@ pub mod simd {
         ///
         /// # Contract
         ///
-        /// <span></span><pre><code>ensures lanes: (i : [ℕ]) → i < 4 → [slice_index_or] result i ([pos] 0) ≡ [signed] [w32] ([lane] [w32] v i)</code></pre>
+        /// ```text
+        /// ensures lanes: (i : ℕ) → i < 4 → slice_index_or result i (pos 0) ≡ signed w32 (lane w32 v i)
+        /// ```
         ///
-        /// [ℕ]: crate::specs::library#%E2%84%95 "the whole numbers from 0 on"
-        /// [slice_index_or]: crate::specs::library#slice_index_or "element i of a list; x past its end"
-        /// [pos]: crate::specs::library#pos "the number n, as one with a sign"
-        /// [signed]: crate::specs::library#cast_signed "the number from 0 up to 2 ^ w read as signed, in two\'s complement"
-        /// [w32]: crate::specs::library#w32 "the widths of integers in bits"
-        /// [lane]: crate::specs::lanes::Lane#lane "lane i of the vector v"
+        /// Definitions: [`lane`](crate::specs::lanes::Lane#lane).
         #[inline(always)]
         pub(super) fn i32x4_of(v: V128) -> i32x4 {
             i32x4::from_le_bytes(bytes_of(v))
@@ -1931,14 +1876,13 @@ pub mod simd {
         ///
         /// # Contract
         ///
-        /// <span></span><pre><code>ensures lanes: (i : [ℕ]) → i < 8
-        /// &#32;&#32;&#32;&#32;→ [lane] [w16] result i ≡ ([slice_index] a i + [slice_index] b i) % 2 ^ 16
-        /// ensures in_range: result < 2 ^ 128</code></pre>
+        /// ```text
+        /// ensures lanes: (i : ℕ) → i < 8
+        ///     → lane w16 result i ≡ (slice_index a i + slice_index b i) % 2 ^ 16
+        /// ensures in_range: result < 2 ^ 128
+        /// ```
         ///
-        /// [ℕ]: crate::specs::library#%E2%84%95 "the whole numbers from 0 on"
-        /// [lane]: crate::specs::lanes::Lane#lane "lane i of the vector v"
-        /// [w16]: crate::specs::library#w16 "the widths of integers in bits"
-        /// [slice_index]: crate::specs::library#slice_index "element i of a list of numbers; 0 past its end"
+        /// Definitions: [`lane`](crate::specs::lanes::Lane#lane).
         #[inline(always)]
         pub(super) fn sums_of_u16x8(a: u16x8, b: u16x8) -> V128 {
             u16::vector_of(a + b)
@@ -1948,14 +1892,13 @@ pub mod simd {
         ///
         /// # Contract
         ///
-        /// <span></span><pre><code>ensures lanes: (i : [ℕ]) → i < 4
-        /// &#32;&#32;&#32;&#32;→ [lane] [w32] result i ≡ ([slice_index] a i + [slice_index] b i) % 2 ^ 32
-        /// ensures in_range: result < 2 ^ 128</code></pre>
+        /// ```text
+        /// ensures lanes: (i : ℕ) → i < 4
+        ///     → lane w32 result i ≡ (slice_index a i + slice_index b i) % 2 ^ 32
+        /// ensures in_range: result < 2 ^ 128
+        /// ```
         ///
-        /// [ℕ]: crate::specs::library#%E2%84%95 "the whole numbers from 0 on"
-        /// [lane]: crate::specs::lanes::Lane#lane "lane i of the vector v"
-        /// [w32]: crate::specs::library#w32 "the widths of integers in bits"
-        /// [slice_index]: crate::specs::library#slice_index "element i of a list of numbers; 0 past its end"
+        /// Definitions: [`lane`](crate::specs::lanes::Lane#lane).
         #[inline(always)]
         pub(super) fn sums_of_u32x4(a: u32x4, b: u32x4) -> V128 {
             u32::vector_of(a + b)
@@ -1965,11 +1908,10 @@ pub mod simd {
         ///
         /// # Contract
         ///
-        /// <span></span><pre><code>ensures lanes: (i : [ℕ]) → i < 8
-        /// &#32;&#32;&#32;&#32;→ [slice_index] result i ≡ [slice_index] a i \* [slice_index] b i % 2 ^ 16</code></pre>
-        ///
-        /// [ℕ]: crate::specs::library#%E2%84%95 "the whole numbers from 0 on"
-        /// [slice_index]: crate::specs::library#slice_index "element i of a list of numbers; 0 past its end"
+        /// ```text
+        /// ensures lanes: (i : ℕ) → i < 8
+        ///     → slice_index result i ≡ slice_index a i * slice_index b i % 2 ^ 16
+        /// ```
         #[inline(always)]
         pub(super) fn product_of_u16x8(a: u16x8, b: u16x8) -> u16x8 {
             a * b
@@ -1979,11 +1921,10 @@ pub mod simd {
         ///
         /// # Contract
         ///
-        /// <span></span><pre><code>ensures lanes: (i : [ℕ]) → i < 4
-        /// &#32;&#32;&#32;&#32;→ [slice_index] result i ≡ [slice_index] a i \* [slice_index] b i % 2 ^ 32</code></pre>
-        ///
-        /// [ℕ]: crate::specs::library#%E2%84%95 "the whole numbers from 0 on"
-        /// [slice_index]: crate::specs::library#slice_index "element i of a list of numbers; 0 past its end"
+        /// ```text
+        /// ensures lanes: (i : ℕ) → i < 4
+        ///     → slice_index result i ≡ slice_index a i * slice_index b i % 2 ^ 32
+        /// ```
         #[inline(always)]
         pub(super) fn product_of_u32x4(a: u32x4, b: u32x4) -> u32x4 {
             a * b
@@ -1993,11 +1934,10 @@ pub mod simd {
         ///
         /// # Contract
         ///
-        /// <span></span><pre><code>ensures lanes: (i : [ℕ]) → i < 2
-        /// &#32;&#32;&#32;&#32;→ [slice_index] result i ≡ [slice_index] a i \* [slice_index] b i % 2 ^ 64</code></pre>
-        ///
-        /// [ℕ]: crate::specs::library#%E2%84%95 "the whole numbers from 0 on"
-        /// [slice_index]: crate::specs::library#slice_index "element i of a list of numbers; 0 past its end"
+        /// ```text
+        /// ensures lanes: (i : ℕ) → i < 2
+        ///     → slice_index result i ≡ slice_index a i * slice_index b i % 2 ^ 64
+        /// ```
         #[inline(always)]
         pub(super) fn product_of_u64x2(a: u64x2, b: u64x2) -> u64x2 {
             a * b
@@ -2051,18 +1991,15 @@ mod widening {
     ///
     /// # Contract
     ///
-    /// <span></span><pre><code>requires callable: [F.IsAlwaysCallable] f
-    /// ensures lanes: (row : [W.Item] → [ℕ])
-    /// &#32;&#32;&#32;&#32;→ ((x : [W.Item]) (z : [L.Item]) → [W.Item].Fits x → [L.Item].Fits z → [F.post] f x z
-    /// &#32;&#32;&#32;&#32;→ [L.Item].image z ≡ row x)
-    /// &#32;&#32;&#32;&#32;→ result ≡ [made.from_low_high] [W.Item].width [L.Item].width [W.Item].read row low high</code></pre>
+    /// ```text
+    /// requires callable: F.IsAlwaysCallable f
+    /// ensures lanes: (row : W.Item → ℕ)
+    ///     → ((x : W.Item) (z : L.Item) → W.Item.Fits x → L.Item.Fits z → F.post f x z
+    ///     → L.Item.image z ≡ row x)
+    ///     → result ≡ made.from_low_high W.Item.width L.Item.width W.Item.read row low high
+    /// ```
     ///
-    /// [F.IsAlwaysCallable]: crate::specs::library#IsAlwaysCallable "the closure may be called on all arguments"
-    /// [W.Item]: trait@Lanes#contract
-    /// [ℕ]: crate::specs::library#%E2%84%95 "the whole numbers from 0 on"
-    /// [L.Item]: trait@FromWide#contract
-    /// [F.post]: crate::specs::library#post "the closure, called on x, may return y"
-    /// [made.from_low_high]: crate::specs::widening::Widening#from_low_high "the narrow vector of the rows of the wide lanes of \`low\`, and then those of \`high\`"
+    /// Definitions: [`from_low_high`](crate::specs::widening::Widening#from_low_high).
     #[inline(always)]
     pub(crate) fn from_low_high<W: Lanes, L: FromWide<W>, F: Fn(W::Item) -> L::Item>(
         low: V128,

@@ -1,7 +1,5 @@
 //! Lists of calls on machines, their replies, and what a host sees afterwards.
 #![cfg(all(feature = "std", feature = "simd", feature = "memory64"))]
-mod absent;
-mod dropped;
 mod pools;
 mod random;
 mod runs;

@@ -43,7 +43,6 @@ mod bad_lines;
 mod instructions;
 mod memories;
 mod streams;
-mod tables;
 
 use std::str;
 use streams::{Source, Target};

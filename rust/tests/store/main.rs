@@ -29,16 +29,10 @@ macro_rules! complained {
 mod bulk;
 mod creations;
 mod errors;
-mod fuel;
 mod growths;
-mod lending;
 mod limiters;
-mod recorder;
 mod regions;
-mod table_creations;
-mod table_growths;
 mod tables;
-mod types;
 
 use wasmi_core_proved::machine::{
     CustomFuelCosts, ElementSegment, Fuel, FuelCostsProvider, Memory, MemoryError, MemoryType,

@@ -1,7 +1,6 @@
 //! Random bodies: values and statements of every kind, loops and calls that end, jumps out of everything, and code that can't be reached.
-use crate::encode::{Type, Type::*, sized, unsigned};
 use crate::instructions::{Immediate, Instruction};
-use crate::module::{BUDGET, Shape, constant, with_budget};
+use crate::module::{BUDGET, Shape, Type, Type::*, constant, sized, unsigned, with_budget};
 use crate::random::Random;
 
 struct Body<'a> {
@@ -69,7 +68,7 @@ impl Body<'_> {
 
     fn number(&mut self, ty: Type, value: i64) {
         self.code.push(if ty == I64 { 0x42 } else { 0x41 });
-        crate::encode::signed(&mut self.code, value);
+        crate::module::signed(&mut self.code, value);
     }
 
     fn local(&mut self, ty: Type, is_written: bool) -> Option<usize> {

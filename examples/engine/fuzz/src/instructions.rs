@@ -1,5 +1,5 @@
 //! The instructions on numbers and vectors: their codes are those of `conformance/instructions.txt`, and their types follow from their names.
-use crate::encode::{Type, Type::*, unsigned};
+use crate::module::{Type, Type::*, unsigned};
 
 /// What an instruction has besides its code.
 #[derive(Clone, Copy, PartialEq, Eq, Debug)]

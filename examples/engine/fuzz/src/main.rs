@@ -1,11 +1,9 @@
 //! Random modules and damaged ones, run in several engines whose replies have to be the same.
 #![forbid(unsafe_code)]
 mod body;
-mod encode;
 mod engines;
 mod instructions;
 mod module;
-mod mutate;
 mod random;
 
 use engines::{Case, Replies, checksum};
@@ -16,7 +14,7 @@ use std::path::{Path, PathBuf};
 const USAGE: &str = "usage: fuzz ENGINE.. [--v8 ENGINE] [--seed N] [--count N] [--mutants FOLDER] [--found FOLDER] [--expected FILE]
 
 Each ENGINE is a command that reads a script as `engine --script` does; the first one is compared with the others. COUNT modules (1,000) are
-made from SEED (1) on. With --mutants they are damaged ones, of these modules and of the .wasm files in FOLDER. V8 has no fuel, and
+made from SEED (1) on. With --mutants they are damaged ones, of these modules and of the guests that FOLDER/list has. V8 has no fuel, and
 runs a damaged module only if the first engine ended for another reason; but it says of each whether it is valid. Modules on which something differs are written to the folder
 after --found. FILE has the checksums of results and of fuel that the first engine has to give. The status is 1 if something differs.";
 
@@ -30,7 +28,7 @@ struct Options {
     v8: Option<String>,
     seed: u64,
     count: u64,
-    guests: Option<Vec<Vec<u8>>>,
+    guests: Option<Vec<Guest>>,
     found: Option<PathBuf>,
     expected: Option<String>,
 }
@@ -62,20 +60,35 @@ fn options() -> Options {
     it
 }
 
-fn guests(folder: &str) -> Vec<Vec<u8>> {
-    let entries = std::fs::read_dir(folder).unwrap_or_else(|error| stop(&format!("{folder}: {error}")));
-    let mut files: Vec<_> = entries
-        .filter_map(|it| Some(it.ok()?.path()))
-        .filter(|it| it.extension().is_some_and(|it| it == "wasm"))
-        .collect();
-    files.sort();
-    let read = |it: &PathBuf| std::fs::read(it).unwrap_or_else(|error| stop(&format!("{}: {error}", it.display())));
+/// A module, and a function of it that takes an argument.
+struct Guest {
+    bytes: Vec<u8>,
+    function: String,
+}
+
+/// The calls that the list in a folder of guests has, of one argument and without a trap.
+fn guests(folder: &str) -> Vec<Guest> {
+    let read = |name: &str| {
+        let path = Path::new(folder).join(name);
+        std::fs::read(&path).unwrap_or_else(|error| stop(&format!("{}: {error}", path.display())))
+    };
     // What a guest prints would stand between the replies; relaxed instructions (0xfd, 0x100 and more) leave a choice once it is damaged.
     let has = |it: &[u8], part: &[u8]| it.windows(part.len()).any(|it| it == part);
-    let is_left_out = |it: &Vec<u8>| has(it, b"print_") || has(it, b"\xfd\x80\x02");
-    let guests: Vec<_> = files.iter().map(read).filter(|it| !is_left_out(it)).collect();
+    let is_left_out = |it: &[u8]| has(it, b"print_") || has(it, b"\xfd\x80\x02");
+    let mut guests: Vec<Guest> = vec![];
+    for line in String::from_utf8_lossy(&read("list")).lines() {
+        let [module, call, reply, ..] = line.split('\t').collect::<Vec<_>>()[..] else { continue };
+        let [function, _] = call.split(' ').collect::<Vec<_>>()[..] else { continue };
+        let bytes = read(&format!("{module}.wasm"));
+        if reply.starts_with("ok:")
+            && !is_left_out(&bytes)
+            && guests.last().is_none_or(|it| it.function != function || it.bytes != bytes)
+        {
+            guests.push(Guest { bytes, function: function.into() });
+        }
+    }
     if guests.is_empty() {
-        stop(&format!("{folder} has no .wasm file"));
+        stop(&format!("{folder} has no guest"));
     }
     guests
 }
@@ -87,11 +100,12 @@ fn batch(options: &Options, instructions: &[Instruction], seeds: std::ops::Range
         if let Some(guests) = &options.guests {
             let random = &mut Random::new(!seed);
             if random.once_in(2) {
-                case.bytes = random.of(guests).clone();
-                case.lines = vec!["invoke run 3".into(), "left".into(), "digest".into()];
+                let guest = random.of(guests);
+                case.bytes = guest.bytes.clone();
+                case.lines = vec![format!("invoke {} 3", guest.function), "left".into(), "digest".into()];
             }
-            let other = random.of(guests).clone();
-            case.bytes = mutate::mutant(&case.bytes, &other, random);
+            let other = random.of(guests);
+            case.bytes = random::mutant(&case.bytes, &other.bytes, random);
         }
         let file = folder.join(format!("{seed}.wasm")).display().to_string();
         std::fs::write(&file, &case.bytes).unwrap_or_else(|error| stop(&format!("{file}: {error}")));

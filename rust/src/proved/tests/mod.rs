@@ -1,5 +1,4 @@
 //! The tests of the proved crates, and the callers that they use.
-#[allow(dead_code)]
 pub(crate) mod example_callers;
 mod instruction;
 mod machine;

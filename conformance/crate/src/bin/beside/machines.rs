@@ -1,8 +1,8 @@
 //! Random calls on a machine of the static library, by its handle, and on `Machine` of the Rust crate: the same replies, and the same state at the end.
 use crate::calls::call_of;
-use crate::draw::{self, Draw};
-use crate::limiters::{Limiter, Listed};
-use crate::{Tally, replies};
+use crate::calls::{self, Draw};
+use crate::limits::{Limiter, Listed};
+use crate::{Tally, numbers};
 use conformance::archives::*;
 use conformance::random::Random;
 use wasmi_core_proved::machine::{Call, Machine, Reply, ResourceLimiterRef};
@@ -32,7 +32,7 @@ fn costs(limits: &Limits) -> FuelCostsProvider {
 
 impl Both {
     fn new(random: &mut Random) -> Self {
-        let limits = draw::limits(random);
+        let limits = calls::limits(random);
         let answers: Vec<u8> = (0..random.below(60)).map(|_| random.pick(&[0, 0, 0, 0, 1, 2, 3, 3])).collect();
         let mut handle = Handle { at: std::ptr::null_mut(), is_made: false };
         let has_answers = random.chance(33);
@@ -68,12 +68,12 @@ impl Both {
         // SAFETY: the handle has a machine, and there is one copy of it.
         let there = there.unwrap_or_else(|| unsafe { wasmi_machine_call(&mut self.handle, call) });
         let here = match call_of(call) {
-            None => replies::only(replies::NO_CALL),
+            None => numbers::only(numbers::NO_CALL),
             Some(Call::GrowMemory { memory, pages }) if is_direct => self.grow(memory, pages),
             Some(Call::Store { op, memory, ptr, offset, value }) if is_direct => {
-                replies::of(&self.machine.store_item(op, memory, ptr, offset, value))
+                numbers::of(&self.machine.store_item(op, memory, ptr, offset, value))
             }
-            Some(call) => replies::of(&self.step(&call)),
+            Some(call) => numbers::of(&self.step(&call)),
         };
         (there, here)
     }
@@ -85,7 +85,7 @@ impl Both {
             Limiter::Quota(quota) => machine.grow_memory_lending(memory, pages, quota),
             Limiter::Answers(answers) => machine.grow_memory_lending(memory, pages, answers),
         };
-        replies::of(&reply)
+        numbers::of(&reply)
     }
 
     /// The reply of a call with plain arguments; none if there is none for this call.
@@ -101,7 +101,7 @@ impl Both {
                 _ => return None,
             }
         };
-        let mut reply = replies::only(status);
+        let mut reply = numbers::only(status);
         match call.kind {
             5 => reply.value.lo = number,
             _ => reply.number = number,
@@ -123,25 +123,25 @@ impl Both {
                     let same = !matches!(&reply, Reply::Bytes(list) if list.as_slice() != bytes);
                     // The library replies to a read with the bytes alone.
                     let number = if same { there.number } else { !there.number };
-                    (there, PlainReply { number, ..replies::of(&reply) })
+                    (there, PlainReply { number, ..numbers::of(&reply) })
                 }
                 1 => {
                     bytes.iter_mut().for_each(|byte| *byte = draw.random.next() as u8);
                     let there = wasmi_machine_write(handle, index, offset, bytes.as_ptr(), len);
-                    (there, replies::of(&self.step(&Call::Write { memory: index, offset, bytes: bytes.into() })))
+                    (there, numbers::of(&self.step(&Call::Write { memory: index, offset, bytes: bytes.into() })))
                 }
                 2 => {
                     let items: Vec<u32> = (0..len as u32 % 12).map(|_| draw.random.next() as u32).collect();
                     let ty = draw.random.pick(&[5, 6]);
                     let there = wasmi_machine_new_segment(handle, ty, items.as_ptr(), items.len());
                     let items: Vec<RawRef> = items.into_iter().map(RawRef::from).collect();
-                    let ty = replies::reference_type(ty).expect("a type of references");
-                    (there, replies::of(&self.step(&Call::NewSegment { ty, items: items.into() })))
+                    let ty = numbers::reference_type(ty).expect("a type of references");
+                    (there, numbers::of(&self.step(&Call::NewSegment { ty, items: items.into() })))
                 }
                 _ => {
                     let amount = draw.amount();
                     let there = wasmi_machine_consume_fuel(handle, amount);
-                    (there, replies::of_fuel(self.machine.consume_fuel(amount)))
+                    (there, numbers::of_fuel(self.machine.consume_fuel(amount)))
                 }
             }
         }

@@ -1,9 +1,9 @@
 //! Memories whose state lies with the caller, in the static library; beside `Memory` of the Rust crate on a borrowed buffer, under its limiter behind `dyn`;
 //! and beside its `region::memory` on a region of the same length.
-use crate::draw::Draw;
-use crate::limiters::Asked;
-use crate::meters::{Meters, quotas};
-use crate::{Tally, replies};
+use crate::calls::Draw;
+use crate::limits::Asked;
+use crate::limits::{Meters, quotas};
+use crate::{Tally, numbers};
 use conformance::archives::*;
 use conformance::random::Random;
 use wasmi_core_proved::machine::{self, Quota};
@@ -47,7 +47,7 @@ fn status<T: Into<u64>>(result: Result<T, MemoryError>) -> Status {
     match result {
         Ok(number) => (0, number.into()),
         Err(error) => {
-            let reply = replies::of_memory(error);
+            let reply = numbers::of_memory(error);
             (reply.status, reply.number)
         }
     }

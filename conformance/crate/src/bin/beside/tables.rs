@@ -1,9 +1,9 @@
 //! Tables whose state lies with the caller, in the static library; beside `Table` of the Rust crate, under its limiter behind `dyn`; and beside its
 //! `region::table` on a region of the same length.
-use crate::draw::Draw;
-use crate::limiters::Asked;
-use crate::meters::{Meters, quotas};
-use crate::{Tally, replies};
+use crate::calls::Draw;
+use crate::limits::Asked;
+use crate::limits::{Meters, quotas};
+use crate::{Tally, numbers};
 use conformance::archives::*;
 use conformance::random::Random;
 use wasmi_core_proved::machine::{self, Quota};
@@ -40,7 +40,7 @@ fn status<T: Into<u64>>(result: Result<T, TableError>) -> Status {
     match result {
         Ok(number) => (0, number.into()),
         Err(error) => {
-            let reply = replies::of_table(error);
+            let reply = numbers::of_table(error);
             (reply.status, reply.number)
         }
     }
@@ -58,7 +58,7 @@ fn table_type(random: &mut Random) -> (PlainTable, TableType) {
     let minimum = random.below(100);
     let maximum = minimum + random.below(200);
     let (ty, is_64) = (random.pick(&[5, 5, 6]), random.below(2) as u8);
-    let element = replies::reference_type(ty).expect("a type of references");
+    let element = numbers::reference_type(ty).expect("a type of references");
     let made = match is_64 {
         0 => TableType::new(element, minimum as u32, Some(maximum as u32)),
         _ => TableType::new64(element, minimum, Some(maximum)),

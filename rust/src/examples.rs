@@ -1,0 +1,260 @@
+//! The examples of the docs of proved items, by the module and the item: `tools/rust` names each at its item.
+macro_rules! examples {
+    (budget Pool) => {
+        r#"# Examples
+
+```
+use wasmi_core_proved::machine::{Call, Fuel, FuelCostsProvider, Machine, MemoryType, Reply};
+use wasmi_core_proved::pool::Pool;
+
+// A page for both tenants together, and no tables.
+let mut pool = Pool::new(65_536, 0);
+for _ in 0..2 {
+    let machine = Machine::new(Fuel::new(false, FuelCostsProvider::default()));
+    assert!(pool.add(machine).is_ok());
+}
+let mut builder = MemoryType::builder();
+builder.min(1);
+let ty = builder.build()?;
+let replies = pool.run(0, &[Call::NewMemory(ty)])?;
+assert!(matches!(replies[0], Reply::Made(0)));
+let replies = pool.run(1, &[Call::NewMemory(ty)])?;
+assert!(matches!(replies[0], Reply::Memory(_)));
+assert_eq!((pool.held_bytes(0), pool.held_bytes(1)), (Some(65_536), Some(0)));
+# Ok::<(), Box<dyn std::error::Error>>(())
+```
+"#
+    };
+    (machine Machine) => {
+        r#"# Examples
+
+```
+use wasmi_core_proved::RawVal;
+use wasmi_core_proved::machine::{
+    Call, Fuel, FuelCostsProvider, Machine, MemoryType, NoLimits, Reply, run_lending,
+};
+use wasmi_core_proved::ops::{LoadOp, StoreOp};
+
+let mut machine = Machine::new(Fuel::new(false, FuelCostsProvider::default()));
+let mut builder = MemoryType::builder();
+builder.min(1);
+let value = RawVal::from(7_i32);
+let calls = [
+    Call::NewMemory(builder.build()?),
+    Call::Store { op: StoreOp::Store32, memory: 0, ptr: 8, offset: 0, value },
+    Call::Load { op: LoadOp::LoadU32, memory: 0, ptr: 4, offset: 4 },
+    Call::DropMemory(0),
+    Call::Load { op: LoadOp::LoadU32, memory: 0, ptr: 4, offset: 4 },
+];
+let replies = run_lending(&mut machine, &calls, &mut NoLimits)?;
+assert!(matches!(&replies[2], Reply::Value(raw) if raw.to_bits64() == 7));
+assert!(matches!(replies[4], Reply::NoSuch));
+# Ok::<(), Box<dyn std::error::Error>>(())
+```
+"#
+    };
+    (meter Fuel) => {
+        r#"# Examples
+
+```
+use wasmi_core_proved::{Fuel, FuelCostsProvider, FuelError};
+
+let mut fuel = Fuel::new(true, FuelCostsProvider::default());
+fuel.set_fuel(10)?;
+assert_eq!(fuel.consume_fuel(|costs| costs.fuel_for_copying_values::<u8>(256))?, 6);
+let refused = fuel.consume_fuel(|_| 7);
+assert!(matches!(refused, Err(FuelError::OutOfFuel { required_fuel: 7 })));
+assert_eq!(fuel.get_fuel()?, 6);
+
+// A meter that is off: nothing is charged.
+let mut off = Fuel::new(false, FuelCostsProvider::default());
+assert!(matches!(off.get_fuel(), Err(FuelError::FuelMeteringDisabled)));
+# Ok::<(), FuelError>(())
+```
+"#
+    };
+    (meter LimiterByKind) => {
+        r#"# Examples
+
+```
+use wasmi_core_proved::machine::{Kind, LimiterByKind, LimiterError, Memory, MemoryType};
+
+/// Permits each memory up to so many bytes, and no table.
+struct AtMost(usize);
+
+impl LimiterByKind for AtMost {
+    fn growing(&mut self, kind: Kind, _from: usize, to: usize) -> Result<bool, LimiterError> {
+        Ok(kind == Kind::Bytes && to <= self.0)
+    }
+    fn grow_failed(&mut self, _kind: Kind) -> Result<(), LimiterError> {
+        Ok(())
+    }
+}
+
+let mut builder = MemoryType::builder();
+builder.min(2);
+let ty = builder.build()?;
+assert!(Memory::new_lending(ty, &mut AtMost(131_072)).is_ok());
+assert!(Memory::new_lending(ty, &mut AtMost(131_071)).is_err());
+# Ok::<(), wasmi_core_proved::MemoryError>(())
+```
+"#
+    };
+    (meter Quota) => {
+        r#"# Examples
+
+```
+use wasmi_core_proved::machine::{Memory, MemoryType, Quota};
+
+// A page for all memories together, and no tables.
+let mut quota = Quota::new(65_536, 0);
+let mut builder = MemoryType::builder();
+builder.min(1);
+let ty = builder.build()?;
+let memory = Memory::new_lending(ty, &mut quota)?;
+assert_eq!(quota.held_bytes(), 65_536);
+assert!(Memory::new_lending(ty, &mut quota).is_err());
+
+// What was dropped still counts.
+drop(memory);
+assert!(Memory::new_lending(ty, &mut quota).is_err());
+# Ok::<(), wasmi_core_proved::MemoryError>(())
+```
+"#
+    };
+    (raw RawVal) => {
+        r#"# Examples
+
+```
+use wasmi_core_proved::{RawVal, ReadAs, WriteAs};
+
+let raw = RawVal::from(-1_i32);
+assert_eq!(raw.to_bits64(), 0xffff_ffff);
+assert_eq!(i32::from(raw), -1);
+
+let mut register = RawVal::default();
+register.write_as(3_u64);
+let read: u8 = register.read_as();
+assert_eq!(read, 3);
+# #[cfg(feature = "simd")]
+# {
+use wasmi_core_proved::V128;
+
+// An integer is written over the low word alone.
+register.write_as(V128::from(7_u128 << 64));
+register.write_as(3_u64);
+let vector: V128 = register.read_as();
+assert_eq!(vector.as_u128(), (7 << 64) + 3);
+# }
+```
+"#
+    };
+    (raw V128) => {
+        r#"# Examples
+
+```
+use wasmi_core_proved::V128;
+
+let vector = V128::from(0x0004_0003_0002_0001_u128);
+assert_eq!(vector.as_u128(), 0x0004_0003_0002_0001);
+# #[cfg(feature = "simd")]
+# {
+use wasmi_core_proved::simd;
+
+// Lane 0 is the lowest.
+assert_eq!(simd::i16x8_add(vector, vector).as_u128(), 0x0008_0006_0004_0002);
+assert_eq!(simd::v128_xor(vector, vector).as_u128(), 0);
+# }
+```
+"#
+    };
+    (region make) => {
+        r#"# Examples
+
+```
+use wasmi_core_proved::machine::{Fuel, FuelCostsProvider, MemoryType, NoLimits, ResourceLimiterRef};
+use wasmi_core_proved::region::memory;
+
+let mut builder = MemoryType::builder();
+builder.min(2).max(Some(8)).page_size_log2(0);
+let ty = builder.build()?;
+let mut fuel = Fuel::new(false, FuelCostsProvider::default());
+let mut limiter = ResourceLimiterRef::<NoLimits>::default();
+
+// The memory is the first `size` bytes of the region; the rest is room to grow.
+let mut region = [9; 5];
+let mut size = memory::make(ty, &mut region, &mut limiter)?;
+assert_eq!((size, region), (2, [0, 0, 9, 9, 9]));
+assert_eq!(memory::grow(ty, &mut size, &mut region, 2, &mut fuel, &mut limiter)?, 2);
+assert_eq!((size, region), (4, [0, 0, 0, 0, 9]));
+assert!(memory::grow(ty, &mut size, &mut region, 2, &mut fuel, &mut limiter).is_err());
+# Ok::<(), wasmi_core_proved::MemoryError>(())
+```
+"#
+    };
+    (script replay) => {
+        r#"# Examples
+
+```
+use wasmi_core_proved::script::{Status, replay};
+
+let script = "memory 1 2 16 32\ngrow 0 1\ngrow 0 1\n";
+let mut printed = Vec::new();
+let status = replay(&mut script.as_bytes(), &mut printed);
+assert_eq!(status, Status::Answered);
+let printed = String::from_utf8(printed)?;
+assert!(printed.starts_with("memory 0\nvalue 1\n"));
+# Ok::<(), Box<dyn std::error::Error>>(())
+```
+"#
+    };
+    (store MemoryType) => {
+        r#"# Examples
+
+```
+use wasmi_core_proved::MemoryType;
+
+let mut builder = MemoryType::builder();
+builder.min(1).max(Some(4));
+let ty = builder.build()?;
+assert_eq!((ty.minimum(), ty.maximum(), ty.page_size()), (1, Some(4), 65_536));
+
+let mut builder = MemoryType::builder();
+builder.min(5).max(Some(4));
+assert!(builder.build().is_err());
+# Ok::<(), wasmi_core_proved::MemoryError>(())
+```
+"#
+    };
+    (typed Global) => {
+        r#"# Examples
+
+```
+use wasmi_core_proved::{Global, GlobalError, GlobalType, Mutability, TypedRawVal, ValType};
+
+let ty = GlobalType::new(ValType::I32, Mutability::Var);
+let mut global = Global::new(7_i32.into(), ty);
+global.set(TypedRawVal::from(-8_i32))?;
+assert_eq!(i32::from(global.get()), -8);
+assert!(matches!(global.set(TypedRawVal::from(1_u64)), Err(GlobalError::TypeMismatch)));
+
+let mut constant = Global::new(7_i32.into(), GlobalType::new(ValType::I32, Mutability::Const));
+assert!(matches!(constant.set(TypedRawVal::from(8_i32)), Err(GlobalError::ImmutableWrite)));
+# Ok::<(), GlobalError>(())
+```
+"#
+    };
+    (typed TypedRawVal) => {
+        r#"# Examples
+
+```
+use wasmi_core_proved::{RawVal, TypedRawVal, ValType};
+
+let value = TypedRawVal::from(-3_i64);
+assert_eq!((value.ty(), i64::from(value)), (ValType::I64, -3));
+let same = TypedRawVal::new(ValType::I64, RawVal::from(-3_i64));
+assert_eq!(value, same);
+```
+"#
+    };
+}
