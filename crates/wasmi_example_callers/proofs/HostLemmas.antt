@@ -1,16 +1,27 @@
--- What a machine has once it ran under a quota.
-use Rattle.std.proofs.Common.{ℕ, ◌≡◌, ◌≤◌, Some, List, sym, subst, arith}
+-- What a machine has and was charged, under a quota or a limiter of one's own.
+use Rattle.std.proofs.Common.{ℕ, ◌≡◌, ◌≤◌, Some, List, sym, subst, arith, ◌∙◌, ◌+◌, ◌*◌, true, nat_le, Option, None, Result, length, replicate, ap, inl, inr, length-append, ◌-◌, refl}
 use Rattle.std.proofs.lemmas.Option.{same_Some}
 use Rattle.wasmi_meter.specs.declared.limiter.Kind.TheVariants.{Bytes, Elements}
-use Rattle.wasmi_meter.specs.Meter.{Meter}
+use Rattle.wasmi_meter.specs.Meter.{Meter, amount_left}
 use Rattle.wasmi_meter.specs.Quota.{holdings, IsWithinCaps, SameCaps}
 use Rattle.wasmi_core.specs.declared.calls.Call.{Call}
 use Rattle.wasmi_core.specs.declared.calls.Reply.{Reply}
 use Rattle.wasmi_core.specs.State.{State, new_state}
-use Rattle.wasmi_core.specs.World.{world}
+use Rattle.wasmi_core.specs.World.{world, World}
 use Rattle.wasmi_core.specs.Totals.{total, HoldsTotals}
-use Rattle.wasmi_core.specs.Laws.{QuotasStayWithin}
-use Rattle.wasmi_example_callers.specs.Host.{RunsUnderQuota}
+use Rattle.wasmi_core.specs.Laws.{QuotasStayWithin, ChargesAreSpent}
+use Rattle.wasmi_example_callers.specs.Host.{RunsUnderQuota, at_most_rules, Accounts, IsBill}
+use Rattle.std.proofs.lemmas.Bool.{leb-true}
+use Rattle.std.proofs.lemmas.List.{length-replicate}
+use Rattle.wasmi_meter.specs.declared.error.MemoryError.{MemoryError}
+use Rattle.wasmi_meter.specs.Attempt.{MeteredValue, Request, AttemptOutcome, Unasked, Denied, Met, Failed, Follows, value_after}
+use Rattle.wasmi_meter.specs.Limiter.{optional_rules, Rules}
+use Rattle.wasmi_store.specs.Memory.{MemoryValue, GrowsMemoryCharging, growth_of}
+use Rattle.wasmi_store.specs.MemoryType.{page_bytes}
+use Rattle.wasmi_example_callers.specs.declared.limiter.AtMost.{AtMost}
+use Rattle.std.specs.Prelude.{All}
+use Rattle.wasmi_core.specs.Account.{SetsNoFuel}
+use Rattle.wasmi_core.specs.Runs.{IsRunOf}
 
 -- a machine has no more of either kind
 pub record IsCapped (most_bytes most_elements : ℕ) (s : State) : Type 0 where
@@ -30,3 +41,80 @@ run_capped {meter = meter} {s = s} stays run within held =
       bytes = omega (arith, held.bytes, still Bytes, caps Bytes, run.bytes_cap);
       elements = omega (arith, held.elements, still Elements, caps Elements, run.elements_cap);
     }
+
+module _ (l l' : AtMost) where
+  -- however an attempt ends, the limiter stays
+  limiter_stays : {V E : Type 0} (e : Request V E) (outcome : AttemptOutcome E)
+      → Follows e (optional_rules at_most_rules) (Some l) outcome (Some l') → l' ≡ l
+  limiter_stays e (Unasked cause) follows = same_Some l' l follows
+  limiter_stays e (Denied answer) follows = follows.1
+  limiter_stays e Met follows = follows.1
+  limiter_stays e (Failed cause notice_answer) (Some p, asked, noticed) = noticed.1 ∙ asked.1
+  limiter_stays e (Failed cause notice_answer) (None, asked, noticed) = elim asked [ ]
+
+  -- however it ends, a memory that was within the limit is so
+  value_within : (x : MemoryValue) (pages : ℕ) (outcome : AttemptOutcome MemoryError)
+      → Follows (growth_of x pages) (optional_rules at_most_rules) (Some l) outcome (Some l') → length x.bytes ≤ l.bytes
+      → length (value_after (growth_of x pages) x outcome).bytes ≤ l.bytes
+  value_within x pages (Unasked cause) follows small = small
+  value_within x pages (Denied answer) follows small = small
+  value_within x pages Met follows small =
+      let permitted : nat_le (length x.bytes + pages * page_bytes x.ty.page) l.bytes
+      ≡ true = let asked = follows.0 in cc in
+      omega (
+        arith,
+        leb-true _ _ permitted,
+        length-append x.bytes (replicate (pages * page_bytes x.ty.page) 0),
+        length-replicate {A = ℕ} (pages * page_bytes x.ty.page) 0,
+      )
+  value_within x pages (Failed cause notice_answer) follows small = small
+
+  module _ (x x' : MemoryValue) (m m' : Option Meter) where
+    abbrev Grown : ℕ → Result ℕ MemoryError → ℕ → Type 0
+    Grown pages result charge = GrowsMemoryCharging (optional_rules at_most_rules) pages (record {
+      value = x;
+      meter = m;
+      limiter = Some l;
+    })
+        result charge (record { value = x'; meter = m'; limiter = Some l' })
+
+    -- so the limiter stays after a growth
+    pub grown_stays : (pages : ℕ) (result : Result ℕ MemoryError) (charge : ℕ) → Grown pages result charge → l' ≡ l
+    grown_stays pages result charge (inl none) = same_Some l' l (ap (λ (s : MeteredValue MemoryValue (Option AtMost)).
+        s.limiter) none.same)
+    grown_stays pages result charge (inr some) = limiter_stays (growth_of x pages) some.outcome some.attempt.follows
+
+    -- and a memory that was within the limit is so after a growth
+    pub grown_within : (pages : ℕ) (result : Result ℕ MemoryError) (charge : ℕ) → Grown pages result charge
+        → length x.bytes ≤ l.bytes → length x'.bytes ≤ l.bytes
+    grown_within pages result charge (inl none) small =
+        subst (λ (y : MemoryValue). length y.bytes ≤ l.bytes) (sym (ap (λ (s : MeteredValue MemoryValue (Option
+        AtMost)). s.value) none.same)) small
+    grown_within pages result charge (inr some) small =
+        subst (λ (y : MemoryValue). length y.bytes ≤ l.bytes) (sym some.attempt.value) (value_within x pages
+        some.outcome some.attempt.follows small)
+
+-- so much is left where metering is on
+left_is : (m : Meter) (left : ℕ) → m.left ≡ Some left → amount_left m ≡ left
+left_is m left on = rw on refl
+
+-- the bill of a run
+pub ran_billed : {S : Type 0} (rules : Rules S) → ChargesAreSpent rules
+    → (calls : List Call) (replies : List Reply) (w w' : World S) (charged : ℕ)
+    → charged ≡ amount_left w.state.meter - amount_left w'.state.meter → All SetsNoFuel calls
+    → IsRunOf rules calls w replies w' → IsBill rules calls w replies charged w'
+ran_billed rules law calls replies w w' charged is none ran =
+    let billed : (left : ℕ) → w.state.meter.left ≡ Some left
+    → Accounts ran.0 left charged (amount_left w'.state.meter) =
+    λ left on.
+    let spent = law w left on ran.0 w' ran.3 (subst (All SetsNoFuel) (sym ran.1) none) in
+    let before = left_is w.state.meter left on in
+    let after = left_is w'.state.meter spent.0 spent.1 in
+    record {
+      charges_of = omega (arith, is, before, after, spent.2.charged);
+      left = omega (arith, is, before, after, spent.2.charged);
+    } in
+    (ran.0, ran.1, ran.2, ran.3, billed)
+
+-- what a growth leaves
+pub ruleset growths = (grown_stays, grown_within)

@@ -1,4 +1,2 @@
-mod AtMostLemmas
-mod HostLemmas
-mod BillLemmas
-mod InterpreterLemmas
+pub mod HostLemmas
+pub mod InterpreterLemmas

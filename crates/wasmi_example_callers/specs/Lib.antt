@@ -1,4 +1,2 @@
-pub mod AtMost
 pub mod Host
-pub mod Bill
 pub mod Interpreter

@@ -4,7 +4,7 @@ ghost use Rattle.wasmi_meter.specs.Limiter.{optional_rules};
 ghost use Rattle.wasmi_meter.specs.Meter.{amount_left};
 ghost use Rattle.wasmi_core.specs.Account.{SetsNoFuel};
 ghost use Rattle.wasmi_core.specs.World.{world};
-ghost use Rattle.wasmi_example_callers.specs.Bill.{IsBill};
+ghost use Rattle.wasmi_example_callers.specs.Host.{IsBill};
 
 use std::alloc::AllocError;
 use wasmi_core::{Call, Machine, Reply, ResourceLimiter, laws, run_lending};
@@ -29,6 +29,7 @@ pub enum BillError {
 
 /// Runs calls, and returns their bill: the fuel that the calls were charged, one by one. The bill
 /// and what is left add up to what was left before. No call may set the fuel.
+#[tactic(auto, using(crate::proofs::HostLemmas::ran_billed))]
 pub fn run_and_bill<L: ResourceLimiter>(
     machine: &mut Machine,
     calls: &[Call],
@@ -71,12 +72,7 @@ pub fn run_if_billable<L: ResourceLimiter>(
 fn is_billable(calls: &[Call]) -> bool
     ensures { IsTrue result ↔ All SetsNoFuel calls.now }
 {
-    for call in calls {
-        if call.sets_fuel() {
-            return false;
-        }
-    }
-    true
+    !calls.iter().any(Call::sets_fuel)
 }
 
 /// What is left, or 0 if metering is off.

@@ -161,6 +161,7 @@ fn action_at(program: &[Instruction], place: usize, machine: &Machine) -> Option
 }
 
 /// Takes one unit of fuel, if the machine is metered. Returns whether there was one to take.
+#[tactic(auto, using(crate::proofs::InterpreterLemmas::told))]
 fn take_fuel(machine: &mut Machine) -> bool
     ensures { MatchBool result
         ((is_out_of_fuel machine.old.meter ≡ false) × (machine.new ≡ fuel_taken machine.old))

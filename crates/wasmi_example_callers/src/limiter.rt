@@ -3,9 +3,9 @@ ghost use Rattle.std.specs.Prelude.{◌≡◌, ◌≤◌, Some, Ok, nat_le, leng
 ghost use Rattle.wasmi_meter.specs.Limiter.{optional_rules};
 ghost use Rattle.wasmi_store.specs.Growth.{metered_value};
 ghost use Rattle.wasmi_store.specs.Memory.{GrowsMemory};
-ghost use Rattle.wasmi_example_callers.specs.AtMost.{at_most_rules};
+ghost use Rattle.wasmi_example_callers.specs.Host.{at_most_rules};
 
-use wasmi_core::{Fuel, LimiterError, Memory, MemoryError, ResourceLimiter, TableError};
+use wasmi_core::{Fuel, Kind, LimiterByKind, LimiterError, Memory, MemoryError};
 
 /// Permits each memory up to a number of bytes, and no table.
 #[derive(Clone, Copy, Debug)]
@@ -14,45 +14,15 @@ pub struct AtMost {
     pub bytes: usize,
 }
 
-impl ResourceLimiter for AtMost {
-    ghost rules = { at_most_rules };
+impl LimiterByKind for AtMost {
+    ghost kind_rules = { at_most_rules };
 
-    fn memory_growing(
-        &mut self,
-        _current: usize,
-        desired: usize,
-        _maximum: Option<usize>,
-    ) -> Result<bool, LimiterError> {
-        Ok(desired <= self.bytes)
+    fn growing(&mut self, kind: Kind, _from: usize, to: usize) -> Result<bool, LimiterError> {
+        Ok(kind == Kind::Bytes && to <= self.bytes)
     }
 
-    fn table_growing(
-        &mut self,
-        _current: usize,
-        _desired: usize,
-        _maximum: Option<usize>,
-    ) -> Result<bool, LimiterError> {
-        Ok(false)
-    }
-
-    fn memory_grow_failed(&mut self, _error: &MemoryError) -> Result<(), LimiterError> {
+    fn grow_failed(&mut self, _kind: Kind) -> Result<(), LimiterError> {
         Ok(())
-    }
-
-    fn table_grow_failed(&mut self, _error: &TableError) -> Result<(), LimiterError> {
-        Ok(())
-    }
-
-    fn instances(&self) -> usize {
-        usize::MAX
-    }
-
-    fn tables(&self) -> usize {
-        usize::MAX
-    }
-
-    fn memories(&self) -> usize {
-        usize::MAX
     }
 }
 
@@ -60,6 +30,7 @@ impl ResourceLimiter for AtMost {
 /// had no more bytes than the limiter permits, it has no more afterwards. The limiter is unchanged.
 ///
 /// The errors are those of `Memory::grow`, in its order.
+#[tactic(auto, using(crate::proofs::HostLemmas::growths))]
 pub fn grow(
     memory: &mut Memory,
     pages: u64,

@@ -1,23 +1,25 @@
-//! A limiter of one's own: no memory above so many bytes, and no table.
+//! A limiter of one's own: no memory above so many bytes, and no table above so many elements.
+ghost use Rattle.std.specs.Prelude.{◌≡◌, Ok, nat_le};
 
 use wasmi_core::{
     Call, Fuel, FuelCostsProvider, Kind, LimiterByKind, LimiterError, Machine, MemoryType,
     run_lending,
 };
 
-/// Permits each memory up to so many bytes, and no table.
+/// Permits each memory up to so many bytes, and each table up to so many elements.
 #[derive(Clone, Copy, Debug)]
 struct AtMost {
-    bytes: usize,
+    most: usize,
 }
 
 impl LimiterByKind for AtMost {
-    ghost use Rattle.wasmi_example_programs.specs.AtMost.{at_most_rules};
+    ghost kind_rules = { record {
+      asked = λ l q answer l'. (answer ≡ Ok (nat_le q.desired l.most)) × (l' ≡ l);
+      noticed = λ l failure notice_answer l'. (notice_answer ≡ Ok tt) × (l' ≡ l);
+    } };
 
-    ghost kind_rules = { at_most_rules };
-
-    fn growing(&mut self, kind: Kind, _from: usize, to: usize) -> Result<bool, LimiterError> {
-        Ok(kind == Kind::Bytes && to <= self.bytes)
+    fn growing(&mut self, _kind: Kind, _from: usize, to: usize) -> Result<bool, LimiterError> {
+        Ok(to <= self.most)
     }
 
     fn grow_failed(&mut self, _kind: Kind) -> Result<(), LimiterError> {
@@ -29,7 +31,7 @@ impl LimiterByKind for AtMost {
 pub fn main(rt: HostRuntime) -> anyhow::Result<()> {
     let fuel = Fuel::new(false, FuelCostsProvider::default());
     let mut machine = Machine::new(rt.alloc(), fuel);
-    let mut limiter = AtMost { bytes: 65_536 };
+    let mut limiter = AtMost { most: 65_536 };
     for pages in 1..3 {
         let mut builder = MemoryType::builder();
         builder.min(pages);

@@ -1,10 +1,3 @@
-mod HandlesLemmas
-mod LanesLemmas
-mod LendingLemmas
-mod LentGrowthLemmas
-mod PlacesLemmas
-mod PoolsLemmas
-mod QuotasLemmas
-mod RecorderLemmas
-mod RunsLemmas
-mod TypesLemmas
+pub mod LimitersLemmas
+pub mod LanesLemmas
+pub mod RunsLemmas

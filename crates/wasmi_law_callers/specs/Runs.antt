@@ -1,7 +1,7 @@
--- What a caller says of runs.
-use Rattle.std.specs.Prelude.{◌≡◌, ◌⊎◌, ◌<◌, ◌≤◌, ◌+◌, ◌*◌, ℕ, true, Option, Some, List, [], ◌∷◌, ◌++◌, length, slice_set, All}
+-- What a caller says of runs, also on pools and by handles, and of lists of types.
+use Rattle.std.specs.Prelude.{◌≡◌, ◌⊎◌, ◌<◌, ◌≤◌, ◌+◌, ◌*◌, ℕ, true, Option, Some, List, [], ◌∷◌, ◌++◌, length, slice_set, All, slice_get}
 use Rattle.wasmi_meter.specs.Attempt.{Request, optional_due, covers}
-use Rattle.wasmi_meter.specs.Limiter.{Rules, Question, Answer, IsDenial}
+use Rattle.wasmi_meter.specs.Limiter.{Rules, Question, Answer, IsDenial, optional_rules}
 use Rattle.wasmi_meter.specs.Meter.{Meter}
 use Rattle.wasmi_store.specs.Buffer.{Lent, fits_room}
 use Rattle.wasmi_store.specs.Memory.{MemoryValue, pages_of, growth_of}
@@ -10,7 +10,7 @@ use Rattle.wasmi_core.specs.declared.calls.Call.{Call}
 use Rattle.wasmi_core.specs.declared.calls.Call.TheVariants.{GrowMemory}
 use Rattle.wasmi_core.specs.declared.calls.Reply.{Reply}
 use Rattle.wasmi_core.specs.declared.calls.Reply.TheVariants.{Number}
-use Rattle.wasmi_core.specs.World.{World, Turn}
+use Rattle.wasmi_core.specs.World.{World, Turn, world}
 use Rattle.wasmi_core.specs.Exchange.{Exchanges}
 use Rattle.wasmi_core.specs.Steps.{Step}
 use Rattle.wasmi_core.specs.Runs.{Sequence, Run, AreTurns, IsRunOf}
@@ -23,8 +23,18 @@ use Rattle.wasmi_core.specs.LentMemory.{FitsRegions}
 use Rattle.wasmi_core.specs.Validity.{IsValid}
 use Rattle.wasmi_core.specs.Writing.{IsBounded, IsSpent}
 use Rattle.wasmi_meter.specs.declared.quota.Quota.{Quota}
-use Rattle.wasmi_laws.specs.Runs.{IsRunInTwo, IsWithinCapsOf}
-use Rattle.wasmi_laws.specs.Meters.{world_with_more}
+use Rattle.wasmi_laws.specs.Runs.{IsRunInTwo, IsWithinCapsOf, world_with_more}
+use Rattle.wasmi_access.specs.LoadStore.{IsSameOutside}
+use Rattle.wasmi_laws.specs.Places.{NumberStore, stored_size}
+use Rattle.wasmi_meter.specs.declared.amounts.Amounts.{Amounts}
+use Rattle.wasmi_budget.specs.declared.tenant.Tenant.{Tenant}
+use Rattle.wasmi_budget.specs.Tenant.{tenant_rules, without_others}
+use Rattle.wasmi_budget.specs.Pool.{PoolValue, IsWithinCaps, tenant_at}
+use Rattle.wasmi_budget.specs.Runs.{PoolTurn, Ran, PoolRun}
+use Rattle.wasmi_c.specs.Machine.Caps.{MachineValue}
+use Rattle.wasmi_c.specs.Machine.Lines.{MachineRuns}
+use Rattle.wasmi_c.specs.Machine.Replies.{reply_struct}
+use Rattle.wasmi_c.specs.declared.machine.reply_struct.ReplyStruct.{ReplyStruct}
 
 -- calls are run with these replies, by turns of which a fact holds
 abbrev pub RunsBy : {S : Type 0} → Rules S → (List Turn → Type 0) → List Call → World S → List Reply → World S → Type 0
@@ -159,3 +169,45 @@ StaysWithin rules quota calls w replies w' =
 abbrev pub RunsWithMore : {S : Type 0} → Rules S → List Call → World S → List Reply → World S → Type 0
 RunsWithMore rules calls w replies w' =
     (more : ℕ) → IsRunOf rules calls (world_with_more more w) replies (world_with_more more w')
+
+-- the memory of a store has the same bytes before and after it, except those that it writes
+abbrev pub KeepsOtherBytes : NumberStore → State → State → Type 0
+KeepsOtherBytes it s s' =
+    (x x' : MemoryValue) → live_at s.memories it.memory ≡ Some x → live_at s'.memories it.memory ≡ Some x'
+    → IsSameOutside x.bytes x'.bytes (it.ptr + it.offset) (stored_size it.op)
+
+-- whatever calls on a pool follow, its caps are these, and all its machines together are within them
+abbrev pub KeepsCaps : Amounts → PoolValue → Type 0
+KeepsCaps caps pool =
+    (turns : List PoolTurn) (later : PoolValue) → PoolRun pool turns later → (later.caps ≡ caps) × IsWithinCaps later
+
+-- the machine of an index ran as that of the only tenant of a pool with the same caps
+abbrev pub RunsAlone : PoolValue → ℕ → List Call → List Reply → PoolValue → Type 0
+RunsAlone pool index calls replies pool' =
+    (s : State) × (s' : State) × (slice_get pool.machines index ≡ Some s) × (slice_get pool'.machines index ≡ Some s')
+    × PoolRun (record { caps = pool.caps; machines = s ∷ [] }) (Ran 0 calls replies ∷ [])
+    (record { caps = pool.caps; machines = s' ∷ [] })
+
+-- the machine of an index has run these calls under its limiter as if the others held nothing
+abbrev pub RunsBeside : PoolValue → ℕ → List Call → List Reply → Type 0
+RunsBeside pool index calls replies =
+    (s : State) × (s' : State) × (tenant' : Tenant) × (slice_get pool.machines index ≡ Some s)
+    × IsRunOf (optional_rules tenant_rules) calls (world s (Some (without_others (tenant_at pool index s)))) replies
+    (world s' (Some (without_others tenant')))
+
+-- a machine replies to two calls with structs, which are those of the replies of one run of both
+abbrev pub RunsBoth
+    : Call → Call → MachineValue → ReplyStruct × ReplyStruct → Option MachineValue → Type 0
+RunsBoth call call' machine replies held' = (reply : Reply) × (reply' : Reply) × (machine' : MachineValue)
+    × MachineRuns (call ∷ call' ∷ []) machine (reply ∷ reply' ∷ []) machine'
+    × (replies ≡ (reply_struct reply, reply_struct reply')) × (held' ≡ Some machine')
+
+-- a handle holds a pool in which the machine of an index is the same
+abbrev pub KeepsTenant : ℕ → PoolValue → Option PoolValue → Type 0
+KeepsTenant index pool held' = (pool' : PoolValue) × (held' ≡ Some pool')
+    × (slice_get pool'.machines index ≡ slice_get pool.machines index)
+
+-- Each of the first n items of a list stands in a relation to itself and to each that follows among them.
+abbrev pub RelatesForward : {X : Type 0} → (X → X → Type 0) → List X → ℕ → Type 0
+RelatesForward {X} Relates xs n =
+    (i j : ℕ) (a b : X) → i ≤ j → j < n → slice_get xs i ≡ Some a → slice_get xs j ≡ Some b → Relates a b

@@ -36,6 +36,7 @@ pub fn signed_byte_in_each_lane(number: i8) -> V128
 
 /// Signed numbers in the range of a width are read as themselves once each is wrapped to it,
 /// whatever the width and however many they are.
+#[tactic(auto, using(crate::proofs::LanesLemmas::read_list))]
 pub fn wrapped_numbers_are_read()
     ensures { (w : Width) (numbers : List ℤ) → All (FitsSigned w) numbers
         → map (λ z. signed w (wrap w z)) numbers ≡ numbers }
@@ -106,23 +107,23 @@ pub fn doubled_bytes(v: V128) -> V128
     i8x16_shl(v, 1)
 }
 
-/// The bytes of the lower half and those of the upper half as numbers of 16 bits, with their signs.
-pub fn extended_bytes(v: V128) -> (V128, V128)
+/// The bytes of the lower half and those of the upper half as numbers of 16 bits: with their signs,
+/// and then without.
+pub fn extended_bytes(v: V128) -> (V128, V128, V128, V128)
     ensures lower { (i : ℕ) → i < 8 → signed w16 (lane w16 result.0 i) ≡ signed w8 (lane w8 v i) }
     ensures upper { (i : ℕ) → i < 8
         → signed w16 (lane w16 result.1 i) ≡ signed w8 (lane w8 v (8 + i)) }
+    ensures lower_unsigned { (i : ℕ) → i < 8 → lane w16 result.2 i ≡ lane w8 v i }
+    ensures upper_unsigned { (i : ℕ) → i < 8 → lane w16 result.3 i ≡ lane w8 v (8 + i) }
 {
     widening_laws::extended_lanes();
-    (i16x8_extend_low_i8x16_s(v), i16x8_extend_high_i8x16_s(v))
-}
-
-/// The bytes of the lower half and those of the upper half as numbers of 16 bits, without signs.
-pub fn widened_bytes(v: V128) -> (V128, V128)
-    ensures lower { (i : ℕ) → i < 8 → lane w16 result.0 i ≡ lane w8 v i }
-    ensures upper { (i : ℕ) → i < 8 → lane w16 result.1 i ≡ lane w8 v (8 + i) }
-{
-    widening_laws::extended_lanes();
-    (i16x8_extend_low_i8x16_u(v), i16x8_extend_high_i8x16_u(v))
+    let (low, high) = (i16x8_extend_low_i8x16_s(v), i16x8_extend_high_i8x16_s(v));
+    (
+        low,
+        high,
+        i16x8_extend_low_i8x16_u(v),
+        i16x8_extend_high_i8x16_u(v),
+    )
 }
 
 /// The products of the bytes of the upper halves.
@@ -194,42 +195,32 @@ pub fn has_no_zero_byte(v: V128) -> bool
     i8x16_all_true(v)
 }
 
-/// A word is its four lanes of 16 bits.
-pub fn word_is_its_u32x4(word: u64)
-    ensures { word
-        ≡ word_of_lanes (λ start width. field start width word) 0 (16 ∷ 16 ∷ 16 ∷ 16 ∷ []) }
-{
-    lane_laws::word_is_made_of_lanes(word);
-}
-
 // The highest bits of two lanes of 8 bits, of one of 16 and of one of 32.
 const MIXED_TOPS: u64 = 0x8000_0000_8000_8080;
 
-/// The sums of lanes of 8, 8, 16 and 32 bits.
-pub fn sums_of_mixed_lanes(a: u64, b: u64) -> u64
-    ensures { result
+/// Of lanes of 8, 8, 16 and 32 bits: their sums, their differences, and the highest bits of those
+/// in which two words differ. A word is also its four lanes of 16 bits.
+pub fn of_mixed_lanes(a: u64, b: u64) -> (u64, u64, u64)
+    ensures word { a
+        ≡ word_of_lanes (λ start width. field start width a) 0 (16 ∷ 16 ∷ 16 ∷ 16 ∷ []) }
+    ensures sums { result.0
         ≡ word_of_lanes (λ start width. (field start width a + field start width b) % 2 ^ width) 0
         (8 ∷ 8 ∷ 16 ∷ 32 ∷ []) }
-{
-    lane_laws::sums_of_lanes(a, b, MIXED_TOPS)
-}
-
-/// The differences of lanes of 8, 8, 16 and 32 bits.
-pub fn differences_of_mixed_lanes(a: u64, b: u64) -> u64
-    ensures { result
+    ensures differences { result.1
         ≡ word_of_lanes
         (λ start width. (field start width a + (2 ^ width - field start width b)) % 2 ^ width) 0
         (8 ∷ 8 ∷ 16 ∷ 32 ∷ []) }
-{
-    lane_laws::differences_of_lanes(a, b, MIXED_TOPS)
-}
-
-/// The highest bits of the lanes of 8, 8, 16 and 32 bits in which two words differ.
-pub fn tops_of_different_mixed_lanes(a: u64, b: u64) -> u64
-    ensures { result
+    ensures tops { result.2
         ≡ word_of_lanes
         (λ start width. if field start width a == field start width b then 0 else 2 ^ (width - 1)) 0
         (8 ∷ 8 ∷ 16 ∷ 32 ∷ []) }
 {
-    lane_laws::tops_of_different_lanes(a, b, MIXED_TOPS)
+    lane_laws::word_is_made_of_lanes(a);
+    let sums = lane_laws::sums_of_lanes(a, b, MIXED_TOPS);
+    let differences = lane_laws::differences_of_lanes(a, b, MIXED_TOPS);
+    (
+        sums,
+        differences,
+        lane_laws::tops_of_different_lanes(a, b, MIXED_TOPS),
+    )
 }

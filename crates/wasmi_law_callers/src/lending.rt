@@ -1,6 +1,6 @@
 //! Callers of what makes a memory or a table, or lets it grow, under a limiter that is lent for
-//! that one call; and of the laws that every memory and every table is valid.
-ghost use Rattle.std.specs.Prelude.{◌≡◌, ◌<◌, ◌≤◌, ◌*◌, ◌^◌, true, length, IfOk};
+//! that one call; and of what every machine, every memory and every table keeps.
+ghost use Rattle.std.specs.Prelude.{◌≡◌, ◌<◌, ◌≤◌, ◌*◌, ◌^◌, true, length, IfOk, ◌%◌, IsSome, IsNone};
 ghost use Rattle.wasmi_types.specs.declared.index_ty.IndexType.TheVariants.{I32};
 ghost use Rattle.wasmi_meter.specs.declared.limiter.Kind.TheVariants.{Bytes, Elements};
 ghost use Rattle.wasmi_meter.specs.Quota.{holdings, IsWithinCaps};
@@ -9,15 +9,17 @@ ghost use Rattle.wasmi_store.specs.MemoryType.{page_bytes, in_bounds};
 ghost use Rattle.wasmi_store.specs.Table.{IsSized, size_of};
 ghost use Rattle.wasmi_store.specs.TableType as table_type;
 ghost use Rattle.wasmi_store.specs.TableType.{is_within_maximum};
-ghost use Rattle.wasmi_law_callers.specs.Lending.{Counts, bytes_made, elements_made};
+ghost use Rattle.wasmi_law_callers.specs.Limiters.{Counts, bytes_made, elements_made};
 
 use std::alloc::Global;
 use wasmi_core::{
-    Fuel, Memory, MemoryError, MemoryType, Quota, RawRef, Table, TableError, TableType, TypedRawRef,
+    Fuel, Machine, Memory, MemoryError, MemoryType, Quota, RawRef, RawVal, Table, TableError,
+    TableType, TypedRawRef,
 };
 use wasmi_store::laws;
 
 /// Makes a memory: the quota holds the bytes that were made.
+#[tactic(auto, using(crate::proofs::LimitersLemmas::memory_made_counts))]
 pub fn make_memory<'r>(
     alloc: Global,
     ty: MemoryType,
@@ -29,6 +31,7 @@ pub fn make_memory<'r>(
 }
 
 /// Makes a memory in a region: the quota holds the bytes that were made.
+#[tactic(auto, using(crate::proofs::LimitersLemmas::memory_made_counts))]
 pub fn make_static_memory<'r>(
     ty: MemoryType,
     quota: &mut Quota,
@@ -40,6 +43,7 @@ pub fn make_static_memory<'r>(
 }
 
 /// Lets a memory grow: the quota holds the bytes that were added.
+#[tactic(auto, using(crate::proofs::LimitersLemmas::memory_grown_counts))]
 pub fn grow_memory(
     memory: &mut Memory,
     pages: u64,
@@ -70,6 +74,7 @@ pub fn make_grown_memory<'r>(
 }
 
 /// Makes a table: the quota holds the elements that were made.
+#[tactic(auto, using(crate::proofs::LimitersLemmas::table_made_counts))]
 pub fn make_table(
     alloc: Global,
     ty: TableType,
@@ -82,6 +87,7 @@ pub fn make_table(
 }
 
 /// Lets a table grow: the quota holds the elements that were added.
+#[tactic(auto, using(crate::proofs::LimitersLemmas::typed_table_grown_counts))]
 pub fn grow_table(
     table: &mut Table,
     delta: u64,
@@ -96,6 +102,7 @@ pub fn grow_table(
 
 /// Lets a table grow with a reference that has no type: the quota holds the elements that were
 /// added.
+#[tactic(auto, using(crate::proofs::LimitersLemmas::table_grown_counts))]
 pub fn grow_table_raw(
     table: &mut Table,
     delta: u64,
@@ -132,4 +139,19 @@ pub fn elements_of_table(table: &Table) -> u64
 {
     laws::tables_are_valid(table);
     table.size()
+}
+
+/// The last register of a machine, and one past it, which no machine has.
+pub fn last_registers(machine: &Machine) -> (Option<RawVal>, Option<RawVal>)
+    ensures last { IsSome result.0 }
+    ensures past { IsNone result.1 }
+{
+    (machine.register(15), machine.register(16))
+}
+
+/// The bytes of a memory are whole pages.
+pub fn bytes_of_whole_pages(memory: &Memory) -> usize
+    ensures { result % page_bytes memory.now.ty.page ≡ 0 }
+{
+    memory.data_size()
 }

@@ -4,48 +4,42 @@ ghost use Rattle.wasmi_meter.specs.Limiter.{optional_rules};
 ghost use Rattle.wasmi_core.specs.declared.calls.Reply.TheVariants.{Done, Value};
 ghost use Rattle.wasmi_core.specs.Runs.{IsRunOf};
 ghost use Rattle.wasmi_core.specs.World.{world};
-ghost use Rattle.wasmi_law_callers.specs.Places.{KeepsOtherBytes};
+ghost use Rattle.wasmi_law_callers.specs.Runs.{KeepsOtherBytes};
 ghost use Rattle.wasmi_laws.specs.Places.{Content, DropsNot, HasAt, IsIndependent, IsLater, IsLive, IsLocal, LeavesAlone, Location, MemoryAt, NumberStore, StaysAt, content_at, load_call, store_call, stored_part};
 
 use std::alloc::AllocError;
 use wasmi_core::{Call, Machine, Reply, ResourceLimiter, run_lending};
 
 /// Makes one call. What is at each index that it may not change is as it was: so a call on one
-/// memory leaves every other memory, and all tables, element segments, globals and registers.
+/// memory leaves every other memory, and all tables, element segments, globals and registers. If it
+/// is a store of a number to a memory that is done, all other bytes of that memory are as they
+/// were.
 pub fn call_elsewhere<L: ResourceLimiter>(
     machine: &mut Machine,
     call: &Call,
     limiter: &mut L,
 ) -> Reply
-    ensures { (location : Location) → LeavesAlone location call.now
+    ensures stays { (location : Location) → LeavesAlone location call.now
         → StaysAt location machine.old machine.new }
+    ensures bytes { (it : NumberStore) → call.now ≡ store_call it → result ≡ Done
+        → KeepsOtherBytes it machine.old machine.new }
 {
     wasmi_laws::others_stay::<L>();
+    wasmi_laws::stores_are_read_back::<L>();
     machine.step_lending(call, limiter)
 }
 
 /// Makes calls. What is at each index that none of them may change is as it was: so a guest whose
 /// calls name its own memories, tables, element segments, globals and registers leaves those of
-/// another.
+/// another. What was at an index is there afterwards, as it may have become; and a memory or a
+/// table that was live there is so, if no call drops it.
 pub fn run_elsewhere<L: ResourceLimiter>(
     machine: &mut Machine,
     calls: &[Call],
     limiter: &mut L,
 ) -> Result<Vec<Reply>, AllocError>
-    ensures { (location : Location) → All (LeavesAlone location) calls.now
+    ensures stays { (location : Location) → All (LeavesAlone location) calls.now
         → StaysAt location machine.old machine.new }
-{
-    wasmi_laws::others_stay::<L>();
-    run_lending(machine, calls, limiter)
-}
-
-/// Makes calls. What was at an index is there afterwards, as it may have become; and a memory or a
-/// table that was live there is so, if no call drops it.
-pub fn run_lasting<L: ResourceLimiter>(
-    machine: &mut Machine,
-    calls: &[Call],
-    limiter: &mut L,
-) -> Result<Vec<Reply>, AllocError>
     ensures later { (location : Location) → (x : Content location)
         → content_at location machine.old ≡ Some x
         → HasAt location machine.new (IsLater location x) }
@@ -53,6 +47,7 @@ pub fn run_lasting<L: ResourceLimiter>(
         → HasAt location machine.old (IsLive location)
         → HasAt location machine.new (IsLive location) }
 {
+    wasmi_laws::others_stay::<L>();
     wasmi_laws::indices_last::<L>();
     run_lending(machine, calls, limiter)
 }
@@ -76,16 +71,6 @@ pub fn load_stored<L: ResourceLimiter>(
     let replies = run_lending(machine, calls, limiter)?;
     let loaded = machine.step_lending(load, limiter);
     Ok((stored, replies, loaded))
-}
-
-/// Makes a call. If it is a store of a number to a memory that is done, all other bytes of that
-/// memory are as they were.
-pub fn store_alone<L: ResourceLimiter>(machine: &mut Machine, call: &Call, limiter: &mut L) -> Reply
-    ensures { (it : NumberStore) → call.now ≡ store_call it → result ≡ Done
-        → KeepsOtherBytes it machine.old machine.new }
-{
-    wasmi_laws::stores_are_read_back::<L>();
-    machine.step_lending(call, limiter)
 }
 
 /// Makes two calls. If each acts on what is at indices alone, and neither may change what the other

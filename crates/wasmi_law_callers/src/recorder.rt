@@ -1,7 +1,7 @@
 //! A limiter that keeps a trace of what it is asked and told.
 ghost use Rattle.std.specs.Prelude.{◌≡◌, IfOk, length};
 ghost use Rattle.wasmi_core.specs.Totals.{sizes};
-ghost use Rattle.wasmi_law_callers.specs.Recorder.{recorder_rules, KeepsPermission, KeepsFailure, LeavesTrace};
+ghost use Rattle.wasmi_law_callers.specs.Limiters.{recorder_rules, LeavesTrace};
 
 use std::alloc::{AllocError, Global};
 use wasmi_core::{Call, Kind, LimiterByKind, LimiterError, Machine, Reply, laws, run_lending};
@@ -35,46 +35,29 @@ impl Recorder {
             events: Vec::new(alloc),
         }
     }
-
-    fn permit(&mut self, event: Event) -> bool
-        ensures { KeepsPermission self.old event result self.new }
-    {
-        if self.events.try_reserve(2).is_err() {
-            return false;
-        }
-        self.events.push_reserved(event);
-        true
-    }
-
-    fn hear(&mut self, kind: Kind) -> Result<(), LimiterError>
-        ensures { KeepsFailure self.old kind result self.new }
-    {
-        if self.events.len() == self.events.capacity() {
-            return Err(LimiterError::ResourceLimiterDeniedAllocation);
-        }
-        self.events.push_reserved(Event::Failed(kind));
-        Ok(())
-    }
 }
 
 impl LimiterByKind for Recorder {
     ghost kind_rules = { recorder_rules };
 
-    fn growing(
-        &mut self,
-        kind: Kind,
-        current: usize,
-        desired: usize,
-    ) -> Result<bool, LimiterError> {
-        Ok(self.permit(Event::Permitted {
+    fn growing(&mut self, kind: Kind, from: usize, to: usize) -> Result<bool, LimiterError> {
+        if self.events.try_reserve(2).is_err() {
+            return Ok(false);
+        }
+        self.events.push_reserved(Event::Permitted {
             kind,
-            current,
-            desired,
-        }))
+            current: from,
+            desired: to,
+        });
+        Ok(true)
     }
 
     fn grow_failed(&mut self, kind: Kind) -> Result<(), LimiterError> {
-        self.hear(kind)
+        if self.events.len() == self.events.capacity() {
+            return Err(LimiterError::ResourceLimiterDeniedAllocation);
+        }
+        self.events.push_reserved(Event::Failed(kind));
+        Ok(())
     }
 }
 

@@ -1,10 +1,10 @@
-//! Callers of the laws over turns and runs.
-ghost use Rattle.std.specs.Prelude.{◌≡◌, ◌++◌, ◌≤◌, [], ◌∷◌, ℕ, Some, IfOk, All, slice_get};
+//! Callers of the laws over turns and runs, of the meter over runs, and of those over pools.
+ghost use Rattle.std.specs.Prelude.{◌≡◌, ◌++◌, ◌≤◌, [], ◌∷◌, ℕ, Some, IfOk, All, is_some, slice_get};
 ghost use Rattle.wasmi_store.specs.MemoryType.{MemoryTypeValue};
 ghost use Rattle.wasmi_meter.specs.Limiter.{optional_rules};
+ghost use Rattle.wasmi_meter.specs.Meter.{amount_left};
 ghost use Rattle.wasmi_meter.specs.declared.limiter.Kind.{Kind};
-ghost use Rattle.wasmi_meter.specs.declared.limiter.Kind.TheVariants.{Bytes, Elements};
-ghost use Rattle.wasmi_meter.specs.Quota.{holdings, cap_of, IsWithinCaps, quota_rules};
+ghost use Rattle.wasmi_meter.specs.Quota.{holdings, IsWithinCaps, quota_rules};
 ghost use Rattle.wasmi_core.specs.Account.{SetsNoFuel};
 ghost use Rattle.wasmi_core.specs.Exchange.{Nowhere, place_of};
 ghost use Rattle.wasmi_core.specs.LentMemory.{owned_world, unlent_world};
@@ -14,15 +14,18 @@ ghost use Rattle.wasmi_core.specs.Runs.{IsRunOf};
 ghost use Rattle.wasmi_core.specs.Totals.{sizes, total, HoldsTotals};
 ghost use Rattle.wasmi_core.specs.Validity.{IsValid, IsValidCall};
 ghost use Rattle.wasmi_core.specs.World.{world};
-ghost use Rattle.wasmi_laws.specs.Runs.{IsPlainRefusal};
-ghost use Rattle.wasmi_law_callers.specs.Runs.{IsBilled, IsBoundedBy, IsSpentBy, IsExchanged, KeepsWhereRefused, IsMeterKept, StaysValid, IsRunOfBoth, FitsAnyRegions, NeitherIsOutOfMemory, AreSameTurns, HasRegionFor, GrowsInRegions, IsRunInParts, StaysWithin};
+ghost use Rattle.wasmi_laws.specs.Runs.{HasFuel, IsPlainRefusal, IsWithinCapsOf, NamesNoFuel};
+ghost use Rattle.wasmi_budget.specs.Pool as pools;
+ghost use Rattle.wasmi_law_callers.specs.Runs.{KeepsCaps, RunsAlone, RunsBeside, IsBilled, IsBoundedBy, IsSpentBy, IsExchanged, KeepsWhereRefused, IsMeterKept, StaysValid, IsRunOfBoth, FitsAnyRegions, NeitherIsOutOfMemory, AreSameTurns, HasRegionFor, GrowsInRegions, IsRunInParts, RunsWithMore, StaysWithin};
 
 use std::alloc::AllocError;
+use wasmi_budget::{Pool, PoolError, Tenant, laws as pool_laws};
 use wasmi_core::{Call, Machine, NoLimits, Quota, Reply, ResourceLimiter, laws, run_lending};
 
 /// Makes one call. Where it is refused, the machine has the contents that it had; the spare region,
 /// unless a memory was to be made in it; and the meter, unless it is a growth that was paid before
-/// it ran out of memory: then the meter has its price less.
+/// it ran out of memory: then the meter has its price less. If it is refused plainly, or is refused
+/// and makes nothing and lets nothing grow, neither the machine nor the limiter has changed.
 pub fn call_refused<L: ResourceLimiter>(
     machine: &mut Machine,
     call: &Call,
@@ -33,13 +36,18 @@ pub fn call_refused<L: ResourceLimiter>(
     ensures meter { IsRefusal result
         → IsMeterKept (optional_rules L.rules) call.now
         (world machine.old (Some limiter.old)) result (world machine.new (Some limiter.new)) }
+    ensures machine { IsPlainRefusal result → machine.new ≡ machine.old }
+    ensures limiter { IsPlainRefusal result → limiter.new ≡ limiter.old }
+    ensures others { place_of call.now ≡ Nowhere → IsRefusal result
+        → (machine.new ≡ machine.old) × (limiter.new ≡ limiter.old) }
 {
     laws::refusals_keep_contents::<L>();
+    wasmi_laws::plain_refusals_change_nothing::<L>();
     machine.step_lending(call, limiter)
 }
 
-/// Makes calls. Each that is refused keeps what `call_refused` says, and where all are, the machine
-/// has the contents that it had.
+/// Makes calls. Each that is refused keeps what `call_refused` says. Where all are, the machine has
+/// the contents that it had; where all are refused plainly, neither it nor the limiter has changed.
 pub fn run_refused<L: ResourceLimiter>(
     machine: &mut Machine,
     calls: &[Call],
@@ -51,14 +59,19 @@ pub fn run_refused<L: ResourceLimiter>(
         (world machine.new (Some limiter.new))) }
     ensures all { IfOk result
         (λ replies. All IsRefusal replies.items → SameContents machine.old machine.new) }
+    ensures plain { IfOk result (λ replies. All IsPlainRefusal replies.items
+        → (machine.new ≡ machine.old) × (limiter.new ≡ limiter.old)) }
 {
     laws::refusals_keep_contents::<L>();
+    wasmi_laws::plain_refusals_change_nothing::<L>();
     run_lending(machine, calls, limiter)
 }
 
 /// Makes calls, and knows what was paid for them, and how much they can have written. If none of
 /// them sets the fuel, what was left before is what is left after and what they were charged, which
-/// bounds what they have written.
+/// bounds what they have written. Whether or not there is memory for the replies, the meter has the
+/// costs that it had and is on or off as it was, and if no call sets the fuel, no more of it is
+/// left.
 pub fn run_billed<L: ResourceLimiter>(
     machine: &mut Machine,
     calls: &[Call],
@@ -74,17 +87,24 @@ pub fn run_billed<L: ResourceLimiter>(
         (λ replies. IsSpentBy (optional_rules L.rules) calls.now
         (world machine.old (Some limiter.old)) replies.items
         (world machine.new (Some limiter.new))) }
+    ensures costs { machine.new.meter.costs ≡ machine.old.meter.costs }
+    ensures switch { is_some machine.new.meter.left ≡ is_some machine.old.meter.left }
+    ensures fuel { All SetsNoFuel calls.now
+        → amount_left machine.new.meter ≤ amount_left machine.old.meter }
 {
     laws::fuel_balances::<L>();
     laws::fuel_bounds_writing::<L>();
     laws::charges_are_spent::<L>();
+    wasmi_laws::meters_are_kept::<L>();
     run_lending(machine, calls, limiter)
 }
 
 /// Makes calls, and knows of each turn what the limiter was asked and told, and what has grown. A
 /// memory in a lent region that is to grow does so, or the limiter denies it, if its type and the
 /// region have place for it and it can be paid. If no reply tells of a denial, the limiter has
-/// permitted all that it was asked.
+/// permitted all that it was asked. Whether or not there is memory for the replies, each memory and
+/// each table that was there is at its index, with at least the size that it had, and the totals
+/// are at least what they were. One that was dropped counts with its last size.
 pub fn run_exchanged<L: ResourceLimiter>(
     machine: &mut Machine,
     calls: &[Call],
@@ -102,10 +122,14 @@ pub fn run_exchanged<L: ResourceLimiter>(
         → IsRunOf (permitting (optional_rules L.rules)) calls.now
         (world machine.old (Some limiter.old)) replies.items
         (world machine.new (Some limiter.new))) }
+    ensures sizes { (kind : Kind) (k n : ℕ) → slice_get (sizes machine.old kind) k ≡ Some n
+        → (m : ℕ) × (slice_get (sizes machine.new kind) k ≡ Some m) × (n ≤ m) }
+    ensures totals { (kind : Kind) → total machine.old kind ≤ total machine.new kind }
 {
     laws::growths_are_permitted::<L>();
     laws::lent_growths_succeed::<L>();
     laws::replies_permit::<L>();
+    wasmi_laws::sizes_never_shrink::<L>();
     run_lending(machine, calls, limiter)
 }
 
@@ -127,21 +151,33 @@ pub fn run_valid<L: ResourceLimiter>(
     run_lending(machine, calls, limiter)
 }
 
-/// Makes calls under a quota that holds what the machine has: it does so again afterwards, and if
-/// it was within its caps, the machine is within them.
+/// Makes calls under a quota. If it holds what the machine has, it does so again afterwards, and if
+/// it was also within its caps, the machine is within them after each turn. If no call sets the
+/// fuel or asks for it, and no reply says out of fuel, then with any more fuel there is a run with
+/// the same replies that ends in the same state, with that much more left.
 pub fn run_within_quota(
     machine: &mut Machine,
     calls: &[Call],
     quota: &mut Quota,
 ) -> Result<Vec<Reply>, AllocError>
-    requires held { HoldsTotals (holdings quota.old) machine.old }
-    ensures held { HoldsTotals (holdings quota.new) machine.new }
-    ensures bytes { IsWithinCaps quota.old → total machine.new Bytes ≤ cap_of quota.old Bytes }
-    ensures elements { IsWithinCaps quota.old
-        → total machine.new Elements ≤ cap_of quota.old Elements }
+    ensures held { HoldsTotals (holdings quota.old) machine.old
+        → HoldsTotals (holdings quota.new) machine.new }
+    ensures caps { HoldsTotals (holdings quota.old) machine.old → IsWithinCaps quota.old
+        → IsWithinCapsOf quota.old machine.new }
+    ensures turns { HoldsTotals (holdings quota.old) machine.old → IsWithinCaps quota.old
+        → IfOk result (λ replies. StaysWithin (optional_rules quota_rules) quota.old calls.now
+        (world machine.old (Some quota.old)) replies.items
+        (world machine.new (Some quota.new))) }
+    ensures enough { All NamesNoFuel calls.now → IfOk result
+        (λ replies. All HasFuel replies.items → RunsWithMore (optional_rules quota_rules) calls.now
+        (world machine.old (Some quota.old)) replies.items
+        (world machine.new (Some quota.new))) }
 {
     laws::totals_are_held::<Quota>();
     laws::quotas_stay_within();
+    laws::quota_accepts_notices();
+    wasmi_laws::caps_hold_in_runs();
+    wasmi_laws::more_fuel_changes_nothing::<Quota>();
     run_lending(machine, calls, quota)
 }
 
@@ -223,7 +259,8 @@ pub fn run_twice_unlimited(
 /// Makes calls. If they fit whatever regions there are, as all do that neither make a memory in the
 /// spare region nor grow one, the replies are those of a machine whose memories are all its own. If
 /// they make one memory in the spare region, which is long enough for it, the reply is that of a
-/// machine that makes one of its own.
+/// machine that makes one of its own. Wherever the calls are cut, the first ones with as many
+/// replies are a run, and the others are a run from where that ends.
 pub fn run_in_regions<L: ResourceLimiter>(
     machine: &mut Machine,
     calls: &[Call],
@@ -238,85 +275,55 @@ pub fn run_in_regions<L: ResourceLimiter>(
         (λ replies. IsRunOf (optional_rules L.rules) (Call.NewMemory ty ∷ [])
         (unlent_world (world machine.old (Some limiter.old))) replies.items
         (unlent_world (world machine.new (Some limiter.new)))) }
-{
-    laws::lent_runs_are_owned::<L>();
-    laws::lent_creations_are_owned::<L>();
-    run_lending(machine, calls, limiter)
-}
-
-/// Makes one call. If it is refused plainly, or is refused and makes nothing and lets nothing grow,
-/// then neither the machine nor the limiter has changed, nor the meter.
-pub fn call_plainly_refused<L: ResourceLimiter>(
-    machine: &mut Machine,
-    call: &Call,
-    limiter: &mut L,
-) -> Reply
-    ensures machine { IsPlainRefusal result → machine.new ≡ machine.old }
-    ensures limiter { IsPlainRefusal result → limiter.new ≡ limiter.old }
-    ensures others { place_of call.now ≡ Nowhere → IsRefusal result
-        → (machine.new ≡ machine.old) × (limiter.new ≡ limiter.old) }
-{
-    wasmi_laws::plain_refusals_change_nothing::<L>();
-    machine.step_lending(call, limiter)
-}
-
-/// Makes calls. If each is refused plainly, neither the machine nor the limiter has changed.
-pub fn run_plainly_refused<L: ResourceLimiter>(
-    machine: &mut Machine,
-    calls: &[Call],
-    limiter: &mut L,
-) -> Result<Vec<Reply>, AllocError>
-    ensures { IfOk result (λ replies. All IsPlainRefusal replies.items
-        → (machine.new ≡ machine.old) × (limiter.new ≡ limiter.old)) }
-{
-    wasmi_laws::plain_refusals_change_nothing::<L>();
-    run_lending(machine, calls, limiter)
-}
-
-/// Makes calls. Wherever they are cut, the first ones with as many replies are a run, and the
-/// others are a run from where that ends: so what holds of each run holds up to each place of it.
-pub fn run_in_parts<L: ResourceLimiter>(
-    machine: &mut Machine,
-    calls: &[Call],
-    limiter: &mut L,
-) -> Result<Vec<Reply>, AllocError>
-    ensures { IfOk result (λ replies. IsRunInParts (optional_rules L.rules) calls.now
+    ensures parts { IfOk result (λ replies. IsRunInParts (optional_rules L.rules) calls.now
         (world machine.old (Some limiter.old)) replies.items
         (world machine.new (Some limiter.new))) }
 {
+    laws::lent_runs_are_owned::<L>();
+    laws::lent_creations_are_owned::<L>();
     wasmi_laws::runs_are_cut::<L>();
     run_lending(machine, calls, limiter)
 }
 
-/// Makes calls. Whether or not there is memory for the replies, each memory and each table that was
-/// there is at its index, with at least the size that it had, and the totals are at least what they
-/// were. One that was dropped counts with its last size.
-pub fn run_growing<L: ResourceLimiter>(
-    machine: &mut Machine,
-    calls: &[Call],
-    limiter: &mut L,
-) -> Result<Vec<Reply>, AllocError>
-    ensures sizes { (kind : Kind) (k n : ℕ) → slice_get (sizes machine.old kind) k ≡ Some n
-        → (m : ℕ) × (slice_get (sizes machine.new kind) k ≡ Some m) × (n ≤ m) }
-    ensures totals { (kind : Kind) → total machine.old kind ≤ total machine.new kind }
+/// Makes calls on the machine of a tenant: whatever comes of it, and whatever calls on the pool
+/// follow, the caps stay, and all machines together stay within them. If no reply tells of a
+/// denial, it is as if the tenant had a pool of its own with the same caps, and as if the other
+/// tenants held nothing.
+pub fn run_within(pool: &mut Pool, index: usize, calls: &[Call]) -> Result<Vec<Reply>, PoolError>
+    ensures caps { pool.new.caps ≡ pool.old.caps }
+    ensures within { pools.IsWithinCaps pool.new }
+    ensures later { KeepsCaps pool.old.caps pool.new }
+    ensures alone { IfOk result
+        (λ replies. All TellsNoDenial replies.items
+        → RunsAlone pool.old index calls.now replies.items pool.new) }
+    ensures beside { IfOk result
+        (λ replies. All TellsNoDenial replies.items
+        → RunsBeside pool.old index calls.now replies.items) }
 {
-    wasmi_laws::sizes_never_shrink::<L>();
-    run_lending(machine, calls, limiter)
+    pool_laws::caps_hold();
+    pool_laws::replies_permit();
+    pool_laws::permitted_runs_as_alone();
+    pool_laws::others_do_not_show();
+    pool.run(index, calls)
 }
 
-/// Makes calls under a quota that holds what the machine has, and no more than its caps: after each
-/// turn the machine is within these caps.
-pub fn run_within_caps(
-    machine: &mut Machine,
+/// Makes the same calls on a tenant's machine in two equal pools: if no reply is that memory ran
+/// out, the replies are the same, and the pools are equal again.
+pub fn run_on_both(
+    pool: &mut Pool,
+    other: &mut Pool,
+    index: usize,
     calls: &[Call],
-    quota: &mut Quota,
-) -> Result<Vec<Reply>, AllocError>
-    requires held { HoldsTotals (holdings quota.old) machine.old }
-    requires within { IsWithinCaps quota.old }
-    ensures turns { IfOk result (λ replies. StaysWithin (optional_rules quota_rules) quota.old
-        calls.now (world machine.old (Some quota.old)) replies.items
-        (world machine.new (Some quota.new))) }
+) -> Result<(Vec<Reply>, Vec<Reply>), PoolError>
+    requires pools { other.old ≡ pool.old }
+    ensures same { IfOk result
+        (λ replies. NeitherIsOutOfMemory replies.0.items replies.1.items
+        → (replies.0.items ≡ replies.1.items) × (pool.new ≡ other.new)) }
 {
-    wasmi_laws::caps_hold_in_runs();
-    run_lending(machine, calls, quota)
+    pool_laws::tenants_leave_no_choice();
+    pool_laws::tenants_accept_notices();
+    laws::replies_are_one::<Tenant>();
+    let first = pool.run(index, calls)?;
+    let second = other.run(index, calls)?;
+    Ok((first, second))
 }

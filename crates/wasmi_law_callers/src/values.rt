@@ -1,10 +1,14 @@
-//! Callers of the laws on raw values and on the bytes of numbers.
-ghost use Rattle.std.specs.Prelude.{◌≡◌, IfOk, MatchResult};
+//! Callers of the laws on raw values, on the bytes of numbers, and on memory types and table types.
+ghost use Rattle.std.specs.Prelude.{◌≡◌, IfOk, MatchResult, ◌↔◌, IsTrue, length};
 ghost use Rattle.wasmi_access.specs.LoadStore.{IsSameOutside};
+ghost use Rattle.wasmi_store.specs.MemoryType.{IsSubtype};
+ghost use Rattle.wasmi_store.specs.TableType as table;
+ghost use Rattle.wasmi_law_callers.specs.Runs.{RelatesForward};
 
 use wasmi_access::access::{LittleEndianConvert, load_at, store_at};
 use wasmi_access::laws;
 use wasmi_raw::RawVal;
+use wasmi_store::{MemoryType, TableType, laws as type_laws};
 use wasmi_types::TrapCode;
 
 /// An integer that is written to a raw value is read back from it.
@@ -53,4 +57,34 @@ pub fn sent<T: LittleEndianConvert>(value: T) -> T
     ensures { result ≡ value }
 {
     laws::value_of_its_bytes(value)
+}
+
+/// Whether each memory type of a list may stand for the next one: it is so exactly where each may
+/// stand for itself and for each that follows.
+pub fn is_memory_subtype_chain(types: &[MemoryType]) -> bool
+    ensures { IsTrue result ↔ RelatesForward IsSubtype types.now (length types.now) }
+{
+    type_laws::memory_subtyping_is_reflexive();
+    type_laws::memory_subtyping_is_transitive();
+    for i in 1..types.len() {
+        if !types[i - 1].is_subtype_of(&types[i]) {
+            return false;
+        }
+    }
+    true
+}
+
+/// Whether each table type of a list may stand for the next one: it is so exactly where each may
+/// stand for itself and for each that follows.
+pub fn is_table_subtype_chain(types: &[TableType]) -> bool
+    ensures { IsTrue result ↔ RelatesForward table.IsSubtype types.now (length types.now) }
+{
+    type_laws::table_subtyping_is_reflexive();
+    type_laws::table_subtyping_is_transitive();
+    for i in 1..types.len() {
+        if !types[i - 1].is_subtype_of(&types[i]) {
+            return false;
+        }
+    }
+    true
 }

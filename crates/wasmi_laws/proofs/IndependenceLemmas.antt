@@ -272,70 +272,43 @@ record Part (X : Type 0) (changed : Option Location) : Type 0 where
   whole : (s : State) → with_part s (read s) ≡ s
   found : (s t : State) → SameIn changed s t → slice_get (read t) index ≡ slice_get (read s) index
 
--- memories
+-- a part by its fields, in their order
+abbrev part_of : {X : Type 0} {changed : Option Location} (index : ℕ) (read : State → List X)
+    (with_part : State → List X → State) (put : X → Edit) → ((x : X) → IsEditAt changed (put x))
+    → ((x : X) (s : State) → edited (put x) s ≡ with_part s (slice_set (read s) index x))
+    → ((s : State) → with_part s (read s) ≡ s)
+    → ((s t : State) → SameIn changed s t → slice_get (read t) index ≡ slice_get (read s) index) → Part X changed
+part_of index read with_part put here puts whole found = record {
+  index = index;
+  read = read;
+  with_part = with_part;
+  put = put;
+  here = here;
+  puts = puts;
+  whole = whole;
+  found = found;
+}
+
+-- each part of a state, at an index
 abbrev the_memory : (k : ℕ) → Part (Slot MemoryValue) (Some (MemoryAt k))
-the_memory k = record {
-  index = k;
-  read = λ s. s.memories;
-  with_part = with_memories;
-  put = Put (MemoryAt k);
-  here = λ x. refl;
-  puts = λ x s. refl;
-  whole = λ s. refl;
-  found = λ s t same. same;
-}
+the_memory k = part_of k State.memories with_memories (Put (MemoryAt k)) (λ x. refl) (λ x s. refl) (λ s. refl)
+    (λ s t same. same)
 
--- tables
 abbrev the_table : (k : ℕ) → Part (Slot TableValue) (Some (TableAt k))
-the_table k = record {
-  index = k;
-  read = λ s. s.tables;
-  with_part = with_tables;
-  put = Put (TableAt k);
-  here = λ x. refl;
-  puts = λ x s. refl;
-  whole = λ s. refl;
-  found = λ s t same. same;
-}
+the_table k = part_of k State.tables with_tables (Put (TableAt k)) (λ x. refl) (λ x s. refl) (λ s. refl)
+    (λ s t same. same)
 
--- element segments
 abbrev the_segment : (k : ℕ) → Part SegmentValue (Some (SegmentAt k))
-the_segment k = record {
-  index = k;
-  read = λ s. s.segments;
-  with_part = with_segments;
-  put = Put (SegmentAt k);
-  here = λ x. refl;
-  puts = λ x s. refl;
-  whole = λ s. refl;
-  found = λ s t same. same;
-}
+the_segment k = part_of k State.segments with_segments (Put (SegmentAt k)) (λ x. refl) (λ x s. refl) (λ s. refl)
+    (λ s t same. same)
 
--- globals
 abbrev the_global : (k : ℕ) → Part GlobalInstance (Some (GlobalAt k))
-the_global k = record {
-  index = k;
-  read = λ s. s.globals;
-  with_part = with_globals;
-  put = Put (GlobalAt k);
-  here = λ x. refl;
-  puts = λ x s. refl;
-  whole = λ s. refl;
-  found = λ s t same. same;
-}
+the_global k = part_of k State.globals with_globals (Put (GlobalAt k)) (λ x. refl) (λ x s. refl) (λ s. refl)
+    (λ s t same. same)
 
--- registers
 abbrev the_register : (k : ℕ) → Part RawVal (Some (RegisterAt k))
-the_register k = record {
-  index = k;
-  read = λ s. s.registers;
-  with_part = with_registers;
-  put = Put (RegisterAt k);
-  here = λ x. refl;
-  puts = λ x s. refl;
-  whole = λ s. refl;
-  found = λ s t same. same;
-}
+the_register k = part_of k State.registers with_registers (Put (RegisterAt k)) (λ x. refl) (λ x s. refl) (λ s. refl)
+    (λ s t same. same)
 
 module _ {X : Type 0} (changed : Option Location) (p : Part X changed) (Effect : List X → Reply → List X → Type 0)
     (s : State) (reply : Reply) (s' : State) where

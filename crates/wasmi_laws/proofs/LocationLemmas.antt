@@ -565,3 +565,6 @@ live_until_dropped rules w (turn ∷ turns) w' (v, step, ran) location drops has
     (All-head (DropsNot location) turn.call (map Turn.call turns) drops) has.2 in
     live_until_dropped rules v turns w' ran location
     (All-tail (DropsNot location) turn.call (map Turn.call turns) drops) first
+
+-- what a turn and a run leave at other indices
+pub ruleset all_others_stay = (others_stay, others_stay_in_runs)

@@ -31,7 +31,7 @@ use Rattle.wasmi_core.specs.TableEffects.{WritesRangeAt, write_of}
 use Rattle.wasmi_core.specs.World.{Turn, World}
 use Rattle.wasmi_core.proofs.AccountLemmas.{Growing, after, before, growing, grows_takes, write_takes}
 use Rattle.wasmi_core.proofs.EffectLemmas.{on_live_too, on_test_too}
-use Rattle.wasmi_laws.specs.Meters.{HasFuel, MoreFuelChangesNothing, NamesNoFuel, meter_with_more, world_with_more}
+use Rattle.wasmi_laws.specs.Runs.{HasFuel, MoreFuelChangesNothing, NamesNoFuel, meter_with_more, world_with_more}
 
 module _ {V E : Type 0} (refusal : E → Reply) (e : Request V E) where
   -- the reply to the cause of a failure doesn't say that fuel was wanting

@@ -380,3 +380,7 @@ module _ {S : Type 0} (rules : Rules S) where
       (All-tail IsPlainRefusal turn.reply (map Turn.reply turns) plain)
       ∙ plain_refusals_change_nothing w turn v step
       (All-head IsPlainRefusal turn.reply (map Turn.reply turns) plain)
+
+-- what refusals leave
+pub ruleset refusals =
+    (plain_refusals_change_nothing, other_refusals_change_nothing, plainly_refused_runs_change_nothing)

@@ -1,9 +1,9 @@
--- Runs that are cut, and sizes in runs.
-use Rattle.std.proofs.Common.{◌≡◌, ◌∙◌, ◌≤◌, ◌++◌, ℕ, zero, suc, Some, List, [], ◌∷◌, length, map, take, drop, sum, refl, sym, ap, subst, arith}
+-- Runs that are cut, and what runs keep: sizes, caps and the meter.
+use Rattle.std.proofs.Common.{◌≡◌, ◌∙◌, ◌≤◌, ◌++◌, ℕ, zero, suc, Some, List, [], ◌∷◌, length, map, take, drop, sum, refl, sym, ap, subst, arith, ◌-◌, Option, None}
 use Rattle.std.proofs.lemmas.Option.{none-some, same_Some}
 use Rattle.std.proofs.lemmas.List.{take-map, drop-map, take_at, drop_at, take-append-drop}
 use Rattle.std.proofs.lemmas.List.Sums.{sum_by-cons}
-use Rattle.std.specs.Prelude.{◌≢◌, slice_get, slice_set}
+use Rattle.std.specs.Prelude.{◌≢◌, slice_get, slice_set, is_some}
 use Rattle.wasmi_meter.specs.declared.limiter.Kind.{Kind}
 use Rattle.wasmi_meter.specs.declared.limiter.Kind.TheVariants.{Bytes, Elements}
 use Rattle.wasmi_meter.specs.Limiter.{Question, Rules, optional_rules}
@@ -18,7 +18,14 @@ use Rattle.wasmi_core.specs.Laws.{HoldsTotalsAlways, QuotasStayWithin}
 use Rattle.wasmi_core.specs.Exchange.{Exchange, Nothing, Denial, Permission, Notice, Place, Nowhere, New, At, place_of, GrowsAsAsked, GrowsBy}
 use Rattle.wasmi_core.proofs.ExchangeLemmas.{growths_are_permitted}
 use Rattle.wasmi_core.proofs.TurnLemmas.{Run-push}
-use Rattle.wasmi_laws.specs.Runs.{CapsHoldInRuns, IsWithinCapsOf, RunsOfCallsAreCut, SizesNeverShrink, TotalsNeverShrink}
+use Rattle.wasmi_laws.specs.Runs.{CapsHoldInRuns, IsWithinCapsOf, RunsOfCallsAreCut, SizesNeverShrink, TotalsNeverShrink, CostsAreKept, FuelNeverRises, SwitchIsKept}
+use Rattle.std.proofs.lemmas.List.Elements.{All-head, All-tail}
+use Rattle.std.specs.Option.{option_map, unwrap_or}
+use Rattle.wasmi_meter.specs.Meter.{Meter, amount_left}
+use Rattle.wasmi_core.specs.declared.calls.Call.{Call}
+use Rattle.wasmi_core.specs.declared.calls.Call.TheVariants.{SetFuel}
+use Rattle.wasmi_core.specs.Account.{ChangesMeter, SetsNoFuel}
+use Rattle.wasmi_core.proofs.AccountLemmas.{step_meter}
 
 -- where two lists are made of one, the first is made of as many as it has
 made_first : {X Y : Type 0} (f : X → Y) (xs : List X) (ys zs : List Y) → map f xs ≡ ys ++ zs
@@ -175,3 +182,68 @@ caps_hold_in_runs held stays s quota holds within =
     let later = stays s quota within turns v ran in
     let same : later.0 ≡ total.0 = same_Some later.0 total.0 (sym later.1 ∙ total.1) in
     held_within v.state quota total.0 total.2 (subst IsWithinCaps same later.2) (subst (SameCaps quota) same later.3))
+
+-- a number of which another is made is there or not, as that is
+same_switch : (change : ℕ → ℕ) (left : Option ℕ) → is_some (option_map change left) ≡ is_some left
+same_switch change None = refl
+same_switch change (Some n) = refl
+
+-- what is left once an amount is taken
+left_falls : (amount : ℕ) (left : Option ℕ) → unwrap_or (option_map (λ n. n - amount) left) 0 ≤ unwrap_or left 0
+left_falls amount None = omega arith
+left_falls amount (Some n) = omega arith
+
+-- a call keeps the costs
+costs_kept : (call : Call) (m : Meter) (charge : ℕ) (m' : Meter) → ChangesMeter call m charge m' → m'.costs ≡ m.costs
+costs_kept (SetFuel fuel) m charge m' changes = ap (λ (x : Meter). x.costs) changes
+costs_kept call m charge m' changes = ap (λ (x : Meter). x.costs) changes.1
+
+-- a call keeps the switch
+switch_kept : (call : Call) (m : Meter) (charge : ℕ) (m' : Meter) → ChangesMeter call m charge m'
+    → is_some m'.left ≡ is_some m.left
+switch_kept (SetFuel fuel) m charge m' changes =
+    ap (λ (x : Meter). is_some x.left) changes ∙ same_switch (λ n. fuel) m.left
+switch_kept call m charge m' changes =
+    ap (λ (x : Meter). is_some x.left) changes.1 ∙ same_switch (λ n. n - charge) m.left
+
+-- a call that doesn't set the fuel leaves no more
+fuel_falls : (call : Call) → SetsNoFuel call → (m : Meter) (charge : ℕ) (m' : Meter) → ChangesMeter call m charge m'
+    → amount_left m' ≤ amount_left m
+fuel_falls (SetFuel fuel) other m charge m' changes = absurd other
+fuel_falls call other m charge m' changes =
+    subst (λ (x : Meter). amount_left x ≤ amount_left m) (sym changes.1) (left_falls charge m.left)
+
+module _ {S : Type 0} (rules : Rules S) where
+  -- a run keeps the costs
+  pub costs_are_kept : CostsAreKept rules
+  costs_are_kept w [] w' ran = ap (λ (v : World S). v.state.meter.costs) ran
+  costs_are_kept w (turn ∷ turns) w' (v, step, ran) =
+      costs_are_kept v turns w' ran
+      ∙ costs_kept turn.call w.state.meter turn.charge v.state.meter (step_meter rules w turn v step)
+
+  -- a run keeps the switch
+  pub switch_is_kept : SwitchIsKept rules
+  switch_is_kept w [] w' ran = ap (λ (v : World S). is_some v.state.meter.left) ran
+  switch_is_kept w (turn ∷ turns) w' (v, step, ran) =
+      switch_is_kept v turns w' ran
+      ∙ switch_kept turn.call w.state.meter turn.charge v.state.meter (step_meter rules w turn v step)
+
+  -- a run of calls that don't set the fuel leaves no more
+  pub fuel_never_rises : FuelNeverRises rules
+  fuel_never_rises w [] w' ran others = omega (arith, ap (λ (v : World S). amount_left v.state.meter) ran)
+  fuel_never_rises w (turn ∷ turns) w' (v, step, ran) others =
+      omega (
+        arith,
+        fuel_never_rises v turns w' ran (All-tail SetsNoFuel turn.call (map Turn.call turns) others),
+        fuel_falls turn.call (All-head SetsNoFuel turn.call (map Turn.call turns) others) w.state.meter turn.charge
+            v.state.meter (step_meter rules w turn v step),
+      )
+
+-- runs that are cut
+pub ruleset cuts = (run_is_cut, run_of_calls_is_cut)
+
+-- sizes and totals that do not shrink
+pub ruleset no_shrinking = (sizes_never_shrink, totals_never_shrink)
+
+-- what a run keeps of its meter
+pub ruleset meter_kept = (costs_are_kept, switch_is_kept, fuel_never_rises)

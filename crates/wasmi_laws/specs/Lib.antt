@@ -1,4 +1,2 @@
-pub mod Alone
 pub mod Runs
-pub mod Meters
 pub mod Places

@@ -2,14 +2,10 @@
 //! contract.
 #![tactic(auto)]
 
-mod alone;
-mod meters;
-mod places;
-mod runs;
+mod laws;
 
-pub use alone::machines_do_alike;
-pub use meters::{meters_are_kept, more_fuel_changes_nothing};
-pub use places::{independent_calls_commute, indices_last, others_stay, stores_are_read_back};
-pub use runs::{
-    caps_hold_in_runs, plain_refusals_change_nothing, runs_are_cut, sizes_never_shrink,
+pub use laws::{
+    caps_hold_in_runs, independent_calls_commute, indices_last, machines_do_alike, meters_are_kept,
+    more_fuel_changes_nothing, others_stay, plain_refusals_change_nothing, runs_are_cut,
+    sizes_never_shrink, stores_are_read_back,
 };

@@ -93,7 +93,7 @@ mod growth {
     }
 }
 mod limiter {
-    //! A limiter of one's own: no memory above so many bytes, and no table.
+    //! A limiter of one's own: no memory above so many bytes, and no table above so many elements.
 
     use std::io::Write as _;
     use wasmi_core_proved::machine::{
@@ -102,15 +102,15 @@ mod limiter {
     };
     use wasmi_core_proved::rattle::Vec;
 
-    /// Permits each memory up to so many bytes, and no table.
+    /// Permits each memory up to so many bytes, and each table up to so many elements.
     #[derive(Clone, Copy, Debug)]
     struct AtMost {
-        bytes: usize,
+        most: usize,
     }
 
     impl LimiterByKind for AtMost {
-        fn growing(&mut self, kind: Kind, _from: usize, to: usize) -> Result<bool, LimiterError> {
-            Ok(kind == Kind::Bytes && to <= self.bytes)
+        fn growing(&mut self, _kind: Kind, _from: usize, to: usize) -> Result<bool, LimiterError> {
+            Ok(to <= self.most)
         }
 
         fn grow_failed(&mut self, _kind: Kind) -> Result<(), LimiterError> {
@@ -122,7 +122,7 @@ mod limiter {
     pub fn main() -> Result<(), Box<dyn std::error::Error>> {
         let fuel = Fuel::new(false, FuelCostsProvider::default());
         let mut machine = Machine::new(fuel);
-        let mut limiter = AtMost { bytes: 65_536 };
+        let mut limiter = AtMost { most: 65_536 };
         for pages in 1..3 {
             let mut builder = MemoryType::builder();
             builder.min(pages);

@@ -1,135 +1,8 @@
 //! Laws of the machine over turns and runs: each function does nothing, and states a law as its
 //! contract.
-mod alone {
-    //! Laws of memories and tables that a host keeps by itself, as on a region, beside those of a
-    //! machine.
-
-    use crate::proved::machine::ResourceLimiter;
-
-    /// A memory or a table that a host keeps by itself, as in a header and a region, does what the
-    /// machine's does that has the same one at an index: it grows with the same reply, and leaves the
-    /// same meter, limiter and contents; and the bytes of a memory are read and written alike.
-    ///
-    /// # Contract
-    ///
-    /// ```text
-    /// ensures memories_grow: MemoriesGrowAlike (optional_rules L.rules)
-    /// ensures tables_grow: TablesGrowAlike (optional_rules L.rules)
-    /// ensures memories_read: MemoriesReadAlike (optional_rules L.rules)
-    /// ensures memories_write: MemoriesWriteAlike (optional_rules L.rules)
-    /// ```
-    ///
-    /// Definitions: [`MemoriesGrowAlike`](crate::specs::laws::Alone#MemoriesGrowAlike), [`optional_rules`](crate::specs::meter::Limiter#optional_rules), [`TablesGrowAlike`](crate::specs::laws::Alone#TablesGrowAlike), [`MemoriesReadAlike`](crate::specs::laws::Alone#MemoriesReadAlike), [`MemoriesWriteAlike`](crate::specs::laws::Alone#MemoriesWriteAlike).
-    #[inline]
-    pub fn machines_do_alike<L: ResourceLimiter>() {}
-}
-mod meters {
-    //! Laws of the meter over runs.
-
-    use crate::proved::machine::ResourceLimiter;
-
-    /// A run keeps the costs of its meter, and a meter that is on stays on, as one that is off stays
-    /// off. Calls that don't set the fuel leave no more of it than there was.
-    ///
-    /// # Contract
-    ///
-    /// ```text
-    /// ensures costs: CostsAreKept (optional_rules L.rules)
-    /// ensures switch: SwitchIsKept (optional_rules L.rules)
-    /// ensures fuel: FuelNeverRises (optional_rules L.rules)
-    /// ```
-    ///
-    /// Definitions: [`CostsAreKept`](crate::specs::laws::Meters#CostsAreKept), [`optional_rules`](crate::specs::meter::Limiter#optional_rules), [`SwitchIsKept`](crate::specs::laws::Meters#SwitchIsKept), [`FuelNeverRises`](crate::specs::laws::Meters#FuelNeverRises).
-    #[inline]
-    pub fn meters_are_kept<L: ResourceLimiter>() {}
-
-    /// A run that never ran short of fuel is the same run with more fuel: the same replies, charges and
-    /// bytes, and the same machine, whose meter has that much more left. No call of it may set the fuel
-    /// or ask for it, and no reply may say out of fuel; the limiter accepts each notice, as a quota
-    /// does.
-    ///
-    /// # Contract
-    ///
-    /// ```text
-    /// ensures: MoreFuelChangesNothing L.rules
-    /// ```
-    ///
-    /// Definitions: [`MoreFuelChangesNothing`](crate::specs::laws::Meters#MoreFuelChangesNothing).
-    #[inline]
-    pub fn more_fuel_changes_nothing<L: ResourceLimiter>() {}
-}
-mod places {
-    //! Laws of the memories, tables, element segments, globals and registers that calls name.
-
-    use crate::proved::machine::ResourceLimiter;
-
-    /// A call changes what is at one index at most: that of the memory, table, element segment, global
-    /// or register that it names for that (`changed_location`). All other memories, tables, element
-    /// segments, globals and registers are as they were. A call that makes something, and one that only
-    /// reads, changes none.
-    ///
-    /// So a run changes nothing at an index that none of its calls names for that, whatever else they
-    /// do.
-    ///
-    /// # Contract
-    ///
-    /// ```text
-    /// ensures turn: OthersStay (optional_rules L.rules)
-    /// ensures run: OthersStayInRuns (optional_rules L.rules)
-    /// ```
-    ///
-    /// Definitions: [`OthersStay`](crate::specs::laws::Places#OthersStay), [`optional_rules`](crate::specs::meter::Limiter#optional_rules), [`OthersStayInRuns`](crate::specs::laws::Places#OthersStayInRuns).
-    #[inline]
-    pub fn others_stay<L: ResourceLimiter>() {}
-
-    /// What was made stays at the index of its making. A memory or a table keeps its type until it is
-    /// dropped, and then stays dropped, with its last size; an element segment keeps its type, and its
-    /// items until they are dropped; a global keeps its type, and a constant one its value.
-    ///
-    /// A memory or a table is live until a call drops it.
-    ///
-    /// # Contract
-    ///
-    /// ```text
-    /// ensures later: IndicesLast (optional_rules L.rules)
-    /// ensures live: LiveUntilDropped (optional_rules L.rules)
-    /// ```
-    ///
-    /// Definitions: [`IndicesLast`](crate::specs::laws::Places#IndicesLast), [`optional_rules`](crate::specs::meter::Limiter#optional_rules), [`LiveUntilDropped`](crate::specs::laws::Places#LiveUntilDropped).
-    #[inline]
-    pub fn indices_last<L: ResourceLimiter>() {}
-
-    /// A load without a sign returns the number that a store of as many bytes has written to the same
-    /// address of the same memory, cut to these bytes, whatever calls come between the two that may not
-    /// change this memory. An accepted store keeps all other bytes of the memory, and its size.
-    ///
-    /// # Contract
-    ///
-    /// ```text
-    /// ensures read: StoresAreReadBack (optional_rules L.rules)
-    /// ensures others: StoresKeepOtherBytes (optional_rules L.rules)
-    /// ```
-    ///
-    /// Definitions: [`StoresAreReadBack`](crate::specs::laws::Places#StoresAreReadBack), [`optional_rules`](crate::specs::meter::Limiter#optional_rules), [`StoresKeepOtherBytes`](crate::specs::laws::Places#StoresKeepOtherBytes).
-    #[inline]
-    pub fn stores_are_read_back<L: ResourceLimiter>() {}
-
-    /// Two calls one after the other may be made in either order, if each acts on what is at indices
-    /// alone (`IsLocal`) and neither may change what the other may change or reads (`IsIndependent`):
-    /// both orders have the same replies, call by call, and lead to the same machine.
-    ///
-    /// # Contract
-    ///
-    /// ```text
-    /// ensures: IndependentTurnsSwap (optional_rules L.rules)
-    /// ```
-    ///
-    /// Definitions: [`IndependentTurnsSwap`](crate::specs::laws::Places#IndependentTurnsSwap), [`optional_rules`](crate::specs::meter::Limiter#optional_rules).
-    #[inline]
-    pub fn independent_calls_commute<L: ResourceLimiter>() {}
-}
-mod runs {
-    //! Laws of whole runs.
+#[cfg(any(doc, test))]
+mod laws {
+    //! The laws, in the order of the README.
 
     use crate::proved::machine::{Quota, ResourceLimiter, laws};
 
@@ -199,11 +72,122 @@ mod runs {
         laws::totals_are_held::<Quota>();
         laws::quotas_stay_within();
     }
+
+    /// A run keeps the costs of its meter, and a meter that is on stays on, as one that is off stays
+    /// off. Calls that don't set the fuel leave no more of it than there was.
+    ///
+    /// # Contract
+    ///
+    /// ```text
+    /// ensures costs: CostsAreKept (optional_rules L.rules)
+    /// ensures switch: SwitchIsKept (optional_rules L.rules)
+    /// ensures fuel: FuelNeverRises (optional_rules L.rules)
+    /// ```
+    ///
+    /// Definitions: [`CostsAreKept`](crate::specs::laws::Runs#CostsAreKept), [`optional_rules`](crate::specs::meter::Limiter#optional_rules), [`SwitchIsKept`](crate::specs::laws::Runs#SwitchIsKept), [`FuelNeverRises`](crate::specs::laws::Runs#FuelNeverRises).
+    #[inline]
+    pub fn meters_are_kept<L: ResourceLimiter>() {}
+
+    /// A run that never ran short of fuel is the same run with more fuel: the same replies, charges and
+    /// bytes, and the same machine, whose meter has that much more left. No call of it may set the fuel
+    /// or ask for it, and no reply may say out of fuel; the limiter accepts each notice, as a quota
+    /// does.
+    ///
+    /// # Contract
+    ///
+    /// ```text
+    /// ensures: MoreFuelChangesNothing L.rules
+    /// ```
+    ///
+    /// Definitions: [`MoreFuelChangesNothing`](crate::specs::laws::Runs#MoreFuelChangesNothing).
+    #[inline]
+    pub fn more_fuel_changes_nothing<L: ResourceLimiter>() {}
+
+    /// A call changes what is at one index at most: that of the memory, table, element segment, global
+    /// or register that it names for that (`changed_location`). All other memories, tables, element
+    /// segments, globals and registers are as they were. A call that makes something, and one that only
+    /// reads, changes none.
+    ///
+    /// So a run changes nothing at an index that none of its calls names for that, whatever else they
+    /// do.
+    ///
+    /// # Contract
+    ///
+    /// ```text
+    /// ensures turn: OthersStay (optional_rules L.rules)
+    /// ensures run: OthersStayInRuns (optional_rules L.rules)
+    /// ```
+    ///
+    /// Definitions: [`OthersStay`](crate::specs::laws::Places#OthersStay), [`optional_rules`](crate::specs::meter::Limiter#optional_rules), [`OthersStayInRuns`](crate::specs::laws::Places#OthersStayInRuns).
+    #[inline]
+    pub fn others_stay<L: ResourceLimiter>() {}
+
+    /// What was made stays at the index of its making. A memory or a table keeps its type until it is
+    /// dropped, and then stays dropped, with its last size; an element segment keeps its type, and its
+    /// items until they are dropped; a global keeps its type, and a constant one its value.
+    ///
+    /// A memory or a table is live until a call drops it.
+    ///
+    /// # Contract
+    ///
+    /// ```text
+    /// ensures later: IndicesLast (optional_rules L.rules)
+    /// ensures live: LiveUntilDropped (optional_rules L.rules)
+    /// ```
+    ///
+    /// Definitions: [`IndicesLast`](crate::specs::laws::Places#IndicesLast), [`optional_rules`](crate::specs::meter::Limiter#optional_rules), [`LiveUntilDropped`](crate::specs::laws::Places#LiveUntilDropped).
+    #[inline]
+    pub fn indices_last<L: ResourceLimiter>() {}
+
+    /// A load without a sign returns the number that a store of as many bytes has written to the same
+    /// address of the same memory, cut to these bytes, whatever calls come between the two that may not
+    /// change this memory. An accepted store keeps all other bytes of the memory, and its size.
+    ///
+    /// # Contract
+    ///
+    /// ```text
+    /// ensures read: StoresAreReadBack (optional_rules L.rules)
+    /// ensures others: StoresKeepOtherBytes (optional_rules L.rules)
+    /// ```
+    ///
+    /// Definitions: [`StoresAreReadBack`](crate::specs::laws::Places#StoresAreReadBack), [`optional_rules`](crate::specs::meter::Limiter#optional_rules), [`StoresKeepOtherBytes`](crate::specs::laws::Places#StoresKeepOtherBytes).
+    #[inline]
+    pub fn stores_are_read_back<L: ResourceLimiter>() {}
+
+    /// Two calls one after the other may be made in either order, if each acts on what is at indices
+    /// alone (`IsLocal`) and neither may change what the other may change or reads (`IsIndependent`):
+    /// both orders have the same replies, call by call, and lead to the same machine.
+    ///
+    /// # Contract
+    ///
+    /// ```text
+    /// ensures: IndependentTurnsSwap (optional_rules L.rules)
+    /// ```
+    ///
+    /// Definitions: [`IndependentTurnsSwap`](crate::specs::laws::Places#IndependentTurnsSwap), [`optional_rules`](crate::specs::meter::Limiter#optional_rules).
+    #[inline]
+    pub fn independent_calls_commute<L: ResourceLimiter>() {}
+
+    /// A memory or a table that a host keeps by itself, as in a header and a region, does what the
+    /// machine's does that has the same one at an index: it grows with the same reply, and leaves the
+    /// same meter, limiter and contents; and the bytes of a memory are read and written alike.
+    ///
+    /// # Contract
+    ///
+    /// ```text
+    /// ensures memories_grow: MemoriesGrowAlike (optional_rules L.rules)
+    /// ensures tables_grow: TablesGrowAlike (optional_rules L.rules)
+    /// ensures memories_read: MemoriesReadAlike (optional_rules L.rules)
+    /// ensures memories_write: MemoriesWriteAlike (optional_rules L.rules)
+    /// ```
+    ///
+    /// Definitions: [`MemoriesGrowAlike`](crate::specs::laws::Places#MemoriesGrowAlike), [`optional_rules`](crate::specs::meter::Limiter#optional_rules), [`TablesGrowAlike`](crate::specs::laws::Places#TablesGrowAlike), [`MemoriesReadAlike`](crate::specs::laws::Places#MemoriesReadAlike), [`MemoriesWriteAlike`](crate::specs::laws::Places#MemoriesWriteAlike).
+    #[inline]
+    pub fn machines_do_alike<L: ResourceLimiter>() {}
 }
 
-pub use alone::machines_do_alike;
-pub use meters::{meters_are_kept, more_fuel_changes_nothing};
-pub use places::{independent_calls_commute, indices_last, others_stay, stores_are_read_back};
-pub use runs::{
-    caps_hold_in_runs, plain_refusals_change_nothing, runs_are_cut, sizes_never_shrink,
+pub use laws::{
+    caps_hold_in_runs, independent_calls_commute, indices_last, machines_do_alike, meters_are_kept,
+    more_fuel_changes_nothing, others_stay, plain_refusals_change_nothing, runs_are_cut,
+    sizes_never_shrink, stores_are_read_back,
 };

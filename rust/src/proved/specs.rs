@@ -5369,172 +5369,41 @@ pub record <b id="IsSpent">IsSpent</b> (rate before after : ℕ) (turns : List <
 }
 /// Definitions of `wasmi_laws`.
 pub mod laws {
-    #[doc = r####"Memories and tables by themselves, as a host keeps them, and those at an index of a machine.
+    #[doc = r####"What is at an index of a machine, what a call may change there, what holds of that in every turn and run; and memories
 
-<pre><code>use Rattle.std.specs.Prelude.{◌≡◌, ℕ, MatchOption, Some, Result, Vec, slice_set}
+<pre><code>use Rattle.std.specs.Prelude.{◌≡◌, ◌⊎◌, ◌*◌, ◌+◌, ◌%◌, ◌^◌, ℕ, List, [], ◌∷◌, Option, Some, None, length, map, All, slice_get, MatchOption, Result, Vec, slice_set}
+use Rattle.wasmi_raw.specs.declared.raw.RawVal.{RawVal}
+use Rattle.wasmi_raw.specs.RawVal.{<a href="../../raw/RawVal/index.html#raw_of">raw_of</a>}
+use Rattle.wasmi_access.specs.LoadStore.{<a href="../../accesses/LoadStore/index.html#IsSameOutside">IsSameOutside</a>}
+use Rattle.wasmi_ops.specs.declared.scalar.access.LoadOp.{LoadOp}
+use Rattle.wasmi_ops.specs.declared.scalar.access.StoreOp.{StoreOp}
+use Rattle.wasmi_typed.specs.Global.{<a href="../../typed/Global/index.html#GlobalInstance">GlobalInstance</a>}
+use Rattle.wasmi_typed.specs.declared.global.Mutability.TheVariants.{Const}
+use Rattle.wasmi_meter.specs.Limiter.{<a href="../../meter/Limiter/index.html#Rules">Rules</a>}
+use Rattle.wasmi_store.specs.Memory.{<a href="../../store/Memory/index.html#MemoryValue">MemoryValue</a>, <a href="../../store/Memory/index.html#GrowsMemory">GrowsMemory</a>, <a href="../../store/Memory/index.html#WritesMemory">WritesMemory</a>}
+use Rattle.wasmi_store.specs.Segment.{<a href="../../store/Segment/index.html#SegmentValue">SegmentValue</a>}
+use Rattle.wasmi_store.specs.Table.{<a href="../../store/Table/index.html#TableValue">TableValue</a>, <a href="../../store/Table/index.html#GrowsTable">GrowsTable</a>}
+use Rattle.wasmi_core.specs.declared.calls.Call.{Call}
+use Rattle.wasmi_core.specs.declared.slots.Slot.{Slot}
+use Rattle.wasmi_core.specs.declared.slots.Slot.TheVariants.{Live, Gone}
+use Rattle.wasmi_core.specs.declared.calls.Reply.{Reply}
+use Rattle.wasmi_core.specs.declared.calls.Reply.TheVariants.{Done, Value, Bytes, Memory, Number, Table}
+use Rattle.wasmi_core.specs.State.{<a href="../../machine/State/index.html#State">State</a>, <a href="../../machine/State/index.html#live_at">live_at</a>, <a href="../../machine/State/index.html#with_memories">with_memories</a>, <a href="../../machine/State/index.html#with_tables">with_tables</a>}
+use Rattle.wasmi_core.specs.World.{<a href="../../machine/World/index.html#World">World</a>, <a href="../../machine/World/index.html#Turn">Turn</a>, <a href="../../machine/World/index.html#world">world</a>}
+use Rattle.wasmi_core.specs.Steps.{<a href="../../machine/Steps/index.html#Step">Step</a>, <a href="../../machine/Steps/index.html#RepliesWith">RepliesWith</a>}
+use Rattle.wasmi_core.specs.Runs.{<a href="../../machine/Runs/index.html#Run">Run</a>}
 use Rattle.wasmi_types.specs.Access.{<a href="../../types/Access/index.html#at">at</a>}
 use Rattle.wasmi_typed.specs.declared.typed_ref.TypedRawRef.{TypedRawRef}
-use Rattle.wasmi_meter.specs.Limiter.{<a href="../../meter/Limiter/index.html#Rules">Rules</a>}
 use Rattle.wasmi_meter.specs.Meter.{<a href="../../meter/Meter/index.html#Meter">Meter</a>}
 use Rattle.wasmi_meter.specs.declared.error.MemoryError.{MemoryError}
 use Rattle.wasmi_meter.specs.declared.error.MemoryError.TheVariants.{OutOfBoundsAccess}
 use Rattle.wasmi_meter.specs.declared.error.TableError.{TableError}
 use Rattle.wasmi_store.specs.Growth.{<a href="../../store/Growth/index.html#metered_value">metered_value</a>}
-use Rattle.wasmi_store.specs.Memory.{<a href="../../store/Memory/index.html#MemoryValue">MemoryValue</a>, <a href="../../store/Memory/index.html#GrowsMemory">GrowsMemory</a>, <a href="../../store/Memory/index.html#WritesMemory">WritesMemory</a>}
-use Rattle.wasmi_store.specs.Table.{<a href="../../store/Table/index.html#TableValue">TableValue</a>, <a href="../../store/Table/index.html#GrowsTable">GrowsTable</a>}
 use Rattle.wasmi_core.specs.declared.calls.Call.TheVariants.{GrowMemory, GrowTable, Read, Write}
-use Rattle.wasmi_core.specs.declared.calls.Reply.TheVariants.{Bytes, Done, Memory, Number, Table}
-use Rattle.wasmi_core.specs.declared.slots.Slot.TheVariants.{Live}
 use Rattle.wasmi_core.specs.Effects.{<a href="../../machine/Effects/index.html#reply_of">reply_of</a>}
-use Rattle.wasmi_core.specs.State.{<a href="../../machine/State/index.html#State">State</a>, <a href="../../machine/State/index.html#live_at">live_at</a>, <a href="../../machine/State/index.html#with_memories">with_memories</a>, <a href="../../machine/State/index.html#with_tables">with_tables</a>}
-use Rattle.wasmi_core.specs.Steps.{<a href="../../machine/Steps/index.html#RepliesWith">RepliesWith</a>}
-use Rattle.wasmi_core.specs.World.{<a href="../../machine/World/index.html#World">World</a>, <a href="../../machine/World/index.html#world">world</a>}
-
--- the state with this memory at an index
-abbrev pub <b id="with_memory_at">with_memory_at</b> : <a href="../../machine/State/index.html#State">State</a> → ℕ → <a href="../../store/Memory/index.html#MemoryValue">MemoryValue</a> → <a href="../../machine/State/index.html#State">State</a>
-<a href="../../laws/Alone/index.html#with_memory_at">with_memory_at</a> s k x = <a href="../../machine/State/index.html#with_memories">with_memories</a> s (slice_set s.memories k (Live x))
-
--- the state with this table at an index
-abbrev pub <b id="with_table_at">with_table_at</b> : <a href="../../machine/State/index.html#State">State</a> → ℕ → <a href="../../store/Table/index.html#TableValue">TableValue</a> → <a href="../../machine/State/index.html#State">State</a>
-<a href="../../laws/Alone/index.html#with_table_at">with_table_at</a> s k x = <a href="../../machine/State/index.html#with_tables">with_tables</a> s (slice_set s.tables k (Live x))
-
--- the state with another meter
-abbrev pub <b id="with_meter">with_meter</b> : <a href="../../machine/State/index.html#State">State</a> → <a href="../../meter/Meter/index.html#Meter">Meter</a> → <a href="../../machine/State/index.html#State">State</a>
-<a href="../../laws/Alone/index.html#with_meter">with_meter</a> s m = record s { meter = m }
-
-module _ {S : Type 0} (rules : <a href="../../meter/Limiter/index.html#Rules">Rules</a> S) where
-  -- a memory that grows by itself, under the meter and the limiter of a machine that has this memory at an index, grows
-  -- as the machine&#x27;s does: with the same reply, and with what it leaves at the index
-  abbrev pub <b id="MemoriesGrowAlike">MemoriesGrowAlike</b> : Type 0
-  <a href="../../laws/Alone/index.html#MemoriesGrowAlike">MemoriesGrowAlike</a> =
-      (w : <a href="../../machine/World/index.html#World">World</a> S) (k pages : ℕ) (x x&#x27; : <a href="../../store/Memory/index.html#MemoryValue">MemoryValue</a>) (result : Result ℕ MemoryError) (m&#x27; : <a href="../../meter/Meter/index.html#Meter">Meter</a>) (l&#x27; : S)
-      → <a href="../../machine/State/index.html#live_at">live_at</a> w.state.memories k ≡ Some x
-      → <a href="../../store/Memory/index.html#GrowsMemory">GrowsMemory</a> rules pages (<a href="../../store/Growth/index.html#metered_value">metered_value</a> x (Some w.state.meter) w.limiter) result
-      (<a href="../../store/Growth/index.html#metered_value">metered_value</a> x&#x27; (Some m&#x27;) l&#x27;)
-      → <a href="../../machine/Steps/index.html#RepliesWith">RepliesWith</a> rules (GrowMemory k pages) w (<a href="../../machine/Effects/index.html#reply_of">reply_of</a> Number Memory result)
-      (<a href="../../machine/World/index.html#world">world</a> (<a href="../../laws/Alone/index.html#with_meter">with_meter</a> (<a href="../../laws/Alone/index.html#with_memory_at">with_memory_at</a> w.state k x&#x27;) m&#x27;) l&#x27;)
-
-  -- a table that grows by itself grows as the one at an index of a machine does, with the same reply
-  abbrev pub <b id="TablesGrowAlike">TablesGrowAlike</b> : Type 0
-  <a href="../../laws/Alone/index.html#TablesGrowAlike">TablesGrowAlike</a> =
-      (w : <a href="../../machine/World/index.html#World">World</a> S) (k n : ℕ) (init : TypedRawRef) (x x&#x27; : <a href="../../store/Table/index.html#TableValue">TableValue</a>) (result : Result ℕ TableError) (m&#x27; : <a href="../../meter/Meter/index.html#Meter">Meter</a>)
-      (l&#x27; : S) → <a href="../../machine/State/index.html#live_at">live_at</a> w.state.tables k ≡ Some x
-      → <a href="../../store/Table/index.html#GrowsTable">GrowsTable</a> rules n init (<a href="../../store/Growth/index.html#metered_value">metered_value</a> x (Some w.state.meter) w.limiter) result
-      (<a href="../../store/Growth/index.html#metered_value">metered_value</a> x&#x27; (Some m&#x27;) l&#x27;)
-      → <a href="../../machine/Steps/index.html#RepliesWith">RepliesWith</a> rules (GrowTable k n init) w (<a href="../../machine/Effects/index.html#reply_of">reply_of</a> Number Table result)
-      (<a href="../../machine/World/index.html#world">world</a> (<a href="../../laws/Alone/index.html#with_meter">with_meter</a> (<a href="../../laws/Alone/index.html#with_table_at">with_table_at</a> w.state k x&#x27;) m&#x27;) l&#x27;)
-
-  -- bytes that are read of a memory by itself are those that the machine answers, and a read past its end is refused
-  abbrev pub <b id="MemoriesReadAlike">MemoriesReadAlike</b> : Type 0
-  <a href="../../laws/Alone/index.html#MemoriesReadAlike">MemoriesReadAlike</a> =
-      (w : <a href="../../machine/World/index.html#World">World</a> S) (k offset len : ℕ) (x : <a href="../../store/Memory/index.html#MemoryValue">MemoryValue</a>) → <a href="../../machine/State/index.html#live_at">live_at</a> w.state.memories k ≡ Some x
-      → MatchOption (<a href="../../types/Access/index.html#at">at</a> x.bytes offset len) (<a href="../../machine/Steps/index.html#RepliesWith">RepliesWith</a> rules (Read k offset len) w (Memory OutOfBoundsAccess) w)
-      (λ bytes. <a href="../../machine/Steps/index.html#RepliesWith">RepliesWith</a> rules (Read k offset len) w (Bytes bytes) w)
-
-  -- bytes that are written over those of a memory by itself are written by the machine&#x27;s call, or refused by it
-  abbrev pub <b id="MemoriesWriteAlike">MemoriesWriteAlike</b> : Type 0
-  <a href="../../laws/Alone/index.html#MemoriesWriteAlike">MemoriesWriteAlike</a> =
-      (w : <a href="../../machine/World/index.html#World">World</a> S) (k offset : ℕ) (bytes : Vec ℕ _) (x x&#x27; : <a href="../../store/Memory/index.html#MemoryValue">MemoryValue</a>) (result : Result (Unit {0}) MemoryError)
-      → <a href="../../machine/State/index.html#live_at">live_at</a> w.state.memories k ≡ Some x → <a href="../../store/Memory/index.html#WritesMemory">WritesMemory</a> x offset bytes.items result x&#x27;
-      → <a href="../../machine/Steps/index.html#RepliesWith">RepliesWith</a> rules (Write k offset bytes) w (<a href="../../machine/Effects/index.html#reply_of">reply_of</a> (λ _. Done) Memory result)
-      (<a href="../../machine/World/index.html#world">world</a> (<a href="../../laws/Alone/index.html#with_memory_at">with_memory_at</a> w.state k x&#x27;) w.limiter)
-</code></pre>
-"####]
-    pub mod Alone {}
-    #[doc = r####"Laws of the meter over runs.
-
-<pre><code>use Rattle.std.specs.Prelude.{◌≡◌, ◌+◌, ◌≤◌, ℕ, List, Option, is_some, map, All}
-use Rattle.std.specs.Option.{option_map}
-use Rattle.wasmi_meter.specs.declared.error.MemoryError.TheVariants as memory
-use Rattle.wasmi_meter.specs.declared.error.TableError.TheVariants as table
-use Rattle.wasmi_meter.specs.Limiter.{<a href="../../meter/Limiter/index.html#Rules">Rules</a>, <a href="../../meter/Limiter/index.html#optional_rules">optional_rules</a>}
-use Rattle.wasmi_meter.specs.Meter.{<a href="../../meter/Meter/index.html#Meter">Meter</a>, <a href="../../meter/Meter/index.html#amount_left">amount_left</a>}
-use Rattle.wasmi_core.specs.declared.calls.Call.{Call}
-use Rattle.wasmi_core.specs.declared.calls.Call.TheVariants.{SetFuel, GetFuel}
-use Rattle.wasmi_core.specs.declared.calls.Reply.{Reply}
-use Rattle.wasmi_core.specs.declared.calls.Reply.TheVariants.{Memory, Table}
-use Rattle.wasmi_core.specs.World.{<a href="../../machine/World/index.html#World">World</a>, <a href="../../machine/World/index.html#Turn">Turn</a>}
-use Rattle.wasmi_core.specs.Runs.{<a href="../../machine/Runs/index.html#Run">Run</a>}
-use Rattle.wasmi_core.specs.Account.{<a href="../../machine/Account/index.html#SetsNoFuel">SetsNoFuel</a>}
-use Rattle.wasmi_core.specs.Determinism.{<a href="../../machine/Determinism/index.html#AcceptsNotices">AcceptsNotices</a>}
-
--- the meter with so much more fuel left; one that is off stays
-abbrev pub <b id="meter_with_more">meter_with_more</b> : ℕ → <a href="../../meter/Meter/index.html#Meter">Meter</a> → <a href="../../meter/Meter/index.html#Meter">Meter</a>
-<a href="../../laws/Meters/index.html#meter_with_more">meter_with_more</a> more m = record m { left = option_map (λ left. left + more) m.left }
-
--- the world whose meter has so much more fuel left
-abbrev pub <b id="world_with_more">world_with_more</b> : {S : Type 0} → ℕ → <a href="../../machine/World/index.html#World">World</a> S → <a href="../../machine/World/index.html#World">World</a> S
-<a href="../../laws/Meters/index.html#world_with_more">world_with_more</a> more <a href="../../laws/Meters/index.html#w">w</a> =
-    record <b id="w">w</b> { state = record w.state { meter = <a href="../../laws/Meters/index.html#meter_with_more">meter_with_more</a> more w.state.meter } }
-
--- the call neither sets the fuel nor asks for it
-abbrev pub <b id="NamesNoFuel">NamesNoFuel</b> : Call → Type 0
-<a href="../../laws/Meters/index.html#NamesNoFuel">NamesNoFuel</a> (SetFuel fuel) = ⊥
-<a href="../../laws/Meters/index.html#NamesNoFuel">NamesNoFuel</a> GetFuel = ⊥
-<a href="../../laws/Meters/index.html#NamesNoFuel">NamesNoFuel</a> call = Unit {0}
-
--- the reply doesn&#x27;t say that fuel was wanting
-abbrev pub <b id="HasFuel">HasFuel</b> : Reply → Type 0
-<a href="../../laws/Meters/index.html#HasFuel">HasFuel</a> (Memory (memory.OutOfFuel required)) = ⊥
-<a href="../../laws/Meters/index.html#HasFuel">HasFuel</a> (Table (table.OutOfFuel required)) = ⊥
-<a href="../../laws/Meters/index.html#HasFuel">HasFuel</a> reply = Unit {0}
-
-module _ {S : Type 0} (rules : <a href="../../meter/Limiter/index.html#Rules">Rules</a> S) where
-  -- a run keeps the costs of the meter
-  abbrev pub <b id="CostsAreKept">CostsAreKept</b> : Type 0
-  <a href="../../laws/Meters/index.html#CostsAreKept">CostsAreKept</a> =
-      (<a href="../../laws/Meters/index.html#w">w</a> : <a href="../../machine/World/index.html#World">World</a> S) (turns : List <a href="../../machine/World/index.html#Turn">Turn</a>) (w&#x27; : <a href="../../machine/World/index.html#World">World</a> S) → <a href="../../machine/Runs/index.html#Run">Run</a> rules <a href="../../laws/Meters/index.html#w">w</a> turns w&#x27;
-      → w&#x27;.state.meter.costs ≡ w.state.meter.costs
-
-  -- a meter that is on is on after a run, and one that is off is off
-  abbrev pub <b id="SwitchIsKept">SwitchIsKept</b> : Type 0
-  <a href="../../laws/Meters/index.html#SwitchIsKept">SwitchIsKept</a> =
-      (<a href="../../laws/Meters/index.html#w">w</a> : <a href="../../machine/World/index.html#World">World</a> S) (turns : List <a href="../../machine/World/index.html#Turn">Turn</a>) (w&#x27; : <a href="../../machine/World/index.html#World">World</a> S) → <a href="../../machine/Runs/index.html#Run">Run</a> rules <a href="../../laws/Meters/index.html#w">w</a> turns w&#x27;
-      → is_some w&#x27;.state.meter.left ≡ is_some w.state.meter.left
-
-  -- a run of calls that don&#x27;t set the fuel leaves no more than there was
-  abbrev pub <b id="FuelNeverRises">FuelNeverRises</b> : Type 0
-  <a href="../../laws/Meters/index.html#FuelNeverRises">FuelNeverRises</a> =
-      (<a href="../../laws/Meters/index.html#w">w</a> : <a href="../../machine/World/index.html#World">World</a> S) (turns : List <a href="../../machine/World/index.html#Turn">Turn</a>) (w&#x27; : <a href="../../machine/World/index.html#World">World</a> S) → <a href="../../machine/Runs/index.html#Run">Run</a> rules <a href="../../laws/Meters/index.html#w">w</a> turns w&#x27;
-      → All <a href="../../machine/Account/index.html#SetsNoFuel">SetsNoFuel</a> (map Turn.call turns) → <a href="../../meter/Meter/index.html#amount_left">amount_left</a> w&#x27;.state.meter ≤ <a href="../../meter/Meter/index.html#amount_left">amount_left</a> w.state.meter
-
--- if the limiter accepts each notice, a run of calls that neither set the fuel nor ask for it, in which no reply says
--- that fuel was wanting, is the same run with any more fuel, all of which is left then
-abbrev pub <b id="MoreFuelChangesNothing">MoreFuelChangesNothing</b> : {L : Type 0} → <a href="../../meter/Limiter/index.html#Rules">Rules</a> L → Type 0
-<a href="../../laws/Meters/index.html#MoreFuelChangesNothing">MoreFuelChangesNothing</a> {L} rules =
-    <a href="../../machine/Determinism/index.html#AcceptsNotices">AcceptsNotices</a> rules → (more : ℕ) (<a href="../../laws/Meters/index.html#w">w</a> : <a href="../../machine/World/index.html#World">World</a> (Option L)) (turns : List <a href="../../machine/World/index.html#Turn">Turn</a>) (w&#x27; : <a href="../../machine/World/index.html#World">World</a> (Option L))
-    → All <a href="../../laws/Meters/index.html#NamesNoFuel">NamesNoFuel</a> (map Turn.call turns) → All <a href="../../laws/Meters/index.html#HasFuel">HasFuel</a> (map Turn.reply turns)
-    → <a href="../../machine/Runs/index.html#Run">Run</a> (<a href="../../meter/Limiter/index.html#optional_rules">optional_rules</a> rules) <a href="../../laws/Meters/index.html#w">w</a> turns w&#x27;
-    → <a href="../../machine/Runs/index.html#Run">Run</a> (<a href="../../meter/Limiter/index.html#optional_rules">optional_rules</a> rules) (<a href="../../laws/Meters/index.html#world_with_more">world_with_more</a> more <a href="../../laws/Meters/index.html#w">w</a>) turns (<a href="../../laws/Meters/index.html#world_with_more">world_with_more</a> more w&#x27;)
-</code></pre>
-"####]
-    pub mod Meters {}
-    #[doc = r####"What is at an index of a machine, what a call may change there, and what holds of that in every turn and run.
-
-<pre><code>use Rattle.std.specs.Prelude.{◌≡◌, ◌⊎◌, ◌*◌, ◌+◌, ◌%◌, ◌^◌, ℕ, List, [], ◌∷◌, Option, Some, None, length, map, All, slice_get}
-use Rattle.wasmi_raw.specs.declared.raw.RawVal.{RawVal}
-use Rattle.wasmi_raw.specs.RawVal.{<a href="../../raw/RawVal/index.html#raw_of">raw_of</a>}
-use Rattle.wasmi_access.specs.LoadStore.{<a href="../../accesses/LoadStore/index.html#IsSameOutside">IsSameOutside</a>}
-use Rattle.wasmi_ops.specs.declared.scalar.access.LoadOp.{LoadOp}
 use Rattle.wasmi_ops.specs.declared.scalar.access.LoadOp.TheVariants as load
-use Rattle.wasmi_ops.specs.declared.scalar.access.StoreOp.{StoreOp}
 use Rattle.wasmi_ops.specs.declared.scalar.access.StoreOp.TheVariants as store
-use Rattle.wasmi_typed.specs.Global.{<a href="../../typed/Global/index.html#GlobalInstance">GlobalInstance</a>}
-use Rattle.wasmi_typed.specs.declared.global.Mutability.TheVariants.{Const}
-use Rattle.wasmi_meter.specs.Limiter.{<a href="../../meter/Limiter/index.html#Rules">Rules</a>}
-use Rattle.wasmi_store.specs.Memory.{<a href="../../store/Memory/index.html#MemoryValue">MemoryValue</a>}
-use Rattle.wasmi_store.specs.Segment.{<a href="../../store/Segment/index.html#SegmentValue">SegmentValue</a>}
-use Rattle.wasmi_store.specs.Table.{<a href="../../store/Table/index.html#TableValue">TableValue</a>}
-use Rattle.wasmi_core.specs.declared.calls.Call.{Call}
 use Rattle.wasmi_core.specs.declared.calls.Call.TheVariants as call
-use Rattle.wasmi_core.specs.declared.slots.Slot.{Slot}
-use Rattle.wasmi_core.specs.declared.slots.Slot.TheVariants.{Live, Gone}
-use Rattle.wasmi_core.specs.declared.calls.Reply.{Reply}
-use Rattle.wasmi_core.specs.declared.calls.Reply.TheVariants.{Done, Value}
-use Rattle.wasmi_core.specs.State.{<a href="../../machine/State/index.html#State">State</a>, <a href="../../machine/State/index.html#live_at">live_at</a>}
-use Rattle.wasmi_core.specs.World.{<a href="../../machine/World/index.html#World">World</a>, <a href="../../machine/World/index.html#Turn">Turn</a>}
-use Rattle.wasmi_core.specs.Steps.{<a href="../../machine/Steps/index.html#Step">Step</a>, <a href="../../machine/Steps/index.html#RepliesWith">RepliesWith</a>}
-use Rattle.wasmi_core.specs.Runs.{<a href="../../machine/Runs/index.html#Run">Run</a>}
 
 -- an index of a machine: of a memory, a table, an element segment or a global, by the order of their making, or of a
 -- register
@@ -5777,34 +5646,89 @@ module _ {S : Type 0} (rules : <a href="../../meter/Limiter/index.html#Rules">Ru
       (w : <a href="../../machine/World/index.html#World">World</a> S) (first second : <a href="../../machine/World/index.html#Turn">Turn</a>) (w&#x27; : <a href="../../machine/World/index.html#World">World</a> S) → <a href="../../laws/Places/index.html#IsLocal">IsLocal</a> first.call → <a href="../../laws/Places/index.html#IsLocal">IsLocal</a> second.call
       → <a href="../../laws/Places/index.html#IsIndependent">IsIndependent</a> first.call second.call → <a href="../../machine/Runs/index.html#Run">Run</a> rules w (first ∷ second ∷ []) w&#x27;
       → <a href="../../machine/Runs/index.html#Run">Run</a> rules w (second ∷ first ∷ []) w&#x27;
+
+-- the state with this memory at an index
+abbrev pub <b id="with_memory_at">with_memory_at</b> : <a href="../../machine/State/index.html#State">State</a> → ℕ → <a href="../../store/Memory/index.html#MemoryValue">MemoryValue</a> → <a href="../../machine/State/index.html#State">State</a>
+<a href="../../laws/Places/index.html#with_memory_at">with_memory_at</a> s k x = <a href="../../machine/State/index.html#with_memories">with_memories</a> s (slice_set s.memories k (Live x))
+
+-- the state with this table at an index
+abbrev pub <b id="with_table_at">with_table_at</b> : <a href="../../machine/State/index.html#State">State</a> → ℕ → <a href="../../store/Table/index.html#TableValue">TableValue</a> → <a href="../../machine/State/index.html#State">State</a>
+<a href="../../laws/Places/index.html#with_table_at">with_table_at</a> s k x = <a href="../../machine/State/index.html#with_tables">with_tables</a> s (slice_set s.tables k (Live x))
+
+-- the state with another meter
+abbrev pub <b id="with_meter">with_meter</b> : <a href="../../machine/State/index.html#State">State</a> → <a href="../../meter/Meter/index.html#Meter">Meter</a> → <a href="../../machine/State/index.html#State">State</a>
+<a href="../../laws/Places/index.html#with_meter">with_meter</a> s m = record s { meter = m }
+
+module _ {S : Type 0} (rules : <a href="../../meter/Limiter/index.html#Rules">Rules</a> S) where
+  -- a memory that grows by itself, under the meter and the limiter of a machine that has this memory at an index, grows
+  -- as the machine&#x27;s does: with the same reply, and with what it leaves at the index
+  abbrev pub <b id="MemoriesGrowAlike">MemoriesGrowAlike</b> : Type 0
+  <a href="../../laws/Places/index.html#MemoriesGrowAlike">MemoriesGrowAlike</a> =
+      (w : <a href="../../machine/World/index.html#World">World</a> S) (k pages : ℕ) (x x&#x27; : <a href="../../store/Memory/index.html#MemoryValue">MemoryValue</a>) (result : Result ℕ MemoryError) (m&#x27; : <a href="../../meter/Meter/index.html#Meter">Meter</a>) (l&#x27; : S)
+      → <a href="../../machine/State/index.html#live_at">live_at</a> w.state.memories k ≡ Some x
+      → <a href="../../store/Memory/index.html#GrowsMemory">GrowsMemory</a> rules pages (<a href="../../store/Growth/index.html#metered_value">metered_value</a> x (Some w.state.meter) w.limiter) result
+      (<a href="../../store/Growth/index.html#metered_value">metered_value</a> x&#x27; (Some m&#x27;) l&#x27;)
+      → <a href="../../machine/Steps/index.html#RepliesWith">RepliesWith</a> rules (GrowMemory k pages) w (<a href="../../machine/Effects/index.html#reply_of">reply_of</a> Number Memory result)
+      (<a href="../../machine/World/index.html#world">world</a> (<a href="../../laws/Places/index.html#with_meter">with_meter</a> (<a href="../../laws/Places/index.html#with_memory_at">with_memory_at</a> w.state k x&#x27;) m&#x27;) l&#x27;)
+
+  -- a table that grows by itself grows as the one at an index of a machine does, with the same reply
+  abbrev pub <b id="TablesGrowAlike">TablesGrowAlike</b> : Type 0
+  <a href="../../laws/Places/index.html#TablesGrowAlike">TablesGrowAlike</a> =
+      (w : <a href="../../machine/World/index.html#World">World</a> S) (k n : ℕ) (init : TypedRawRef) (x x&#x27; : <a href="../../store/Table/index.html#TableValue">TableValue</a>) (result : Result ℕ TableError) (m&#x27; : <a href="../../meter/Meter/index.html#Meter">Meter</a>)
+      (l&#x27; : S) → <a href="../../machine/State/index.html#live_at">live_at</a> w.state.tables k ≡ Some x
+      → <a href="../../store/Table/index.html#GrowsTable">GrowsTable</a> rules n init (<a href="../../store/Growth/index.html#metered_value">metered_value</a> x (Some w.state.meter) w.limiter) result
+      (<a href="../../store/Growth/index.html#metered_value">metered_value</a> x&#x27; (Some m&#x27;) l&#x27;)
+      → <a href="../../machine/Steps/index.html#RepliesWith">RepliesWith</a> rules (GrowTable k n init) w (<a href="../../machine/Effects/index.html#reply_of">reply_of</a> Number Table result)
+      (<a href="../../machine/World/index.html#world">world</a> (<a href="../../laws/Places/index.html#with_meter">with_meter</a> (<a href="../../laws/Places/index.html#with_table_at">with_table_at</a> w.state k x&#x27;) m&#x27;) l&#x27;)
+
+  -- bytes that are read of a memory by itself are those that the machine answers, and a read past its end is refused
+  abbrev pub <b id="MemoriesReadAlike">MemoriesReadAlike</b> : Type 0
+  <a href="../../laws/Places/index.html#MemoriesReadAlike">MemoriesReadAlike</a> =
+      (w : <a href="../../machine/World/index.html#World">World</a> S) (k <a href="../../laws/Places/index.html#offset">offset</a> len : ℕ) (x : <a href="../../store/Memory/index.html#MemoryValue">MemoryValue</a>) → <a href="../../machine/State/index.html#live_at">live_at</a> w.state.memories k ≡ Some x
+      → MatchOption (<a href="../../types/Access/index.html#at">at</a> x.bytes <a href="../../laws/Places/index.html#offset">offset</a> len) (<a href="../../machine/Steps/index.html#RepliesWith">RepliesWith</a> rules (Read k <a href="../../laws/Places/index.html#offset">offset</a> len) w (Memory OutOfBoundsAccess) w)
+      (λ bytes. <a href="../../machine/Steps/index.html#RepliesWith">RepliesWith</a> rules (Read k <a href="../../laws/Places/index.html#offset">offset</a> len) w (Bytes bytes) w)
+
+  -- bytes that are written over those of a memory by itself are written by the machine&#x27;s call, or refused by it
+  abbrev pub <b id="MemoriesWriteAlike">MemoriesWriteAlike</b> : Type 0
+  <a href="../../laws/Places/index.html#MemoriesWriteAlike">MemoriesWriteAlike</a> =
+      (w : <a href="../../machine/World/index.html#World">World</a> S) (k <a href="../../laws/Places/index.html#offset">offset</a> : ℕ) (bytes : Vec ℕ _) (x x&#x27; : <a href="../../store/Memory/index.html#MemoryValue">MemoryValue</a>) (result : Result (Unit {0}) MemoryError)
+      → <a href="../../machine/State/index.html#live_at">live_at</a> w.state.memories k ≡ Some x → <a href="../../store/Memory/index.html#WritesMemory">WritesMemory</a> x <a href="../../laws/Places/index.html#offset">offset</a> bytes.items result x&#x27;
+      → <a href="../../machine/Steps/index.html#RepliesWith">RepliesWith</a> rules (Write k <a href="../../laws/Places/index.html#offset">offset</a> bytes) w (<a href="../../machine/Effects/index.html#reply_of">reply_of</a> (λ _. Done) Memory result)
+      (<a href="../../machine/World/index.html#world">world</a> (<a href="../../laws/Places/index.html#with_memory_at">with_memory_at</a> w.state k x&#x27;) w.limiter)
 </code></pre>
 "####]
     pub mod Places {}
-    #[doc = r####"Laws of whole runs.
+    #[doc = r####"Laws of whole runs, and of the meter over them.
 
-<pre><code>use Rattle.std.specs.Prelude.{◌≡◌, ◌≤◌, ◌++◌, ℕ, List, length, take, drop, map, Option, Some, slice_get, All}
+<pre><code>use Rattle.std.specs.Prelude.{◌≡◌, ◌≤◌, ◌++◌, ℕ, List, length, take, drop, map, Option, Some, slice_get, All, ◌+◌, is_some}
 use Rattle.wasmi_meter.specs.declared.limiter.Kind.{Kind}
-use Rattle.wasmi_meter.specs.declared.error.MemoryError.TheVariants as memory
-use Rattle.wasmi_meter.specs.declared.error.TableError.TheVariants as table
 use Rattle.wasmi_meter.specs.Limiter.{<a href="../../meter/Limiter/index.html#Rules">Rules</a>, <a href="../../meter/Limiter/index.html#optional_rules">optional_rules</a>}
 use Rattle.wasmi_meter.specs.declared.quota.Quota.{Quota}
 use Rattle.wasmi_meter.specs.Quota.{<a href="../../meter/Quota/index.html#IsWithinCaps">IsWithinCaps</a>, <a href="../../meter/Quota/index.html#cap_of">cap_of</a>, <a href="../../meter/Quota/index.html#holdings">holdings</a>, <a href="../../meter/Quota/index.html#quota_rules">quota_rules</a>}
 use Rattle.wasmi_core.specs.declared.calls.Call.{Call}
 use Rattle.wasmi_core.specs.declared.calls.Reply.{Reply}
-use Rattle.wasmi_core.specs.declared.calls.Reply.TheVariants as reply
 use Rattle.wasmi_core.specs.State.{<a href="../../machine/State/index.html#State">State</a>}
 use Rattle.wasmi_core.specs.World.{<a href="../../machine/World/index.html#World">World</a>, <a href="../../machine/World/index.html#Turn">Turn</a>, <a href="../../machine/World/index.html#world">world</a>, <a href="../../machine/World/index.html#IsRefusal">IsRefusal</a>}
 use Rattle.wasmi_core.specs.Steps.{<a href="../../machine/Steps/index.html#Step">Step</a>}
 use Rattle.wasmi_core.specs.Exchange.{<a href="../../machine/Exchange/index.html#Nowhere">Nowhere</a>, <a href="../../machine/Exchange/index.html#place_of">place_of</a>}
 use Rattle.wasmi_core.specs.Runs.{<a href="../../machine/Runs/index.html#Sequence">Sequence</a>, <a href="../../machine/Runs/index.html#Run">Run</a>, <a href="../../machine/Runs/index.html#IsRunOf">IsRunOf</a>}
 use Rattle.wasmi_core.specs.Totals.{<a href="../../machine/Totals/index.html#sizes">sizes</a>, <a href="../../machine/Totals/index.html#total">total</a>, <a href="../../machine/Totals/index.html#HoldsTotals">HoldsTotals</a>}
+use Rattle.std.specs.Option.{option_map}
+use Rattle.wasmi_meter.specs.Meter.{<a href="../../meter/Meter/index.html#Meter">Meter</a>, <a href="../../meter/Meter/index.html#amount_left">amount_left</a>}
+use Rattle.wasmi_core.specs.declared.calls.Call.TheVariants.{SetFuel, GetFuel}
+use Rattle.wasmi_core.specs.declared.calls.Reply.TheVariants.{Memory, Table}
+use Rattle.wasmi_core.specs.Account.{<a href="../../machine/Account/index.html#SetsNoFuel">SetsNoFuel</a>}
+use Rattle.wasmi_core.specs.Determinism.{<a href="../../machine/Determinism/index.html#AcceptsNotices">AcceptsNotices</a>}
+use Rattle.wasmi_meter.specs.declared.error.MemoryError.TheVariants as memory
+use Rattle.wasmi_meter.specs.declared.error.TableError.TheVariants as table
+use Rattle.wasmi_core.specs.declared.calls.Reply.TheVariants as reply
 
 -- the replies are those of two runs in a row: of the first calls, and of the others from where these end
 pub record <b id="IsRunInTwo">IsRunInTwo</b> {S : Type 0} (rules : <a href="../../meter/Limiter/index.html#Rules">Rules</a> S) (first rest : List Call) (u : <a href="../../machine/World/index.html#World">World</a> S) (replies : List Reply)
-    (w : <a href="../../machine/World/index.html#World">World</a> S) : Type 0 where
+    (<a href="../../laws/Runs/index.html#w">w</a> : <a href="../../machine/World/index.html#World">World</a> S) : Type 0 where
   pub <b id="between">between</b> : <a href="../../machine/World/index.html#World">World</a> S
   pub <b id="first_run">first_run</b> : <a href="../../machine/Runs/index.html#IsRunOf">IsRunOf</a> rules first u (take (length first) replies) <a href="../../laws/Runs/index.html#between">between</a>
-  pub <b id="rest_run">rest_run</b> : <a href="../../machine/Runs/index.html#IsRunOf">IsRunOf</a> rules rest <a href="../../laws/Runs/index.html#between">between</a> (drop (length first) replies) w
+  pub <b id="rest_run">rest_run</b> : <a href="../../machine/Runs/index.html#IsRunOf">IsRunOf</a> rules rest <a href="../../laws/Runs/index.html#between">between</a> (drop (length first) replies) <a href="../../laws/Runs/index.html#w">w</a>
 
 -- The reply is a refusal that is found before the limiter is asked and before anything is charged: a trap, an index
 -- that names nothing, an access past the end, another type, metering that is off, or no place for a new slot.
@@ -5828,45 +5752,45 @@ module _ {S : Type 0} (rules : <a href="../../meter/Limiter/index.html#Rules">Ru
   -- a run of turns is, at each place, a run of those before it, and a run of the others from where these end
   abbrev pub <b id="RunsAreCut">RunsAreCut</b> : Type 0
   <a href="../../laws/Runs/index.html#RunsAreCut">RunsAreCut</a> =
-      (u : <a href="../../machine/World/index.html#World">World</a> S) (turns turns&#x27; : List <a href="../../machine/World/index.html#Turn">Turn</a>) (w : <a href="../../machine/World/index.html#World">World</a> S) → <a href="../../machine/Runs/index.html#Run">Run</a> rules u (turns ++ turns&#x27;) w
-      → (v : <a href="../../machine/World/index.html#World">World</a> S) × <a href="../../machine/Runs/index.html#Run">Run</a> rules u turns v × <a href="../../machine/Runs/index.html#Run">Run</a> rules v turns&#x27; w
+      (u : <a href="../../machine/World/index.html#World">World</a> S) (turns turns&#x27; : List <a href="../../machine/World/index.html#Turn">Turn</a>) (<a href="../../laws/Runs/index.html#w">w</a> : <a href="../../machine/World/index.html#World">World</a> S) → <a href="../../machine/Runs/index.html#Run">Run</a> rules u (turns ++ turns&#x27;) <a href="../../laws/Runs/index.html#w">w</a>
+      → (v : <a href="../../machine/World/index.html#World">World</a> S) × <a href="../../machine/Runs/index.html#Run">Run</a> rules u turns v × <a href="../../machine/Runs/index.html#Run">Run</a> rules v turns&#x27; <a href="../../laws/Runs/index.html#w">w</a>
 
   -- a run of calls is, at each place, two runs in a row
   abbrev pub <b id="RunsOfCallsAreCut">RunsOfCallsAreCut</b> : Type 0
   <a href="../../laws/Runs/index.html#RunsOfCallsAreCut">RunsOfCallsAreCut</a> =
-      (calls calls&#x27; : List Call) (u : <a href="../../machine/World/index.html#World">World</a> S) (replies : List Reply) (w : <a href="../../machine/World/index.html#World">World</a> S)
-      → <a href="../../machine/Runs/index.html#IsRunOf">IsRunOf</a> rules (calls ++ calls&#x27;) u replies w → <a href="../../laws/Runs/index.html#IsRunInTwo">IsRunInTwo</a> rules calls calls&#x27; u replies w
+      (calls calls&#x27; : List Call) (u : <a href="../../machine/World/index.html#World">World</a> S) (replies : List Reply) (<a href="../../laws/Runs/index.html#w">w</a> : <a href="../../machine/World/index.html#World">World</a> S)
+      → <a href="../../machine/Runs/index.html#IsRunOf">IsRunOf</a> rules (calls ++ calls&#x27;) u replies <a href="../../laws/Runs/index.html#w">w</a> → <a href="../../laws/Runs/index.html#IsRunInTwo">IsRunInTwo</a> rules calls calls&#x27; u replies <a href="../../laws/Runs/index.html#w">w</a>
 
   -- each size, of a memory in bytes or of a table in elements, stays at its index in a run and doesn&#x27;t shrink
   abbrev pub <b id="SizesNeverShrink">SizesNeverShrink</b> : Type 0
   <a href="../../laws/Runs/index.html#SizesNeverShrink">SizesNeverShrink</a> =
-      (w : <a href="../../machine/World/index.html#World">World</a> S) (turns : List <a href="../../machine/World/index.html#Turn">Turn</a>) (w&#x27; : <a href="../../machine/World/index.html#World">World</a> S) → <a href="../../machine/Runs/index.html#Run">Run</a> rules w turns w&#x27;
+      (<a href="../../laws/Runs/index.html#w">w</a> : <a href="../../machine/World/index.html#World">World</a> S) (turns : List <a href="../../machine/World/index.html#Turn">Turn</a>) (w&#x27; : <a href="../../machine/World/index.html#World">World</a> S) → <a href="../../machine/Runs/index.html#Run">Run</a> rules <a href="../../laws/Runs/index.html#w">w</a> turns w&#x27;
       → (kind : Kind) (k n : ℕ) → slice_get (<a href="../../machine/Totals/index.html#sizes">sizes</a> w.state kind) k ≡ Some n
       → (n&#x27; : ℕ) × (slice_get (<a href="../../machine/Totals/index.html#sizes">sizes</a> w&#x27;.state kind) k ≡ Some n&#x27;) × (n ≤ n&#x27;)
 
   -- the totals of a machine don&#x27;t shrink in a run
   abbrev pub <b id="TotalsNeverShrink">TotalsNeverShrink</b> : Type 0
   <a href="../../laws/Runs/index.html#TotalsNeverShrink">TotalsNeverShrink</a> =
-      (w : <a href="../../machine/World/index.html#World">World</a> S) (turns : List <a href="../../machine/World/index.html#Turn">Turn</a>) (w&#x27; : <a href="../../machine/World/index.html#World">World</a> S) → <a href="../../machine/Runs/index.html#Run">Run</a> rules w turns w&#x27;
+      (<a href="../../laws/Runs/index.html#w">w</a> : <a href="../../machine/World/index.html#World">World</a> S) (turns : List <a href="../../machine/World/index.html#Turn">Turn</a>) (w&#x27; : <a href="../../machine/World/index.html#World">World</a> S) → <a href="../../machine/Runs/index.html#Run">Run</a> rules <a href="../../laws/Runs/index.html#w">w</a> turns w&#x27;
       → (kind : Kind) → <a href="../../machine/Totals/index.html#total">total</a> w.state kind ≤ <a href="../../machine/Totals/index.html#total">total</a> w&#x27;.state kind
 
   -- a turn with a plain refusal leaves the machine, its meter and the limiter as they were
   abbrev pub <b id="PlainRefusalsChangeNothing">PlainRefusalsChangeNothing</b> : Type 0
   <a href="../../laws/Runs/index.html#PlainRefusalsChangeNothing">PlainRefusalsChangeNothing</a> =
-      (w : <a href="../../machine/World/index.html#World">World</a> S) (turn : <a href="../../machine/World/index.html#Turn">Turn</a>) (w&#x27; : <a href="../../machine/World/index.html#World">World</a> S) → <a href="../../machine/Steps/index.html#Step">Step</a> rules w turn w&#x27; → <a href="../../laws/Runs/index.html#IsPlainRefusal">IsPlainRefusal</a> turn.reply → w&#x27; ≡ w
+      (<a href="../../laws/Runs/index.html#w">w</a> : <a href="../../machine/World/index.html#World">World</a> S) (turn : <a href="../../machine/World/index.html#Turn">Turn</a>) (w&#x27; : <a href="../../machine/World/index.html#World">World</a> S) → <a href="../../machine/Steps/index.html#Step">Step</a> rules <a href="../../laws/Runs/index.html#w">w</a> turn w&#x27; → <a href="../../laws/Runs/index.html#IsPlainRefusal">IsPlainRefusal</a> turn.reply → w&#x27; ≡ <a href="../../laws/Runs/index.html#w">w</a>
 
   -- a refused turn of a call that makes nothing and lets nothing grow leaves the machine, its meter and the limiter as
   -- they were
   abbrev pub <b id="OtherRefusalsChangeNothing">OtherRefusalsChangeNothing</b> : Type 0
   <a href="../../laws/Runs/index.html#OtherRefusalsChangeNothing">OtherRefusalsChangeNothing</a> =
-      (w : <a href="../../machine/World/index.html#World">World</a> S) (turn : <a href="../../machine/World/index.html#Turn">Turn</a>) (w&#x27; : <a href="../../machine/World/index.html#World">World</a> S) → <a href="../../machine/Steps/index.html#Step">Step</a> rules w turn w&#x27; → <a href="../../machine/Exchange/index.html#place_of">place_of</a> turn.call ≡ <a href="../../machine/Exchange/index.html#Nowhere">Nowhere</a>
-      → <a href="../../machine/World/index.html#IsRefusal">IsRefusal</a> turn.reply → w&#x27; ≡ w
+      (<a href="../../laws/Runs/index.html#w">w</a> : <a href="../../machine/World/index.html#World">World</a> S) (turn : <a href="../../machine/World/index.html#Turn">Turn</a>) (w&#x27; : <a href="../../machine/World/index.html#World">World</a> S) → <a href="../../machine/Steps/index.html#Step">Step</a> rules <a href="../../laws/Runs/index.html#w">w</a> turn w&#x27; → <a href="../../machine/Exchange/index.html#place_of">place_of</a> turn.call ≡ <a href="../../machine/Exchange/index.html#Nowhere">Nowhere</a>
+      → <a href="../../machine/World/index.html#IsRefusal">IsRefusal</a> turn.reply → w&#x27; ≡ <a href="../../laws/Runs/index.html#w">w</a>
 
   -- a run in which each reply is a plain refusal leaves the machine, its meter and the limiter as they were
   abbrev pub <b id="PlainlyRefusedRunsChangeNothing">PlainlyRefusedRunsChangeNothing</b> : Type 0
   <a href="../../laws/Runs/index.html#PlainlyRefusedRunsChangeNothing">PlainlyRefusedRunsChangeNothing</a> =
-      (w : <a href="../../machine/World/index.html#World">World</a> S) (turns : List <a href="../../machine/World/index.html#Turn">Turn</a>) (w&#x27; : <a href="../../machine/World/index.html#World">World</a> S) → <a href="../../machine/Runs/index.html#Run">Run</a> rules w turns w&#x27;
-      → All <a href="../../laws/Runs/index.html#IsPlainRefusal">IsPlainRefusal</a> (map Turn.reply turns) → w&#x27; ≡ w
+      (<a href="../../laws/Runs/index.html#w">w</a> : <a href="../../machine/World/index.html#World">World</a> S) (turns : List <a href="../../machine/World/index.html#Turn">Turn</a>) (w&#x27; : <a href="../../machine/World/index.html#World">World</a> S) → <a href="../../machine/Runs/index.html#Run">Run</a> rules <a href="../../laws/Runs/index.html#w">w</a> turns w&#x27;
+      → All <a href="../../laws/Runs/index.html#IsPlainRefusal">IsPlainRefusal</a> (map Turn.reply turns) → w&#x27; ≡ <a href="../../laws/Runs/index.html#w">w</a>
 
 -- a machine has no more of each kind than the caps of a quota
 abbrev pub <b id="IsWithinCapsOf">IsWithinCapsOf</b> : Quota → <a href="../../machine/State/index.html#State">State</a> → Type 0
@@ -5881,6 +5805,55 @@ abbrev pub <b id="CapsHoldInRuns">CapsHoldInRuns</b> : Type 0
     → <a href="../../machine/Runs/index.html#Run">Run</a> (<a href="../../meter/Limiter/index.html#optional_rules">optional_rules</a> <a href="../../meter/Quota/index.html#quota_rules">quota_rules</a>) (<a href="../../machine/World/index.html#world">world</a> s (Some quota)) turns w&#x27;
     → <a href="../../machine/Runs/index.html#Sequence">Sequence</a> (λ v turn v&#x27;. <a href="../../machine/Steps/index.html#Step">Step</a> (<a href="../../meter/Limiter/index.html#optional_rules">optional_rules</a> <a href="../../meter/Quota/index.html#quota_rules">quota_rules</a>) v turn v&#x27; × <a href="../../laws/Runs/index.html#IsWithinCapsOf">IsWithinCapsOf</a> quota v&#x27;.state)
     (<a href="../../machine/World/index.html#world">world</a> s (Some quota)) turns w&#x27;
+
+-- the meter with so much more fuel left; one that is off stays
+abbrev pub <b id="meter_with_more">meter_with_more</b> : ℕ → <a href="../../meter/Meter/index.html#Meter">Meter</a> → <a href="../../meter/Meter/index.html#Meter">Meter</a>
+<a href="../../laws/Runs/index.html#meter_with_more">meter_with_more</a> more m = record m { left = option_map (λ left. left + more) m.left }
+
+-- the world whose meter has so much more fuel left
+abbrev pub <b id="world_with_more">world_with_more</b> : {S : Type 0} → ℕ → <a href="../../machine/World/index.html#World">World</a> S → <a href="../../machine/World/index.html#World">World</a> S
+<a href="../../laws/Runs/index.html#world_with_more">world_with_more</a> more <a href="../../laws/Runs/index.html#w">w</a> =
+    record <b id="w">w</b> { state = record w.state { meter = <a href="../../laws/Runs/index.html#meter_with_more">meter_with_more</a> more w.state.meter } }
+
+-- the call neither sets the fuel nor asks for it
+abbrev pub <b id="NamesNoFuel">NamesNoFuel</b> : Call → Type 0
+<a href="../../laws/Runs/index.html#NamesNoFuel">NamesNoFuel</a> (SetFuel fuel) = ⊥
+<a href="../../laws/Runs/index.html#NamesNoFuel">NamesNoFuel</a> GetFuel = ⊥
+<a href="../../laws/Runs/index.html#NamesNoFuel">NamesNoFuel</a> call = Unit {0}
+
+-- the reply doesn&#x27;t say that fuel was wanting
+abbrev pub <b id="HasFuel">HasFuel</b> : Reply → Type 0
+<a href="../../laws/Runs/index.html#HasFuel">HasFuel</a> (Memory (memory.OutOfFuel required)) = ⊥
+<a href="../../laws/Runs/index.html#HasFuel">HasFuel</a> (Table (table.OutOfFuel required)) = ⊥
+<a href="../../laws/Runs/index.html#HasFuel">HasFuel</a> reply = Unit {0}
+
+module _ {S : Type 0} (rules : <a href="../../meter/Limiter/index.html#Rules">Rules</a> S) where
+  -- a run keeps the costs of the meter
+  abbrev pub <b id="CostsAreKept">CostsAreKept</b> : Type 0
+  <a href="../../laws/Runs/index.html#CostsAreKept">CostsAreKept</a> =
+      (<a href="../../laws/Runs/index.html#w">w</a> : <a href="../../machine/World/index.html#World">World</a> S) (turns : List <a href="../../machine/World/index.html#Turn">Turn</a>) (w&#x27; : <a href="../../machine/World/index.html#World">World</a> S) → <a href="../../machine/Runs/index.html#Run">Run</a> rules <a href="../../laws/Runs/index.html#w">w</a> turns w&#x27;
+      → w&#x27;.state.meter.costs ≡ w.state.meter.costs
+
+  -- a meter that is on is on after a run, and one that is off is off
+  abbrev pub <b id="SwitchIsKept">SwitchIsKept</b> : Type 0
+  <a href="../../laws/Runs/index.html#SwitchIsKept">SwitchIsKept</a> =
+      (<a href="../../laws/Runs/index.html#w">w</a> : <a href="../../machine/World/index.html#World">World</a> S) (turns : List <a href="../../machine/World/index.html#Turn">Turn</a>) (w&#x27; : <a href="../../machine/World/index.html#World">World</a> S) → <a href="../../machine/Runs/index.html#Run">Run</a> rules <a href="../../laws/Runs/index.html#w">w</a> turns w&#x27;
+      → is_some w&#x27;.state.meter.left ≡ is_some w.state.meter.left
+
+  -- a run of calls that don&#x27;t set the fuel leaves no more than there was
+  abbrev pub <b id="FuelNeverRises">FuelNeverRises</b> : Type 0
+  <a href="../../laws/Runs/index.html#FuelNeverRises">FuelNeverRises</a> =
+      (<a href="../../laws/Runs/index.html#w">w</a> : <a href="../../machine/World/index.html#World">World</a> S) (turns : List <a href="../../machine/World/index.html#Turn">Turn</a>) (w&#x27; : <a href="../../machine/World/index.html#World">World</a> S) → <a href="../../machine/Runs/index.html#Run">Run</a> rules <a href="../../laws/Runs/index.html#w">w</a> turns w&#x27;
+      → All <a href="../../machine/Account/index.html#SetsNoFuel">SetsNoFuel</a> (map Turn.call turns) → <a href="../../meter/Meter/index.html#amount_left">amount_left</a> w&#x27;.state.meter ≤ <a href="../../meter/Meter/index.html#amount_left">amount_left</a> w.state.meter
+
+-- if the limiter accepts each notice, a run of calls that neither set the fuel nor ask for it, in which no reply says
+-- that fuel was wanting, is the same run with any more fuel, all of which is left then
+abbrev pub <b id="MoreFuelChangesNothing">MoreFuelChangesNothing</b> : {L : Type 0} → <a href="../../meter/Limiter/index.html#Rules">Rules</a> L → Type 0
+<a href="../../laws/Runs/index.html#MoreFuelChangesNothing">MoreFuelChangesNothing</a> {L} rules =
+    <a href="../../machine/Determinism/index.html#AcceptsNotices">AcceptsNotices</a> rules → (more : ℕ) (<a href="../../laws/Runs/index.html#w">w</a> : <a href="../../machine/World/index.html#World">World</a> (Option L)) (turns : List <a href="../../machine/World/index.html#Turn">Turn</a>) (w&#x27; : <a href="../../machine/World/index.html#World">World</a> (Option L))
+    → All <a href="../../laws/Runs/index.html#NamesNoFuel">NamesNoFuel</a> (map Turn.call turns) → All <a href="../../laws/Runs/index.html#HasFuel">HasFuel</a> (map Turn.reply turns)
+    → <a href="../../machine/Runs/index.html#Run">Run</a> (<a href="../../meter/Limiter/index.html#optional_rules">optional_rules</a> rules) <a href="../../laws/Runs/index.html#w">w</a> turns w&#x27;
+    → <a href="../../machine/Runs/index.html#Run">Run</a> (<a href="../../meter/Limiter/index.html#optional_rules">optional_rules</a> rules) (<a href="../../laws/Runs/index.html#world_with_more">world_with_more</a> more <a href="../../laws/Runs/index.html#w">w</a>) turns (<a href="../../laws/Runs/index.html#world_with_more">world_with_more</a> more w&#x27;)
 </code></pre>
 "####]
     pub mod Runs {}

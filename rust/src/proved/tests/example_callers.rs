@@ -81,12 +81,7 @@ pub mod bill {
     /// ensures: IsTrue result ↔ All SetsNoFuel calls.now
     /// ```
     fn is_billable(calls: &[Call]) -> bool {
-        for call in calls {
-            if call.sets_fuel() {
-                return false;
-            }
-        }
-        true
+        !calls.iter().any(Call::sets_fuel)
     }
 
     /// What is left, or 0 if metering is off.
@@ -498,9 +493,7 @@ pub mod interpreter {
 pub mod limiter {
     //! A limiter of one's own, and what grows under it.
 
-    use crate::proved::machine::{
-        Fuel, LimiterError, Memory, MemoryError, ResourceLimiter, TableError,
-    };
+    use crate::proved::machine::{Fuel, Kind, LimiterByKind, LimiterError, Memory, MemoryError};
 
     /// Permits each memory up to a number of bytes, and no table.
     #[derive(Clone, Copy, Debug)]
@@ -509,43 +502,13 @@ pub mod limiter {
         pub bytes: usize,
     }
 
-    impl ResourceLimiter for AtMost {
-        fn memory_growing(
-            &mut self,
-            _current: usize,
-            desired: usize,
-            _maximum: Option<usize>,
-        ) -> Result<bool, LimiterError> {
-            Ok(desired <= self.bytes)
+    impl LimiterByKind for AtMost {
+        fn growing(&mut self, kind: Kind, _from: usize, to: usize) -> Result<bool, LimiterError> {
+            Ok(kind == Kind::Bytes && to <= self.bytes)
         }
 
-        fn table_growing(
-            &mut self,
-            _current: usize,
-            _desired: usize,
-            _maximum: Option<usize>,
-        ) -> Result<bool, LimiterError> {
-            Ok(false)
-        }
-
-        fn memory_grow_failed(&mut self, _error: &MemoryError) -> Result<(), LimiterError> {
+        fn grow_failed(&mut self, _kind: Kind) -> Result<(), LimiterError> {
             Ok(())
-        }
-
-        fn table_grow_failed(&mut self, _error: &TableError) -> Result<(), LimiterError> {
-            Ok(())
-        }
-
-        fn instances(&self) -> usize {
-            usize::MAX
-        }
-
-        fn tables(&self) -> usize {
-            usize::MAX
-        }
-
-        fn memories(&self) -> usize {
-            usize::MAX
         }
     }
 

@@ -4,7 +4,7 @@ use Rattle.wasmi_meter.specs.Limiter.{optional_rules}
 use Rattle.wasmi_core.specs.World.{world}
 use Rattle.wasmi_core.specs.declared.calls.Reply.TheVariants.{Done}
 use Rattle.wasmi_laws.specs.Places.{LeavesAlone, MemoryAt, load_call, store_call}
-use Rattle.wasmi_law_callers.proofs.PlacesLemmas.{answers_as, answers_call}
+use Rattle.wasmi_law_callers.proofs.RunsLemmas.{answers_as, answers_call}
 use Rattle.wasmi_law_callers.proofs.places.load_stored.Goals as goal
 
 pub returns : goal.returns

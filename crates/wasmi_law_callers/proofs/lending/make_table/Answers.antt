@@ -1,5 +1,0 @@
-use Rattle.wasmi_law_callers.proofs.LendingLemmas.{table_made_counts}
-use Rattle.wasmi_law_callers.proofs.lending.make_table.Goals as goal
-
-pub returns : goal.returns
-returns c = table_made_counts _ _ c.args.ty c.args.init _ c.new_lending.ensures

@@ -1,0 +1,213 @@
+-- What was stored is read back, and memories and tables by themselves, as those at an index of a machine.
+use Rattle.std.proofs.Common.{Err, List, Ok, Result, Some, ap, length, mod-eq_of_lt, pos, pow_pos, refl, subst, sym, ℕ, ◌%◌, ◌*◌, ◌+◌, ◌^◌, ◌∙◌, ◌≡◌, Option, None, inr}
+use Rattle.std.proofs.lemmas.Nat.{mod_below}
+use Rattle.std.proofs.lemmas.Option.{same_Some}
+use Rattle.std.specs.Int.{Width, w32, w64}
+use Rattle.std.specs.Option.{option_and_then}
+use Rattle.std.specs.Prelude.{slice_get, MatchOption, slice_set}
+use Rattle.wasmi_access.proofs.AccessLemmas.{loaded-stored, outside-stored}
+use Rattle.wasmi_access.specs.LoadStore.{IsSameOutside, IsStore, loaded}
+use Rattle.wasmi_core.proofs.EffectLemmas.{on_live}
+use Rattle.wasmi_core.proofs.MemoryEffectsLemmas.{stored_count}
+use Rattle.wasmi_core.specs.Effects.{reply_of}
+use Rattle.wasmi_core.specs.MemoryEffects.{StoresMemory, load_reply, bytes_appended}
+use Rattle.wasmi_core.specs.State.{State, live_at, live_value}
+use Rattle.wasmi_core.specs.Steps.{RepliesWith}
+use Rattle.wasmi_core.specs.World.{World}
+use Rattle.wasmi_core.specs.declared.calls.Call.TheVariants.{Read}
+use Rattle.wasmi_core.specs.declared.calls.Reply.TheVariants.{Done, NoSuch, Trap, Value, Bytes, Memory, Number, Table}
+use Rattle.wasmi_core.specs.declared.slots.Slot.TheVariants.{Live}
+use Rattle.wasmi_laws.proofs.ListLemmas.{live_slot, set_same}
+use Rattle.wasmi_laws.proofs.LocationLemmas.{others_stay_in_runs}
+use Rattle.wasmi_laws.specs.Places.{MemoryAt, NumberStore, StoresAreReadBack, StoresKeepOtherBytes, load_of, store_call, stored_part, stored_size, MemoriesGrowAlike, TablesGrowAlike, MemoriesReadAlike, MemoriesWriteAlike}
+use Rattle.wasmi_meter.specs.Limiter.{Rules}
+use Rattle.wasmi_ops.specs.RawResults.{as_raw, signed_raw}
+use Rattle.wasmi_ops.specs.ScalarAccessOps.{loaded_raw, stored_bytes}
+use Rattle.wasmi_ops.specs.declared.scalar.access.StoreOp.{StoreOp}
+use Rattle.wasmi_raw.specs.RawVal.{raw_of}
+use Rattle.wasmi_raw.specs.declared.raw.RawVal.{RawVal}
+use Rattle.wasmi_store.specs.Memory.{MemoryValue}
+use Rattle.wasmi_types.specs.Bytes.{le_bytes}
+use Rattle.wasmi_types.specs.declared.trap.TrapCode.{TrapCode}
+use Rattle.wasmi_types.specs.Access.{at}
+use Rattle.wasmi_meter.specs.declared.error.MemoryError.TheVariants.{OutOfBoundsAccess}
+use Rattle.wasmi_core.specs.TableEffects.{element_bytes}
+use Rattle.wasmi_ops.specs.declared.scalar.access.StoreOp.TheVariants as store
+
+-- a number cut twice to as many bits
+cut_twice : (n k : ℕ) → n % 2 ^ k % 2 ^ k ≡ n % 2 ^ k
+cut_twice n k = mod-eq_of_lt (mod_below n (2 ^ k) (pow_pos k))
+
+module _ (value : RawVal) (a : ℕ) (old new : List ℕ) where
+  -- what a load without a sign gives of the low bits of a value that were stored
+  narrow_read : (w : Width) (k n : ℕ) → (is : IsStore old a (le_bytes k (value.lo % 2 ^ n)) new (Ok (tt {0})))
+      → 8 * k ≡ n
+      → as_raw (signed_raw w) (loaded k pos new a) ≡ Ok (raw_of (value.lo % 2 ^ n))
+  narrow_read w k n is bits =
+      ap (as_raw (signed_raw w)) (loaded-stored k (value.lo % 2 ^ n) a old new pos is)
+      ∙ ap (λ m. Ok (raw_of (value.lo % 2 ^ n % 2 ^ m))) bits
+      ∙ ap (λ m. Ok (raw_of m)) (cut_twice value.lo n)
+
+  -- so for each store
+  read_back : (op : StoreOp) → IsStore old a (stored_bytes op value) new (Ok (tt {0}))
+      → loaded_raw (load_of op) new a ≡ Ok (stored_part op value)
+  read_back store.I32Store8 is = narrow_read w32 1 8 is refl
+  read_back store.I32Store16 is = narrow_read w32 2 16 is refl
+  read_back store.I64Store8 is = narrow_read w64 1 8 is refl
+  read_back store.I64Store16 is = narrow_read w64 2 16 is refl
+  read_back store.I64Store32 is = narrow_read w64 4 32 is refl
+  read_back store.Store32 is =
+      ap (as_raw raw_of) (loaded-stored 4 (value.lo % 2 ^ 32) a old new (λ n. n) is)
+      ∙ ap (λ m. Ok (raw_of m)) (cut_twice value.lo 32)
+  read_back store.Store64 is = ap (as_raw raw_of) (loaded-stored 8 value.lo a old new (λ n. n) is)
+
+  -- and what it leaves
+  outside : (op : StoreOp) → IsStore old a (stored_bytes op value) new (Ok (tt {0}))
+      → IsSameOutside old new a (stored_size op)
+  outside store.I32Store8 is = outside-stored 1 (value.lo % 2 ^ 8) a old new is
+  outside store.I32Store16 is = outside-stored 2 (value.lo % 2 ^ 16) a old new is
+  outside store.I64Store8 is = outside-stored 1 (value.lo % 2 ^ 8) a old new is
+  outside store.I64Store16 is = outside-stored 2 (value.lo % 2 ^ 16) a old new is
+  outside store.I64Store32 is = outside-stored 4 (value.lo % 2 ^ 32) a old new is
+  outside store.Store32 is = outside-stored 4 (value.lo % 2 ^ 32) a old new is
+  outside store.Store64 is = outside-stored 8 value.lo a old new is
+
+-- an accepted store to the memory of an index: the memory before it and after it
+record Stored (k a : ℕ) (stored : List ℕ) (s s' : State) : Type 0 where
+  before : MemoryValue
+  after : MemoryValue
+  was : live_at s.memories k ≡ Some before
+  here : slice_get s'.memories k ≡ Some (Live after)
+  store : StoresMemory before a stored (Ok tt) after
+
+-- the result of a store whose reply is that it is done
+accepted : (x x' : MemoryValue) (a : ℕ) (stored : List ℕ) (result : Result (Unit {0}) TrapCode)
+    → Done ≡ reply_of (λ _. Done) Trap result → StoresMemory x a stored result x' → StoresMemory x a stored (Ok tt) x'
+accepted x x' a stored (Ok done) is stores = stores
+accepted x x' a stored (Err trap) is stores = absurd cc
+
+-- no store is done where nothing is
+none_done : Done ≡ NoSuch → ⊥
+none_done is = cc
+
+module _ {S : Type 0} (rules : Rules S) (it : NumberStore) where
+  -- where it is stored
+  abbrev address : ℕ
+  address = it.ptr + it.offset
+
+  -- what is stored
+  abbrev bytes : List ℕ
+  bytes = stored_bytes it.op it.value
+
+  -- by its step
+  stored_by : (t u : World S) → RepliesWith rules (store_call it) t Done u
+      → Stored it.memory address bytes t.state u.state
+  stored_by t u (charge, written, step) =
+      on_live (live_at t.state.memories it.memory) _ _ step.effect.effect
+      (λ missing. absurd (none_done missing.0))
+      (λ x found h. record {
+        before = x;
+        after = h.0;
+        was = found;
+        here = ap (λ (v : World S). slice_get v.state.memories it.memory) step.after
+            ∙ ap (λ (s : State). slice_get s.memories it.memory) step.effect.after
+            ∙ ap (λ slots. slice_get slots it.memory) h.2
+            ∙ set_same t.state.memories it.memory (Live h.0) (Live x)
+            (live_slot (slice_get t.state.memories it.memory) x found);
+        store = accepted x h.0 address bytes h.1.0 h.1.2 h.1.1;
+      })
+
+-- what is loaded of it
+pub stores_are_read_back : {S : Type 0} (rules : Rules S) → StoresAreReadBack rules
+stores_are_read_back rules it t u v w turns reply stores ran leaves (charge, written, step) =
+    let stored = stored_by rules it t u stores in
+    let there = others_stay_in_runs rules u turns v ran (MemoryAt it.memory) leaves (Live stored.after) stored.here in (
+      step.effect
+          ∙ ap (λ slot. load_reply (load_of it.op) (it.ptr + it.offset) (option_and_then live_value slot)) there
+          ∙ ap (reply_of Value Trap)
+          (read_back it.value (it.ptr + it.offset) stored.before.bytes stored.after.bytes it.op stored.store.0),
+      step.after,
+    )
+
+-- what it leaves
+pub stores_keep_other_bytes : {S : Type 0} (rules : Rules S) → StoresKeepOtherBytes rules
+stores_keep_other_bytes rules it t u stores x x' found found' =
+    let a = it.ptr + it.offset in
+    let stored = stored_by rules it t u stores in
+    let before : stored.before ≡ x = same_Some stored.before x (sym stored.was ∙ found) in
+    let after : stored.after ≡ x' =
+    same_Some stored.after x' (sym (ap (option_and_then live_value) stored.here) ∙ found') in
+    let left : IsSameOutside stored.before.bytes stored.after.bytes a (stored_size it.op)
+    × (length stored.after.bytes ≡ length stored.before.bytes) = (
+      outside it.value a stored.before.bytes stored.after.bytes it.op stored.store.0,
+      stored_count stored.before stored.after a (stored_bytes it.op it.value) (Ok tt) stored.store,
+    ) in
+    subst (λ (y : MemoryValue). IsSameOutside y.bytes x'.bytes a (stored_size it.op)
+    × (length x'.bytes ≡ length y.bytes)) before
+    (subst (λ (y : MemoryValue). IsSameOutside stored.before.bytes y.bytes a (stored_size it.op)
+    × (length y.bytes ≡ length stored.before.bytes)) after left)
+
+module _ {S : Type 0} (rules : Rules S) where
+  -- a memory grows
+  pub memories_grow : MemoriesGrowAlike rules
+  memories_grow w k pages x x' result m' l' found (charge, grows) = (
+    charge,
+    bytes_appended (live_at w.state.memories k) pages (reply_of Number Memory result),
+    record {
+      part = slice_set w.state.memories k (Live x');
+      meter = m';
+      limiter = l';
+      effect = rw found (result, x', grows, refl, refl);
+      wrote = refl;
+      after = refl;
+    },
+  )
+
+  -- a table grows
+  pub tables_grow : TablesGrowAlike rules
+  tables_grow w k n init x x' result m' l' found (charge, grows) = (
+    charge,
+    element_bytes n (reply_of Number Table result),
+    record {
+      part = slice_set w.state.tables k (Live x');
+      meter = m';
+      limiter = l';
+      effect = rw found (result, x', grows, refl, refl);
+      wrote = refl;
+      after = refl;
+    },
+  )
+
+  -- a read, by what is found of the memory
+  read_by : (w : World S) (k offset len : ℕ) (x : MemoryValue) → live_at w.state.memories k ≡ Some x
+      → (found : Option (List ℕ)) → at x.bytes offset len ≡ found
+      → MatchOption found (RepliesWith rules (Read k offset len) w (Memory OutOfBoundsAccess) w)
+      (λ bytes. RepliesWith rules (Read k offset len) w (Bytes bytes) w)
+  read_by w k offset len x live None is =
+      (0, 0, record { free = (refl, refl); effect = rw (live, is) refl; after = refl })
+  read_by w k offset len x live (Some bytes) is =
+      (0, 0, record { free = (refl, refl); effect = rw (live, is) (inr refl); after = refl })
+
+  -- a memory is read
+  pub memories_read : MemoriesReadAlike rules
+  memories_read w k offset len x live = read_by w k offset len x live (at x.bytes offset len) refl
+
+  -- a memory is written
+  pub memories_write : MemoriesWriteAlike rules
+  memories_write w k offset bytes x x' result found writes = (
+    0,
+    0,
+    record {
+      free = (refl, refl);
+      machine = _;
+      effect = record {
+        part = slice_set w.state.memories k (Live x');
+        effect = rw found (x', (result, writes, refl), refl);
+        after = refl;
+      };
+      after = refl;
+    },
+  )
+
+-- memories and tables by themselves do as those of a machine
+pub ruleset done_alike = (memories_grow, tables_grow, memories_read, memories_write)
