@@ -5,8 +5,6 @@ mod amounts {
     use crate::proved::meter::limiter::Kind;
 
     /// An amount of bytes of linear memories, and one of elements of tables.
-    ///
-    /// Own: upstream implements no limiter.
     #[derive(Clone, Copy, Debug, Default)]
     pub struct Amounts {
         /// The bytes of linear memories.
@@ -40,8 +38,6 @@ mod answer_list {
     use crate::rattle::Vec;
 
     /// What a limiter answers to one question, and to a notice after it.
-    ///
-    /// Own: upstream implements no limiter.
     #[derive(Clone, Copy, Debug, PartialEq, Eq)]
     pub enum LimiterAnswer {
         /// It may grow.
@@ -90,8 +86,6 @@ mod answer_list {
     /// A limiter that answers each question by the next answer of a list, and permits once there is
     /// none left. It answers a notice by the answer to the last question, and accepts one before the
     /// first question.
-    ///
-    /// Own: upstream implements no limiter.
     ///
     /// # Model
     ///
@@ -175,8 +169,6 @@ mod any_limiter {
 
     /// A limiter whose kind is chosen while the program runs. It keeps its kind, and answers as a
     /// limiter of that kind.
-    ///
-    /// Own: upstream implements no limiter.
     #[derive(Debug)]
     pub enum AnyLimiter {
         /// Permits everything, and accepts each notice.
@@ -194,20 +186,11 @@ mod any_limiter {
     /// [any_limiter_rules]: crate::specs::meter::AnyLimiter#any_limiter_rules "the rules of such a limiter"
     impl LimiterByKind for AnyLimiter {
         #[inline]
-        fn growing(
-            &mut self,
-            kind: Kind,
-            current: usize,
-            desired: usize,
-        ) -> Result<bool, LimiterError> {
-            assert!(
-                current <= desired,
-                "the desired size is below the current one"
-            );
+        fn growing(&mut self, kind: Kind, from: usize, to: usize) -> Result<bool, LimiterError> {
             match self {
                 AnyLimiter::Unlimited => Ok(true),
-                AnyLimiter::Quota(quota) => quota.growing(kind, current, desired),
-                AnyLimiter::Answers(list) => list.growing(kind, current, desired),
+                AnyLimiter::Quota(quota) => quota.growing(kind, from, to),
+                AnyLimiter::Answers(list) => list.growing(kind, from, to),
             }
         }
 
@@ -222,18 +205,56 @@ mod any_limiter {
     }
 }
 mod capped {
-    //! Limiters with caps: what is taken and given back decides each answer.
+    //! Limiters that count what they permitted, and those with caps, whose answers that count decides.
 
     use crate::proved::meter::error::LimiterError;
     use crate::proved::meter::holdings::Holdings;
-    use crate::proved::meter::limiter::{Kind, LimiterByKind};
-    use crate::proved::meter::reserving::Reserving;
+    use crate::proved::meter::limiter::{Kind, LimiterByKind, ResourceLimiter};
+
+    /// A limiter that holds what it permitted, in bytes and in elements, until it is notified that what
+    /// it permitted failed. It isn't notified of what is dropped.
+    ///
+    /// # Contract
+    ///
+    /// <span></span><pre><code><i>\-\- What it holds of each kind, and the last difference that it permitted and that wasn\'t given back.</i>
+    /// holdings: Self → [Holdings]
+    /// <i>\-\- A permission adds the difference that was asked for; any other answer leaves what is held.</i>
+    /// reserves: (l l\' : Self) (question : [Question]) (answer : [Answer])
+    /// &#32;&#32;&#32;&#32;→ [Self.rules].asked l question answer l\'
+    /// &#32;&#32;&#32;&#32;→ [Reserves] question answer (holdings l) (holdings l\')
+    /// <i>\-\- A notice takes back the last permitted difference of its kind, once, whatever the answer to it is. If there is none of its kind, what is held stays.</i>
+    /// gives_back: (l l\' : Self) (failure : [Failure]) (notice_answer : [NoticeAnswer])
+    /// &#32;&#32;&#32;&#32;→ [Self.rules].noticed l failure notice_answer l\'
+    /// &#32;&#32;&#32;&#32;→ [GivesBack] ([kind_of] failure) (holdings l) (holdings l\')</code></pre>
+    ///
+    /// [Holdings]: crate::proved::meter::Holdings
+    /// [Question]: crate::specs::meter::Limiter#Question "May this grow from current to desired, where maximum is the most that its type allows?"
+    /// [Answer]: crate::specs::meter::Limiter#Answer "what a limiter answers to a question: it permits, says no, or returns an error"
+    /// [Self.rules]: trait@Reserving#contract
+    /// [Reserves]: crate::specs::meter::Holdings#Reserves "a permission adds the difference that was asked for, and another answer keeps what is held"
+    /// [Failure]: crate::specs::meter::Limiter#Failure "why a growth failed that was permitted"
+    /// [NoticeAnswer]: crate::specs::meter::Limiter#NoticeAnswer "what a limiter answers to a notice: it accepts it, or returns an error"
+    /// [GivesBack]: crate::specs::meter::Holdings#GivesBack "a notice takes back the last difference of its kind, once, and changes nothing that is held otherwise"
+    /// [kind_of]: crate::specs::meter::Limiter#kind_of "the kind of what failed to grow"
+    pub trait Reserving: ResourceLimiter {
+        /// The bytes that it permitted and that weren't given back.
+        ///
+        /// # Contract
+        ///
+        /// <span></span><pre><code>ensures: result ≡ (holdings self.now).held.bytes</code></pre>
+        fn held_bytes(&self) -> u64;
+
+        /// The elements that it permitted and that weren't given back.
+        ///
+        /// # Contract
+        ///
+        /// <span></span><pre><code>ensures: result ≡ (holdings self.now).held.elements</code></pre>
+        fn held_elements(&self) -> u64;
+    }
 
     /// A limiter that permits what keeps all that is held of a kind within a cap, and denies the rest.
     /// It counts each difference that it permitted. At a notice it takes back the last one if that is
     /// of the same kind, once.
-    ///
-    /// Own: upstream implements no limiter.
     ///
     /// # Contract
     ///
@@ -278,17 +299,8 @@ mod capped {
     /// [L.capped]: trait@CappedLimiter#contract
     impl<L: CappedLimiter> LimiterByKind for L {
         #[inline]
-        fn growing(
-            &mut self,
-            kind: Kind,
-            current: usize,
-            desired: usize,
-        ) -> Result<bool, LimiterError> {
-            assert!(
-                current <= desired,
-                "the desired size is below the current one"
-            );
-            Ok(self.take(kind, (desired - current) as u64))
+        fn growing(&mut self, kind: Kind, from: usize, to: usize) -> Result<bool, LimiterError> {
+            Ok(self.take(kind, (to - from) as u64))
         }
 
         #[inline]
@@ -824,8 +836,6 @@ mod fuel {
 
         /// A meter that is off, at the default costs.
         ///
-        /// Own: upstream has no such call.
-        ///
         /// # Contract
         ///
         /// <span></span><pre><code>ensures: result ≡ record { left = [None]; costs = [default_costs] }</code></pre>
@@ -1024,8 +1034,6 @@ pub mod growth {
 
     /// An error of a growth, of which a limiter can be notified.
     ///
-    /// Own.
-    ///
     /// # Contract
     ///
     /// <span></span><pre><code><i>\-\- The notice that a limiter gets of it.</i>
@@ -1142,8 +1150,6 @@ mod holdings {
 
     /// What a limiter with caps holds of each kind, and the last difference that it took and didn't
     /// give back.
-    ///
-    /// Own: upstream implements no limiter.
     #[derive(Clone, Copy, Debug)]
     pub struct Holdings {
         held: Amounts,
@@ -1348,10 +1354,103 @@ mod limiter {
         fn memories(&self) -> usize;
     }
 
+    /// A limiter that may be absent: without one everything is permitted, each notice is accepted, and
+    /// any number of instances, tables and memories is allowed.
+    ///
+    /// # Contract
+    ///
+    /// <span></span><pre><code>rules = [optional_rules] [L.rules]</code></pre>
+    ///
+    /// [optional_rules]: crate::specs::meter::Limiter#optional_rules "the rules of a limiter that may be absent"
+    /// [L.rules]: trait@ResourceLimiter#contract
+    impl<L: ResourceLimiter> ResourceLimiter for Option<L> {
+        #[inline]
+        fn memory_growing(
+            &mut self,
+            current: usize,
+            desired: usize,
+            maximum: Option<usize>,
+        ) -> Result<bool, LimiterError> {
+            match self {
+                Some(limiter) => limiter.memory_growing(current, desired, maximum),
+                None => Ok(true),
+            }
+        }
+
+        #[inline]
+        fn table_growing(
+            &mut self,
+            current: usize,
+            desired: usize,
+            maximum: Option<usize>,
+        ) -> Result<bool, LimiterError> {
+            match self {
+                Some(limiter) => limiter.table_growing(current, desired, maximum),
+                None => Ok(true),
+            }
+        }
+
+        #[inline]
+        fn memory_grow_failed(&mut self, error: &MemoryError) -> Result<(), LimiterError> {
+            match self {
+                Some(limiter) => limiter.memory_grow_failed(error),
+                None => Ok(()),
+            }
+        }
+
+        #[inline]
+        fn table_grow_failed(&mut self, error: &TableError) -> Result<(), LimiterError> {
+            match self {
+                Some(limiter) => limiter.table_grow_failed(error),
+                None => Ok(()),
+            }
+        }
+
+        /// # Contract
+        ///
+        /// <span></span><pre><code>ensures absent: self.now ≡ [None] → result ≡ [usize.MAX]</code></pre>
+        ///
+        /// [None]: crate::specs::library#None "no value, of an \`Option\`"
+        /// [usize.MAX]: crate::specs::library#MAX "the greatest value of an integer type"
+        #[inline]
+        fn instances(&self) -> usize {
+            match self {
+                Some(limiter) => limiter.instances(),
+                None => usize::MAX,
+            }
+        }
+
+        /// # Contract
+        ///
+        /// <span></span><pre><code>ensures absent: self.now ≡ [None] → result ≡ [usize.MAX]</code></pre>
+        ///
+        /// [None]: crate::specs::library#None "no value, of an \`Option\`"
+        /// [usize.MAX]: crate::specs::library#MAX "the greatest value of an integer type"
+        #[inline]
+        fn tables(&self) -> usize {
+            match self {
+                Some(limiter) => limiter.tables(),
+                None => usize::MAX,
+            }
+        }
+
+        /// # Contract
+        ///
+        /// <span></span><pre><code>ensures absent: self.now ≡ [None] → result ≡ [usize.MAX]</code></pre>
+        ///
+        /// [None]: crate::specs::library#None "no value, of an \`Option\`"
+        /// [usize.MAX]: crate::specs::library#MAX "the greatest value of an integer type"
+        #[inline]
+        fn memories(&self) -> usize {
+            match self {
+                Some(limiter) => limiter.memories(),
+                None => usize::MAX,
+            }
+        }
+    }
+
     /// Decides by the kind of what grows, and ignores the maximum of its type and the error of a
     /// notice. Each is a [`ResourceLimiter`] that allows any number of instances, tables and memories.
-    ///
-    /// Own: upstream has no such trait.
     ///
     /// # Examples
     ///
@@ -1487,8 +1586,6 @@ mod limiter {
     }
 
     /// A limiter that permits everything and accepts each notice.
-    ///
-    /// Own: upstream implements no limiter.
     #[derive(Clone, Copy, Debug)]
     pub struct NoLimits;
 
@@ -1499,17 +1596,12 @@ mod limiter {
     /// [unlimited_rules]: crate::specs::meter::Limiter#unlimited_rules "the rules of a limiter that permits everything, accepts each notice, and stays the same"
     impl LimiterByKind for NoLimits {
         #[inline]
-        fn growing(
-            &mut self,
-            _kind: Kind,
-            _current: usize,
-            _desired: usize,
-        ) -> Result<bool, LimiterError> {
+        fn growing(&mut self, _: Kind, _: usize, _: usize) -> Result<bool, LimiterError> {
             Ok(true)
         }
 
         #[inline]
-        fn grow_failed(&mut self, _kind: Kind) -> Result<(), LimiterError> {
+        fn grow_failed(&mut self, _: Kind) -> Result<(), LimiterError> {
             Ok(())
         }
     }
@@ -1585,8 +1677,8 @@ mod limiter_ref {
         }
     }
 
-    /// A borrowed limiter, or none. Without a limiter every growth is permitted, and every notice is
-    /// accepted.
+    /// A borrowed limiter, or none. Without a limiter every growth is permitted (`Ok(true)`), and every
+    /// notice is accepted (`Ok(())`).
     ///
     /// If this reference goes out of scope or is dropped, nothing is known of the limiter afterwards.
     /// To know its state, end the loan by [`LimiterRef::into_resource_limiter`], or use a function that
@@ -1705,8 +1797,7 @@ mod limiter_ref {
     }
 
     impl<'a, L: ResourceLimiter> LimiterRef<&'a mut L> {
-        /// Asks the limiter, if there is one, whether a memory may grow from `current` to `desired`
-        /// bytes, and returns its answer. Without a limiter it returns `Ok(true)`.
+        /// Asks the limiter whether a memory may grow from `current` to `desired` bytes.
         ///
         /// # Panics
         ///
@@ -1742,8 +1833,7 @@ mod limiter_ref {
             }
         }
 
-        /// Asks the limiter, if there is one, whether a table may grow from `current` to `desired`
-        /// elements, and returns its answer. Without a limiter it returns `Ok(true)`.
+        /// Asks the limiter whether a table may grow from `current` to `desired` elements.
         ///
         /// # Panics
         ///
@@ -1779,8 +1869,7 @@ mod limiter_ref {
             }
         }
 
-        /// Notifies the limiter, if there is one, that a memory which it permitted to grow did not, and
-        /// returns its answer. Without a limiter it returns `Ok(())`.
+        /// Notifies the limiter that a memory which it permitted to grow did not.
         ///
         /// # Contract
         ///
@@ -1801,8 +1890,7 @@ mod limiter_ref {
             }
         }
 
-        /// Notifies the limiter, if there is one, that a table which it permitted to grow did not, and
-        /// returns its answer. Without a limiter it returns `Ok(())`.
+        /// Notifies the limiter that a table which it permitted to grow did not.
         ///
         /// # Contract
         ///
@@ -1824,105 +1912,6 @@ mod limiter_ref {
         }
     }
 }
-mod optional_limiter {
-    //! A limiter that may be absent: then everything is permitted, each notice is accepted, and any
-    //! number of instances, tables and memories is allowed.
-
-    use crate::proved::meter::error::{LimiterError, MemoryError, TableError};
-    use crate::proved::meter::limiter::ResourceLimiter;
-
-    /// # Contract
-    ///
-    /// <span></span><pre><code>rules = [optional_rules] [L.rules]</code></pre>
-    ///
-    /// [optional_rules]: crate::specs::meter::Limiter#optional_rules "the rules of a limiter that may be absent"
-    /// [L.rules]: trait@ResourceLimiter#contract
-    impl<L: ResourceLimiter> ResourceLimiter for Option<L> {
-        #[inline]
-        fn memory_growing(
-            &mut self,
-            current: usize,
-            desired: usize,
-            maximum: Option<usize>,
-        ) -> Result<bool, LimiterError> {
-            match self {
-                Some(limiter) => limiter.memory_growing(current, desired, maximum),
-                None => Ok(true),
-            }
-        }
-
-        #[inline]
-        fn table_growing(
-            &mut self,
-            current: usize,
-            desired: usize,
-            maximum: Option<usize>,
-        ) -> Result<bool, LimiterError> {
-            match self {
-                Some(limiter) => limiter.table_growing(current, desired, maximum),
-                None => Ok(true),
-            }
-        }
-
-        #[inline]
-        fn memory_grow_failed(&mut self, error: &MemoryError) -> Result<(), LimiterError> {
-            match self {
-                Some(limiter) => limiter.memory_grow_failed(error),
-                None => Ok(()),
-            }
-        }
-
-        #[inline]
-        fn table_grow_failed(&mut self, error: &TableError) -> Result<(), LimiterError> {
-            match self {
-                Some(limiter) => limiter.table_grow_failed(error),
-                None => Ok(()),
-            }
-        }
-
-        /// # Contract
-        ///
-        /// <span></span><pre><code>ensures absent: self.now ≡ [None] → result ≡ [usize.MAX]</code></pre>
-        ///
-        /// [None]: crate::specs::library#None "no value, of an \`Option\`"
-        /// [usize.MAX]: crate::specs::library#MAX "the greatest value of an integer type"
-        #[inline]
-        fn instances(&self) -> usize {
-            match self {
-                Some(limiter) => limiter.instances(),
-                None => usize::MAX,
-            }
-        }
-
-        /// # Contract
-        ///
-        /// <span></span><pre><code>ensures absent: self.now ≡ [None] → result ≡ [usize.MAX]</code></pre>
-        ///
-        /// [None]: crate::specs::library#None "no value, of an \`Option\`"
-        /// [usize.MAX]: crate::specs::library#MAX "the greatest value of an integer type"
-        #[inline]
-        fn tables(&self) -> usize {
-            match self {
-                Some(limiter) => limiter.tables(),
-                None => usize::MAX,
-            }
-        }
-
-        /// # Contract
-        ///
-        /// <span></span><pre><code>ensures absent: self.now ≡ [None] → result ≡ [usize.MAX]</code></pre>
-        ///
-        /// [None]: crate::specs::library#None "no value, of an \`Option\`"
-        /// [usize.MAX]: crate::specs::library#MAX "the greatest value of an integer type"
-        #[inline]
-        fn memories(&self) -> usize {
-            match self {
-                Some(limiter) => limiter.memories(),
-                None => usize::MAX,
-            }
-        }
-    }
-}
 mod quota {
     //! A limiter with a cap on the bytes of memories and one on the elements of tables.
 
@@ -1934,8 +1923,6 @@ mod quota {
     /// A limiter that permits what stays within two caps, and denies the rest. It counts each
     /// difference that it permitted. At a notice it takes back the last one if that is of the same
     /// kind, once. It can't be copied, since a copy would count on its own.
-    ///
-    /// Own: upstream implements no limiter.
     ///
     /// # Examples
     ///
@@ -2069,63 +2056,14 @@ mod quota {
         }
     }
 }
-mod reserving {
-    //! Limiters that count what they permitted.
-
-    use crate::proved::meter::limiter::ResourceLimiter;
-
-    /// A limiter that holds what it permitted, in bytes and in elements, until it is notified that what
-    /// it permitted failed. It isn't notified of what is dropped.
-    ///
-    /// Own: upstream implements no limiter.
-    ///
-    /// # Contract
-    ///
-    /// <span></span><pre><code><i>\-\- What it holds of each kind, and the last difference that it permitted and that wasn\'t given back.</i>
-    /// holdings: Self → [Holdings]
-    /// <i>\-\- A permission adds the difference that was asked for; any other answer leaves what is held.</i>
-    /// reserves: (l l\' : Self) (question : [Question]) (answer : [Answer])
-    /// &#32;&#32;&#32;&#32;→ [Self.rules].asked l question answer l\'
-    /// &#32;&#32;&#32;&#32;→ [Reserves] question answer (holdings l) (holdings l\')
-    /// <i>\-\- A notice takes back the last permitted difference of its kind, once, whatever the answer to it is. If there is none of its kind, what is held stays.</i>
-    /// gives_back: (l l\' : Self) (failure : [Failure]) (notice_answer : [NoticeAnswer])
-    /// &#32;&#32;&#32;&#32;→ [Self.rules].noticed l failure notice_answer l\'
-    /// &#32;&#32;&#32;&#32;→ [GivesBack] ([kind_of] failure) (holdings l) (holdings l\')</code></pre>
-    ///
-    /// [Holdings]: crate::proved::meter::Holdings
-    /// [Question]: crate::specs::meter::Limiter#Question "May this grow from current to desired, where maximum is the most that its type allows?"
-    /// [Answer]: crate::specs::meter::Limiter#Answer "what a limiter answers to a question: it permits, says no, or returns an error"
-    /// [Self.rules]: trait@Reserving#contract
-    /// [Reserves]: crate::specs::meter::Holdings#Reserves "a permission adds the difference that was asked for, and another answer keeps what is held"
-    /// [Failure]: crate::specs::meter::Limiter#Failure "why a growth failed that was permitted"
-    /// [NoticeAnswer]: crate::specs::meter::Limiter#NoticeAnswer "what a limiter answers to a notice: it accepts it, or returns an error"
-    /// [GivesBack]: crate::specs::meter::Holdings#GivesBack "a notice takes back the last difference of its kind, once, and changes nothing that is held otherwise"
-    /// [kind_of]: crate::specs::meter::Limiter#kind_of "the kind of what failed to grow"
-    pub trait Reserving: ResourceLimiter {
-        /// The bytes that it permitted and that weren't given back.
-        ///
-        /// # Contract
-        ///
-        /// <span></span><pre><code>ensures: result ≡ (holdings self.now).held.bytes</code></pre>
-        fn held_bytes(&self) -> u64;
-
-        /// The elements that it permitted and that weren't given back.
-        ///
-        /// # Contract
-        ///
-        /// <span></span><pre><code>ensures: result ≡ (holdings self.now).held.elements</code></pre>
-        fn held_elements(&self) -> u64;
-    }
-}
 
 pub use amounts::Amounts;
 pub use answer_list::{AnswerList, LimiterAnswer};
 pub use any_limiter::AnyLimiter;
-pub use capped::CappedLimiter;
+pub use capped::{CappedLimiter, Reserving};
 pub use error::{LimiterError, MemoryError, TableError};
 pub use fuel::{CustomFuelCosts, Fuel, FuelCosts, FuelCostsProvider, FuelError, ValueSize};
 pub use holdings::Holdings;
 pub use limiter::{Kind, LimiterByKind, NoLimits, ResourceLimiter};
 pub use limiter_ref::{Lender, LimiterRef, ResourceLimiterRef};
 pub use quota::Quota;
-pub use reserving::Reserving;
