@@ -170,14 +170,9 @@ invariant = λ m. [IsSized] m.ty ([length] m.buffer.bytes)</code></pre>
 [length]: crate::specs::library#length "the number of elements of a list"
 "#### };
     (store LinearMemory.copy) => { r####"Copies `len` bytes of another memory, from `src` on, over the bytes of a memory from `dst`
-on.
+on. The errors are those of `fill`, if a range ends past its memory.
 
-Errors, in the order of the tests: [`OutOfBoundsAccess`] if a range ends past its memory;
-[`OutOfFuel`], which is tested also if no byte is copied. Then no byte is written, and no fuel
-taken.
-
-Core specification, memory.copy of two memories. Own: upstream's memories have no bulk
-instructions.
+Core specification, memory.copy of two memories.
 
 # Contract
 
@@ -193,18 +188,11 @@ ensures kept: [KeepsPlace] dst_memory.old dst_memory.new</code></pre>
 [meter_at_entry]: crate::specs::meter::Meter#meter_at_entry "the meter that an optional reference leads to when a call begins, if there is one"
 [meter_at_exit]: crate::specs::meter::Meter#meter_at_exit "the meter that an optional reference leaves behind it when a call ends, if there is one, in the terms of a clause\'s \`.exit\`"
 [KeepsPlace]: crate::specs::store::Memory#KeepsPlace "bytes are written over, and the type of the memory and its room stay"
-[`OutOfBoundsAccess`]: crate::proved::meter::MemoryError::OutOfBoundsAccess
-[`OutOfFuel`]: crate::proved::meter::MemoryError::OutOfFuel
 "#### };
     (store LinearMemory.copy_within) => { r####"Copies `len` bytes from `src` on over those from `dst` on. If the ranges overlap, the old
-bytes are copied.
+bytes are copied. The errors are those of `fill`, if a range ends past the memory.
 
-Errors, in the order of the tests: [`OutOfBoundsAccess`] if a range ends past the memory;
-[`OutOfFuel`], which is tested also if no byte is copied. Then no byte is written, and no fuel
-taken.
-
-Core specification, memory.copy within a memory. Own: upstream's memories have no bulk
-instructions.
+Core specification, memory.copy within a memory.
 
 # Contract
 
@@ -219,8 +207,6 @@ ensures kept: [KeepsPlace] self.old self.new</code></pre>
 [meter_at_entry]: crate::specs::meter::Meter#meter_at_entry "the meter that an optional reference leads to when a call begins, if there is one"
 [meter_at_exit]: crate::specs::meter::Meter#meter_at_exit "the meter that an optional reference leaves behind it when a call ends, if there is one, in the terms of a clause\'s \`.exit\`"
 [KeepsPlace]: crate::specs::store::Memory#KeepsPlace "bytes are written over, and the type of the memory and its room stay"
-[`OutOfBoundsAccess`]: crate::proved::meter::MemoryError::OutOfBoundsAccess
-[`OutOfFuel`]: crate::proved::meter::MemoryError::OutOfFuel
 "#### };
     (store LinearMemory.data) => { r####"The bytes.
 
@@ -274,10 +260,9 @@ ensures subtype: [IsSubtype] result self.now.ty</code></pre>
 
 Errors, in the order of the tests: [`OutOfBoundsAccess`] if they end past the memory;
 [`OutOfFuel`], which is tested also if no byte is filled. Then no byte is written, and no fuel
-taken.
+taken. It is charged as a table's `fill`, by the bytes.
 
-Core specification, memory.fill. Own: upstream's memories have no bulk instructions. This
-one is charged as a table's `fill`, by the bytes.
+Core specification, memory.fill.
 
 # Contract
 
@@ -329,13 +314,10 @@ ensures grown: [GrowsMemory] ([optional_rules] [L.rules]) additional
 [`OutOfSystemMemory`]: crate::proved::meter::MemoryError::OutOfSystemMemory
 "#### };
     (store LinearMemory.init) => { r####"Copies `len` bytes of a data segment, from `src` on, over the bytes from `dst` on. A segment
-that was dropped has no bytes.
+that was dropped has no bytes. The errors are those of `fill`, if a range ends past the
+segment or the memory.
 
-Errors, in the order of the tests: [`OutOfBoundsAccess`] if a range ends past the segment or
-the memory; [`OutOfFuel`], which is tested also if no byte is copied. Then no byte is written,
-and no fuel taken.
-
-Core specification, memory.init. Own: upstream's memories have no bulk instructions.
+Core specification, memory.init.
 
 # Contract
 
@@ -350,8 +332,6 @@ ensures kept: [KeepsPlace] self.old self.new</code></pre>
 [meter_at_entry]: crate::specs::meter::Meter#meter_at_entry "the meter that an optional reference leads to when a call begins, if there is one"
 [meter_at_exit]: crate::specs::meter::Meter#meter_at_exit "the meter that an optional reference leaves behind it when a call ends, if there is one, in the terms of a clause\'s \`.exit\`"
 [KeepsPlace]: crate::specs::store::Memory#KeepsPlace "bytes are written over, and the type of the memory and its room stay"
-[`OutOfBoundsAccess`]: crate::proved::meter::MemoryError::OutOfBoundsAccess
-[`OutOfFuel`]: crate::proved::meter::MemoryError::OutOfFuel
 "#### };
     (store LinearMemory.new) => { r####"A memory of zeros, at the minimum of its type. It takes no fuel.
 

@@ -3159,12 +3159,17 @@ abbrev pub <b id="table_error_text">table_error_text</b> : <a href="../../../enu
 
 /// Definitions of `wasmi_store`.
 pub mod store {
-    #[doc = r####"The bytes of a linear memory, and the room that they may grow into.
+    #[doc = r####"The bytes of a linear memory: the room that they may grow into, and the block of which they are the front.
 
-<pre><code>use Rattle.std.specs.Prelude.{<a href="../../library/index.html#%E2%89%A1" title="x is y">◌≡◌</a>, <a href="../../library/index.html#%E2%84%95" title="the whole numbers from 0 on">ℕ</a>, <a href="../../library/index.html#Bool" title="the Booleans `true` and `false`">Bool</a>, <a href="../../library/index.html#true" title="the Boolean">true</a>, <a href="../../library/index.html#nat_le" title="whether m is at most n, as a Boolean">nat_le</a>, <a href="../../library/index.html#MatchBool" title="P where b is true, else Q">MatchBool</a>, <a href="../../library/index.html#List" title="the finite lists">List</a>, <a href="../../library/index.html#%2B%2B" title="a list followed by another one">◌++◌</a>, <a href="../../library/index.html#length" title="the number of elements of a list">length</a>, <a href="../../library/index.html#drop" title="all but the first n elements">drop</a>, <a href="../../library/index.html#replicate" title="the list of n times x">replicate</a>}
+<pre><code>use Rattle.std.specs.Prelude.{<a href="../../library/index.html#%E2%89%A1" title="x is y">◌≡◌</a>, <a href="../../library/index.html#%E2%84%95" title="the whole numbers from 0 on">ℕ</a>, <a href="../../library/index.html#Bool" title="the Booleans `true` and `false`">Bool</a>, <a href="../../library/index.html#true" title="the Boolean">true</a>, <a href="../../library/index.html#nat_le" title="whether m is at most n, as a Boolean">nat_le</a>, <a href="../../library/index.html#MatchBool" title="P where b is true, else Q">MatchBool</a>, <a href="../../library/index.html#List" title="the finite lists">List</a>, <a href="../../library/index.html#%2B%2B" title="a list followed by another one">◌++◌</a>, <a href="../../library/index.html#length" title="the number of elements of a list">length</a>, <a href="../../library/index.html#drop" title="all but the first n elements">drop</a>, <a href="../../library/index.html#replicate" title="the list of n times x">replicate</a>, <a href="../../library/index.html#take" title="the first n elements">take</a>, ◌≤◌}
 use Rattle.std.specs.<a href="../../library/index.html#List" title="the finite lists">List</a>.{refill}
 use Rattle.wasmi_meter.specs.declared.error.<a href="../../../enum.MemoryError.html">MemoryError</a>.{<a href="../../../enum.MemoryError.html">MemoryError</a>}
 use Rattle.wasmi_meter.specs.declared.error.<a href="../../../enum.MemoryError.html">MemoryError</a>.TheVariants.{<a href="../../../enum.MemoryError.html#variant.OutOfSystemMemory">OutOfSystemMemory</a>, <a href="../../../enum.MemoryError.html#variant.InvalidStaticBufferSize">InvalidStaticBufferSize</a>}
+use Rattle.std.specs.Borrow.{<a href="../../library/index.html#MutBor" title="the `&amp;mut` references to T">MutBor</a>}
+use denote.Ref.{<a href="../../library/index.html#at_last" title="the reference r, whose last value is x">at_last</a>}
+use Rattle.std.specs.Vec.{with_items_from}
+use Rattle.wasmi_store.specs.declared.memory.buffer.Storage.{Storage}
+use Rattle.wasmi_store.specs.declared.memory.buffer.Storage.TheVariants as storage
 
 <span style="opacity:.7">-- where bytes may grow: into memory of their own, or into the bytes that are left of a lent region</span>
 pub data <b id="Room">Room</b> : Type 0 where
@@ -3206,6 +3211,36 @@ abbrev pub <b id="zeros_in">zeros_in</b> : <a href="#Room" title="where bytes ma
 <span style="opacity:.7">-- the buffer with n zeros after its bytes</span>
 abbrev pub <b id="with_zeros">with_zeros</b> : <a href="#BufferValue" title="a buffer: its bytes, and its room">BufferValue</a> → <a href="../../library/index.html#%E2%84%95" title="the whole numbers from 0 on">ℕ</a> → <a href="#BufferValue" title="a buffer: its bytes, and its room">BufferValue</a>
 <a href="#with_zeros" title="the buffer with n zeros after its bytes">with_zeros</a> b n = record { bytes = b.bytes ++ <a href="../../library/index.html#replicate" title="the list of n times x">replicate</a> n 0; room = <a href="#room_after" title="the room once n bytes of it are used">room_after</a> b.room n }
+
+<span style="opacity:.7">-- xs with its first items, up to place end, written over by as many</span>
+abbrev pub <b id="refilled_front">refilled_front</b> : <a href="../../library/index.html#List" title="the finite lists">List</a> <a href="../../library/index.html#%E2%84%95" title="the whole numbers from 0 on">ℕ</a> → <a href="../../library/index.html#%E2%84%95" title="the whole numbers from 0 on">ℕ</a> → <a href="../../library/index.html#List" title="the finite lists">List</a> <a href="../../library/index.html#%E2%84%95" title="the whole numbers from 0 on">ℕ</a> → <a href="../../library/index.html#List" title="the finite lists">List</a> <a href="../../library/index.html#%E2%84%95" title="the whole numbers from 0 on">ℕ</a>
+<a href="#refilled_front" title="xs with its first items, up to place end, written over by as many">refilled_front</a> xs end ws = refill (<a href="../../library/index.html#length" title="the number of elements of a list">length</a> (<a href="../../library/index.html#take" title="the first n elements">take</a> end xs)) (<a href="../../library/index.html#take" title="the first n elements">take</a> end xs) ws ++ <a href="../../library/index.html#drop" title="all but the first n elements">drop</a> end xs
+
+<span style="opacity:.7">-- the reference to a region whose front was written over</span>
+abbrev pub <b id="region_refilled">region_refilled</b> : <a href="../../library/index.html#MutBor" title="the `&amp;mut` references to T">MutBor</a> (<a href="../../library/index.html#List" title="the finite lists">List</a> <a href="../../library/index.html#%E2%84%95" title="the whole numbers from 0 on">ℕ</a>) → <a href="../../library/index.html#%E2%84%95" title="the whole numbers from 0 on">ℕ</a> → <a href="../../library/index.html#List" title="the finite lists">List</a> <a href="../../library/index.html#%E2%84%95" title="the whole numbers from 0 on">ℕ</a> → <a href="../../library/index.html#MutBor" title="the `&amp;mut` references to T">MutBor</a> (<a href="../../library/index.html#List" title="the finite lists">List</a> <a href="../../library/index.html#%E2%84%95" title="the whole numbers from 0 on">ℕ</a>)
+<a href="#region_refilled" title="the reference to a region whose front was written over">region_refilled</a> r end ws = <a href="../../library/index.html#at_last" title="the reference r, whose last value is x">at_last</a> r (<a href="#refilled_front" title="xs with its first items, up to place end, written over by as many">refilled_front</a> r.now end ws)
+
+module _ {Region : Type 0} where
+<span style="opacity:.7">  -- the block of bytes of which a buffer&#x27;s are the first: memory of its own, or a region</span>
+  abbrev pub <b id="block">block</b> : (Region → <a href="../../library/index.html#List" title="the finite lists">List</a> <a href="../../library/index.html#%E2%84%95" title="the whole numbers from 0 on">ℕ</a>) → Storage Region → <a href="../../library/index.html#List" title="the finite lists">List</a> <a href="../../library/index.html#%E2%84%95" title="the whole numbers from 0 on">ℕ</a>
+  <a href="#block" title="the block of bytes of which a buffer&#x27;s are the first: memory of its own, or a region">block</a> bytes (storage.Owned v) = v.items
+  <a href="#block" title="the block of bytes of which a buffer&#x27;s are the first: memory of its own, or a region">block</a> bytes (storage.Lent region) = bytes region
+
+<span style="opacity:.7">  -- the buffer of the first bytes of a block, up to an end</span>
+  abbrev pub <b id="view_of">view_of</b> : (Region → <a href="../../library/index.html#List" title="the finite lists">List</a> <a href="../../library/index.html#%E2%84%95" title="the whole numbers from 0 on">ℕ</a>) → Storage Region → <a href="../../library/index.html#%E2%84%95" title="the whole numbers from 0 on">ℕ</a> → <a href="#BufferValue" title="a buffer: its bytes, and its room">BufferValue</a>
+  <a href="#view_of" title="the buffer of the first bytes of a block, up to an end">view_of</a> bytes (storage.Owned v) end = record { bytes = <a href="../../library/index.html#take" title="the first n elements">take</a> end v.items; room = <a href="#Owned">Owned</a> }
+  <a href="#view_of" title="the buffer of the first bytes of a block, up to an end">view_of</a> bytes (storage.Lent region) end =
+      record { bytes = <a href="../../library/index.html#take" title="the first n elements">take</a> end (bytes region); room = <a href="#Lent">Lent</a> (<a href="../../library/index.html#drop" title="all but the first n elements">drop</a> end (bytes region)) }
+
+<span style="opacity:.7">  -- memory of a buffer&#x27;s own ends with its bytes, and a region doesn&#x27;t end before them</span>
+  abbrev pub <b id="EndsWithin">EndsWithin</b> : (Region → <a href="../../library/index.html#List" title="the finite lists">List</a> <a href="../../library/index.html#%E2%84%95" title="the whole numbers from 0 on">ℕ</a>) → Storage Region → <a href="../../library/index.html#%E2%84%95" title="the whole numbers from 0 on">ℕ</a> → Type 0
+  <a href="#EndsWithin" title="memory of a buffer&#x27;s own ends with its bytes, and a region doesn&#x27;t end before them">EndsWithin</a> bytes (storage.Owned v) end = end ≡ <a href="../../library/index.html#length" title="the number of elements of a list">length</a> v.items
+  <a href="#EndsWithin" title="memory of a buffer&#x27;s own ends with its bytes, and a region doesn&#x27;t end before them">EndsWithin</a> bytes (storage.Lent region) end = end ≤ <a href="../../library/index.html#length" title="the number of elements of a list">length</a> (bytes region)
+
+<span style="opacity:.7">  -- the storage once the front of its block, up to an end, was written over</span>
+  abbrev pub <b id="block_refilled">block_refilled</b> : (Region → <a href="../../library/index.html#%E2%84%95" title="the whole numbers from 0 on">ℕ</a> → <a href="../../library/index.html#List" title="the finite lists">List</a> <a href="../../library/index.html#%E2%84%95" title="the whole numbers from 0 on">ℕ</a> → Region) → Storage Region → <a href="../../library/index.html#%E2%84%95" title="the whole numbers from 0 on">ℕ</a> → <a href="../../library/index.html#List" title="the finite lists">List</a> <a href="../../library/index.html#%E2%84%95" title="the whole numbers from 0 on">ℕ</a> → Storage Region
+  <a href="#block_refilled" title="the storage once the front of its block, up to an end, was written over">block_refilled</a> refilled (storage.Owned v) end ws = storage.Owned (with_items_from v 0 ws)
+  <a href="#block_refilled" title="the storage once the front of its block, up to an end, was written over">block_refilled</a> refilled (storage.Lent region) end ws = storage.Lent (refilled region end ws)
 </code></pre>
 "####]
     pub mod Buffer {}
@@ -3248,23 +3283,6 @@ abbrev pub <b id="BulkWrites">BulkWrites</b> : <a href="../../library/index.html
 </code></pre>
 "####]
     pub mod Bulk {}
-    #[doc = r####"The front of a list, written over.
-
-<pre><code>use Rattle.std.specs.Prelude.{<a href="../../library/index.html#%E2%84%95" title="the whole numbers from 0 on">ℕ</a>, <a href="../../library/index.html#List" title="the finite lists">List</a>, <a href="../../library/index.html#%2B%2B" title="a list followed by another one">◌++◌</a>, <a href="../../library/index.html#length" title="the number of elements of a list">length</a>, <a href="../../library/index.html#take" title="the first n elements">take</a>, <a href="../../library/index.html#drop" title="all but the first n elements">drop</a>}
-use Rattle.std.specs.<a href="../../library/index.html#List" title="the finite lists">List</a>.{refill}
-use Rattle.std.specs.Borrow.{<a href="../../library/index.html#MutBor" title="the `&amp;mut` references to T">MutBor</a>}
-use denote.Ref.{<a href="../../library/index.html#at_last" title="the reference r, whose last value is x">at_last</a>}
-
-<span style="opacity:.7">-- xs with its first items, up to place end, written over by as many</span>
-abbrev pub <b id="refilled_front">refilled_front</b> : <a href="../../library/index.html#List" title="the finite lists">List</a> <a href="../../library/index.html#%E2%84%95" title="the whole numbers from 0 on">ℕ</a> → <a href="../../library/index.html#%E2%84%95" title="the whole numbers from 0 on">ℕ</a> → <a href="../../library/index.html#List" title="the finite lists">List</a> <a href="../../library/index.html#%E2%84%95" title="the whole numbers from 0 on">ℕ</a> → <a href="../../library/index.html#List" title="the finite lists">List</a> <a href="../../library/index.html#%E2%84%95" title="the whole numbers from 0 on">ℕ</a>
-<a href="#refilled_front" title="xs with its first items, up to place end, written over by as many">refilled_front</a> xs end ws = refill (<a href="../../library/index.html#length" title="the number of elements of a list">length</a> (<a href="../../library/index.html#take" title="the first n elements">take</a> end xs)) (<a href="../../library/index.html#take" title="the first n elements">take</a> end xs) ws ++ <a href="../../library/index.html#drop" title="all but the first n elements">drop</a> end xs
-
-<span style="opacity:.7">-- the reference to a region whose front was written over</span>
-abbrev pub <b id="region_refilled">region_refilled</b> : <a href="../../library/index.html#MutBor" title="the `&amp;mut` references to T">MutBor</a> (<a href="../../library/index.html#List" title="the finite lists">List</a> <a href="../../library/index.html#%E2%84%95" title="the whole numbers from 0 on">ℕ</a>) → <a href="../../library/index.html#%E2%84%95" title="the whole numbers from 0 on">ℕ</a> → <a href="../../library/index.html#List" title="the finite lists">List</a> <a href="../../library/index.html#%E2%84%95" title="the whole numbers from 0 on">ℕ</a> → <a href="../../library/index.html#MutBor" title="the `&amp;mut` references to T">MutBor</a> (<a href="../../library/index.html#List" title="the finite lists">List</a> <a href="../../library/index.html#%E2%84%95" title="the whole numbers from 0 on">ℕ</a>)
-<a href="#region_refilled" title="the reference to a region whose front was written over">region_refilled</a> r end ws = <a href="../../library/index.html#at_last" title="the reference r, whose last value is x">at_last</a> r (<a href="#refilled_front" title="xs with its first items, up to place end, written over by as many">refilled_front</a> r.now end ws)
-</code></pre>
-"####]
-    pub mod Front {}
     #[doc = r####"Making and growing a memory or a table, as an attempt with its answer.
 
 <pre><code>use Rattle.std.specs.Prelude.{<a href="../../library/index.html#%E2%89%A1" title="x is y">◌≡◌</a>, <a href="../../library/index.html#%3C" title="comparison of whole numbers">◌&lt;◌</a>, <a href="../../library/index.html#%E2%8A%8E" title="P or Q">◌⊎◌</a>, <a href="../../library/index.html#%E2%84%95" title="the whole numbers from 0 on">ℕ</a>, <a href="../../library/index.html#Option" title="a value, or none">Option</a>, <a href="../../library/index.html#None" title="no value, of an `Option`">None</a>, <a href="../../library/index.html#Result" title="a value, or an error">Result</a>, <a href="../../library/index.html#Ok" title="the value x, of a `Result`">Ok</a>}
@@ -3606,38 +3624,6 @@ abbrev pub <b id="segment_error_text">segment_error_text</b> : <a href="../../..
 </code></pre>
 "####]
     pub mod Segment {}
-    #[doc = r####"Where a buffer keeps its bytes.
-
-<pre><code>use Rattle.std.specs.Prelude.{<a href="../../library/index.html#%E2%89%A1" title="x is y">◌≡◌</a>, <a href="../../library/index.html#%E2%84%95" title="the whole numbers from 0 on">ℕ</a>, ◌≤◌, <a href="../../library/index.html#List" title="the finite lists">List</a>, <a href="../../library/index.html#length" title="the number of elements of a list">length</a>, <a href="../../library/index.html#take" title="the first n elements">take</a>, <a href="../../library/index.html#drop" title="all but the first n elements">drop</a>}
-use Rattle.std.specs.Vec.{with_items_from}
-use Rattle.wasmi_store.specs.Buffer as buffer
-use Rattle.wasmi_store.specs.declared.memory.buffer.Storage.{Storage}
-use Rattle.wasmi_store.specs.declared.memory.buffer.Storage.TheVariants.{Owned, Lent}
-
-module _ {Region : Type 0} where
-<span style="opacity:.7">  -- the block of bytes of which a buffer&#x27;s are the first: memory of its own, or a region</span>
-  abbrev pub <b id="block">block</b> : (Region → <a href="../../library/index.html#List" title="the finite lists">List</a> <a href="../../library/index.html#%E2%84%95" title="the whole numbers from 0 on">ℕ</a>) → Storage Region → <a href="../../library/index.html#List" title="the finite lists">List</a> <a href="../../library/index.html#%E2%84%95" title="the whole numbers from 0 on">ℕ</a>
-  <a href="#block" title="the block of bytes of which a buffer&#x27;s are the first: memory of its own, or a region">block</a> bytes (Owned v) = v.items
-  <a href="#block" title="the block of bytes of which a buffer&#x27;s are the first: memory of its own, or a region">block</a> bytes (Lent region) = bytes region
-
-<span style="opacity:.7">  -- the buffer of the first bytes of a block, up to an end</span>
-  abbrev pub <b id="view_of">view_of</b> : (Region → <a href="../../library/index.html#List" title="the finite lists">List</a> <a href="../../library/index.html#%E2%84%95" title="the whole numbers from 0 on">ℕ</a>) → Storage Region → <a href="../../library/index.html#%E2%84%95" title="the whole numbers from 0 on">ℕ</a> → <a href="../../store/Buffer/index.html#BufferValue" title="a buffer: its bytes, and its room">buffer.BufferValue</a>
-  <a href="#view_of" title="the buffer of the first bytes of a block, up to an end">view_of</a> bytes (Owned v) end = record { bytes = <a href="../../library/index.html#take" title="the first n elements">take</a> end v.items; room = <a href="../../store/Buffer/index.html#Owned">buffer.Owned</a> }
-  <a href="#view_of" title="the buffer of the first bytes of a block, up to an end">view_of</a> bytes (Lent region) end =
-      record { bytes = <a href="../../library/index.html#take" title="the first n elements">take</a> end (bytes region); room = <a href="../../store/Buffer/index.html#Lent">buffer.Lent</a> (<a href="../../library/index.html#drop" title="all but the first n elements">drop</a> end (bytes region)) }
-
-<span style="opacity:.7">  -- memory of a buffer&#x27;s own ends with its bytes, and a region doesn&#x27;t end before them</span>
-  abbrev pub <b id="EndsWithin">EndsWithin</b> : (Region → <a href="../../library/index.html#List" title="the finite lists">List</a> <a href="../../library/index.html#%E2%84%95" title="the whole numbers from 0 on">ℕ</a>) → Storage Region → <a href="../../library/index.html#%E2%84%95" title="the whole numbers from 0 on">ℕ</a> → Type 0
-  <a href="#EndsWithin" title="memory of a buffer&#x27;s own ends with its bytes, and a region doesn&#x27;t end before them">EndsWithin</a> bytes (Owned v) end = end ≡ <a href="../../library/index.html#length" title="the number of elements of a list">length</a> v.items
-  <a href="#EndsWithin" title="memory of a buffer&#x27;s own ends with its bytes, and a region doesn&#x27;t end before them">EndsWithin</a> bytes (Lent region) end = end ≤ <a href="../../library/index.html#length" title="the number of elements of a list">length</a> (bytes region)
-
-<span style="opacity:.7">  -- the storage once the front of its block, up to an end, was written over</span>
-  abbrev pub <b id="block_refilled">block_refilled</b> : (Region → <a href="../../library/index.html#%E2%84%95" title="the whole numbers from 0 on">ℕ</a> → <a href="../../library/index.html#List" title="the finite lists">List</a> <a href="../../library/index.html#%E2%84%95" title="the whole numbers from 0 on">ℕ</a> → Region) → Storage Region → <a href="../../library/index.html#%E2%84%95" title="the whole numbers from 0 on">ℕ</a> → <a href="../../library/index.html#List" title="the finite lists">List</a> <a href="../../library/index.html#%E2%84%95" title="the whole numbers from 0 on">ℕ</a> → Storage Region
-  <a href="#block_refilled" title="the storage once the front of its block, up to an end, was written over">block_refilled</a> refilled (Owned v) end ws = Owned (with_items_from v 0 ws)
-  <a href="#block_refilled" title="the storage once the front of its block, up to an end, was written over">block_refilled</a> refilled (Lent region) end ws = Lent (refilled region end ws)
-</code></pre>
-"####]
-    pub mod Storage {}
     #[doc = r####"Tables: making one, growing it, reading and writing its elements (core specification, table instances).
 
 <pre><code>use Rattle.std.specs.Prelude.{<a href="../../library/index.html#%E2%89%A1" title="x is y">◌≡◌</a>, <a href="../../library/index.html#%2B" title="sum, difference (0 where n is greater), product, quotient and remainder (rounded down), power, of whole numbers from 0 on">◌+◌</a>, ◌≤◌, <a href="../../library/index.html#%E2%84%95" title="the whole numbers from 0 on">ℕ</a>, <a href="../../library/index.html#Bool" title="the Booleans `true` and `false`">Bool</a>, <a href="../../library/index.html#true" title="the Boolean">true</a>, <a href="../../library/index.html#false" title="the Boolean">false</a>, <a href="../../library/index.html#List" title="the finite lists">List</a>, [], <a href="../../library/index.html#%E2%88%B7" title="the list that begins with x and goes on with xs">◌∷◌</a>, <a href="../../library/index.html#%2B%2B" title="a list followed by another one">◌++◌</a>, <a href="../../library/index.html#length" title="the number of elements of a list">length</a>, <a href="../../library/index.html#replicate" title="the list of n times x">replicate</a>, <a href="../../library/index.html#nat_eq" title="whether two numbers are equal, as a Boolean">nat_eq</a>, if◌then◌else◌, <a href="../../library/index.html#MatchBool" title="P where b is true, else Q">MatchBool</a>, <a href="../../library/index.html#MatchOption" title="P where there is no value, else Q of the value">MatchOption</a>, <a href="../../library/index.html#Option" title="a value, or none">Option</a>, <a href="../../library/index.html#Some" title="the value x, of an `Option`">Some</a>, <a href="../../library/index.html#None" title="no value, of an `Option`">None</a>, <a href="../../library/index.html#Result" title="a value, or an error">Result</a>, <a href="../../library/index.html#Ok" title="the value x, of a `Result`">Ok</a>, <a href="../../library/index.html#Err" title="the error e, of a `Result`">Err</a>, <a href="../../library/index.html#slice_get" title="element i, if there is one">slice_get</a>}
@@ -3864,8 +3850,8 @@ abbrev pub <b id="WritesTable">WritesTable</b> : (<a href="#TableValue" title="a
 abbrev pub <b id="MeteredElements">MeteredElements</b> : Type 0 → Type 0
 <a href="#MeteredElements" title="elements of any kind with their meter, if there is one">MeteredElements</a> A = <a href="../../meter/Attempt/index.html#MeteredValue" title="a value that may grow, the meter that is charged, if there is one, and the limiter that is asked">MeteredValue</a> (<a href="../../library/index.html#List" title="the finite lists">List</a> A) (<a href="../../library/index.html#Unit" title="the type `()`">Unit</a> {0})
 
-<span style="opacity:.7">-- Elements are written over, wherever they lie: by what they become, or none where a range ends past its list, the error</span>
-<span style="opacity:.7">-- there, and how many of them are paid for, if any. A write that is refused writes and takes nothing.</span>
+<span style="opacity:.7">-- Elements are written over, wherever they lie: by what they become, or none where a range ends past its list, the</span>
+<span style="opacity:.7">-- error there, and how many of them are paid for, if any. A write that is refused writes and takes nothing.</span>
 abbrev pub <b id="WritesElements">WritesElements</b> : {A : Type 0} → <a href="../../library/index.html#Option" title="a value, or none">Option</a> (<a href="../../library/index.html#List" title="the finite lists">List</a> A) → <a href="../../../enum.TableError.html">TableError</a> → <a href="../../library/index.html#Option" title="a value, or none">Option</a> <a href="../../library/index.html#%E2%84%95" title="the whole numbers from 0 on">ℕ</a> → <a href="#MeteredElements" title="elements of any kind with their meter, if there is one">MeteredElements</a> A
     → <a href="../../library/index.html#Result" title="a value, or an error">Result</a> (<a href="../../library/index.html#Unit" title="the type `()`">Unit</a> {0}) <a href="../../../enum.TableError.html">TableError</a> → <a href="#MeteredElements" title="elements of any kind with their meter, if there is one">MeteredElements</a> A → Type 0
 <a href="#WritesElements" title="Elements are written over, wherever they lie: by what they become, or none where a range ends past its list, the error there, and how many of them are paid for, if any. A write that is refused writes and takes nothing.">WritesElements</a> <a href="../../library/index.html#None" title="no value, of an `Option`">None</a> outside paid s result s&#x27; = (result ≡ <a href="../../library/index.html#Err" title="the error e, of a `Result`">Err</a> outside) × (s&#x27; ≡ s)

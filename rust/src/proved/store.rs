@@ -3,18 +3,14 @@ pub mod bulk {
     //! The bulk instructions on bytes, wherever these lie.
     //!
     //! Own: upstream's crate has none for memories. They are tested and charged as its calls on tables:
-    //! the bounds first, then the fuel. One that is refused writes no byte and takes no fuel.
+    //! the bounds first (`OutOfBoundsAccess`), then the fuel (`OutOfFuel`), also for no byte. One that is
+    //! refused writes no byte and takes no fuel.
 
     use crate::proved::meter::growth::charge;
     use crate::proved::meter::{Fuel, MemoryError};
     use crate::proved::store::range::{copy_range, fill_range, lies_within, write_range};
 
-    /// Fills `len` bytes from `dst` on with a value.
-    ///
-    /// Errors, in the order of the tests: [`OutOfBoundsAccess`] if they end past the bytes; [`OutOfFuel`],
-    /// which is tested also if no byte is filled.
-    ///
-    /// Core specification, memory.fill.
+    /// Fills `len` bytes from `dst` on with a value (core specification, memory.fill).
     ///
     /// # Contract
     ///
@@ -27,8 +23,6 @@ pub mod bulk {
     /// [metered]: crate::specs::store::Growth#metered "a value with its meter, if there is one, and no limiter to ask"
     /// [Some]: crate::specs::library#Some "the value x, of an \`Option\`"
     /// [length]: crate::specs::library#length "the number of elements of a list"
-    /// [`OutOfBoundsAccess`]: crate::proved::meter::MemoryError::OutOfBoundsAccess
-    /// [`OutOfFuel`]: crate::proved::meter::MemoryError::OutOfFuel
     #[inline]
     pub fn fill_bytes(
         bytes: &mut [u8],
@@ -49,12 +43,7 @@ pub mod bulk {
     }
 
     /// Copies `len` bytes from `src` on over those from `dst` on. If the ranges overlap, the old bytes
-    /// are copied.
-    ///
-    /// Errors, in the order of the tests: [`OutOfBoundsAccess`] if a range ends past the bytes;
-    /// [`OutOfFuel`], which is tested also if no byte is copied.
-    ///
-    /// Core specification, memory.copy.
+    /// are copied (core specification, memory.copy).
     ///
     /// # Contract
     ///
@@ -67,8 +56,6 @@ pub mod bulk {
     /// [metered]: crate::specs::store::Growth#metered "a value with its meter, if there is one, and no limiter to ask"
     /// [Some]: crate::specs::library#Some "the value x, of an \`Option\`"
     /// [length]: crate::specs::library#length "the number of elements of a list"
-    /// [`OutOfBoundsAccess`]: crate::proved::meter::MemoryError::OutOfBoundsAccess
-    /// [`OutOfFuel`]: crate::proved::meter::MemoryError::OutOfFuel
     #[inline]
     pub fn copy_bytes_within(
         bytes: &mut [u8],
@@ -87,12 +74,8 @@ pub mod bulk {
         Ok(())
     }
 
-    /// Copies `len` bytes of a source, from `src` on, over those from `dst` on.
-    ///
-    /// Errors, in the order of the tests: [`OutOfBoundsAccess`] if a range ends past its bytes;
-    /// [`OutOfFuel`], which is tested also if no byte is copied.
-    ///
-    /// Core specification, memory.copy of two memories, memory.init.
+    /// Copies `len` bytes of a source, from `src` on, over those from `dst` on (core specification,
+    /// memory.copy of two memories, memory.init).
     ///
     /// # Contract
     ///
@@ -105,8 +88,6 @@ pub mod bulk {
     /// [metered]: crate::specs::store::Growth#metered "a value with its meter, if there is one, and no limiter to ask"
     /// [Some]: crate::specs::library#Some "the value x, of an \`Option\`"
     /// [length]: crate::specs::library#length "the number of elements of a list"
-    /// [`OutOfBoundsAccess`]: crate::proved::meter::MemoryError::OutOfBoundsAccess
-    /// [`OutOfFuel`]: crate::proved::meter::MemoryError::OutOfFuel
     #[inline]
     pub fn copy_bytes(
         bytes: &mut [u8],
@@ -243,8 +224,8 @@ pub mod elements {
         Ok(())
     }
 
-    /// Copies `len` items of a segment, from `src` on, over the elements from `dst` on. Copying no items
-    /// costs no fuel.
+    /// Copies `len` items of a segment, from `src` on, over the elements from `dst` on. Copying no
+    /// items costs no fuel.
     ///
     /// # Contract
     ///
@@ -495,36 +476,81 @@ pub mod laws {
     #[inline]
     pub fn table_subtyping_is_transitive() {}
 }
-mod limits {
-    //! The limits of memory and table types.
-
-    /// Whether an optional maximum is no looser than another.
-    ///
-    /// # Contract
-    ///
-    /// <span></span><pre><code>ensures: [IsTrue] result ↔ [IsNoLooser] own other</code></pre>
-    ///
-    /// [IsTrue]: crate::specs::library#IsTrue "b is true"
-    /// [IsNoLooser]: crate::specs::store::Limits#IsNoLooser "an optional maximum is no looser than another"
-    #[inline]
-    pub(crate) fn is_no_looser(own: Option<u64>, other: Option<u64>) -> bool {
-        match (own, other) {
-            (_, None) => true,
-            (None, Some(_)) => false,
-            (Some(maximum), Some(most)) => maximum <= most,
-        }
-    }
-}
 mod memory {
     //! Linear memories.
 
     mod buffer {
-        //! The bytes of a linear memory.
+        //! The bytes of a linear memory: its own, or the front of a borrowed region.
 
-        use super::region::Region;
         use crate::proved::meter::MemoryError;
         use crate::proved::store::range::fill_range;
         use crate::rattle::Vec;
+
+        mod sealed {
+            pub trait Sealed {}
+
+            impl<'r> Sealed for &'r mut [u8] {}
+        }
+
+        /// A borrowed buffer of bytes: a `&mut [u8]`, and nothing else.
+        ///
+        /// # Contract
+        ///
+        /// <span></span><pre><code><i>\-\- The buffer\'s bytes.</i>
+        /// bytes: Self → [List] [ℕ]
+        /// <i>\-\- The buffer after its front, up to an end, was overwritten.</i>
+        /// refilled: Self → [ℕ] → [List] [ℕ] → Self
+        /// <i>\-\- The bytes of a buffer whose front was overwritten.</i>
+        /// refills: (r : Self) (end : [ℕ]) (ws : [List] [ℕ])
+        /// &#32;&#32;&#32;&#32;→ bytes (refilled r end ws) ≡ [refilled_front] (bytes r) end ws</code></pre>
+        ///
+        /// [List]: crate::specs::library#List "the finite lists"
+        /// [ℕ]: crate::specs::library#%E2%84%95 "the whole numbers from 0 on"
+        /// [refilled_front]: crate::specs::store::Buffer#refilled_front "xs with its first items, up to place end, written over by as many"
+        pub trait Region: sealed::Sealed {
+            /// All of its bytes.
+            ///
+            /// # Contract
+            ///
+            /// <span></span><pre><code>ensures: result.now ≡ bytes self.now</code></pre>
+            fn whole(&self) -> &[u8];
+
+            /// Lends its front.
+            ///
+            /// # Contract
+            ///
+            /// <span></span><pre><code>requires: end ≤ [length] (bytes self.old)
+            /// ensures\* writes_back: [sem] 𝓛
+            /// &#32;&#32;&#32;&#32;([Lends] [Self.row] ([Array] [u8] 0) self.entry result (refilled self.old end))
+            /// ensures value: result.now ≡ [take] end (bytes self.old)</code></pre>
+            ///
+            /// [length]: crate::specs::library#length "the number of elements of a list"
+            /// [sem]: crate::specs::library#sem "the fixed form of a clause on a loan"
+            /// [Lends]: crate::specs::library#Lends "the result r borrows from x: what is written through r last, w, makes x the value F w"
+            /// [Self.row]: crate::specs::library#row "a type, in a clause on a loan"
+            /// [Array]: crate::specs::library#Array "in a clause on a loan: the type of a slice of T"
+            /// [u8]: crate::specs::library#u8 "the bytes, in a clause on a loan"
+            /// [take]: crate::specs::library#take "the first n elements"
+            fn front_mut(&mut self, end: usize) -> &mut [u8];
+        }
+
+        /// # Contract
+        ///
+        /// <span></span><pre><code>bytes = λ r. r.now
+        /// refilled = [region_refilled]</code></pre>
+        ///
+        /// [region_refilled]: crate::specs::store::Buffer#region_refilled "the reference to a region whose front was written over"
+        impl<'r> Region for &'r mut [u8] {
+            #[inline]
+            fn whole(&self) -> &[u8] {
+                &self[..]
+            }
+
+            #[inline]
+            fn front_mut(&mut self, end: usize) -> &mut [u8] {
+                &mut self[..end]
+            }
+        }
 
         /// A block of bytes; a buffer's bytes are the first of it. Both forms begin with their pointer, so
         /// that an access to a buffer doesn't depend on the form.
@@ -541,7 +567,7 @@ mod memory {
             /// ensures value: result.now ≡ [take] end ([block] [R.bytes] self.now)</code></pre>
             ///
             /// [length]: crate::specs::library#length "the number of elements of a list"
-            /// [block]: crate::specs::store::Storage#block "the block of bytes of which a buffer\'s are the first: memory of its own, or a region"
+            /// [block]: crate::specs::store::Buffer#block "the block of bytes of which a buffer\'s are the first: memory of its own, or a region"
             /// [R.bytes]: trait@Region#contract
             /// [take]: crate::specs::library#take "the first n elements"
             #[inline]
@@ -561,7 +587,7 @@ mod memory {
             /// ensures value: result.now ≡ [take] end ([block] [R.bytes] self.old)</code></pre>
             ///
             /// [length]: crate::specs::library#length "the number of elements of a list"
-            /// [block]: crate::specs::store::Storage#block "the block of bytes of which a buffer\'s are the first: memory of its own, or a region"
+            /// [block]: crate::specs::store::Buffer#block "the block of bytes of which a buffer\'s are the first: memory of its own, or a region"
             /// [R.bytes]: trait@Region#contract
             /// [sem]: crate::specs::library#sem "the fixed form of a clause on a loan"
             /// [Lends]: crate::specs::library#Lends "the result r borrows from x: what is written through r last, w, makes x the value F w"
@@ -569,7 +595,7 @@ mod memory {
             /// [R.row]: crate::specs::library#row "a type, in a clause on a loan"
             /// [Array]: crate::specs::library#Array "in a clause on a loan: the type of a slice of T"
             /// [u8]: crate::specs::library#u8 "the bytes, in a clause on a loan"
-            /// [block_refilled]: crate::specs::store::Storage#block_refilled "the storage once the front of its block, up to an end, was written over"
+            /// [block_refilled]: crate::specs::store::Buffer#block_refilled "the storage once the front of its block, up to an end, was written over"
             /// [R.refilled]: trait@Region#contract
             /// [take]: crate::specs::library#take "the first n elements"
             #[inline]
@@ -591,9 +617,9 @@ mod memory {
         /// invariant = λ b. [EndsWithin] [R.bytes] b.storage b.len</code></pre>
         ///
         /// [BufferValue]: crate::specs::store::Buffer#BufferValue "a buffer: its bytes, and its room"
-        /// [view_of]: crate::specs::store::Storage#view_of "the buffer of the first bytes of a block, up to an end"
+        /// [view_of]: crate::specs::store::Buffer#view_of "the buffer of the first bytes of a block, up to an end"
         /// [R.bytes]: trait@Region#contract
-        /// [EndsWithin]: crate::specs::store::Storage#EndsWithin "memory of a buffer\'s own ends with its bytes, and a region doesn\'t end before them"
+        /// [EndsWithin]: crate::specs::store::Buffer#EndsWithin "memory of a buffer\'s own ends with its bytes, and a region doesn\'t end before them"
         #[derive(Debug)]
         pub struct Buffer<R: Region> {
             storage: Storage<R>,
@@ -785,80 +811,10 @@ mod memory {
             }
         }
     }
-    mod region {
-        //! A borrowed buffer of bytes, whose front can be lent.
-
-        mod sealed {
-            pub trait Sealed {}
-
-            impl<'r> Sealed for &'r mut [u8] {}
-        }
-
-        /// A borrowed buffer of bytes: a `&mut [u8]`, and nothing else.
-        ///
-        /// # Contract
-        ///
-        /// <span></span><pre><code><i>\-\- The buffer\'s bytes.</i>
-        /// bytes: Self → [List] [ℕ]
-        /// <i>\-\- The buffer after its front, up to an end, was overwritten.</i>
-        /// refilled: Self → [ℕ] → [List] [ℕ] → Self
-        /// <i>\-\- The bytes of a buffer whose front was overwritten.</i>
-        /// refills: (r : Self) (end : [ℕ]) (ws : [List] [ℕ])
-        /// &#32;&#32;&#32;&#32;→ bytes (refilled r end ws) ≡ [refilled_front] (bytes r) end ws</code></pre>
-        ///
-        /// [List]: crate::specs::library#List "the finite lists"
-        /// [ℕ]: crate::specs::library#%E2%84%95 "the whole numbers from 0 on"
-        /// [refilled_front]: crate::specs::store::Front#refilled_front "xs with its first items, up to place end, written over by as many"
-        pub trait Region: sealed::Sealed {
-            /// All of its bytes.
-            ///
-            /// # Contract
-            ///
-            /// <span></span><pre><code>ensures: result.now ≡ bytes self.now</code></pre>
-            fn whole(&self) -> &[u8];
-
-            /// Lends its front.
-            ///
-            /// # Contract
-            ///
-            /// <span></span><pre><code>requires: end ≤ [length] (bytes self.old)
-            /// ensures\* writes_back: [sem] 𝓛
-            /// &#32;&#32;&#32;&#32;([Lends] [Self.row] ([Array] [u8] 0) self.entry result (refilled self.old end))
-            /// ensures value: result.now ≡ [take] end (bytes self.old)</code></pre>
-            ///
-            /// [length]: crate::specs::library#length "the number of elements of a list"
-            /// [sem]: crate::specs::library#sem "the fixed form of a clause on a loan"
-            /// [Lends]: crate::specs::library#Lends "the result r borrows from x: what is written through r last, w, makes x the value F w"
-            /// [Self.row]: crate::specs::library#row "a type, in a clause on a loan"
-            /// [Array]: crate::specs::library#Array "in a clause on a loan: the type of a slice of T"
-            /// [u8]: crate::specs::library#u8 "the bytes, in a clause on a loan"
-            /// [take]: crate::specs::library#take "the first n elements"
-            fn front_mut(&mut self, end: usize) -> &mut [u8];
-        }
-
-        /// # Contract
-        ///
-        /// <span></span><pre><code>bytes = λ r. r.now
-        /// refilled = [region_refilled]</code></pre>
-        ///
-        /// [region_refilled]: crate::specs::store::Front#region_refilled "the reference to a region whose front was written over"
-        impl<'r> Region for &'r mut [u8] {
-            #[inline]
-            fn whole(&self) -> &[u8] {
-                &self[..]
-            }
-
-            #[inline]
-            fn front_mut(&mut self, end: usize) -> &mut [u8] {
-                &mut self[..end]
-            }
-        }
-    }
     mod ty {
         //! The types of linear memories.
 
         use crate::proved::meter::MemoryError;
-        use crate::proved::store::limits::is_no_looser;
         use crate::proved::types::IndexType;
 
         /// A page has one byte or 64 KiB.
@@ -1200,6 +1156,23 @@ mod memory {
             }
         }
 
+        /// Whether an optional maximum is no looser than another.
+        ///
+        /// # Contract
+        ///
+        /// <span></span><pre><code>ensures: [IsTrue] result ↔ [IsNoLooser] own other</code></pre>
+        ///
+        /// [IsTrue]: crate::specs::library#IsTrue "b is true"
+        /// [IsNoLooser]: crate::specs::store::Limits#IsNoLooser "an optional maximum is no looser than another"
+        #[inline]
+        pub(crate) fn is_no_looser(own: Option<u64>, other: Option<u64>) -> bool {
+            match (own, other) {
+                (_, None) => true,
+                (None, Some(_)) => false,
+                (Some(maximum), Some(most)) => maximum <= most,
+            }
+        }
+
         /// Builds a [`MemoryType`] step by step.
         ///
         /// Upstream: `wasmi_core::MemoryTypeBuilder`.
@@ -1339,10 +1312,10 @@ mod memory {
     use crate::proved::meter::{Fuel, MemoryError, ResourceLimiter, ResourceLimiterRef};
     use crate::proved::store::bulk::{copy_bytes, copy_bytes_within, fill_bytes};
     use crate::proved::store::growth::{MEMORY_DENIED as DENIED, decide_growth, permitted_minimum};
-    use crate::proved::store::optional_meter::with_meter;
     use crate::proved::store::range::{read_bytes, write_bytes};
-    pub use buffer::{Buffer, ByteBuffer};
-    pub use region::Region;
+    use crate::proved::store::with_meter;
+    pub use buffer::{Buffer, ByteBuffer, Region};
+    pub(crate) use ty::is_no_looser;
     pub use ty::{MemoryType, MemoryTypeBuilder};
 
     /// A linear memory. Its name in signatures is [`Memory`].
@@ -1636,8 +1609,6 @@ mod memory {
 
         /// As `grow`, with a meter that isn't optional.
         ///
-        /// Own: upstream's `grow` takes an optional meter.
-        ///
         /// # Contract
         ///
         /// <span></span><pre><code>ensures loan: [KeepsLoan] limiter.old limiter.new
@@ -1678,8 +1649,6 @@ mod memory {
 
         /// As `grow_metered`, but borrows the limiter for this call alone, so that its state afterwards
         /// is known.
-        ///
-        /// Own.
         ///
         /// # Contract
         ///
@@ -1746,10 +1715,9 @@ mod memory {
         ///
         /// Errors, in the order of the tests: [`OutOfBoundsAccess`] if they end past the memory;
         /// [`OutOfFuel`], which is tested also if no byte is filled. Then no byte is written, and no fuel
-        /// taken.
+        /// taken. It is charged as a table's `fill`, by the bytes.
         ///
-        /// Core specification, memory.fill. Own: upstream's memories have no bulk instructions. This
-        /// one is charged as a table's `fill`, by the bytes.
+        /// Core specification, memory.fill.
         ///
         /// # Contract
         ///
@@ -1803,14 +1771,9 @@ mod memory {
         }
 
         /// Copies `len` bytes from `src` on over those from `dst` on. If the ranges overlap, the old
-        /// bytes are copied.
+        /// bytes are copied. The errors are those of `fill`, if a range ends past the memory.
         ///
-        /// Errors, in the order of the tests: [`OutOfBoundsAccess`] if a range ends past the memory;
-        /// [`OutOfFuel`], which is tested also if no byte is copied. Then no byte is written, and no fuel
-        /// taken.
-        ///
-        /// Core specification, memory.copy within a memory. Own: upstream's memories have no bulk
-        /// instructions.
+        /// Core specification, memory.copy within a memory.
         ///
         /// # Contract
         ///
@@ -1825,8 +1788,6 @@ mod memory {
         /// [meter_at_entry]: crate::specs::meter::Meter#meter_at_entry "the meter that an optional reference leads to when a call begins, if there is one"
         /// [meter_at_exit]: crate::specs::meter::Meter#meter_at_exit "the meter that an optional reference leaves behind it when a call ends, if there is one, in the terms of a clause\'s \`.exit\`"
         /// [KeepsPlace]: crate::specs::store::Memory#KeepsPlace "bytes are written over, and the type of the memory and its room stay"
-        /// [`OutOfBoundsAccess`]: crate::proved::meter::MemoryError::OutOfBoundsAccess
-        /// [`OutOfFuel`]: crate::proved::meter::MemoryError::OutOfFuel
         #[inline]
         pub fn copy_within(
             &mut self,
@@ -1864,14 +1825,9 @@ mod memory {
         }
 
         /// Copies `len` bytes of another memory, from `src` on, over the bytes of a memory from `dst`
-        /// on.
+        /// on. The errors are those of `fill`, if a range ends past its memory.
         ///
-        /// Errors, in the order of the tests: [`OutOfBoundsAccess`] if a range ends past its memory;
-        /// [`OutOfFuel`], which is tested also if no byte is copied. Then no byte is written, and no fuel
-        /// taken.
-        ///
-        /// Core specification, memory.copy of two memories. Own: upstream's memories have no bulk
-        /// instructions.
+        /// Core specification, memory.copy of two memories.
         ///
         /// # Contract
         ///
@@ -1887,8 +1843,6 @@ mod memory {
         /// [meter_at_entry]: crate::specs::meter::Meter#meter_at_entry "the meter that an optional reference leads to when a call begins, if there is one"
         /// [meter_at_exit]: crate::specs::meter::Meter#meter_at_exit "the meter that an optional reference leaves behind it when a call ends, if there is one, in the terms of a clause\'s \`.exit\`"
         /// [KeepsPlace]: crate::specs::store::Memory#KeepsPlace "bytes are written over, and the type of the memory and its room stay"
-        /// [`OutOfBoundsAccess`]: crate::proved::meter::MemoryError::OutOfBoundsAccess
-        /// [`OutOfFuel`]: crate::proved::meter::MemoryError::OutOfFuel
         #[inline]
         pub fn copy<S: Region>(
             dst_memory: &mut LinearMemory<R>,
@@ -1935,13 +1889,10 @@ mod memory {
         }
 
         /// Copies `len` bytes of a data segment, from `src` on, over the bytes from `dst` on. A segment
-        /// that was dropped has no bytes.
+        /// that was dropped has no bytes. The errors are those of `fill`, if a range ends past the
+        /// segment or the memory.
         ///
-        /// Errors, in the order of the tests: [`OutOfBoundsAccess`] if a range ends past the segment or
-        /// the memory; [`OutOfFuel`], which is tested also if no byte is copied. Then no byte is written,
-        /// and no fuel taken.
-        ///
-        /// Core specification, memory.init. Own: upstream's memories have no bulk instructions.
+        /// Core specification, memory.init.
         ///
         /// # Contract
         ///
@@ -1956,8 +1907,6 @@ mod memory {
         /// [meter_at_entry]: crate::specs::meter::Meter#meter_at_entry "the meter that an optional reference leads to when a call begins, if there is one"
         /// [meter_at_exit]: crate::specs::meter::Meter#meter_at_exit "the meter that an optional reference leaves behind it when a call ends, if there is one, in the terms of a clause\'s \`.exit\`"
         /// [KeepsPlace]: crate::specs::store::Memory#KeepsPlace "bytes are written over, and the type of the memory and its room stay"
-        /// [`OutOfBoundsAccess`]: crate::proved::meter::MemoryError::OutOfBoundsAccess
-        /// [`OutOfFuel`]: crate::proved::meter::MemoryError::OutOfFuel
         #[inline]
         pub fn init(
             &mut self,
@@ -1997,29 +1946,6 @@ mod memory {
             copy_bytes(self.buffer.data_mut(), dst, segment, src, len, fuel)
         }
     }
-}
-mod optional_meter {
-    //! Calls that take an optional meter.
-
-    /// Makes a call with the meter of an option, or, if there is none, with one that is off. The call
-    /// is of a function whose name ends in `_metered`, which takes a meter that isn't optional.
-    ///
-    /// This is a macro because the prover knows what is left in the meter where the option is matched,
-    /// and not where the option is passed on.
-    macro_rules! with_meter {
-        ($fuel:ident => $call:expr) => {
-            match $fuel {
-                Some($fuel) => $call,
-                None => {
-                    let mut off = Fuel::unmetered();
-                    let $fuel = &mut off;
-                    $call
-                }
-            }
-        };
-    }
-
-    pub(crate) use with_meter;
 }
 pub mod range {
     //! Ranges of lists: whether one lies within its list, and how one is read and written over.
@@ -2512,7 +2438,7 @@ mod table {
         //! The types of tables.
 
         use crate::proved::meter::TableError;
-        use crate::proved::store::limits::is_no_looser;
+        use crate::proved::store::memory::is_no_looser;
         use crate::proved::types::{IndexType, RefType};
 
         /// The type of a table: its index type, the type of its elements, and its minimum and optional
@@ -2793,7 +2719,7 @@ mod table {
         copy_elements, copy_elements_within, fill_elements, init_elements,
     };
     use crate::proved::store::growth::TABLE_DENIED as DENIED;
-    use crate::proved::store::optional_meter::with_meter;
+    use crate::proved::store::with_meter;
     use crate::proved::typed::TypedRawRef;
     pub use element::{ElementSegment, ElementSegmentRef, SegmentError};
     pub use ty::TableType;
@@ -2970,8 +2896,6 @@ mod table {
 
         /// As `grow`, with a meter that isn't optional.
         ///
-        /// Own: upstream's `grow` takes an optional meter.
-        ///
         /// # Contract
         ///
         /// <span></span><pre><code>ensures loan: [KeepsLoan] limiter.old limiter.new
@@ -3000,8 +2924,6 @@ mod table {
 
         /// As `grow_metered`, but borrows the limiter for this call alone, so that its state afterwards
         /// is known.
-        ///
-        /// Own.
         ///
         /// # Contract
         ///
@@ -3118,8 +3040,6 @@ mod table {
         /// As `grow_raw` with a meter that isn't optional, but borrows the limiter for this call alone,
         /// so that its state afterwards is known.
         ///
-        /// Own.
-        ///
         /// # Contract
         ///
         /// <span></span><pre><code>ensures: [GrowsTableRaw] ([optional_rules] [L.rules]) delta init
@@ -3227,8 +3147,6 @@ mod table {
 
         /// As `init`, with a meter that isn't optional.
         ///
-        /// Own: upstream's `init` takes an optional meter.
-        ///
         /// # Contract
         ///
         /// <span></span><pre><code>ensures: [WritesTable] ([initialization_of] dst src len ([segment_of] element.entry))
@@ -3286,8 +3204,6 @@ mod table {
         }
 
         /// As `copy`, with a meter that isn't optional.
-        ///
-        /// Own: upstream's `copy` takes an optional meter.
         ///
         /// # Contract
         ///
@@ -3354,8 +3270,6 @@ mod table {
 
         /// As `copy_within`, with a meter that isn't optional.
         ///
-        /// Own: upstream's `copy_within` takes an optional meter.
-        ///
         /// # Contract
         ///
         /// <span></span><pre><code>ensures: [WritesTable] ([copy_of] dst src len self.old)
@@ -3403,8 +3317,6 @@ mod table {
         }
 
         /// As `fill`, with a meter that isn't optional.
-        ///
-        /// Own: upstream's `fill` takes an optional meter.
         ///
         /// # Contract
         ///
@@ -3494,3 +3406,23 @@ mod table {
 
 pub use memory::{Buffer, ByteBuffer, LinearMemory, Memory, MemoryType, MemoryTypeBuilder, Region};
 pub use table::{ElementSegment, ElementSegmentRef, SegmentError, Table, TableType};
+
+/// Makes a call with the meter of an option, or, if there is none, with one that is off. The call
+/// is of a function whose name ends in `_metered`, which takes a meter that isn't optional.
+///
+/// This is a macro because the prover knows what is left in the meter where the option is matched,
+/// and not where the option is passed on.
+macro_rules! with_meter {
+    ($fuel:ident => $call:expr) => {
+        match $fuel {
+            Some($fuel) => $call,
+            None => {
+                let mut off = Fuel::unmetered();
+                let $fuel = &mut off;
+                $call
+            }
+        }
+    };
+}
+
+pub(crate) use with_meter;

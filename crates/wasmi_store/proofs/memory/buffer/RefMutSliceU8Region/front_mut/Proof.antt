@@ -32,9 +32,9 @@ use denote.Triple.Walked.{says, Stays, stay_dropped, walk_of, ends_at, Goes-drop
 use borrow.Table.Elements.{length-take-le}
 use Rattle.std.proofs.raw_atomic.Walks.{proved}
 use Rattle.wasmi_store.proofs.FrontLemmas.{front_lent, lends_front, refilled}
-use Rattle.wasmi_store.specs.contracts.memory.region.RefMutSliceU8Region.front_mut as f
-use Rattle.wasmi_store.proofs.memory.region.RefMutSliceU8Region.front_mut.Statement.{statement}
-use Rattle.wasmi_store.proofs.memory.region.RefMutSliceU8Region.front_mut.Code as code
+use Rattle.wasmi_store.specs.contracts.memory.buffer.RefMutSliceU8Region.front_mut as f
+use Rattle.wasmi_store.proofs.memory.buffer.RefMutSliceU8Region.front_mut.Statement.{statement}
+use Rattle.wasmi_store.proofs.memory.buffer.RefMutSliceU8Region.front_mut.Code as code
 
 abbrev stayed : Stays f.ended.signature.params f.ended.kept
 stayed = (
