@@ -1,4 +1,4 @@
-//! MeteredTables WebAssembly memories and tables under a resource limiter, and a machine that runs lists
+//! Metered WebAssembly memories and tables under a resource limiter, and a machine that runs lists
 //! of calls on them.
 mod calls {
     //! What a machine can be asked, and what it replies. Both are our own: upstream leaves running to
@@ -1010,7 +1010,7 @@ mod machine {
     use crate::proved::machine::calls::Reply;
     use crate::proved::machine::registers::Registers;
     use crate::proved::machine::slots::Slots;
-    use crate::proved::machine::store::Store;
+    use crate::proved::machine::store::MachineStore;
     use crate::proved::machine::values::value_at;
     use crate::proved::meter::{Fuel, FuelError};
     use crate::proved::ops::StoreOp;
@@ -1024,8 +1024,6 @@ mod machine {
     /// is its lifetime.
     ///
     /// Its state is valid at any time: see [`laws::states_are_valid`](crate::proved::machine::laws::states_are_valid).
-    ///
-    /// Own: upstream's interpreter has a store of its own.
     ///
     /// # Examples
     ///
@@ -1063,7 +1061,7 @@ mod machine {
     /// [IsValid]: crate::specs::machine::Validity#IsValid "memories and tables have valid types and as many whole pages and elements as these allow, segments aren\'t too long, and there are 16 registers"
     #[derive(Debug)]
     pub struct Machine<'r> {
-        pub(crate) store: Store<'r>,
+        pub(crate) store: MachineStore<'r>,
     }
 
     impl<'r> Machine<'r> {
@@ -1103,7 +1101,7 @@ mod machine {
         /// [option_copied_mut]: crate::specs::library#option_copied_mut "the value behind an optional \`&mut\`, if there is one"
         #[inline]
         fn empty(fuel: Fuel, spare: Option<&'r mut [u8]>) -> Machine<'r> {
-            let store = Store {
+            let store = MachineStore {
                 memories: Slots::new(),
                 tables: Slots::new(),
                 segments: Vec::new(),
@@ -1130,8 +1128,6 @@ mod machine {
         ///
         /// It isn't a call, so a run has no turn for it: an interpreter pays by it for the instructions
         /// that it executes between calls.
-        ///
-        /// Own: upstream's interpreter has the meter itself.
         ///
         /// # Contract
         ///
@@ -1180,8 +1176,6 @@ mod machine {
         /// Stores an item to a memory at `ptr + offset`, as `Call::Store` does, which reaches no
         /// limiter. The reply is [`Done`], [`NoSuch`] if there is no such memory, or [`Trap`] with
         /// `MemoryOutOfBounds`; after the last two nothing has changed.
-        ///
-        /// Own: upstream's interpreter has the memory itself.
         ///
         /// # Contract
         ///
@@ -1439,7 +1433,7 @@ mod memories {
         #[inline(always)]
         pub(crate) fn read(&self, index: usize, offset: usize, len: usize) -> Reply {
             match self.live(index) {
-                Some(memory) => read_bytes(memory.data(), offset, len),
+                Some(memory) => bytes_reply(memory.data(), offset, len),
                 None => Reply::NoSuch,
             }
         }
@@ -1502,7 +1496,7 @@ mod memories {
             let Some(memory) = self.live_mut(index) else {
                 return Reply::NoSuch;
             };
-            stored(store(memory, op, ptr, offset, value))
+            store_reply(store(memory, op, ptr, offset, value))
         }
     }
 
@@ -1532,7 +1526,7 @@ mod memories {
             let Some(memory) = self.live_mut(index) else {
                 return Reply::NoSuch;
             };
-            stored(store_vector(memory, vector, ptr, offset))
+            store_reply(store_vector(memory, vector, ptr, offset))
         }
 
         /// Stores a lane of a vector to a memory, if its register is there.
@@ -1560,7 +1554,7 @@ mod memories {
             let Some(memory) = self.live_mut(index) else {
                 return Reply::NoSuch;
             };
-            stored(store_lane(memory, op, vector, ptr, offset))
+            store_reply(store_lane(memory, op, vector, ptr, offset))
         }
     }
 
@@ -1574,7 +1568,7 @@ mod memories {
     /// [Reply.Done]: crate::proved::machine::Reply::Done
     /// [Reply.Trap]: crate::proved::machine::Reply::Trap
     #[inline(always)]
-    fn stored(answer: Result<(), TrapCode>) -> Reply {
+    fn store_reply(answer: Result<(), TrapCode>) -> Reply {
         answer.map_or_else(Reply::Trap, |()| Reply::Done)
     }
 
@@ -1587,7 +1581,7 @@ mod memories {
     /// [ReadsBytes]: crate::specs::machine::MemoryEffects#ReadsBytes "a read: its bounds are tested before memory for the reply is asked for"
     /// [at]: crate::specs::types::Access#at "the items a to a + n - 1, or none where the list ends before them"
     #[inline(always)]
-    fn read_bytes(memory: &[u8], offset: usize, len: usize) -> Reply {
+    fn bytes_reply(memory: &[u8], offset: usize, len: usize) -> Reply {
         if !lies_within(memory, offset as u64, len as u64) {
             return Reply::Memory(MemoryError::OutOfBoundsAccess);
         }
@@ -2036,8 +2030,6 @@ mod running {
         /// [`Number`] with the old size in pages, [`NoSuch`] if there is no such memory, or [`Memory`] with
         /// an error of [`LinearMemory::grow`](crate::proved::store::LinearMemory::grow).
         ///
-        /// Own: upstream's interpreter has the memory itself.
-        ///
         /// # Contract
         ///
         /// <span></span><pre><code>ensures loan: [KeepsLoan] limiter.old limiter.new
@@ -2099,8 +2091,6 @@ mod running {
         /// Executes one call, as `step`, but borrows the limiter for this call alone, so that its state
         /// afterwards is known.
         ///
-        /// Own: upstream leaves running to the interpreter.
-        ///
         /// # Contract
         ///
         /// <span></span><pre><code>ensures step: [RepliesWith] ([optional_rules] [L.rules]) call.now
@@ -2160,8 +2150,6 @@ mod running {
 
     /// Executes calls, as `run`, but borrows the limiter for this run alone, so that its state
     /// afterwards is known.
-    ///
-    /// Own: upstream leaves running to the interpreter.
     ///
     /// # Contract
     ///
@@ -2580,7 +2568,7 @@ mod store {
     /// [State]: crate::specs::machine::State#State "the memories, tables, element segments and globals that were made, each kind in its order, the registers, the meter, and the bytes of the spare region, if there is one"
     /// [option_copied_mut]: crate::specs::library#option_copied_mut "the value behind an optional \`&mut\`, if there is one"
     #[derive(Debug)]
-    pub(crate) struct Store<'r> {
+    pub(crate) struct MachineStore<'r> {
         pub(crate) memories: Slots<Memory<'r>>,
         pub(crate) tables: Slots<Table>,
         pub(crate) segments: Vec<ElementSegment>,
@@ -2590,7 +2578,7 @@ mod store {
         pub(crate) spare: Option<&'r mut [u8]>,
     }
 
-    impl<'r> Store<'r> {
+    impl<'r> MachineStore<'r> {
         /// # Contract
         ///
         /// <span></span><pre><code>ensures: [SetsFuel] fuel self.old result self.new</code></pre>
@@ -2840,7 +2828,8 @@ mod store {
         /// # Contract
         ///
         /// <span></span><pre><code>requires subject: [subject_of] call.now ≡ [RegisterFile]
-        /// ensures step: [RepliesWithoutLimiter] ([optional_rules] [L.rules]) call.now self.old result self.new</code></pre>
+        /// ensures step: [RepliesWithoutLimiter]
+        /// &#32;&#32;&#32;&#32;([optional_rules] [L.rules]) call.now self.old result self.new</code></pre>
         ///
         /// [subject_of]: crate::specs::machine::Steps#subject_of "what each call is about: a line for each"
         /// [RegisterFile]: crate::specs::machine::Steps#RegisterFile
@@ -2871,7 +2860,8 @@ mod store {
         /// # Contract
         ///
         /// <span></span><pre><code>requires subject: [subject_of] call.now ≡ [VectorAccesses]
-        /// ensures step: [RepliesWithoutLimiter] ([optional_rules] [L.rules]) call.now self.old result self.new</code></pre>
+        /// ensures step: [RepliesWithoutLimiter]
+        /// &#32;&#32;&#32;&#32;([optional_rules] [L.rules]) call.now self.old result self.new</code></pre>
         ///
         /// [subject_of]: crate::specs::machine::Steps#subject_of "what each call is about: a line for each"
         /// [VectorAccesses]: crate::specs::machine::Steps#VectorAccesses
@@ -3036,7 +3026,7 @@ mod tables {
             let Some(table) = self.live_mut(index) else {
                 return Reply::NoSuch;
             };
-            done(table.set(element, value))
+            table_reply(table.set(element, value))
         }
 
         /// Fills a part of a table.
@@ -3064,7 +3054,7 @@ mod tables {
             let Some(table) = self.live_mut(index) else {
                 return Reply::NoSuch;
             };
-            done(table.fill_metered(dst, value, len, fuel))
+            table_reply(table.fill_metered(dst, value, len, fuel))
         }
 
         /// Initializes a part of a table from an element segment, if there is one.
@@ -3095,7 +3085,7 @@ mod tables {
             let Some(table) = self.live_mut(index) else {
                 return Reply::NoSuch;
             };
-            done(table.init_metered(segment, dst, src, len, fuel))
+            table_reply(table.init_metered(segment, dst, src, len, fuel))
         }
 
         /// Copies a range of a table to another one, or within it.
@@ -3161,7 +3151,7 @@ mod tables {
             let Some(table) = self.live_mut(index) else {
                 return Reply::NoSuch;
             };
-            done(table.copy_within_metered(dst, src, len, fuel))
+            table_reply(table.copy_within_metered(dst, src, len, fuel))
         }
     }
 
@@ -3231,7 +3221,7 @@ mod tables {
         match (slot, source) {
             (Slot::Live(table), Slot::Live(source)) => {
                 let CopyRange { dst, src, len } = range;
-                done(table.copy_metered(dst, source, src, len, fuel))
+                table_reply(table.copy_metered(dst, source, src, len, fuel))
             }
             _ => Reply::NoSuch,
         }
@@ -3247,7 +3237,7 @@ mod tables {
     /// [Reply.Done]: crate::proved::machine::Reply::Done
     /// [Reply.Table]: crate::proved::machine::Reply::Table
     #[inline(always)]
-    fn done(answer: Result<(), TableError>) -> Reply {
+    fn table_reply(answer: Result<(), TableError>) -> Reply {
         answer.map_or_else(Reply::Table, |()| Reply::Done)
     }
 }

@@ -1,5 +1,5 @@
 use Rattle.wasmi_core.proofs.StoreLemmas.{asks, alters, replies}
-use Rattle.wasmi_core.proofs.store.Store.step_memory.Goals as goal
+use Rattle.wasmi_core.proofs.store.MachineStore.step_memory.Goals as goal
 
 pub returns-in-NewMemory-clause-step : goal.returns-in-NewMemory-clause-step
 returns-in-NewMemory-clause-step g c = rw (c.in-NewMemory.is, ← c.self.view_is) (asks _ c.create.ensures.made)

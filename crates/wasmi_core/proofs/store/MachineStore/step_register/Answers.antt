@@ -1,5 +1,5 @@
 use Rattle.wasmi_core.proofs.StoreLemmas.{changes_part, only_replies}
-use Rattle.wasmi_core.proofs.store.Store.step_register.Goals as goal
+use Rattle.wasmi_core.proofs.store.MachineStore.step_register.Goals as goal
 
 pub returns-in-SetRegister : goal.returns-in-SetRegister
 returns-in-SetRegister g c =

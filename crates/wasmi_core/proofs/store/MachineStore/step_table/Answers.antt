@@ -5,7 +5,7 @@ use Rattle.wasmi_store.specs.Table.{initialization_of}
 use Rattle.wasmi_store.specs.Growth.{metered}
 use Rattle.wasmi_core.specs.State.{live_at}
 use Rattle.wasmi_core.proofs.TableEffectsLemmas.{part_from}
-use Rattle.wasmi_core.proofs.store.Store.step_table.Goals as goal
+use Rattle.wasmi_core.proofs.store.MachineStore.step_table.Goals as goal
 
 pub returns-in-NewTable-clause-step : goal.returns-in-NewTable-clause-step
 returns-in-NewTable-clause-step g c = rw (c.in-NewTable.is, ← c.self.view_is) (asks _ c.create.ensures.made)

@@ -1,5 +1,5 @@
 use Rattle.wasmi_core.proofs.StoreLemmas.{changes_part}
-use Rattle.wasmi_core.proofs.store.Store.step_vector_access.Goals as goal
+use Rattle.wasmi_core.proofs.store.MachineStore.step_vector_access.Goals as goal
 
 pub returns-in-VectorLoad : goal.returns-in-VectorLoad
 returns-in-VectorLoad g c =

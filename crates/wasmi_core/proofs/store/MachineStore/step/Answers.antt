@@ -1,6 +1,6 @@
 use Rattle.wasmi_core.proofs.StoreLemmas.{changes, alters, replies}
 use Rattle.wasmi_meter.specs.LimiterRef.{lent_limiter}
-use Rattle.wasmi_core.proofs.store.Store.step.Goals as goal
+use Rattle.wasmi_core.proofs.store.MachineStore.step.Goals as goal
 
 pub returns-in-SetFuel-clause-step : goal.returns-in-SetFuel-clause-step
 returns-in-SetFuel-clause-step g c = rw c.in-SetFuel.is (changes c.set_fuel.ensures)
