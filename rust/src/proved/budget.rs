@@ -20,7 +20,7 @@ mod error {
     /// <span></span><pre><code>output = λ error. [Some] ([add_error_text] error)</code></pre>
     ///
     /// [Some]: crate::specs::library#Some "the value x, of an \`Option\`"
-    /// [add_error_text]: crate::specs::budget::Texts#add_error_text "the text of why a machine isn\'t added to a pool"
+    /// [add_error_text]: crate::specs::budget::Pool#add_error_text "the text of why a machine isn\'t added to a pool"
     impl fmt::Display for AddError {
         #[inline]
         fn fmt(&self, f: &mut fmt::Formatter<'_>) -> fmt::Result {
@@ -34,8 +34,6 @@ mod error {
     impl core::error::Error for AddError {}
 
     /// Why a pool doesn't run a tenant's calls, in the order of the tests.
-    ///
-    /// Own: upstream has no pool.
     #[derive(Debug, PartialEq, Eq)]
     pub enum PoolError {
         /// No tenant has the index.
@@ -49,7 +47,7 @@ mod error {
     /// <span></span><pre><code>output = λ error. [Some] ([pool_error_text] error)</code></pre>
     ///
     /// [Some]: crate::specs::library#Some "the value x, of an \`Option\`"
-    /// [pool_error_text]: crate::specs::budget::Texts#pool_error_text "the text of why a pool makes no run"
+    /// [pool_error_text]: crate::specs::budget::Pool#pool_error_text "the text of why a pool makes no run"
     impl fmt::Display for PoolError {
         #[inline]
         fn fmt(&self, f: &mut fmt::Formatter<'_>) -> fmt::Result {
@@ -157,8 +155,6 @@ mod pool {
     /// tables: what all of them have, with what they dropped, stays within both. Each machine is a
     /// tenant; the indices of tenants count from 0. No tenant is ever removed, and what it dropped
     /// counts for ever.
-    ///
-    /// Own: upstream has no pool.
     ///
     /// # Examples
     ///
@@ -430,8 +426,6 @@ mod tenant {
     /// caps, and denies the rest. It counts each difference that it permitted. At a notice it takes
     /// back the last one if that is of the same kind, once. What the others hold stays the same while
     /// its machine runs.
-    ///
-    /// Own: upstream has no pool.
     #[derive(Clone, Copy, Debug)]
     pub struct Tenant {
         caps: Amounts,
