@@ -56,7 +56,7 @@ pub enum Call {""", 1),
      "        if cfg!(not(feature = \"memory64\")) && self.index.is_64() {\n            return Err(MemoryError::InvalidMemoryType);\n        }\n        let Some(page) = PageSize::from_log2(", 1),
 ]
 
-# Calls of a machine that `Store::step` passes on by groups, to a function with a jump table of its own. Where each call has an
+# Calls of a machine that `MachineStore::step` passes on by groups, to a function with a jump table of its own. Where each call has an
 # arm of its own, LLVM makes one table of the two. Where all are named, rustc knows that there are no others, and tests nothing.
 GROUPS = {
     "step_memory(call, limiter)": "NewMemory(_) NewLentMemory(_) GrowMemory{..} DropMemory(_) Read{..} Write{..} Load{..} Store{..}",

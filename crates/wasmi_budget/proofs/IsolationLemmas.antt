@@ -23,8 +23,7 @@ use Rattle.wasmi_budget.specs.Pool.{PoolValue, tenant_at, RunsTenantBy, RunsTena
 use Rattle.wasmi_budget.specs.Runs.{PoolTurn, Added, Ran, Refused, PoolRun}
 use Rattle.wasmi_core.specs.Permission.{permitting, TellsNoDenial}
 use Rattle.wasmi_core.proofs.PermissionLemmas.{permitted_run}
-use Rattle.wasmi_budget.specs.Isolation.{PermittingRun, own_turns}
-use Rattle.wasmi_budget.specs.Laws.{OthersDontShow, RunsAsAlone, RepliesPermit}
+use Rattle.wasmi_budget.specs.Laws.{PermittingRun, own_turns, OthersDontShow, RunsAsAlone, RepliesPermit}
 
 -- an answer isn't both yes and no
 no_permission : {answer : Answer} {taken : Bool} → answer ≡ Ok true → answer ≡ Ok taken → taken ≡ false → ⊥

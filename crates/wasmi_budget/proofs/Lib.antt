@@ -1,3 +1,2 @@
-mod TenantLemmas
 mod PoolLemmas
 mod IsolationLemmas

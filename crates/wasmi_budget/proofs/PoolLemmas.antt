@@ -1,28 +1,83 @@
--- What the machines of a pool have together, as one of them runs.
-use Rattle.std.proofs.Common.{◌≡◌, ℕ, ◌+◌, ◌-◌, ◌≤◌, ◌<◌, ◌^◌, Option, Some, None, length, get_or, subst, List, [], ◌∷◌, ◌++◌, refl, sym, ap, ◌∙◌, arith}
+-- What stays of a tenant while its machine runs, and what the machines of a pool have together.
+use Rattle.std.proofs.Common.{◌≡◌, Option, Some, List, refl, sym, ◌∙◌, subst, ℕ, ◌+◌, ◌-◌, ◌≤◌, ◌<◌, ◌^◌, None, length, get_or, [], ◌∷◌, ◌++◌, ap, arith}
+use Rattle.std.proofs.lemmas.Option.{same_Some, none-some, slice_get_within, get_or_from_slice_get}
+use Rattle.wasmi_meter.specs.declared.limiter.Kind.{Kind}
+use Rattle.wasmi_meter.specs.Amounts.{amount_of, amounts_of}
+use Rattle.wasmi_meter.specs.Capped.{IsWithin, Asked, Noticed, held_together}
+use Rattle.wasmi_meter.specs.Limiter.{Question, Answer, Failure, NoticeAnswer, optional_rules}
+use Rattle.wasmi_meter.proofs.CappedLemmas.{KeepsCaps, caps_kept, others_kept, asked_is_within, noticed_is_within}
+use Rattle.wasmi_core.specs.World.{World, Turn, world}
+use Rattle.wasmi_core.specs.Runs.{Run, IsRunOf}
+use Rattle.wasmi_core.specs.Determinism.{IsDeterministic, AcceptsNotices}
+use Rattle.wasmi_core.proofs.DeterminismLemmas.{capped_unique}
+use Rattle.wasmi_core.proofs.LimiterLemmas.{run_keeps}
+use Rattle.wasmi_budget.specs.declared.tenant.Tenant.{Tenant}
+use Rattle.wasmi_budget.specs.Tenant.{capped_tenant, tenant_rules, holdings}
 use Rattle.std.proofs.lemmas.List.Sums.{sum_by-remove, sum_by-set, sum_by_push}
-use Rattle.std.proofs.lemmas.Option.{none-some, same_Some, slice_get_within, get_or_from_slice_get}
 use Rattle.std.specs.Option.{option_map}
 use Rattle.std.specs.Prelude.{slice_get, slice_set, remove}
-use Rattle.wasmi_meter.specs.declared.limiter.Kind.{Kind}
 use Rattle.wasmi_meter.specs.declared.limiter.Kind.TheVariants.{Bytes, Elements}
 use Rattle.wasmi_meter.specs.declared.amounts.Amounts.{Amounts}
-use Rattle.wasmi_meter.specs.Amounts.{amount_of, amounts_of}
-use Rattle.wasmi_meter.specs.Capped.{held_together}
 use Rattle.wasmi_meter.specs.CappedProofs.{asked_reserves, noticed_gives_back}
-use Rattle.wasmi_meter.specs.Limiter.{optional_rules}
 use Rattle.wasmi_core.specs.declared.calls.Call.{Call}
 use Rattle.wasmi_core.specs.declared.calls.Reply.{Reply}
 use Rattle.wasmi_core.specs.State.{State}
-use Rattle.wasmi_core.specs.World.{World, Turn, world}
-use Rattle.wasmi_core.specs.Runs.{Run, IsRunOf}
 use Rattle.wasmi_core.specs.Totals.{total, HoldsTotals}
 use Rattle.wasmi_core.proofs.HoldingLemmas.{totals_are_held}
-use Rattle.wasmi_budget.specs.declared.tenant.Tenant.{Tenant}
-use Rattle.wasmi_budget.specs.Tenant.{holdings, capped_tenant, tenant_rules}
 use Rattle.wasmi_budget.specs.Pool.{PoolValue, total_of, IsWithinCaps, IsKept, HasNothing, tenant_at, AddsTenant, RunsTenant}
 use Rattle.wasmi_budget.specs.Runs.{PoolTurn, Added, Ran, Refused, PoolStep, PoolRun}
-use Rattle.wasmi_budget.proofs.TenantLemmas.{StaysWithin, run_stays_within}
+
+-- the caps, and what the others hold, are the same with other holdings
+tenant_keeps : KeepsCaps capped_tenant
+tenant_keeps = record { cap = λ tenant h kind. refl; others = λ tenant h kind. refl }
+
+-- the caps and what the others hold are those of another tenant, and all together are within the caps
+pub record StaysWithin (tenant tenant' : Tenant) : Type 0 where
+  pub caps : (kind : Kind) → amount_of tenant'.caps kind ≡ amount_of tenant.caps kind
+  pub others : (kind : Kind) → amount_of tenant'.others kind ≡ amount_of tenant.others kind
+  pub within : IsWithin capped_tenant tenant'
+
+-- a tenant that is within the caps and is another one but for its holdings stays within
+still_within : (first tenant tenant' : Tenant) → StaysWithin first tenant
+    → tenant' ≡ capped_tenant.with_holdings tenant tenant'.holdings → IsWithin capped_tenant tenant'
+    → StaysWithin first tenant'
+still_within first tenant tenant' stays rest within = record {
+  caps = λ kind. caps_kept capped_tenant tenant_keeps tenant tenant' rest kind ∙ stays.caps kind;
+  others = λ kind. others_kept capped_tenant tenant_keeps tenant tenant' rest kind ∙ stays.others kind;
+  within = within;
+}
+
+-- a question keeps a tenant within the caps
+asks_within : (first tenant tenant' : Tenant) (q : Question) (answer : Answer) → StaysWithin first tenant
+    → Asked capped_tenant tenant q answer tenant' → StaysWithin first tenant'
+asks_within first tenant tenant' q answer stays (taken, answered, more) =
+    still_within first tenant tenant' stays more.rest
+    (asked_is_within capped_tenant tenant_keeps tenant tenant' stays.within q answer (taken, answered, more))
+
+-- a notice keeps a tenant within the caps
+notices_within : (first tenant tenant' : Tenant) (failure : Failure) (notice_answer : NoticeAnswer)
+    → StaysWithin first tenant → Noticed capped_tenant tenant failure notice_answer tenant' → StaysWithin first tenant'
+notices_within first tenant tenant' failure notice_answer stays noticed =
+    still_within first tenant tenant' stays noticed.rest
+    (noticed_is_within capped_tenant tenant_keeps tenant tenant' stays.within failure notice_answer noticed)
+
+-- a run keeps a tenant within the caps
+pub run_stays_within : (first : Tenant) → IsWithin capped_tenant first
+    → (w w' : World (Option Tenant)) (turns : List Turn) (tenant' : Tenant) → w.limiter ≡ Some first
+    → w'.limiter ≡ Some tenant' → Run (optional_rules tenant_rules) w turns w' → StaysWithin first tenant'
+run_stays_within first within w w' turns tenant' is is' ran =
+    let kept = run_keeps tenant_rules (StaysWithin first) (λ l q answer l'. asks_within first l l' q answer)
+    (λ l failure notice_answer l'. notices_within first l l' failure notice_answer)
+    w first is (record { caps = λ kind. refl; others = λ kind. refl; within = within }) turns w' ran in
+    subst (StaysWithin first) (same_Some kept.0 tenant' (sym kept.1 ∙ is')) kept.2
+
+-- a tenant leaves no choice
+pub tenant_unique : IsDeterministic tenant_rules
+tenant_unique = capped_unique capped_tenant
+
+-- a tenant accepts each notice
+pub tenant_accepts : AcceptsNotices tenant_rules
+tenant_accepts tenant failure notice_answer tenant' noticed = noticed.accepts
 
 module _ (machines : List State) (index : ℕ) (s : State) (found : slice_get machines index ≡ Some s) (kind : Kind) where
   -- all is what a machine has, and what the others have
@@ -75,7 +130,7 @@ module _ (pool : PoolValue) (index : ℕ) where
     found : (s : State) × (slice_get pool.machines index ≡ Some s) × (held ≡ amounts_of (total s))
     found = mapped (λ s. amounts_of (total s)) (slice_get pool.machines index) held is
 
-    -- they are, with what the others have, what all have
+    -- these amounts are, with what the others have, what all have
     others_left : (kind : Kind)
         → amount_of held kind + total_of (remove pool.machines index) kind ≡ total_of pool.machines kind
     others_left kind =
@@ -102,7 +157,7 @@ module _ (pool : PoolValue) (index : ℕ) where
       holdings = record { held = held; last = None };
     }
 
-    -- it is that of the machine
+    -- the limiter of a machine holds what that has, beside what of all is left
     pub tenant_beside : Some beside ≡ option_map (tenant_at pool index) (slice_get pool.machines index)
     tenant_beside =
         let bytes : total_of pool.machines Bytes - held.bytes ≡ total_of (remove pool.machines index) Bytes =
@@ -294,10 +349,10 @@ kept_added pool held s kept empty machines is = record {
     same Elements = rw is (omega (arith, empty.elements, sum_by_push (λ t. total t Elements) pool.machines s))
 
 -- one call keeps the caps
-caps_kept : (pool : PoolValue) (turn : PoolTurn) (pool' : PoolValue) → PoolStep pool turn pool' → pool'.caps ≡ pool.caps
-caps_kept pool (Added s) pool' adds = ap PoolValue.caps adds.added
-caps_kept pool (Ran index calls replies) pool' runs = ap PoolValue.caps runs.after
-caps_kept pool Refused pool' same = ap PoolValue.caps same
+caps_stay : (pool : PoolValue) (turn : PoolTurn) (pool' : PoolValue) → PoolStep pool turn pool' → pool'.caps ≡ pool.caps
+caps_stay pool (Added s) pool' adds = ap PoolValue.caps adds.added
+caps_stay pool (Ran index calls replies) pool' runs = ap PoolValue.caps runs.after
+caps_stay pool Refused pool' same = ap PoolValue.caps same
 
 -- one call keeps the pool within its caps
 step_within : (pool : PoolValue) (turn : PoolTurn) (pool' : PoolValue) → IsWithinCaps pool → PoolStep pool turn pool'
@@ -312,4 +367,4 @@ pub caps_hold : (pool : PoolValue) → IsWithinCaps pool → (turns : List PoolT
 caps_hold pool within [] pool' ran = rw ran (refl, within)
 caps_hold pool within (turn ∷ turns) pool' (next, step, ran) =
     let rest = caps_hold next (step_within pool turn next within step) turns pool' ran in
-    (rest.0 ∙ caps_kept pool turn next step, rest.1)
+    (rest.0 ∙ caps_stay pool turn next step, rest.1)

@@ -1,17 +1,35 @@
 -- What holds of all calls on a pool, and of all runs of a tenant's machine.
-use Rattle.std.specs.Prelude.{◌≡◌, ℕ, Some, All, List, [], ◌∷◌, slice_get}
+use Rattle.std.specs.Prelude.{ℕ, nat_eq, if◌then◌else◌, MatchBool, List, [], ◌∷◌, ◌≡◌, Some, All, slice_get}
 use Rattle.wasmi_meter.specs.Limiter.{optional_rules}
+use Rattle.wasmi_core.specs.Permission.{permitting, TellsNoDenial}
+use Rattle.wasmi_budget.specs.Tenant.{tenant_rules, without_others}
+use Rattle.wasmi_budget.specs.Pool.{PoolValue, RunsTenantBy, RunsTenant, IsWithinCaps}
+use Rattle.wasmi_budget.specs.Runs.{PoolTurn, Added, Ran, Refused, PoolStep, RunBy, PoolRun}
 use Rattle.wasmi_core.specs.State.{State}
 use Rattle.wasmi_core.specs.World.{Turn}
 use Rattle.wasmi_core.specs.Runs.{Run}
 use Rattle.wasmi_budget.specs.declared.tenant.Tenant.{Tenant}
-use Rattle.wasmi_budget.specs.Tenant.{tenant_rules, without_others}
 use Rattle.wasmi_core.specs.declared.calls.Call.{Call}
 use Rattle.wasmi_core.specs.declared.calls.Reply.{Reply}
-use Rattle.wasmi_budget.specs.Pool.{PoolValue, IsWithinCaps, RunsTenantBy, RunsTenant}
-use Rattle.wasmi_budget.specs.Runs.{PoolTurn, PoolRun}
-use Rattle.wasmi_core.specs.Permission.{permitting, TellsNoDenial}
-use Rattle.wasmi_budget.specs.Isolation.{PermittingRun, own_turns}
+
+-- a call on a pool, which permits each question where it is a run of the tenant of an index
+abbrev pub PermittingStep : ℕ → PoolValue → PoolTurn → PoolValue → Type 0
+PermittingStep index pool (Ran i calls replies) pool' = MatchBool (nat_eq i index)
+    (RunsTenantBy (permitting (optional_rules tenant_rules)) pool i calls replies pool')
+    (RunsTenant pool i calls replies pool')
+PermittingStep index pool turn pool' = PoolStep pool turn pool'
+
+-- such calls one after another: the tenant of the index is never denied
+abbrev pub PermittingRun : ℕ → PoolValue → List PoolTurn → PoolValue → Type 0
+PermittingRun index = RunBy (PermittingStep index)
+
+-- the runs of the tenant of an index, as those of the only tenant
+abbrev pub own_turns : ℕ → List PoolTurn → List PoolTurn
+own_turns index [] = []
+own_turns index (Added s ∷ turns) = own_turns index turns
+own_turns index (Ran i calls replies ∷ turns) =
+    if nat_eq i index then Ran 0 calls replies ∷ own_turns index turns else own_turns index turns
+own_turns index (Refused ∷ turns) = own_turns index turns
 
 -- after all calls the caps are the same, and all machines together are within them
 abbrev pub CapsHold : Type 0

@@ -1,5 +1,5 @@
--- A pool of tenants: what its machines hold together, and what a run of one of them does.
-use Rattle.std.specs.Prelude.{◌≡◌, ◌≤◌, ◌<◌, ◌^◌, ◌++◌, ℕ, List, [], ◌∷◌, Option, Some, None, slice_get, slice_set, sum_by, remove}
+-- A pool of tenants: what its machines hold together, what a run of one of them does, and what its errors print.
+use Rattle.std.specs.Prelude.{◌≡◌, ◌≤◌, ◌<◌, ◌^◌, ◌++◌, ℕ, List, [], ◌∷◌, Option, Some, None, slice_get, slice_set, sum_by, remove, codes}
 use Rattle.wasmi_meter.specs.declared.limiter.Kind.{Kind}
 use Rattle.wasmi_meter.specs.declared.limiter.Kind.TheVariants.{Bytes, Elements}
 use Rattle.wasmi_meter.specs.declared.amounts.Amounts.{Amounts}
@@ -14,6 +14,8 @@ use Rattle.wasmi_budget.specs.declared.error.AddError.{AddError}
 use Rattle.wasmi_budget.specs.declared.error.AddError.TheVariants.{NotEmpty, NoRoom}
 use Rattle.wasmi_budget.specs.declared.tenant.Tenant.{Tenant}
 use Rattle.wasmi_budget.specs.Tenant.{tenant_rules}
+use Rattle.wasmi_budget.specs.declared.error.PoolError.{PoolError}
+use Rattle.wasmi_budget.specs.declared.error.PoolError.TheVariants.{NoTenant, OutOfMemory}
 
 -- a pool: its caps, and the machines of its tenants by their indices
 pub record PoolValue : Type 0 where
@@ -72,3 +74,13 @@ pub record RunsTenantBy (rules : Rules (Option Tenant)) (pool : PoolValue) (inde
 -- the machine of an index has run these calls under its limiter by a tenant's rules, and all else is the same
 abbrev pub RunsTenant : PoolValue → ℕ → List Call → List Reply → PoolValue → Type 0
 RunsTenant = RunsTenantBy (optional_rules tenant_rules)
+
+-- the text of why a machine isn't added to a pool
+abbrev pub add_error_text : AddError → List ℕ
+add_error_text NotEmpty = codes "tried to add a machine that has or had bytes or elements"
+add_error_text NoRoom = codes "out of memory for one more tenant"
+
+-- the text of why a pool makes no run
+abbrev pub pool_error_text : PoolError → List ℕ
+pool_error_text NoTenant = codes "tried to run a tenant that is not in the pool"
+pool_error_text OutOfMemory = codes "out of memory for the replies"

@@ -1,6 +1,6 @@
 //! Why a pool refuses.
 ghost use Rattle.std.specs.Prelude.{◌≡◌, Some};
-ghost use Rattle.wasmi_budget.specs.Texts.{add_error_text, pool_error_text};
+ghost use Rattle.wasmi_budget.specs.Pool.{add_error_text, pool_error_text};
 ghost use Rattle.wasmi_budget.specs.declared.error.PoolError.TheVariants.{OutOfMemory};
 
 use std::alloc::AllocError;
@@ -29,8 +29,6 @@ impl fmt::Display for AddError {
 impl std::error::Error for AddError {}
 
 /// Why a pool doesn't run a tenant's calls, in the order of the tests.
-///
-/// Own: upstream has no pool.
 #[derive(Debug, PartialEq, Eq, Drop)]
 pub enum PoolError {
     /// No tenant has the index.

@@ -5,34 +5,40 @@ ghost use Rattle.wasmi_budget.specs.Tenant.{tenant_rules};
 
 /// From a pool whose machines are within its caps, as a new one's are, all calls lead to one whose
 /// machines are within the same caps.
+#[tactic(auto, using(crate::proofs::PoolLemmas::caps_hold))]
 pub fn caps_hold()
     ensures { CapsHold }
 {}
 
 /// What the other tenants hold doesn't matter to a run that is never denied: beside tenants that
 /// hold nothing there is a run with the same turns and the same machine.
+#[tactic(auto, using(crate::proofs::IsolationLemmas::others_do_not_show))]
 pub fn others_do_not_show()
     ensures { OthersDontShow }
 {}
 
 /// A tenant that is never denied gets, run after run, what it gets in a pool of its own with the
 /// same caps, whatever the others do in between.
+#[tactic(auto, using(crate::proofs::IsolationLemmas::permitted_runs_as_alone))]
 pub fn permitted_runs_as_alone()
     ensures { RunsAsAlone }
 {}
 
 /// If no reply of a run of a tenant reports a denial, each question was permitted: so what
 /// `Pool::run` promises leads to `permitted_runs_as_alone`.
+#[tactic(auto, using(crate::proofs::IsolationLemmas::replies_permit))]
 pub fn replies_permit()
     ensures { RepliesPermit }
 {}
 
 /// A tenant's limiter is deterministic.
+#[tactic(auto, using(crate::proofs::PoolLemmas::tenant_unique))]
 pub fn tenants_leave_no_choice()
     ensures { IsDeterministic tenant_rules }
 {}
 
 /// A tenant's limiter accepts each notice.
+#[tactic(auto, using(crate::proofs::PoolLemmas::tenant_accepts))]
 pub fn tenants_accept_notices()
     ensures { AcceptsNotices tenant_rules }
 {}

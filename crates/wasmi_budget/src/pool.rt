@@ -16,8 +16,6 @@ use wasmi_meter::Amounts;
 /// tables: what all of them have, with what they dropped, stays within both. Each machine is a
 /// tenant; the indices of tenants count from 0. No tenant is ever removed, and what it dropped
 /// counts for ever.
-///
-/// Own: upstream has no pool.
 #[derive(Debug, Drop)]
 pub struct Pool<'r> {
     caps: Amounts,

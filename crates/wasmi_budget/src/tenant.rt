@@ -19,8 +19,6 @@ use wasmi_meter::{Amounts, CappedLimiter, Holdings, Kind};
 /// caps, and denies the rest. It counts each difference that it permitted. At a notice it takes
 /// back the last one if that is of the same kind, once. What the others hold stays the same while
 /// its machine runs.
-///
-/// Own: upstream has no pool.
 #[derive(Clone, Copy, Debug)]
 pub struct Tenant {
     caps: Amounts,

@@ -65,7 +65,7 @@ paid_due : (m : Meter) (due charge : ℕ) → covers (Some m) due ≡ true → c
 paid_due m due charge enough same =
     let within : nat_le due (amount_left m) ≡ true = enough in grind (arith, nat_tests, within, same)
 
--- so where a test decides whether it is charged
+-- what is due is charged only where a test says that it can be paid
 paid_if : (m : Meter) (due charge : ℕ) (tested : Bool) → (tested ≡ true → covers (Some m) due ≡ true)
     → charge ≡ (if tested then due else 0) → charge ≤ amount_left m
 paid_if m due charge true enough same = paid_due m due charge (enough refl) same
@@ -123,7 +123,7 @@ module _ (write : TableValue → TableWrite) (x : TableValue) (m : Meter) (resul
   ends_paid true (Some elements) false enough ends = paid_free m charge ends.1
   ends_paid true (Some elements) true enough ends = paid_due m _ charge enough ends.1
 
-  -- so it takes its charge
+  -- a write over a part of a table takes its charge from the meter
   pub write_takes : (m' : Meter)
       → WritesTableCharging write (metered x (Some m)) result charge (metered x' (Some m')) → PaysCharge m charge m'
   write_takes m' writes = takes_paid m m' charge (ends_paid w.typed w.written _ refl writes.ends) writes.meter
@@ -210,7 +210,7 @@ table_write_takes k write slots m reply charge slots' m' writes =
     })
     reply (λ x result x'. write_takes write x m result charge x' m') writes
 
--- so where the write may be missing
+-- a write over a part of a table, which may be missing, takes its charge
 part_takes : (k : ℕ) (part : Option (TableValue → TableWrite)) (slots : List (Slot TableValue)) (m : Meter)
     (reply : Reply) (charge : ℕ) (slots' : List (Slot TableValue)) (m' : Meter)
     → WritesRangeAt k part (metered slots (Some m)) reply charge (metered slots' (Some m')) → PaysCharge m charge m'
@@ -225,7 +225,7 @@ abbrev ChangesMeterBy : Effect → Meter → ℕ → Meter → Type 0
 ChangesMeterBy (FuelSet fuel) m charge m' = m' ≡ meter_set m fuel
 ChangesMeterBy effect m charge m' = PaysCharge m charge m'
 
--- so by the call
+-- what a call makes of the meter is what its effect does
 changed_meter : (s : State) (call : Call) (m : Meter) (charge : ℕ) (m' : Meter)
     → ChangesMeterBy (effect_of s call) m charge m' → ChangesMeter call m charge m'
 changed_meter s (SetFuel fuel) m charge m' changes = changes
@@ -237,7 +237,7 @@ module _ {S : Type 0} (w : World S) (turn : Turn) (w' : World S) where
       → PaysCharge w.state.meter turn.charge w'.state.meter
   paid_in is takes = subst (λ (x : World S). PaysCharge w.state.meter turn.charge x.state.meter) (sym is) takes
 
-  -- so without a charge
+  -- a turn without a charge ends in a world with the same meter
   free_in : {v : World S} → w' ≡ v → turn.charge ≡ 0 → v.state.meter ≡ w.state.meter
       → PaysCharge w.state.meter turn.charge w'.state.meter
   free_in {v} is free same = paid_in is (takes_nothing w.state.meter v.state.meter turn.charge free same)
@@ -265,7 +265,7 @@ module _ {S : Type 0} (rules : Rules S) (w : World S) (turn : Turn) (w' : World 
       step.effect)
   effect_meter effect step = free_in w turn w' step.after step.free.0 refl
 
-  -- so each step
+  -- each step changes the meter as its call says
   pub step_meter : Step rules w turn w' → ChangesMeter turn.call w.state.meter turn.charge w'.state.meter
   step_meter step =
       changed_meter w.state turn.call w.state.meter turn.charge w'.state.meter
@@ -294,7 +294,7 @@ module _ {S : Type 0} (rules : Rules S) where
       (call_balances account turn.call w.state.meter turn.charge v.state.meter (step_meter rules w turn v step) b)
       turns w' ran
 
-  -- so from the start
+  -- a run from where metering is on balances from the start
   pub fuel_balances : (w : World S) (left : ℕ) → w.state.meter.left ≡ Some left → (turns : List Turn) (w' : World S)
       → Run rules w turns w' → Balances (account_after (opened left) turns) w'.state.meter
   fuel_balances w left on turns w' ran = run_balances (opened left) w (left, on, omega arith) turns w' ran

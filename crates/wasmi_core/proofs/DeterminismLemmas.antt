@@ -7,7 +7,7 @@ use Rattle.wasmi_core.proofs.MemoryEffectsLemmas.{reads_same}
 use Rattle.wasmi_core.proofs.EffectLemmas.{Acted, HasOneEnding, HasOneOutcome, acts_same, creates_same, on_both}
 use Rattle.wasmi_core.proofs.StepsLemmas.{change_facts}
 use Rattle.wasmi_core.proofs.TableEffectsLemmas.{parts_same}
-use Rattle.wasmi_core.specs.Determinism.{IsNotOutOfMemory, AreNotOutOfMemory, IsDeterministic, FailsWithMemory, never_out_of_memory}
+use Rattle.wasmi_core.specs.Determinism.{IsNotOutOfMemory, AreNotOutOfMemory, IsDeterministic, IsOtherFailure, never_out_of_memory}
 use Rattle.wasmi_core.specs.MemoryEffects.{CreatesLent, spare_after}
 use Rattle.wasmi_core.specs.Effects.{ActsMetered, ActsMeteredUnasked, Asks, Changes, Creates, OnlyReplies, reply_of}
 use Rattle.wasmi_core.specs.Runs.{Run}
@@ -40,7 +40,7 @@ use Rattle.wasmi_store.specs.Table as table
 
 -- the last cause of an request is want of memory
 record Wants {V E : Type 0} (e : Request V E) : Type 0 where
-  wants : (cause : E) → e.refuses cause → FailsWithMemory (e.notice cause) → ⊥
+  wants : (cause : E) → e.refuses cause → IsOtherFailure (e.notice cause) → ⊥
 
 module _ {S : Type 0} {rules : Rules S} (once : IsDeterministic rules) where
   -- the rules by which no limiter is told of want of memory
@@ -50,8 +50,8 @@ module _ {S : Type 0} {rules : Rules S} (once : IsDeterministic rules) where
   module _ {V E : Type 0} {e : Request V E} (want : Wants e) where
     module _ (m : Option Meter) where
       -- two first causes that are no want of memory are one
-      first_cause : (late : Option E) (cause cause' : E) → IsFirstCause e m late cause → FailsWithMemory (e.notice cause)
-          → IsFirstCause e m late cause' → FailsWithMemory (e.notice cause') → cause ≡ cause'
+      first_cause : (late : Option E) (cause cause' : E) → IsFirstCause e m late cause → IsOtherFailure (e.notice cause)
+          → IsFirstCause e m late cause' → IsOtherFailure (e.notice cause') → cause ≡ cause'
       first_cause (Some c) cause cause' first other first' other' = first ∙ sym first'
       first_cause None cause cause' first other first' other' =
           on_test (covers m (optional_due m e.price)) _ _ first (λ refuses. absurd (want.wants cause refuses other))
@@ -102,7 +102,7 @@ module _ {S : Type 0} {rules : Rules S} (once : IsDeterministic rules) where
             let s = once.noticed f.0 (e.notice d) h h' l' l'' f.2.0 notices in
             (rw (cause, s.0) refl, s.1)
 
-    -- so two attempts are one
+    -- two attempts are one, if neither says out of memory
     attempts_same : (s s' s'' : MeteredValue V S) (outcome outcome' : AttemptOutcome E) (charge charge' : ℕ)
         → Attempt told e s outcome charge s' → Attempt told e s outcome' charge' s''
         → (outcome ≡ outcome') × (charge ≡ charge') × (s' ≡ s'')
@@ -142,12 +142,12 @@ module _ {S : Type 0} {rules : Rules S} (once : IsDeterministic rules) where
       (a.answered ∙ ap (answer_of g.request g.size) same.0 ∙ sym b.answered, same.1, same.2)
 
 -- what memory refuses, a limiter is told as want of memory
-memory_wants : (room : Room) (cause : MemoryError) → LacksMemory room cause → FailsWithMemory (MemoryFailure cause) → ⊥
+memory_wants : (room : Room) (cause : MemoryError) → LacksMemory room cause → IsOtherFailure (MemoryFailure cause) → ⊥
 memory_wants Owned cause lacks other = rw lacks at other
 memory_wants (Lent rest) cause lacks other = lacks
 
--- so for tables
-table_wants : (cause : TableError) → cause ≡ TableError.OutOfSystemMemory → FailsWithMemory (TableFailure cause) → ⊥
+-- what memory refuses a table, a limiter is told as want of memory
+table_wants : (cause : TableError) → cause ≡ TableError.OutOfSystemMemory → IsOtherFailure (TableFailure cause) → ⊥
 table_wants cause lacks other = rw lacks at other
 
 -- a memory is made
@@ -242,7 +242,7 @@ module _ {S : Type 0} (w : World S) (t t' : Turn) (v v' : World S) where
                 ∙ sym step'.after,
           )
 
-      -- so where the limiter is not reached
+      -- turns with a charge that do not reach the limiter are one
       unasked_unique : {Relation : MeteredValue A (Unit {0}) → Reply → ℕ → MeteredValue A (Unit {0}) → Type 0}
           → ActsMeteredUnasked w t v old with_part Relation bytes
           → ActsMeteredUnasked w t' v' old with_part Relation bytes
@@ -270,7 +270,8 @@ table_growth_same : {S : Type 0} {rules : Rules S} → IsDeterministic rules
 table_growth_same {rules = rules} once n init s result result' charge charge' s' s'' a b =
     by_type (same_type s.value.ty.element init.ty) a b
   where
-    by_type : (same : Bool) → MatchBool same (table.GrowsTableRawCharging (never_out_of_memory rules) n init.raw s result charge
+    by_type : (same : Bool)
+        → MatchBool same (table.GrowsTableRawCharging (never_out_of_memory rules) n init.raw s result charge
         s') ((result ≡ Err TableError.ElementTypeMismatch) × (charge ≡ 0) × (s' ≡ s))
         → MatchBool same (table.GrowsTableRawCharging (never_out_of_memory rules) n init.raw s result' charge' s'')
         ((result' ≡ Err TableError.ElementTypeMismatch) × (charge' ≡ 0) × (s'' ≡ s))
@@ -305,7 +306,8 @@ module _ {S : Type 0} (rules : Rules S) (once : IsDeterministic rules) (w : Worl
       (record { amount = pages; size = pages_of s.value; request = memory.growth_of s.value pages })
       (record { wants = memory_wants s.value.room }) s) k (reply_of replied.Number replied.Memory) _)
   effect_same (TableMade ty init) step step' =
-      made_unique w t t' v v' step step' room room' (creates_same replied.Table (MakesTable (never_out_of_memory rules) ty init)
+      made_unique w t t' v v' step step' room room'
+      (creates_same replied.Table (MakesTable (never_out_of_memory rules) ty init)
       (makes_same once (table.creation_of ty init.ty) (record { wants = table_wants }) (new_table ty init.raw))
       w.state.tables w.limiter)
   effect_same (TableGrown k n init) step step' =
@@ -318,7 +320,8 @@ module _ {S : Type 0} (rules : Rules S) (once : IsDeterministic rules) where
   -- two runs
   pub runs_are_one : (w : World S) (turns turns' : List Turn) (v v' : World S)
       → map Turn.call turns ≡ map Turn.call turns' → AreNotOutOfMemory turns → AreNotOutOfMemory turns'
-      → Run (never_out_of_memory rules) w turns v → Run (never_out_of_memory rules) w turns' v' → (turns ≡ turns') × (v ≡ v')
+      → Run (never_out_of_memory rules) w turns v → Run (never_out_of_memory rules) w turns' v'
+      → (turns ≡ turns') × (v ≡ v')
   runs_are_one w [] [] v v' calls rooms rooms' ran ran' = (refl, ran ∙ sym ran')
   runs_are_one w [] (t' ∷ turns') v v' calls rooms rooms' ran ran' = absurd cc
   runs_are_one w (t ∷ turns) [] v v' calls rooms rooms' ran ran' = absurd cc
@@ -372,6 +375,6 @@ unlimited_unique = record {
 pub capped_unique : {L : Type 0} (c : Capped L) → IsDeterministic (capped_rules c)
 capped_unique c = record { asked = asked_unique c; noticed = noticed_unique c }
 
--- so a quota leaves no choice
+-- a quota leaves no choice
 pub quota_unique : IsDeterministic quota_rules
 quota_unique = capped_unique capped_quota

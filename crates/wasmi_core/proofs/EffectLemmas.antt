@@ -4,8 +4,7 @@ use Rattle.std.proofs.lemmas.List.Elements.{All-get_or, All-push, All-set}
 use Rattle.std.proofs.lemmas.Option.{get_or_from_slice_get, none-some, same_Some, slice_get_within}
 use Rattle.std.specs.Option.{option_and_then}
 use Rattle.std.specs.Prelude.{All, MatchBool, slice_get, slice_set}
-use Rattle.wasmi_core.proofs.CopyLemmas.{set_read}
-use Rattle.wasmi_core.proofs.TotalLemmas.{counts_kept}
+use Rattle.wasmi_core.proofs.TotalLemmas.{set_read, counts_kept}
 use Rattle.wasmi_core.specs.Determinism.{IsNotOutOfMemory}
 use Rattle.wasmi_core.specs.Laws.{IsRefusal}
 use Rattle.wasmi_core.specs.Effects.{ActsAt, AddsEntry, ChangesAt, ChangesFound, ChangesItem, Creates, DropsAt, OnLive, reply_of}
@@ -54,7 +53,7 @@ module _ {X : Type 0} where
   found_back found put part reply part' Change read same changes =
       on_live found _ _ changes (λ missing. missing.1) (λ x is h. h.2 ∙ ap put (same x h.0 h.1) ∙ read x is)
 
-  -- so in a slot
+  -- a change of a slot that changes nothing leaves the slots
   pub changes_back : (k : ℕ) (slots : List (Slot X)) (reply : Reply) (slots' : List (Slot X))
       (Change : X → X → Type 0) → ((x x' : X) → Change x x' → x' ≡ x) → ChangesAt k slots reply slots' Change
       → slots' ≡ slots
@@ -62,7 +61,7 @@ module _ {X : Type 0} where
       found_back (live_at slots k) (λ x. slice_set slots k (Live x)) slots reply slots' Change
       (λ x found. put_back slots k x x found refl) same changes
 
-  -- so in a list
+  -- a change of an item that changes nothing leaves the list
   pub item_back : (k : ℕ) (items : List X) (reply : Reply) (items' : List X) (Change : X → X → Type 0)
       → ((x x' : X) → Change x x' → x' ≡ x) → ChangesItem k items reply items' Change → items' ≡ items
   item_back k items reply items' Change same changes =
@@ -83,7 +82,7 @@ module _ {E : Type 0} (refusal : E → Reply) where
   appends_back entry (Ok x) list reply list' refused appends = absurd (rw appends.0 at refused)
   appends_back entry (Err error) list reply list' refused appends = appends.1
 
-  -- so a creation under a limiter
+  -- a refused creation under a limiter leaves the slots
   pub creates_back : {X S : Type 0} (Makes : S → Result X E → S → Type 0) (slots : List (Slot X)) (l : S)
       (reply : Reply) (slots' : List (Slot X)) (l' : S) → IsRefusal reply
       → Creates refusal Makes slots l reply slots' l' → slots' ≡ slots
@@ -101,7 +100,7 @@ module _ {E : Type 0} (refusal : E → Reply) where
     attempt_back Met refused is = absurd refused
     attempt_back (Failed cause notice_answer) refused is = is
 
-    -- so a refused growth
+    -- a refused growth leaves the value
     pub grows_back : (result : Result ℕ E) → IsRefusal (reply_of replied.Number refusal result)
         → Grows rules g s result charge s' → s'.value ≡ s.value
     grows_back result refused (inl none) = ap (λ (t : MeteredValue V S). t.value) none.same
@@ -166,12 +165,12 @@ changes_same found put part Change once reply reply' part' part'' a b =
     on_both found _ _ _ _ a b (λ h h'. (h.0 ∙ sym h'.0, h.1 ∙ sym h'.1))
     (λ x h h'. let both = once x reply reply' h.0 h'.0 h.1 h'.1 in (both.0, h.2 ∙ ap put both.1 ∙ sym h'.2))
 
--- so in a slot
+-- two changes of one slot are one
 pub slot_same : {X : Type 0} (k : ℕ) (slots : List (Slot X)) (Change : Reply → X → X → Type 0) → ChangesOnce Change
     → IsDecided (λ reply slots'. ChangesAt k slots reply slots' (Change reply))
 slot_same k slots Change = changes_same (live_at slots k) (λ x. slice_set slots k (Live x)) slots Change
 
--- so in a list
+-- two changes of one item are one
 pub item_same : {X : Type 0} (k : ℕ) (items : List X) (Change : Reply → X → X → Type 0) → ChangesOnce Change
     → IsDecided (λ reply items'. ChangesItem k items reply items' (Change reply))
 item_same k items Change = changes_same (slice_get items k) (slice_set items k) items Change
@@ -270,7 +269,7 @@ module _ {X : Type 0} (Valid : X → Type 0) where
   slot_valid (Some (Gone last)) x found = absurd (none-some x found)
   slot_valid (Some (Live y)) x found = ap (λ z. Some (Live z)) (same_Some y x found)
 
-  -- so what an index names
+  -- the live value that an index names is valid
   live_valid : (slots : List (Slot X)) (k : ℕ) (x : X) → live_at slots k ≡ Some x → AllValid slots → Valid x
   live_valid slots k x found valid =
       read_valid (IsValidSlot Valid) slots k (Live x) (slot_valid (slice_get slots k) x found) valid

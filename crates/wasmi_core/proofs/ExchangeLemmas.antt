@@ -11,7 +11,7 @@ use Rattle.wasmi_core.proofs.StepsLemmas.{change_facts, source_writes}
 use Rattle.wasmi_core.proofs.TableEffectsLemmas.{part_kept}
 use Rattle.wasmi_core.proofs.TotalLemmas.{count_at, counts_kept, counts_set, each_kind}
 use Rattle.wasmi_core.proofs.TurnLemmas.{each_turn}
-use Rattle.wasmi_core.specs.Determinism.{FailsWithMemory}
+use Rattle.wasmi_core.specs.Determinism.{IsOtherFailure}
 use Rattle.wasmi_core.specs.Exchange.{AsksFor, At, Denial, Exchange, Exchanges, GrowsAsAsked, GrowsBy, New, Nothing, NothingGrows, Notice, Nowhere, Passes, Permission, Place, RepliesTo, charge_at, elements_paid, failed_charge, failed_reply, growth_charge, growth_due, growth_question, place_of, question_in, question_of, table_growth_question, writing_charge}
 use Rattle.wasmi_core.specs.Laws.{RunsGrowAsPermitted}
 use Rattle.wasmi_core.specs.MemoryEffects.{CreatesLent}
@@ -71,7 +71,7 @@ on_tested false Holds Fails h holds fails = fails refl h
 question_unrefused : {V E : Type 0} (e : Request V E) → e.early ≡ None → question_in e ≡ Some e.question
 question_unrefused {E = E} e early = ap (λ (o : Option E). if is_none o then Some e.question else None) early
 
--- so where one is
+-- nothing is asked where a cause is found before the question
 no_question_refused : {V E : Type 0} (e : Request V E) (cause : E) → e.early ≡ Some cause → question_in e ≡ None
 no_question_refused {E = E} e cause early = ap (λ (o : Option E). if is_none o then Some e.question else None) early
 
@@ -82,15 +82,16 @@ question_by_test amount e true is some = absurd (grind (arith, nat_tests, is, so
 question_by_test amount e false is some = refl
 
 -- a growth by some asks what its request does
-growth_question_by_request : {V E : Type 0} (amount : ℕ) (e : Request V E) → 0 < amount → growth_question amount e ≡ question_in e
+growth_question_by_request : {V E : Type 0} (amount : ℕ) (e : Request V E) → 0 < amount
+    → growth_question amount e ≡ question_in e
 growth_question_by_request amount e some = question_by_test amount e (nat_eq amount 0) refl some
 
 -- what a limiter is told of is want of memory, and then a price is charged, or it isn't, and then nothing is
 abbrev pub IsOutOfMemoryOrFree : Failure → Type 0
-IsOutOfMemoryOrFree failure = ((FailsWithMemory failure → ⊥) × ((price : ℕ) → failed_charge failure price ≡ price))
+IsOutOfMemoryOrFree failure = ((IsOtherFailure failure → ⊥) × ((price : ℕ) → failed_charge failure price ≡ price))
     ⊎ ((price : ℕ) → failed_charge failure price ≡ 0)
 
--- so for each failure
+-- each failure is want of memory, and its price is charged, or nothing is charged for it
 pub out_of_memory_or_free : (failure : Failure) → IsOutOfMemoryOrFree failure
 out_of_memory_or_free (MemoryFailure memory_error.OutOfSystemMemory) = inl (λ no. no, λ price. refl)
 out_of_memory_or_free (TableFailure table_error.OutOfSystemMemory) = inl (λ no. no, λ price. refl)
@@ -255,7 +256,7 @@ record Watch (S X : Type 0) : Type 0 where
   slots : List (Slot X)
   later : List (Slot X)
 
--- they are those of a kind, and the sizes of the other stay
+-- the slots are those of a kind, and the sizes of the other kind stay
 record IsWatched {S X : Type 0} (v : Watch S X) (kind : Kind) : Type 0 where
   own : v.meeting.before kind ≡ map (slot_count v.count) v.slots
   own' : v.meeting.after kind ≡ map (slot_count v.count) v.later
@@ -300,7 +301,7 @@ module _ {S X : Type 0} (rules : Rules S) (v : Watch S X) where
       (of_each (λ k. v.meeting.after k ≡ v.meeting.before k) kind
       (watched.own' ∙ kept ∙ sym watched.own) watched.others) free
 
-  -- so where a value of the same size has replaced one
+  -- a value that has replaced one of the same size keeps the count
   same_count : (k : ℕ) (x x' : X) → Replaced v k x x' → v.count x' ≡ v.count x
       → map (slot_count v.count) v.later ≡ map (slot_count v.count) v.slots
   same_count k x x' replaced same =
@@ -437,7 +438,7 @@ memory_fails : (cause : MemoryError) (notice_answer : NoticeAnswer)
 memory_fails cause (Ok done) = refl
 memory_fails cause (Err error) = refl
 
--- so of tables
+-- the replies to errors of tables
 table_fails : (cause : TableError) (notice_answer : NoticeAnswer)
     → replied.Table (error_of_failure table_error.ResourceLimiterDeniedAllocation cause notice_answer)
     ≡ failed_reply (TableFailure cause) notice_answer
@@ -453,7 +454,7 @@ new_memory_is room ty = record {
   full = length-replicate {A = ℕ} (minimum_bytes ty) 0;
 }
 
--- so for a table
+-- a new table is what is made
 new_table_is : (ty : TableTypeValue) (init : TypedRawRef)
     → IsCreationOf size_of (new_table ty init.raw) (table.creation_of ty init.ty)
 new_table_is ty init = record {
@@ -488,7 +489,7 @@ memory_priced pages x m = record {
 abbrev memory_growth : ℕ → MemoryValue → Growth MemoryValue MemoryError
 memory_growth pages x = record { amount = pages; size = pages_of x; request = memory.growth_of x pages }
 
--- it is one of its bytes
+-- the growth of a memory is one of its bytes
 memory_growth_is : (pages : ℕ) (x : MemoryValue) (m : Meter) → IsGrowthOf byte_count x m (memory_growth pages x)
 memory_growth_is pages x m =
     let added = pages * page_bytes x.ty.page in
@@ -517,7 +518,7 @@ table_priced n reference x m = record {
 abbrev table_growth : ℕ → ℕ → TableValue → Growth TableValue TableError
 table_growth n reference x = record { amount = n; size = size_of x; request = table.growth_of x n reference }
 
--- it is one of its elements
+-- the growth of a table is one of its elements
 table_growth_is : (n reference : ℕ) (x : TableValue) (m : Meter) → IsGrowthOf size_of x m (table_growth n reference x)
 table_growth_is n reference x m = record {
   tells = λ cause. refl;
@@ -677,12 +678,12 @@ question_by s (TableMade ty init) = question_of s (NewTable ty init)
 question_by s (TableGrown k n init) = question_of s (GrowTable k n init)
 question_by s effect = None
 
--- it is the place of the call
+-- the place of an effect is that of its call
 same_place : (s : State) (call : Call) → place_by (effect_of s call) ≡ place_of call
 same_place s (NewMemory ty) = refl
 same_place s call = refl
 
--- it is the question of the call
+-- the question of an effect is that of its call
 same_question : (s : State) (call : Call) → question_by s (effect_of s call) ≡ question_of s call
 same_question s (NewMemory ty) = refl
 same_question s call = refl
@@ -746,7 +747,7 @@ module _ (k : ℕ) (slots : List (Slot TableValue)) (m : Meter) (reply : Reply) 
       (λ x found h. ends_charge (write x) x m charge h.1 elements (pays x) (write x).typed (write x).written _ h.0
       h.2.ends ∙ sym (ap (writing_charge m elements) h.3))
 
-  -- so where the write may be missing
+  -- a write over a range of a table, which may be missing, is charged for its elements
   range_charge : (part : Option (TableValue → TableWrite))
       → OnLive part (Unit {0}) (IsChargedFor elements)
       → WritesRangeAt k part (metered slots (Some m)) reply charge (metered slots' (Some m'))
@@ -841,6 +842,6 @@ growths_are_permitted rules w turn w' step =
       meter = step_meter rules w turn w' step;
     }
 
--- so each turn of a run
+-- each turn of a run asks, grows and is charged as a step does
 pub run_growths_are_permitted : {S : Type 0} (rules : Rules S) → RunsGrowAsPermitted rules
 run_growths_are_permitted rules = each_turn rules _ (growths_are_permitted rules)

@@ -131,7 +131,7 @@ module _ {L : Type 0} (rules : Rules L) (holdings : L → Holdings) (keeps : Kee
       in
       totals_are_held v.state next.0 next.2 turns w' (rw next.1 at ran)
 
-  -- so from a run that is reserving
+  -- a run by the answers that a caller sees keeps the totals held
   pub run_holds : {R E : Type 0} (items : R → List Reply) (w w' : World L) (calls : List Call)
       → HoldsTotals (holdings w.limiter) w.state → (result : Result R E)
       → IfOk result (λ replies. IsRunOf (optional_rules rules) calls (world w.state (Some w.limiter)) (items replies)

@@ -60,14 +60,14 @@ module _ {V E : Type 0} (e : Request V E) (refuses : E → Type 0)
     none_late (inl none) early = none
     none_late (inr (cause, is)) early = absurd (none-some cause (sym early ∙ is))
 
-    -- it may end as it did
+    -- an attempt may end as the eased request does
     ends : IsEasy → (outcome : AttemptOutcome E) → MayEnd e m outcome → MayEnd eased m outcome
     ends easy (Unasked cause) may = may
     ends easy (Denied answer) may = may
     ends easy Met may = (may.0, refl, may.2)
     ends easy (Failed cause notice_answer) may = (may.0, first_cause e.late cause (none_late easy may.0) may.1)
 
-    -- it is charged as it was
+    -- the eased request is charged as the attempt was
     charges : IsEasy → (outcome : AttemptOutcome E) → MayEnd e m outcome
         → outcome_charge e m outcome ≡ outcome_charge eased m outcome
     charges easy (Unasked cause) may = refl
@@ -77,7 +77,7 @@ module _ {V E : Type 0} (e : Request V E) (refuses : E → Type 0)
         ap (λ late. if is_none late && covers m (optional_due m e.price) then optional_due m e.price else 0)
         (none_late easy may.0)
 
-  -- it follows as it did
+  -- the limiter sees the same of the eased request
   follows : {S : Type 0} (rules : Rules S) (l l' : S) (outcome : AttemptOutcome E) → Follows e rules l outcome l'
       → Follows eased rules l outcome l'
   follows rules l l' (Unasked cause) h = h
@@ -100,7 +100,7 @@ module _ {V E : Type 0} (e : Request V E) (refuses : E → Type 0)
   answers f made Met = refl
   answers f made (Failed cause notice_answer) = refl
 
-  -- so the attempt is one of the eased request
+  -- an attempt is one of the eased request
   attempts : {S : Type 0} (rules : Rules S) (s s' : MeteredValue V S) (outcome : AttemptOutcome E) (charge : ℕ) → IsEasy
       → Attempt rules e s outcome charge s'
       → Attempt rules eased (with_value s (own s.value)) outcome charge (with_value s'
@@ -154,7 +154,7 @@ fits_easy pages x (inr outside) =
           outside,
     )
 
--- so it grows as one of its own
+-- a memory that grows within its room grows as one of its own
 grows_owned : {S : Type 0} (rules : Rules S) (pages : ℕ) (s : MeteredValue MemoryValue S)
     (result : Result ℕ MemoryError)
     (charge : ℕ) (s' : MeteredValue MemoryValue S) → FitsRoom pages s.value
@@ -192,7 +192,7 @@ owned_value None = refl
 owned_value (Some (Live x)) = refl
 owned_value (Some (Gone last)) = refl
 
--- so at an index
+-- the live memory of an index, as one of its own
 owned_at : (slots : List (Slot MemoryValue)) (k : ℕ)
     → live_at (map owned_slot slots) k ≡ option_map owned_memory (live_at slots k)
 owned_at slots k = ap (option_and_then live_value) (slice_get-map owned_slot slots k) ∙ owned_value (slice_get slots k)
@@ -303,7 +303,7 @@ appends_owned (Ok x) slots reply slots' appends = (
 )
 appends_owned (Err error) slots reply slots' appends = (appends.0, ap (map owned_slot) appends.1)
 
--- so in a new slot
+-- a memory is made in a new slot as one of its own
 creates_owned : {S : Type 0} (rules : Rules S) (room : Room) (ty : MemoryTypeValue) (slots : List (Slot MemoryValue))
     (l : S) (reply : Reply) (slots' : List (Slot MemoryValue)) (l' : S) → fits_room room (minimum_bytes ty) ≡ true
     → Creates replied.Memory (MakesMemory rules room ty) slots l reply slots' l'
@@ -322,7 +322,7 @@ EffectFits s (LentMemoryMade ty) = ⊥
 EffectFits s (MemoryGrown k pages) = OnLive (live_at s.memories k) (Unit {0}) (FitsRoom pages)
 EffectFits s effect = Unit {0}
 
--- it is one whose call does
+-- an effect fits the regions where its call does
 effect_fits : (s : State) (call : Call) → FitsRegions s call → EffectFits s (effect_of s call)
 effect_fits s (NewLentMemory ty) fits = fits
 effect_fits s call fits = fits
@@ -420,7 +420,7 @@ on_spare : (Fact : List ℕ → Type 0) (Missing : Type 0) (spare : Option (List
 on_spare Fact Missing None region is h = absurd (none-some region is)
 on_spare Fact Missing (Some r) region is h = subst Fact (same_Some r region is) h
 
--- so it is one of a memory of its own
+-- a creation in the spare region is one of a memory of its own
 pub creation_is_owned : {S : Type 0} (rules : Rules S) (w : World S) (turn : Turn) (w' : World S)
     (ty : MemoryTypeValue) (region : List ℕ) → turn.call ≡ NewLentMemory ty → w.state.spare ≡ Some region
     → minimum_bytes ty ≤ length region
@@ -447,7 +447,7 @@ record IsFree (pages : ℕ) {S : Type 0} (s : MeteredValue MemoryValue S) (rest 
 
 module _ {S : Type 0} (rules : Rules S) (pages : ℕ) (s : MeteredValue MemoryValue S) (rest : List ℕ)
     (free : IsFree pages s rest) (result : Result ℕ MemoryError) (charge : ℕ) (s' : MeteredValue MemoryValue S) where
-  -- it has succeeded, or the limiter has denied it
+  -- a growth has succeeded, or the limiter has denied it
   abbrev Succeeds : Type 0
   Succeeds =
       (result ≡ Ok (pages_of s.value)) ⊎ ((answer : Answer) × IsDenial answer × rules.asked s.limiter
@@ -476,7 +476,7 @@ module _ {S : Type 0} (rules : Rules S) (pages : ℕ) (s : MeteredValue MemoryVa
       first_of None none first = first
       first_of (Some late) none first = absurd (none-some late (sym none))
 
-  -- it has succeeded or was denied, by its outcome
+  -- a growth has succeeded or was denied, by its outcome
   by_outcome : (outcome : AttemptOutcome MemoryError) → MayEnd (memory.growth_of s.value pages) s.meter outcome
       → Follows (memory.growth_of s.value pages) rules s.limiter outcome s'.limiter
       → result ≡ answer_of (memory.growth_of s.value pages) (pages_of s.value) outcome → Succeeds
@@ -486,12 +486,12 @@ module _ {S : Type 0} (rules : Rules S) (pages : ℕ) (s : MeteredValue MemoryVa
   by_outcome Met may follows answered = inl answered
   by_outcome (Failed cause notice_answer) may follows answered = absurd (no_cause cause may.1)
 
-  -- so the growth
+  -- a growth with its charge has succeeded, or was denied
   growth_succeeds : GrowsMemoryCharging rules pages s result charge s' → Succeeds
   growth_succeeds (inl none) = inl none.answered
   growth_succeeds (inr some) = by_outcome some.outcome some.attempt.may_end some.attempt.follows some.answered
 
--- so by what it needs
+-- a growth has succeeded or was denied, by what it needs
 pub lent_growth_succeeds : {S : Type 0} (rules : Rules S) (pages : ℕ) (s : MeteredValue MemoryValue S) (rest : List ℕ)
     → s.value.room ≡ Lent rest → in_bounds s.value.ty (pages_of s.value + pages) ≡ true
     → fits_room s.value.room (pages * page_bytes s.value.ty.page) ≡ true

@@ -1,5 +1,5 @@
 -- A run under a limiter of one of three kinds is one by the rules of its kind.
-use Rattle.std.proofs.Common.{◌≡◌, Option, Some, None, Ok, true, List, [], ◌∷◌, map, refl, sym, subst}
+use Rattle.std.proofs.Common.{◌≡◌, ◌∙◌, Option, Some, None, Ok, true, List, [], ◌∷◌, map, refl, sym, ap, subst}
 use Rattle.std.proofs.lemmas.List.Elements.{All-nil, All-cons}
 use Rattle.std.proofs.lemmas.Option.{same_Some}
 use Rattle.std.specs.Prelude.{All}
@@ -68,7 +68,7 @@ module _ {L T : Type 0} (IsIn : L → Type 0) (image : L → Option T) (rules : 
   narrowing =
       record { rules = optional_rules rules; narrower = rules_within; shown = λ reply. Unit {0}; within = Within }
 
-  -- so in an attempt
+  -- in an attempt, the limiter does the same in these states
   within_revealed : {V E : Type 0} (refusal : E → Reply) (e : Request V E) → Reveals narrowing refusal e
   within_revealed refusal e (Unasked c) l l' within shown f = f
   within_revealed refusal e (Denied answer) l l' within shown f = (within, f)
@@ -126,21 +126,11 @@ module _ {L T : Type 0} (IsIn : L → Type 0) (image : L → Option T) (rules : 
             (world s' (Some l')) narrow,
       )
 
--- it permits everything
+-- the limiter permits everything
 abbrev IsUnlimited : AnyLimiter → Type 0
 IsUnlimited l = l ≡ limiter.Unlimited
 
--- it is a quota
-abbrev IsQuota : AnyLimiter → Type 0
-IsQuota (limiter.Quota quota) = Unit {0}
-IsQuota l = ⊥
-
--- it answers from a list
-abbrev IsList : AnyLimiter → Type 0
-IsList (limiter.Answers list) = Unit {0}
-IsList l = ⊥
-
--- the list that it answers from, if it does
+-- the list that a limiter answers from, if it does
 abbrev list_of : AnyLimiter → Option AnswersAhead
 list_of (limiter.Answers list) = Some list
 list_of l = None
@@ -148,62 +138,12 @@ list_of l = None
 -- one that permits everything does so as none does
 unlimited_carries : {T : Type 0} (rules : Rules T)
     → CarriesIn IsUnlimited (λ l. let none : Option T = None in none) any_limiter_rules rules
-unlimited_carries {T} rules = record { asked = asks; noticed = notices }
-  where
-    asks : (l : AnyLimiter) (q : Question) (answer : Answer) (l' : AnyLimiter) → IsUnlimited l
-        → any_limiter_rules.asked l q answer l'
-        → IsUnlimited l' × AskedIf rules None q answer None
-    asks limiter.Unlimited q answer l' is (permitted, same) = (same, permitted)
-    asks (limiter.Quota quota) q answer l' is asked = absurd cc
-    asks (limiter.Answers list) q answer l' is asked = absurd cc
-
-    notices : (l : AnyLimiter) (failure : Failure) (answer : NoticeAnswer) (l' : AnyLimiter) → IsUnlimited l
-        → any_limiter_rules.noticed l failure answer l'
-        → IsUnlimited l' × NoticedIf rules None failure answer None
-    notices limiter.Unlimited failure answer l' is (accepted, same) = (same, accepted)
-    notices (limiter.Quota quota) failure answer l' is noticed = absurd cc
-    notices (limiter.Answers list) failure answer l' is noticed = absurd cc
-
--- a quota does what a quota does
-quota_carries : CarriesIn IsQuota quota_of any_limiter_rules quota_rules
-quota_carries = record { asked = asks; noticed = notices }
-  where
-    asks : (l : AnyLimiter) (q : Question) (answer : Answer) (l' : AnyLimiter) → IsQuota l
-        → any_limiter_rules.asked l q answer l'
-        → IsQuota l' × AskedIf quota_rules (quota_of l) q answer (quota_of l')
-    asks (limiter.Quota quota) q answer l' is (quota', same, asked) =
-        subst (λ l. IsQuota l × AskedIf quota_rules (Some quota) q answer (quota_of l)) (sym same) (tt, asked)
-    asks limiter.Unlimited q answer l' is asked = absurd is
-    asks (limiter.Answers list) q answer l' is asked = absurd is
-
-    notices : (l : AnyLimiter) (failure : Failure) (answer : NoticeAnswer) (l' : AnyLimiter) → IsQuota l
-        → any_limiter_rules.noticed l failure answer l'
-        → IsQuota l' × NoticedIf quota_rules (quota_of l) failure answer (quota_of l')
-    notices (limiter.Quota quota) failure answer l' is (quota', same, noticed) =
-        subst (λ l. IsQuota l × NoticedIf quota_rules (Some quota) failure answer (quota_of l)) (sym same) (tt, noticed)
-    notices limiter.Unlimited failure answer l' is noticed = absurd is
-    notices (limiter.Answers list) failure answer l' is noticed = absurd is
-
--- a list does what a list does
-list_carries : CarriesIn IsList list_of any_limiter_rules answer_list_rules
-list_carries = record { asked = asks; noticed = notices }
-  where
-    asks : (l : AnyLimiter) (q : Question) (answer : Answer) (l' : AnyLimiter) → IsList l
-        → any_limiter_rules.asked l q answer l'
-        → IsList l' × AskedIf answer_list_rules (list_of l) q answer (list_of l')
-    asks (limiter.Answers list) q answer l' is (list', same, asked) =
-        subst (λ l. IsList l × AskedIf answer_list_rules (Some list) q answer (list_of l)) (sym same) (tt, asked)
-    asks limiter.Unlimited q answer l' is asked = absurd is
-    asks (limiter.Quota quota) q answer l' is asked = absurd is
-
-    notices : (l : AnyLimiter) (failure : Failure) (answer : NoticeAnswer) (l' : AnyLimiter) → IsList l
-        → any_limiter_rules.noticed l failure answer l'
-        → IsList l' × NoticedIf answer_list_rules (list_of l) failure answer (list_of l')
-    notices (limiter.Answers list) failure answer l' is (list', same, noticed) =
-        subst (λ l. IsList l × NoticedIf answer_list_rules (Some list) failure answer (list_of l)) (sym same)
-        (tt, noticed)
-    notices limiter.Unlimited failure answer l' is noticed = absurd is
-    notices (limiter.Quota quota) failure answer l' is noticed = absurd is
+unlimited_carries {T} rules = record {
+  asked = λ l q answer l' is asked.
+      let done = subst (λ l. any_limiter_rules.asked l q answer l') is asked in (done.1, done.0);
+  noticed = λ l failure answer l' is noticed.
+      let done = subst (λ l. any_limiter_rules.noticed l failure answer l') is noticed in (done.1, done.0);
+}
 
 -- a run under one that permits everything is a run without a limiter, of whatever kind that would be
 pub unlimited_run : {T : Type 0} (rules : Rules T) (s : State) (turns : List Turn) (s' : State) (l' : AnyLimiter)
@@ -213,31 +153,79 @@ unlimited_run {T} rules s turns s' l' ran =
     run_within IsUnlimited (λ l. let none : Option T = None in none) any_limiter_rules rules (unlimited_carries rules) s
     limiter.Unlimited turns s' l' refl ran
 
+-- a kind of limiters: how one of them is held, which one is held, if it is of the kind, and what such limiters do
+record HeldKind (T : Type 0) : Type 1 where
+  hold : T → AnyLimiter
+  held : AnyLimiter → Option T
+  rules : Rules T
+  is_held : (l : T) → held (hold l) ≡ Some l
+  asks : (l : T) (q : Question) (answer : Answer) (l' : AnyLimiter) → any_limiter_rules.asked (hold l) q answer l'
+      → (after : T) × (l' ≡ hold after) × rules.asked l q answer after
+  notices : (l : T) (failure : Failure) (answer : NoticeAnswer) (l' : AnyLimiter)
+      → any_limiter_rules.noticed (hold l) failure answer l'
+      → (after : T) × (l' ≡ hold after) × rules.noticed l failure answer after
+
+module _ {T : Type 0} (kind : HeldKind T) where
+  -- the limiter is of this kind
+  abbrev IsOfKind : AnyLimiter → Type 0
+  IsOfKind l = (own : T) × (l ≡ kind.hold own)
+
+  -- a limiter of this kind does what the one that is held does
+  kind_carries : CarriesIn IsOfKind kind.held any_limiter_rules kind.rules
+  kind_carries = record { asked = asked; noticed = noticed }
+    where
+      asked : (l : AnyLimiter) (q : Question) (answer : Answer) (l' : AnyLimiter) → IsOfKind l
+          → any_limiter_rules.asked l q answer l'
+          → IsOfKind l' × AskedIf kind.rules (kind.held l) q answer (kind.held l')
+      asked l q answer l' (own, is) done =
+          let step = kind.asks own q answer l' (subst (λ l. any_limiter_rules.asked l q answer l') is done) in
+          ((step.0, step.1), rw (is, step.1, kind.is_held own, kind.is_held step.0) step.2)
+
+      noticed : (l : AnyLimiter) (failure : Failure) (answer : NoticeAnswer) (l' : AnyLimiter) → IsOfKind l
+          → any_limiter_rules.noticed l failure answer l'
+          → IsOfKind l' × NoticedIf kind.rules (kind.held l) failure answer (kind.held l')
+      noticed l failure answer l' (own, is) done =
+          let step = kind.notices own failure answer l'
+          (subst (λ l. any_limiter_rules.noticed l failure answer l') is done) in
+          ((step.0, step.1), rw (is, step.1, kind.is_held own, kind.is_held step.0) step.2)
+
+  -- a run leaves a limiter of this kind, and is one under the limiter that is held
+  kind_run : (turns : List Turn) (s : State) (own : T) (s' : State) (l' : AnyLimiter)
+      → Run (optional_rules any_limiter_rules) (world s (Some (kind.hold own))) turns (world s' (Some l'))
+      → (own' : T) × (l' ≡ kind.hold own')
+      × Run (optional_rules kind.rules) (world s (Some own)) turns (world s' (Some own'))
+  kind_run turns s own s' l' ran =
+      let within = run_within IsOfKind kind.held any_limiter_rules kind.rules kind_carries s (kind.hold own) turns s' l'
+      (own, refl) ran in
+      let last : kind.held l' ≡ Some within.0.0 = ap kind.held within.0.1 ∙ kind.is_held within.0.0 in (
+        within.0.0,
+        within.0.1,
+        subst (λ l. Run (optional_rules kind.rules) (world s l) turns (world s' (Some within.0.0))) (kind.is_held own)
+            (subst (λ l. Run (optional_rules kind.rules) (world s (kind.held (kind.hold own))) turns (world s' l)) last
+            within.1),
+      )
+
 -- a run leaves a limiter of the kind of the one before it
 pub runs_keep_kind : RunsKeepKind
 runs_keep_kind turns s limiter.Unlimited s' l' ran = unlimited_run quota_rules s turns s' l' ran
 runs_keep_kind turns s (limiter.Quota quota) s' l' ran =
-    let within = run_within IsQuota quota_of any_limiter_rules quota_rules quota_carries s (limiter.Quota quota)
-    turns s' l' tt ran in
-    after l' within.0 within.1
-  where
-    after : (l' : AnyLimiter) → IsQuota l'
-        → Run (optional_rules quota_rules) (world s (Some quota)) turns (world s' (quota_of l'))
-        → RelatesByKind (λ L rules w w'. Run rules w turns w') s (limiter.Quota quota) s' l'
-    after (limiter.Quota quota') is ran = (quota', refl, ran)
-    after limiter.Unlimited is ran = absurd is
-    after (limiter.Answers list) is ran = absurd is
+    kind_run (record {
+      hold = limiter.Quota;
+      held = quota_of;
+      rules = quota_rules;
+      is_held = λ l. refl;
+      asks = λ l q answer l' done. done;
+      notices = λ l failure answer l' done. done;
+    }) turns s quota s' l' ran
 runs_keep_kind turns s (limiter.Answers list) s' l' ran =
-    let within = run_within IsList list_of any_limiter_rules answer_list_rules list_carries s (limiter.Answers list)
-    turns s' l' tt ran in
-    after l' within.0 within.1
-  where
-    after : (l' : AnyLimiter) → IsList l'
-        → Run (optional_rules answer_list_rules) (world s (Some list)) turns (world s' (list_of l'))
-        → RelatesByKind (λ L rules w w'. Run rules w turns w') s (limiter.Answers list) s' l'
-    after (limiter.Answers list') is ran = (list', refl, ran)
-    after limiter.Unlimited is ran = absurd is
-    after (limiter.Quota quota) is ran = absurd is
+    kind_run (record {
+      hold = limiter.Answers;
+      held = list_of;
+      rules = answer_list_rules;
+      is_held = λ l. refl;
+      asks = λ l q answer l' done. done;
+      notices = λ l failure answer l' done. done;
+    }) turns s list s' l' ran
 
 -- what a relation gives in each world, it gives by the rules of a kind
 by_kind : (Relates Relates' : (L : Type 0) → Rules L → World L → World L → Type 0)
@@ -249,13 +237,13 @@ by_kind Relates Relates' too s (limiter.Quota quota) s' l' (quota', same, relate
     (quota', same, too _ _ _ _ related)
 by_kind Relates Relates' too s (limiter.Answers list) s' l' (list', same, related) = (list', same, too _ _ _ _ related)
 
--- so does a run of calls
+-- a run of calls is one by the rules of the kind
 pub runs_of_calls_keep_kind : RunsOfCallsKeepKind
 runs_of_calls_keep_kind calls replies s l s' l' (turns, called, told, ran) =
     by_kind (λ L rules w w'. Run rules w turns w') (λ L rules w w'. IsRunOf rules calls w replies w')
     (λ L rules w w' ran. (turns, called, told, ran)) s l s' l' (runs_keep_kind turns s l s' l' ran)
 
--- so does a reply
+-- a reply is one by the rules of the kind
 pub replies_keep_kind : RepliesKeepKind
 replies_keep_kind call reply s l s' l' (charge, written, step) =
     let turn : Turn = record { call = call; reply = reply; charge = charge; written = written } in

@@ -32,20 +32,20 @@ written_back : (x x' : MemoryValue) (offset : ℕ) (source : List ℕ) (result :
 written_back x x' offset source (Ok _) refused writes = absurd refused
 written_back x x' offset source (Err error) refused writes = writes.2
 
--- so does a store that traps
+-- a store that traps leaves the memory
 stored_back : (x x' : MemoryValue) (a : ℕ) (stored : List ℕ) (result : Result (Unit {0}) TrapCode)
     → IsRefusal (reply_of (λ _. replied.Done) replied.Trap result) → StoresMemory x a stored result x' → x' ≡ x
 stored_back x x' a stored (Ok _) refused stores = absurd refused
 stored_back x x' a stored (Err trap) refused (stores, ty, room) =
     λ k. record { ty = ty k; bytes = stores.2 k; room = room k }
 
--- so in its slot
+-- a store that traps leaves the slots
 store_back : (k : ℕ) (slots : List (Slot MemoryValue)) (reply : Reply) (slots' : List (Slot MemoryValue)) (a : ℕ)
     → IsRefusal reply → (stored : List ℕ) → StoresMemoryAt k a stored slots reply slots' → slots' ≡ slots
 store_back k slots reply slots' a refused stored stores =
     changes_back k slots reply slots' _ (λ x x' c. stored_back x x' a stored c.0 (rw c.2 at refused) c.1) stores
 
--- so with bytes that may be missing
+-- a store that traps, or of bytes that are missing, leaves the slots
 pub vector_store_back : (k : ℕ) (slots : List (Slot MemoryValue)) (reply : Reply) (slots' : List (Slot MemoryValue))
     (a : ℕ) → IsRefusal reply → (stored : Option (List ℕ)) → StoresVectorAt k a stored slots reply slots'
     → slots' ≡ slots
@@ -74,7 +74,7 @@ spare_by rules ty part l reply part' l' None is none =
     ∙ sym (ap (spare_after reply) is ∙ ap (λ r. spare_after r None) none.0)
 spare_by rules ty part l reply part' l' (Some region) is made = made.1
 
--- so after a creation in it
+-- the spare region after a creation in it
 pub lent_spare : {S : Type 0} (rules : Rules S) (ty : MemoryTypeValue) (part : MemoryPart) (l : S) (reply : Reply)
     (part' : MemoryPart) (l' : S) → CreatesLent rules ty part l reply part' l'
     → part'.spare ≡ spare_after reply part.spare
@@ -176,11 +176,11 @@ overwritten xs ys zs a true fits is =
     (λ n. n + length (drop (a + length ys) xs)) (length-append (take a xs) ys) ∙ omega (arith, inside, front, back))
 overwritten xs ys zs a false fits is = absurd (none-some zs is)
 
--- so by the test that it makes
+-- a list that is written over keeps its length
 pub overwrite_length : (xs ys zs : List ℕ) (a : ℕ) → overwrite xs a ys ≡ Some zs → length zs ≡ length xs
 overwrite_length xs ys zs a is = overwritten xs ys zs a _ refl is
 
--- so for a store
+-- a list that a store writes over keeps its length
 accessed_length : (xs ys zs : List ℕ) (a : ℕ) (low : Bool) → (if low then overwrite xs a ys else None) ≡ Some zs
     → length zs ≡ length xs
 accessed_length xs ys zs a true is = overwrite_length xs ys zs a is
@@ -192,7 +192,7 @@ pub written_count : (x x' : MemoryValue) (offset : ℕ) (source : List ℕ) (res
 written_count x x' offset source (Ok _) writes = overwrite_length x.bytes source x'.bytes offset writes.0
 written_count x x' offset source (Err error) writes = ap byte_count writes.2
 
--- so does a store
+-- a store leaves the number of bytes
 pub stored_count : (x x' : MemoryValue) (a : ℕ) (stored : List ℕ) (result : Result (Unit {0}) TrapCode)
     → StoresMemory x a stored result x' → byte_count x' ≡ byte_count x
 stored_count x x' a stored (Ok _) stores = accessed_length x.bytes stored x'.bytes a _ stores.0
@@ -205,13 +205,13 @@ module _ (k : ℕ) (slots : List (Slot MemoryValue)) (reply : Reply) (slots' : L
   written_kept source writes =
       changes_kept byte_count k slots reply slots' _ (λ x x' c. written_count x x' a source c.0 c.1) writes
 
-  -- so does a store
+  -- a store keeps the sizes
   store_kept : (stored : List ℕ) → StoresMemoryAt k a stored slots reply slots'
       → map (slot_count byte_count) slots' ≡ map (slot_count byte_count) slots
   store_kept stored stores =
       changes_kept byte_count k slots reply slots' _ (λ x x' c. stored_count x x' a stored c.0 c.1) stores
 
-  -- so does a store of what may be missing
+  -- a store of bytes that may be missing keeps the sizes
   pub vector_store_kept : (stored : Option (List ℕ)) → StoresVectorAt k a stored slots reply slots'
       → map (slot_count byte_count) slots' ≡ map (slot_count byte_count) slots
   vector_store_kept None stores = ap (map (slot_count byte_count)) stores.1
@@ -232,7 +232,7 @@ write_valid x x' offset source (Ok done) valid writes =
     memory_as_long x x' writes.1 (written_count x x' offset source (Ok done) writes) valid
 write_valid x x' offset source (Err error) valid writes = subst IsValidMemory (sym writes.2) valid
 
--- so does a store
+-- a store keeps validity
 stored_valid : (x x' : MemoryValue) (a : ℕ) (stored : List ℕ) (result : Result (Unit {0}) TrapCode) → IsValidMemory x
     → StoresMemory x a stored result x' → IsValidMemory x'
 stored_valid x x' a stored result valid stores =

@@ -37,7 +37,7 @@ abbrev LeavesSpare : Effect → Reply → State → State → Type 0
 LeavesSpare (LentMemoryMade ty) reply s s' = s'.spare ≡ spare_after reply s.spare
 LeavesSpare effect reply s s' = s'.spare ≡ s.spare
 
--- so by the call
+-- the spare region stays, unless the call makes a memory in it
 spare_kept : (s s' : State) (call : Call) (reply : Reply) → LeavesSpare (effect_of s call) reply s s'
     → KeepsSpare call reply s s'
 spare_kept s s' (NewLentMemory ty) reply leaves = leaves
@@ -53,7 +53,7 @@ module _ {S : Type 0} (w w' : World S) where
         refl,
       )
 
-  -- so with another meter
+  -- with another meter, the contents and the spare region are the same
   paid : (m : Meter) → {v : World S} → w' ≡ v → v.state ≡ record w.state { meter = m }
       → SameContents w.state w'.state × (w'.state.spare ≡ w.state.spare)
   paid m is same =
@@ -227,7 +227,7 @@ refusals_keep_contents rules w turn w' step refused =
       meter = call_meter rules w turn w' refused exchanged step turn.call refl exchanged.meter;
     }
 
--- so each turn of a run
+-- each refused turn of a run keeps what a refused turn keeps
 pub run_refusals_keep_contents : {S : Type 0} (rules : Rules S) → RefusalsInRunsKeepContents rules
 run_refusals_keep_contents rules = each_turn rules _ (refusals_keep_contents rules)
 

@@ -35,7 +35,7 @@ IsErrorOf e (Denied answer) c = c ≡ error_of_answer e.denial e.refusal answer
 IsErrorOf e Met c = ⊥
 IsErrorOf e (Failed cause notice_answer) c = c ≡ error_of_failure e.refusal cause notice_answer
 
--- it is what is answered
+-- the error of an attempt is what is answered
 answered_error : {V E T : Type 0} (e : Request V E) (value : T) (outcome : AttemptOutcome E) (c : E)
     → IsErrorOf e outcome c
     → answer_of e value outcome ≡ Err c
@@ -71,7 +71,7 @@ module _ {S : Type 0} (n : Narrowing S) where
       → Follows e n.rules l outcome l'
       → Follows e n.narrower l outcome l'
 
-  -- so is the attempt
+  -- where the replies to an attempt's errors show it, the attempt is one by the narrower rules
   attempt_revealed : {V E : Type 0} (refusal : E → Reply) (e : Request V E) → Reveals refusal e
       → (s s' : MeteredValue V S) (outcome : AttemptOutcome E) (charge : ℕ) → n.within s.limiter
       → ((c : E) → IsErrorOf e outcome c → n.shown (refusal c)) → Attempt n.rules e s outcome charge s'

@@ -3,11 +3,10 @@ use Rattle.std.proofs.Common.{Bool, List, None, Some, ap, arith, false, inl, inr
 use Rattle.std.proofs.lemmas.Bool.Decides.{nat_tests}
 use Rattle.std.specs.Prelude.{All, if◌then◌else◌, nat_eq, slice_get}
 use Rattle.wasmi_core.proofs.MemoryEffectsLemmas.{overwrite_length, vector_store_back, vector_store_kept, vector_store_valid, vector_stores_same, write_refused, write_valid, writes_same, written_kept}
-use Rattle.wasmi_core.proofs.RegisterEffectsLemmas.{takes_back, takes_count, takes_same}
+use Rattle.wasmi_core.proofs.ValueEffectsLemmas.{takes_back, takes_count, takes_same, creates_segment_valid, global_made_back, global_refused, global_sets_same, globals_same, items_refused, items_same, segment_back, segments_same}
 use Rattle.wasmi_core.proofs.EffectLemmas.{AllValid, changes_valid, drops_back, drops_kept, drops_same, drops_valid, item_valid}
 use Rattle.wasmi_core.proofs.TableEffectsLemmas.{IsWrite, copied_length, set_kept, set_refused, set_valid, sets_same}
 use Rattle.wasmi_core.proofs.TotalLemmas.{each_kind}
-use Rattle.wasmi_core.proofs.ValueEffectsLemmas.{creates_segment_valid, global_made_back, global_refused, global_sets_same, globals_same, items_refused, items_same, segment_back, segments_same}
 use Rattle.wasmi_core.specs.Determinism.{IsNotOutOfMemory}
 use Rattle.wasmi_core.specs.Exchange.{NothingGrows}
 use Rattle.wasmi_core.specs.Laws.{IsRefusal}
@@ -28,7 +27,8 @@ use Rattle.wasmi_types.specs.Access.{at}
 -- what holds of an effect on a part: a refusal leaves it, it is decided where memory isn't wanting, and it keeps a fact
 pub record EffectFacts {A : Type 0} (Effect : Reply → A → Type 0) (old : A) (Keeps : A → Type 0) : Type 0 where
   pub back : (reply : Reply) (part : A) → IsRefusal reply → Effect reply part → part ≡ old
-  pub same : (reply reply' : Reply) (part part' : A) → IsNotOutOfMemory reply → IsNotOutOfMemory reply' → Effect reply part
+  pub same : (reply reply' : Reply) (part part' : A) → IsNotOutOfMemory reply → IsNotOutOfMemory reply'
+      → Effect reply part
       → Effect reply' part'
       → (reply ≡ reply') × (part ≡ part')
   pub keeps : (reply : Reply) (part : A) → Effect reply part → Keeps part
@@ -36,7 +36,8 @@ pub record EffectFacts {A : Type 0} (Effect : Reply → A → Type 0) (old : A) 
 -- what holds of a change of one part: so for the state, whose meter, sizes and validity stay
 pub record ChangeFacts (s : State) (Becomes : Reply → State → Type 0) : Type 0 where
   pub back : (reply : Reply) (s' : State) → IsRefusal reply → Becomes reply s' → s' ≡ s
-  pub same : (reply reply' : Reply) (s' s'' : State) → IsNotOutOfMemory reply → IsNotOutOfMemory reply' → Becomes reply s'
+  pub same : (reply reply' : Reply) (s' s'' : State) → IsNotOutOfMemory reply → IsNotOutOfMemory reply'
+      → Becomes reply s'
       → Becomes reply' s''
       → (reply ≡ reply') × (s' ≡ s'')
   pub meter : (reply : Reply) (s' : State) → Becomes reply s' → s'.meter ≡ s.meter

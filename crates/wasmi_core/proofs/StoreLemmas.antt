@@ -20,23 +20,23 @@ IsAnswered call reply Takes =
     × Takes (record { call = call; reply = reply; charge = charge; written = written })
 
 module _ {S : Type 0} {w : World S} {call : Call} {reply : Reply} where
-  -- it only replies
+  -- a turn of a call that only replies
   pub only_replies : {Relation : Reply → Type 0} → Relation reply
       → OnlyReplies w (free_turn call reply) w Relation
   only_replies effect = record { free = (refl, refl); effect = effect; after = refl }
 
-  -- so it is answered
+  -- a call that only replies is answered
   pub replies : {Relation : Reply → Type 0} → Relation reply
       → IsAnswered call reply (λ turn. OnlyReplies w turn w Relation)
   replies effect = (0, 0, only_replies effect)
 
-  -- it changes the state
+  -- a call that changes the state is answered
   pub changes : {Relation : Reply → State → Type 0} {s : State} → Relation reply s
       → IsAnswered call reply (λ turn. Changes w turn (record w { state = s }) Relation)
   changes effect = (0, 0, record { free = (refl, refl); machine = _; effect = effect; after = refl })
 
   module _ {A : Type 0} {with_part : A → State} (part : A) where
-    -- it changes one part of the state
+    -- a turn of a call that changes one part of the state
     pub changes_part : {Relation : Reply → A → Type 0} → Relation reply part
         → Changes w (free_turn call reply) (record w { state = with_part part }) (ChangesPart with_part Relation)
     changes_part effect = record {
@@ -46,13 +46,13 @@ module _ {S : Type 0} {w : World S} {call : Call} {reply : Reply} where
       after = refl;
     }
 
-    -- so it is answered
+    -- a call that changes one part of the state is answered
     pub alters : {Relation : Reply → A → Type 0} → Relation reply part
         → IsAnswered call reply
         (λ turn. Changes w turn (record w { state = with_part part }) (ChangesPart with_part Relation))
     alters effect = (0, 0, changes_part effect)
 
-    -- it makes something under the limiter
+    -- a call that makes something under the limiter is answered
     pub asks : {Relation : S → Reply → A → S → Type 0} {l : S} → Relation w.limiter reply part l
         → IsAnswered call reply
         (λ turn. Asks w turn (world (with_part part) l) with_part Relation)
@@ -60,7 +60,7 @@ module _ {S : Type 0} {w : World S} {call : Call} {reply : Reply} where
 
   -- it acts on one part of the state, with some charge
   module _ {A : Type 0} {old : A} {with_part : A → State} {bytes : Reply → ℕ} (part : A) {meter : Meter} where
-    -- so it is answered
+    -- a call that acts on one part of the state, with some charge, is answered
     pub acts : {Relation : MeteredValue A S → Reply → ℕ → MeteredValue A S → Type 0} {l : S}
         → WithCharge Relation (metered_value old (Some w.state.meter) w.limiter) reply
         (metered_value part (Some meter) l)
@@ -72,7 +72,7 @@ module _ {S : Type 0} {w : World S} {call : Call} {reply : Reply} where
       record { part = part; meter = meter; limiter = _; effect = effect; wrote = refl; after = refl },
     )
 
-    -- so where the limiter is not reached
+    -- a call that acts on one part, with some charge and without the limiter, is answered
     pub acts_unasked : {Relation : MeteredValue A (Unit {0}) → Reply → ℕ → MeteredValue A (Unit {0}) → Type 0}
         → WithCharge Relation (metered old (Some w.state.meter)) reply (metered part (Some meter))
         → IsAnswered call reply (λ turn. ActsMeteredUnasked w turn
@@ -82,13 +82,13 @@ module _ {S : Type 0} {w : World S} {call : Call} {reply : Reply} where
 
 -- a turn is one from another world too, by what it does to that world
 module _ {S : Type 0} {v v' w w' : World S} {turn : Turn} where
-  -- it changes the state
+  -- a turn that changes the state
   pub changes_too : {Relation Relation' : Reply → State → Type 0} (step : Changes v turn v' Relation) (machine : State)
       → Relation' turn.reply machine → w' ≡ record w { state = machine } → Changes w turn w' Relation'
   changes_too step machine effect after = record { free = step.free; machine = machine; effect = effect; after = after }
 
   module _ {A : Type 0} {with_part with_part' : A → State} where
-    -- it makes something under the limiter
+    -- a turn that makes something under the limiter
     pub asks_too : {Relation Relation' : S → Reply → A → S → Type 0} (step : Asks v turn v' with_part Relation)
         (part : A)
         → Relation' w.limiter turn.reply part step.limiter
@@ -96,7 +96,7 @@ module _ {S : Type 0} {v v' w w' : World S} {turn : Turn} where
     asks_too step part effect after =
         record { free = step.free; part = part; limiter = step.limiter; effect = effect; after = after }
 
-    -- it acts on one part of the state, with a charge
+    -- a turn that acts on one part of the state, with a charge
     pub acts_too : {old old' : A} {Relation Relation' : MeteredValue A S → Reply → ℕ → MeteredValue A S → Type 0}
         {bytes bytes' : Reply → ℕ} (step : ActsMetered v turn v' old with_part Relation bytes) (part : A)
         → Relation' (metered_value old' (Some w.state.meter) w.limiter) turn.reply turn.charge

@@ -40,7 +40,7 @@ module _ (s : MeteredTable) (charge : ℕ) where
   ends_back w x' true (Some elements) false result refused ends = ends.2
   ends_back w x' true (Some elements) true result refused ends = absurd (rw ends.0 at refused)
 
-  -- so by its ranges
+  -- a refused write leaves the table, whatever its ranges are
   write_back : (write : TableValue → TableWrite) (s' : MeteredTable) (result : Result (Unit {0}) TableError)
       → IsRefusal (reply_of (λ _. replied.Done) replied.Table result) → WritesTableCharging write s result charge s'
       → s'.value ≡ s.value
@@ -48,7 +48,7 @@ module _ (s : MeteredTable) (charge : ℕ) where
       let w = write s.value in ends_back w s'.value w.typed w.written _ result refused writes.ends
 
 module _ (k : ℕ) (s s' : MeteredTables) (reply : Reply) (charge : ℕ) (refused : IsRefusal reply) where
-  -- so in its slot
+  -- a refused write over the table of an index leaves the slots
   table_write_back : (write : TableValue → TableWrite) → WritesTableAt k write s reply charge s' → s'.value ≡ s.value
   table_write_back write writes =
       on_live (live_at s.value k) _ _ writes
@@ -56,7 +56,7 @@ module _ (k : ℕ) (s s' : MeteredTables) (reply : Reply) (charge : ℕ) (refuse
       (λ x found h. h.4 ∙ put_back s.value k x h.1 found (write_back (with_value s x) charge write (with_value s' h.1)
       h.0 (rw h.3 at refused) h.2))
 
-  -- so where the write may be missing
+  -- a refused write that may be missing leaves the slots
   pub part_back : (part : Option (TableValue → TableWrite)) → WritesRangeAt k part s reply charge s'
       → s'.value ≡ s.value
   part_back part writes =
@@ -87,7 +87,7 @@ set_back index value x result x' refused sets =
     (λ elements is set. absurd (rw set.0 at refused)))
     (λ other. other.1)
 
--- so in its slot
+-- an element that is not set leaves the slots
 pub set_refused : (k index : ℕ) (value : TypedRawRef) (slots : List (Slot TableValue)) (reply : Reply)
     (slots' : List (Slot TableValue)) → IsRefusal reply → SetsElementAt k index value slots reply slots'
     → slots' ≡ slots
@@ -105,7 +105,7 @@ module _ (write : TableValue → TableWrite) (s : MeteredTable) (end end' : Writ
   ends_same true (Some elements) false a b = (a.0 ∙ sym b.0, a.1 ∙ sym b.1, a.2 ∙ sym b.2)
   ends_same true (Some elements) true a b = (a.0 ∙ sym b.0, a.1 ∙ sym b.1, a.2 ∙ sym b.2)
 
-  -- so they are one
+  -- two writes over a part are one
   table_write_same : (m' m'' : Option Meter)
       → WritesTableCharging write s end.result end.charge (metered end.value m')
       → WritesTableCharging write s end'.result end'.charge (metered end'.value m'')
@@ -128,12 +128,12 @@ module _ (index : ℕ) (value : TypedRawRef) (x : TableValue) (result result' : 
       (λ elements h h'. (h.0 ∙ sym h'.0, h.1 ∙ sym h'.1))
   set_by_type false a b = (a.0 ∙ sym b.0, a.1 ∙ sym b.1)
 
-  -- so they end in one way
+  -- two calls that set an element end in one way
   set_same : SetsTable index value x result x' → SetsTable index value x result' x''
       → (result ≡ result') × (x' ≡ x'')
   set_same = set_by_type (same_type x.ty.element value.ty)
 
--- so of the table of an index
+-- two calls that set an element of the table of an index are one
 pub sets_same : (k index : ℕ) (value : TypedRawRef) (slots : List (Slot TableValue))
     → IsDecided (SetsElementAt k index value slots)
 sets_same k index value slots =
@@ -142,7 +142,8 @@ sets_same k index value slots =
     (h.2 ∙ ap (reply_of (λ _. replied.Done) replied.Table) both.0 ∙ sym h'.2, both.1))
 
 -- two writes over a part of the table of an index
-table_writes_same : (k : ℕ) (write : TableValue → TableWrite) (s : MeteredTables) → HasOneEnding (WritesTableAt k write s)
+table_writes_same : (k : ℕ) (write : TableValue → TableWrite) (s : MeteredTables)
+    → HasOneEnding (WritesTableAt k write s)
 table_writes_same k write s =
     acts_same {S = Unit {0}} (WritesTableCharging write)
     (λ s result result' charge charge' s' s'' h h'.
@@ -152,7 +153,7 @@ table_writes_same k write s =
     (both.0, both.1, λ i. record { value = both.2 i; meter = both.3 i; limiter = tt }))
     k (reply_of (λ _. replied.Done) replied.Table) s
 
--- so where the write may be missing
+-- two writes that may be missing are one
 pub parts_same : (k : ℕ) (part : Option (TableValue → TableWrite)) (s : MeteredTables)
     → HasOneEnding (WritesRangeAt k part s)
 parts_same k part s o o' a b =
@@ -188,13 +189,13 @@ module _ (write : TableValue → TableWrite) (s : MeteredTable) (result : Result
   ends_count true (Some elements) false is ends = ap size_of ends.2
   ends_count true (Some elements) true is ends = ap size_of ends.2 ∙ keeps elements is
 
-  -- so by its ranges
+  -- a write over a part keeps the number of elements, whatever its ranges are
   pub write_count : WritesTableCharging write s result charge s' → size_of s'.value ≡ size_of s.value
   write_count writes = ends_count w.typed w.written _ refl writes.ends
 
 -- the writes over a table at an index
 module _ (k : ℕ) (s s' : MeteredTables) (reply : Reply) (charge : ℕ) (len : ℕ) where
-  -- so it keeps the sizes
+  -- a write over the table of an index keeps the sizes
   write_kept : (write : TableValue → TableWrite) → IsWrite len write → WritesTableAt k write s reply charge s'
       → map (slot_count size_of) s'.value ≡ map (slot_count size_of) s.value
   write_kept write is writes =
@@ -204,7 +205,7 @@ module _ (k : ℕ) (s s' : MeteredTables) (reply : Reply) (charge : ℕ) (len : 
       ∙ counts_kept size_of s.value k x (Live h.1) found
       (write_count write (with_value s x) h.0 charge (with_value s' h.1) (is x).0 h.2))
 
-  -- so where the write may be missing
+  -- a write that may be missing keeps the sizes
   pub part_kept : (part : Option (TableValue → TableWrite)) → OnLive part (Unit {0}) (IsWrite len)
       → WritesRangeAt k part s reply charge s' → map (slot_count size_of) s'.value ≡ map (slot_count size_of) s.value
   part_kept part is writes =
@@ -253,7 +254,7 @@ module _ (write : TableValue → TableWrite) (s : MeteredTable) (result : Result
   ends_typed true (Some elements) false ends = ap (λ (t : TableValue). t.ty) ends.2
   ends_typed true (Some elements) true ends = ap (λ (t : TableValue). t.ty) ends.2
 
-  -- so it keeps validity
+  -- a write over a part keeps validity
   written_valid : KeepsLength (write s.value) s.value → IsValidTable s.value
       → WritesTableCharging write s result charge s' → IsValidTable s'.value
   written_valid keeps valid writes =
@@ -270,7 +271,7 @@ module _ (k : ℕ) (s s' : MeteredTables) (reply : Reply) (charge : ℕ) (len : 
       acts_valid IsValidTable k _ _ (λ t t' result c h w. written_valid write t result c t' (is t.value).0 h w) s s'
       reply charge writes valid
 
-  -- so where the write may be missing
+  -- a write that may be missing keeps validity
   pub part_valid : (part : Option (TableValue → TableWrite)) → OnLive part (Unit {0}) (IsWrite len)
       → WritesRangeAt k part s reply charge s' → AllValid IsValidTable s.value → AllValid IsValidTable s'.value
   part_valid part is writes valid =

@@ -19,18 +19,18 @@ use Rattle.wasmi_core.specs.World.{World, Turn}
 use Rattle.wasmi_core.specs.Exchange.{Exchange, Nothing, Denial, Permission, Notice, Passes}
 use Rattle.wasmi_core.specs.Steps.{Step}
 use Rattle.wasmi_core.specs.Runs.{Run, IsRunOf}
-use Rattle.wasmi_core.specs.Determinism.{AcceptsNotices, StaysAccepting, IsIn, FailsWithMemory, IsDeterministic, never_out_of_memory, IsNotOutOfMemory, AreNotOutOfMemory}
+use Rattle.wasmi_core.specs.Determinism.{AcceptsNotices, StaysAccepting, IsIn, IsOtherFailure, IsDeterministic, never_out_of_memory, IsNotOutOfMemory, AreNotOutOfMemory}
 use Rattle.wasmi_core.proofs.DeterminismLemmas as determinism
 use Rattle.wasmi_core.proofs.ExchangeLemmas.{growths_are_permitted}
 use Rattle.wasmi_core.proofs.RevealingLemmas.{Narrowing, Reveals, run_revealed}
 
 -- an error of which a reply that has memory tells is no want of it
-no_memory : (c : MemoryError) → IsNotOutOfMemory (replied.Memory c) → FailsWithMemory (MemoryFailure c)
+no_memory : (c : MemoryError) → IsNotOutOfMemory (replied.Memory c) → IsOtherFailure (MemoryFailure c)
 no_memory memerr.OutOfSystemMemory has = has
 no_memory c has = tt
 
--- so for tables
-no_table : (c : TableError) → IsNotOutOfMemory (replied.Table c) → FailsWithMemory (TableFailure c)
+-- an error of a table of which a reply that has memory tells is no want of it
+no_table : (c : TableError) → IsNotOutOfMemory (replied.Table c) → IsOtherFailure (TableFailure c)
 no_table taberr.OutOfSystemMemory has = has
 no_table c has = tt
 
@@ -42,7 +42,7 @@ module _ {S : Type 0} (rules : Rules S) (IsAccepting : S → Type 0) (stays : St
 
   -- the replies to an attempt's errors tell whether the limiter is told of want of memory
   want_revealed : {V E : Type 0} (refusal : E → Reply) (e : Request V E)
-      → ((c : E) → IsNotOutOfMemory (refusal c) → FailsWithMemory (e.notice c))
+      → ((c : E) → IsNotOutOfMemory (refusal c) → IsOtherFailure (e.notice c))
       → Reveals telling refusal e
   want_revealed refusal e nowant (Unasked c) l l' within shown f = f
   want_revealed refusal e nowant (Denied answer) l l' within shown f = f
@@ -67,7 +67,7 @@ module _ {S : Type 0} (rules : Rules S) (IsAccepting : S → Type 0) (stays : St
       (stays.noticed permitted failure notice_answer l' (stays.asked l question (Ok true) permitted within asks)
       notices).1
 
-  -- so does a step
+  -- a step leaves the limiter in these states
   step_stays : (w : World S) (turn : Turn) (w' : World S) → IsAccepting w.limiter → Step rules w turn w'
       → IsAccepting w'.limiter
   step_stays w turn w' within step =
@@ -89,7 +89,8 @@ module _ {S : Type 0} (rules : Rules S) (IsAccepting : S → Type 0) (stays : St
 -- turns whose replies have memory, and their replies
 all_shown : (turns : List Turn) → AreNotOutOfMemory turns → All IsNotOutOfMemory (map Turn.reply turns)
 all_shown [] have = All-nil IsNotOutOfMemory
-all_shown (turn ∷ turns) have = All-cons IsNotOutOfMemory turn.reply (map Turn.reply turns) have.0 (all_shown turns have.1)
+all_shown (turn ∷ turns) have =
+    All-cons IsNotOutOfMemory turn.reply (map Turn.reply turns) have.0 (all_shown turns have.1)
 
 -- and the other way round
 all_have : (turns : List Turn) → All IsNotOutOfMemory (map Turn.reply turns) → AreNotOutOfMemory turns
@@ -100,8 +101,9 @@ all_have (turn ∷ turns) has = (
       (All-tail IsNotOutOfMemory turn.reply (map Turn.reply turns) has),
 )
 
--- so by their replies
-replies_have : (turns : List Turn) (replies : List Reply) → map Turn.reply turns ≡ replies → All IsNotOutOfMemory replies
+-- turns whose replies do not say out of memory do not either
+replies_have : (turns : List Turn) (replies : List Reply) → map Turn.reply turns ≡ replies
+    → All IsNotOutOfMemory replies
     → AreNotOutOfMemory turns
 replies_have turns replies is has = all_have turns (subst (All IsNotOutOfMemory) (sym is) has)
 
@@ -152,9 +154,10 @@ pub record SeenRun {S : Type 0} (rules : Rules S) (calls : List Call) (w : World
   pub ran : IsRunOf rules calls w replies after
 
 module _ {L : Type 0} (rules : Rules L) (IsAccepting : L → Type 0) (stays : StaysAccepting rules IsAccepting) where
-  -- so where the limiter may be absent
+  -- a run under a limiter that may be absent has no notice that says out of memory
   accepted_runs : (w : World (Option L)) (turns : List Turn) (w' : World (Option L)) → IsIn IsAccepting w.limiter
-      → AreNotOutOfMemory turns → Run (optional_rules rules) w turns w' → Run (never_out_of_memory (optional_rules rules)) w turns w'
+      → AreNotOutOfMemory turns → Run (optional_rules rules) w turns w'
+      → Run (never_out_of_memory (optional_rules rules)) w turns w'
   accepted_runs w turns w' within have =
       told_run (optional_rules rules) (IsIn IsAccepting) (optional_stays rules IsAccepting stays) w turns w' within
       (all_shown turns have)

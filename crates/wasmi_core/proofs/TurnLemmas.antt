@@ -1,6 +1,6 @@
 -- A run goes on by one turn, or by another run.
 use Rattle.std.proofs.Common.{◌≡◌, ℕ, ◌+◌, ◌<◌, List, [], ◌∷◌, ◌++◌, length, take, get_or, map, refl, sym, ap, subst, ◌∙◌}
-use Rattle.std.proofs.lemmas.List.{take_more, map_push}
+use Rattle.std.proofs.lemmas.List.{take_more, map_push, map-append}
 use Rattle.wasmi_meter.specs.Limiter.{Rules}
 use Rattle.wasmi_core.specs.declared.calls.Call.{Call}
 use Rattle.wasmi_core.specs.declared.calls.Reply.{Reply}
@@ -8,11 +8,6 @@ use Rattle.wasmi_core.specs.State.{State}
 use Rattle.wasmi_core.specs.World.{World, Turn, world}
 use Rattle.wasmi_core.specs.Steps.{Step, RepliesWith}
 use Rattle.wasmi_core.specs.Runs.{Sequence, Run, IsRunOf}
-
--- what is made of two lists
-map-append : {X Y : Type 0} (f : X → Y) (xs ys : List X) → map f (xs ++ ys) ≡ map f xs ++ map f ys
-map-append f [] ys = refl
-map-append f (x ∷ xs) ys = ap (λ zs. f x ∷ zs) (map-append f xs ys)
 
 -- one call more: the turns so far are by the calls up to a place, and the next turn is by the one there
 pub calls_more : (turns : List Turn) (calls : List Call) (i : ℕ) (turn : Turn) → map Turn.call turns ≡ take i calls
@@ -28,21 +23,21 @@ module _ {S : Type 0} (rules : Rules S) where
   Run-push u [] v ran turn w step = (w, rw (← ran) step, refl)
   Run-push u (t ∷ turns) v ran turn w step = (ran.0, ran.1, Run-push ran.0 turns v ran.2 turn w step)
 
-  -- two runs
-  pub Run-append : (u : World S) (turns : List Turn) (v : World S) (turns' : List Turn) (w : World S)
+  -- two runs in a row are one
+  pub runs_joined : (u : World S) (turns : List Turn) (v : World S) (turns' : List Turn) (w : World S)
       → Run rules u turns v → Run rules v turns' w → Run rules u (turns ++ turns') w
-  Run-append u [] v turns' w ran ran' = rw (← ran) ran'
-  Run-append u (turn ∷ turns) v turns' w (t, step, ran) ran' = (t, step, Run-append t turns v turns' w ran ran')
+  runs_joined u [] v turns' w ran ran' = rw (← ran) ran'
+  runs_joined u (turn ∷ turns) v turns' w (t, step, ran) ran' = (t, step, runs_joined t turns v turns' w ran ran')
 
-  -- so by their calls
-  pub IsRunOf-append : (calls calls' : List Call) (u v w : World S) (replies replies' : List Reply)
+  -- two runs of calls in a row are one
+  pub runs_of_calls_joined : (calls calls' : List Call) (u v w : World S) (replies replies' : List Reply)
       → IsRunOf rules calls u replies v → IsRunOf rules calls' v replies' w
       → IsRunOf rules (calls ++ calls') u (replies ++ replies') w
-  IsRunOf-append calls calls' u v w replies replies' (turns, made, told, ran) (turns', made', told', ran') = (
+  runs_of_calls_joined calls calls' u v w replies replies' (turns, made, told, ran) (turns', made', told', ran') = (
     turns ++ turns',
     map-append Turn.call turns turns' ∙ ap (λ cs. cs ++ map Turn.call turns') made ∙ ap (λ cs. calls ++ cs) made',
     map-append Turn.reply turns turns' ∙ ap (λ rs. rs ++ map Turn.reply turns') told ∙ ap (λ rs. replies ++ rs) told',
-    Run-append u turns v turns' w ran ran',
+    runs_joined u turns v turns' w ran ran',
   )
 
   -- what holds of each step holds of each turn of a run

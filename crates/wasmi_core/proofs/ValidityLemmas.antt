@@ -34,7 +34,7 @@ IsValidEffect (LentMemoryMade ty) = memory_type.IsValid ty
 IsValidEffect (TableMade ty init) = table_type.IsValid ty
 IsValidEffect effect = Unit {0}
 
--- it is the type that the call names
+-- the type that an effect names is that which its call names
 names_valid : (s : State) (call : Call) → IsValidCall call → IsValidEffect (effect_of s call)
 names_valid s (NewMemory ty) valid = valid
 names_valid s (NewLentMemory ty) valid = valid
@@ -49,7 +49,7 @@ module _ (s : State) (valid : IsValid s) (meter : Meter) where
   memories_valid memories spare h s' is =
       rw is (record { memories = h; tables = valid.tables; segments = valid.segments; registers = valid.registers })
 
-  -- so with other tables
+  -- with other tables that are valid, a state is valid
   tables_valid : (tables : List (Slot TableValue)) → AllValid IsValidTable tables → (s' : State)
       → s' ≡ record s { tables = tables; meter = meter } → IsValid s'
   tables_valid tables h s' is =

@@ -103,7 +103,7 @@ price_pays rate n cost false free rated is =
     let turned : rate * cost ≡ n / rate * rate = ap (λ k. rate * k) is ∙ mul_comm rate (n / rate) in
     omega (arith, over, turned, rated)
 
--- so where it is what is due
+-- what is due for so many bytes pays for them
 due_pays : (m : Meter) (left values size charge : ℕ) → m.left ≡ Some left → 0 < rate m
     → charge ≡ due m (λ costs. copy_cost costs values size) → cut_product values size ≤ rate m * charge + (rate m - 1)
 due_pays m left values size charge on rated is =
@@ -115,7 +115,7 @@ same_costs : (m m' : Meter) (charge : ℕ) → Some m' ≡ Some (meter_after m c
 same_costs m m' charge is = ap (λ (m : Meter). m.costs) (same_Some m' (meter_after m charge) is)
 
 module _ {V E S : Type 0} (rules : Rules S) (g : Growth V E) (t : Growing V S) where
-  -- it has grown, with this result
+  -- a growth with this result
   abbrev Grown : Result ℕ E → Type 0
   Grown result = Grows rules g (before t) result t.charge (after t)
 
@@ -285,7 +285,7 @@ module _ (write : TableValue → TableWrite) (x : TableValue) (len : ℕ) (m : M
   len_bound (inr none) charged left on rated =
       let nothing : cut_product len 4 ≡ 0 = ap (λ k. cut_product k 4) none ∙ omega arith in omega (arith, nothing)
 
-  -- so where it has ended well
+  -- the charge of a write that has ended well pays for its elements
   ends_bound : (w.paid ≡ Some len) ⊎ (len ≡ 0) → (x' : TableValue) (typed : Bool) (written : Option (List ℕ))
       (payable : Bool)
       → EndsBy w (metered x (Some m)) typed written payable (record { result = (Ok tt); charge = charge; value = x' })
@@ -320,7 +320,7 @@ module _ (k len : ℕ) (slots : List (Slot TableValue)) (m : Meter) (reply : Rep
       (idles m m' charge _ refl (same_Some m' m (ap (λ (s : MeteredTables). s.meter) missing.2))))
       (λ x found a. rw a.3 (write_result write x len m charge (is x).1 a.1 m' a.0 a.2))
 
-  -- so where the write may be missing
+  -- what a write that may be missing has written
   part_writes : (part : Option (TableValue → TableWrite)) → OnLive part (Unit {0}) (IsWrite len)
       → WritesRangeAt k part (metered slots (Some m)) reply charge (metered slots' (Some m'))
       → Wrote m charge (element_bytes len reply) (is_accepted reply) 0 m'
@@ -354,7 +354,7 @@ abbrev amount_set_by : Effect → ℕ
 amount_set_by (FuelSet fuel) = fuel
 amount_set_by effect = 0
 
--- it is what the call is charged for and sets
+-- what an effect is charged for and sets is what its call is
 same_charges : (s : State) (call : Call)
     → (is_charged_effect (effect_of s call) ≡ is_charged call) × (amount_set_by (effect_of s call) ≡ amount_set call)
 same_charges s (SetFuel fuel) = (refl, refl)
@@ -395,7 +395,7 @@ module _ {S : Type 0} (rules : Rules S) where
   one_more true n rate = add-mul 1 n (rate - 1) ∙ omega arith
   one_more false n rate = add-mul 0 n (rate - 1) ∙ omega arith
 
-  -- so by one turn after another
+  -- the turns of a run have written within what they were charged
   run_writes : (w : World S) (left : ℕ) → w.state.meter.left ≡ Some left → 0 < rate w.state.meter
       → (turns : List Turn) (w' : World S) → Run rules w turns w'
       → Bounds (rate w.state.meter) left turns w'.state.meter
@@ -431,7 +431,7 @@ module _ {S : Type 0} (rules : Rules S) where
         spent = (rest.spent.0, rest.spent.1, omega (arith, charges, amounts, after.2, rest.spent.2));
       }
 
-  -- so within what there was
+  -- a run has written within what there was
   pub writing_is_bounded : (w : World S) (left : ℕ) → w.state.meter.left ≡ Some left → 0 < rate w.state.meter
       → (turns : List Turn) (w' : World S) → Run rules w turns w' → IsBounded (rate w.state.meter) left turns
   writing_is_bounded w left on rated turns w' ran =

@@ -34,11 +34,11 @@ abbrev pub IsIn : {S : Type 0} → (S → Type 0) → Option S → Type 0
 IsIn IsAccepting (Some l) = IsAccepting l
 IsIn IsAccepting None = Unit {0}
 
--- the failure isn't out of memory
-abbrev pub FailsWithMemory : Failure → Type 0
-FailsWithMemory (MemoryFailure memory.OutOfSystemMemory) = ⊥
-FailsWithMemory (TableFailure table.OutOfSystemMemory) = ⊥
-FailsWithMemory failure = Unit {0}
+-- the failure is another one than that memory was refused
+abbrev pub IsOtherFailure : Failure → Type 0
+IsOtherFailure (MemoryFailure memory.OutOfSystemMemory) = ⊥
+IsOtherFailure (TableFailure table.OutOfSystemMemory) = ⊥
+IsOtherFailure failure = Unit {0}
 
 -- the rules by which no limiter is notified that memory was refused
 abbrev pub never_out_of_memory : {S : Type 0} → Rules S → Rules S
@@ -46,7 +46,7 @@ never_out_of_memory rules =
     record {
       asked = rules.asked;
       noticed = λ l failure notice_answer l'. rules.noticed l failure notice_answer l'
-          × FailsWithMemory failure;
+          × IsOtherFailure failure;
     }
 
 -- the reply doesn't say out of memory

@@ -20,7 +20,7 @@ use Rattle.wasmi_core.specs.Runs.{Sequence, Run, IsRunOf}
 use Rattle.wasmi_core.specs.Account.{opened, account_after, Balances, PaysCharge, SetsNoFuel}
 use Rattle.wasmi_core.specs.Exchange.{Notice, Passes, At, place_of, question_of, failed_reply, growth_due, Exchanges}
 use Rattle.wasmi_core.specs.MemoryEffects.{spare_after}
-use Rattle.wasmi_core.specs.Determinism.{IsDeterministic, AcceptsNotices, FailsWithMemory, never_out_of_memory, IsNotOutOfMemory, AreNotOutOfMemory}
+use Rattle.wasmi_core.specs.Determinism.{IsDeterministic, AcceptsNotices, IsOtherFailure, never_out_of_memory, IsNotOutOfMemory, AreNotOutOfMemory}
 use Rattle.wasmi_core.specs.LentMemory.{owned_world, unlent_world, RunInRegions}
 use Rattle.wasmi_core.specs.Writing.{IsBounded, IsSpent}
 use Rattle.wasmi_core.specs.Permission.{permitting, TellsNoDenial}
@@ -49,7 +49,7 @@ pub record FailsAfterCharge {S : Type 0} (rules : Rules S) (w : World S) (turn :
   pub asks : question_of w.state turn.call ≡ Some question
   pub failure : Failure
   pub notice_answer : NoticeAnswer
-  pub wants : FailsWithMemory failure → ⊥
+  pub wants : IsOtherFailure failure → ⊥
   pub tells : Passes rules w.limiter (Notice question failure notice_answer) w'.limiter
   pub replies : turn.reply ≡ failed_reply failure notice_answer
   pub meter : PaysCharge w.state.meter (growth_due w.state.meter question) w'.state.meter

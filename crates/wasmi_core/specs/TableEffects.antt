@@ -39,7 +39,8 @@ WritesTableAt k write = ActsAt k (reply_of (λ _. Done) Table) (WritesTableCharg
 
 -- a part of the table of an index is written over with what a source has, with its charge; without a source the reply
 -- is `NoSuch`, and nothing has changed
-abbrev pub WritesTableFrom : {X : Type 0} → Option X → ℕ → (X → TableValue → TableWrite) → MeteredTables → Reply → ℕ → MeteredTables
+abbrev pub WritesTableFrom : {X : Type 0} → Option X → ℕ → (X → TableValue → TableWrite) → MeteredTables → Reply → ℕ
+    → MeteredTables
     → Type 0
 WritesTableFrom source k write s reply charge s' =
     OnLive source (IsNoSuch s reply charge s') (λ x. WritesTableAt k (write x) s reply charge s')

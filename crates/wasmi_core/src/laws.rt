@@ -47,6 +47,7 @@ pub fn refusals_keep_contents<L: ResourceLimiter>()
 /// meter, and is taken from it.
 ///
 /// Without a limiter each question is permitted. This holds of each turn of a run.
+#[tactic(auto, using(crate::proofs::ExchangeLemmas::growths_are_permitted, crate::proofs::ExchangeLemmas::run_growths_are_permitted))]
 pub fn growths_are_permitted<L: ResourceLimiter>()
     ensures turn { GrowsAsPermitted (optional_rules L.rules) }
     ensures run { RunsGrowAsPermitted (optional_rules L.rules) }
@@ -77,23 +78,27 @@ pub fn states_are_valid(machine: &Machine)
 
 /// A run of calls whose types are valid keeps a state valid. The types of a `Call` that code holds
 /// are.
+#[tactic(auto, using(crate::proofs::ValidityLemmas::run_keeps_validity))]
 pub fn runs_keep_validity<L: ResourceLimiter>()
     ensures { RunsKeepValidity (optional_rules L.rules) }
 {}
 
 /// If no reply of a run reports a denial, the limiter permitted each question. A growth out of
 /// bounds counts as a denial here, since both have the same error.
+#[tactic(auto, using(crate::proofs::PermissionLemmas::permitted_run))]
 pub fn replies_permit<L: ResourceLimiter>()
     ensures { RepliesPermit (optional_rules L.rules) }
 {}
 
 /// A quota that holds at most its caps before a run does so after it, and has the same caps.
+#[tactic(auto, using(crate::proofs::LimiterLemmas::quota_stays_within))]
 pub fn quotas_stay_within()
     ensures { QuotasStayWithin }
 {}
 
 /// A run under a limiter whose kind was chosen while the program ran is one by the rules of its
 /// kind, and the kind stays. So are a run of calls with its replies, and a reply to one call.
+#[tactic(auto, using(crate::proofs::LimiterKindsLemmas::runs_keep_kind, crate::proofs::LimiterKindsLemmas::runs_of_calls_keep_kind, crate::proofs::LimiterKindsLemmas::replies_keep_kind))]
 pub fn kinds_stay()
     ensures turns { RunsKeepKind }
     ensures calls { RunsOfCallsKeepKind }
@@ -121,18 +126,21 @@ pub fn fuel_bounds_writing<L: ResourceLimiter>()
 ///
 /// `FitsRegions` says which calls these are: a growth past the region counts as one where it is
 /// refused before the limiter is asked.
+#[tactic(auto, using(crate::proofs::LentMemoryLemmas::run_is_owned))]
 pub fn lent_runs_are_owned<L: ResourceLimiter>()
     ensures { LentRunsAreOwned (optional_rules L.rules) }
 {}
 
 /// A memory that is made in a spare region of at least its minimum is made as one with memory of
 /// its own, except for its room and the spare region.
+#[tactic(auto, using(crate::proofs::LentMemoryLemmas::creation_is_owned))]
 pub fn lent_creations_are_owned<L: ResourceLimiter>()
     ensures { LentCreationsAreOwned (optional_rules L.rules) }
 {}
 
 /// A growth of a lent memory for which its type and its region have room, and which can be paid
 /// for, takes no memory: the limiter alone can refuse it.
+#[tactic(auto, using(crate::proofs::LentMemoryLemmas::lent_growth_succeeds))]
 pub fn lent_growths_succeed<L: ResourceLimiter>()
     ensures { LentGrowthsSucceed (optional_rules L.rules) }
 {}
@@ -157,21 +165,25 @@ pub fn replies_are_one<L: ResourceLimiter>()
 {}
 
 /// The limiter that permits everything accepts each notice.
+#[tactic(auto, using(crate::proofs::ToldLemmas::unlimited_accepts))]
 pub fn no_limits_accept_notices()
     ensures { AcceptsNotices (unlimited_rules {S = NoLimits}) }
 {}
 
 /// A quota accepts each notice.
+#[tactic(auto, using(crate::proofs::ToldLemmas::quota_accepts))]
 pub fn quota_accepts_notices()
     ensures { AcceptsNotices quota_rules }
 {}
 
 /// The limiter that permits everything is deterministic.
+#[tactic(auto, using(crate::proofs::DeterminismLemmas::unlimited_unique))]
 pub fn no_limits_leave_no_choice()
     ensures { IsDeterministic (unlimited_rules {S = NoLimits}) }
 {}
 
 /// A quota is deterministic.
+#[tactic(auto, using(crate::proofs::DeterminismLemmas::quota_unique))]
 pub fn quota_leaves_no_choice()
     ensures { IsDeterministic quota_rules }
 {}

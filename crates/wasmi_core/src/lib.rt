@@ -1,4 +1,4 @@
-//! MeteredTables WebAssembly memories and tables under a resource limiter, and a machine that runs lists
+//! Metered WebAssembly memories and tables under a resource limiter, and a machine that runs lists
 //! of calls on them.
 #![tactic(auto)]
 

@@ -5,7 +5,7 @@ ghost use Rattle.std.specs.Option.{option_copied, option_copied_mut};
 use crate::calls::Reply;
 use crate::registers::Registers;
 use crate::slots::Slots;
-use crate::store::Store;
+use crate::store::MachineStore;
 use crate::values::value_at;
 use std::alloc::Global as Allocator;
 use std::marker::Model;
@@ -20,11 +20,9 @@ use wasmi_typed::Global;
 /// is its lifetime.
 ///
 /// Its state is valid at any time: see [`crate::laws::states_are_valid`].
-///
-/// Own: upstream's interpreter has a store of its own.
 #[derive(Debug, Drop)]
 pub struct Machine<'r> {
-    pub(crate) store: Store<'r>,
+    pub(crate) store: MachineStore<'r>,
 }
 
 impl<'r> Model for Machine<'r> {
@@ -66,7 +64,7 @@ impl<'r> Machine<'r> {
     fn empty(alloc: Allocator, fuel: Fuel, spare: Option<&'r mut [u8]>) -> Machine<'r>
         ensures { result ≡ record (new_state fuel) { spare = option_copied_mut spare.entry } }
     {
-        let store = Store {
+        let store = MachineStore {
             alloc,
             memories: Slots::new(alloc),
             tables: Slots::new(alloc),
@@ -91,8 +89,6 @@ impl<'r> Machine<'r> {
     ///
     /// It isn't a call, so a run has no turn for it: an interpreter pays by it for the instructions
     /// that it executes between calls.
-    ///
-    /// Own: upstream's interpreter has the meter itself.
     pub fn consume_fuel(&mut self, amount: u64) -> Result<u64, FuelError>
         ensures on { IsSome self.old.meter.left
             → ConsumesFuel self.old.meter amount (amount_left self.old.meter - amount) result
@@ -120,8 +116,6 @@ impl<'r> Machine<'r> {
     /// Stores an item to a memory at `ptr + offset`, as `Call::Store` does, which reaches no
     /// limiter. The reply is `Done`, `NoSuch` if there is no such memory, or `Trap` with
     /// `MemoryOutOfBounds`; after the last two nothing has changed.
-    ///
-    /// Own: upstream's interpreter has the memory itself.
     #[inline(always)]
     pub fn store_item(
         &mut self,

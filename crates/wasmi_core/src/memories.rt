@@ -105,7 +105,7 @@ impl<'r> Slots<Memory<'r>> {
         ensures { ReadsMemoryAt index offset len self.now.slots.items result }
     {
         match self.live(index) {
-            Some(memory) => read_bytes(alloc, memory.data(), offset, len),
+            Some(memory) => bytes_reply(alloc, memory.data(), offset, len),
             None => Reply::NoSuch,
         }
     }
@@ -153,7 +153,7 @@ impl<'r> Slots<Memory<'r>> {
         let Some(memory) = self.live_mut(index) else {
             return Reply::NoSuch;
         };
-        stored(store(memory, op, ptr, offset, value))
+        store_reply(store(memory, op, ptr, offset, value))
     }
 }
 
@@ -176,7 +176,7 @@ impl<'r> Slots<Memory<'r>> {
         let Some(memory) = self.live_mut(index) else {
             return Reply::NoSuch;
         };
-        stored(store_vector(memory, vector, ptr, offset))
+        store_reply(store_vector(memory, vector, ptr, offset))
     }
 
     /// Stores a lane of a vector to a memory, if its register is there.
@@ -197,20 +197,20 @@ impl<'r> Slots<Memory<'r>> {
         let Some(memory) = self.live_mut(index) else {
             return Reply::NoSuch;
         };
-        stored(store_lane(memory, op, vector, ptr, offset))
+        store_reply(store_lane(memory, op, vector, ptr, offset))
     }
 }
 
 /// The reply to a store.
 #[inline(always)]
-fn stored(answer: Result<(), TrapCode>) -> Reply
+fn store_reply(answer: Result<(), TrapCode>) -> Reply
     ensures { result ≡ reply_of (λ _. Reply.Done) Reply.Trap answer }
 {
     answer.map_or_else(Reply::Trap, |()| Reply::Done)
 }
 
 /// A part of a list of bytes: its bounds are tested before the reply's buffer is allocated.
-fn read_bytes(alloc: Global, memory: &[u8], offset: usize, len: usize) -> Reply
+fn bytes_reply(alloc: Global, memory: &[u8], offset: usize, len: usize) -> Reply
     ensures { ReadsBytes (at memory.now offset len) result }
 {
     if !lies_within(memory, offset as u64, len as u64) {

@@ -35,8 +35,6 @@ impl<'r> Machine<'r> {
     /// Grows a memory by so many pages, as `step` does for `Call::GrowMemory`. The reply is
     /// `Number` with the old size in pages, `NoSuch` if there is no such memory, or `Memory` with
     /// an error of [`wasmi_store::LinearMemory::grow`].
-    ///
-    /// Own: upstream's interpreter has the memory itself.
     #[inline(always)]
     pub fn grow_memory<L: ResourceLimiter>(
         &mut self,
@@ -74,8 +72,6 @@ impl<'r> Machine<'r> {
 
     /// Executes one call, as `step`, but borrows the limiter for this call alone, so that its state
     /// afterwards is known.
-    ///
-    /// Own: upstream leaves running to the interpreter.
     #[inline(always)]
     pub fn step_lending<L: ResourceLimiter>(&mut self, call: &Call, limiter: &mut L) -> Reply
         ensures step { RepliesWith (optional_rules L.rules) call.now
@@ -114,8 +110,6 @@ pub fn run<L: ResourceLimiter>(
 
 /// Executes calls, as `run`, but borrows the limiter for this run alone, so that its state
 /// afterwards is known.
-///
-/// Own: upstream leaves running to the interpreter.
 pub fn run_lending<L: ResourceLimiter>(
     machine: &mut Machine,
     calls: &[Call],

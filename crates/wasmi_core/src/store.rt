@@ -19,7 +19,7 @@ use wasmi_typed::Global;
 ///
 /// Core specification, the store.
 #[derive(Debug, Drop)]
-pub(crate) struct Store<'r> {
+pub(crate) struct MachineStore<'r> {
     pub(crate) alloc: Allocator,
     pub(crate) memories: Slots<Memory<'r>>,
     pub(crate) tables: Slots<Table>,
@@ -30,7 +30,7 @@ pub(crate) struct Store<'r> {
     pub(crate) spare: Option<&'r mut [u8]>,
 }
 
-impl<'r> Model for Store<'r> {
+impl<'r> Model for MachineStore<'r> {
     ghost use Rattle.std.specs.Option.{option_copied_mut};
     ghost use Rattle.wasmi_core.specs.State.{State};
 
@@ -47,7 +47,7 @@ impl<'r> Model for Store<'r> {
     } };
 }
 
-impl<'r> Store<'r> {
+impl<'r> MachineStore<'r> {
     ghost use Rattle.wasmi_core.specs.FuelEffects.{SetsFuel, get_fuel_reply};
     ghost use Rattle.wasmi_core.specs.Steps.{RepliesWith, RepliesWithoutLimiter, subject_of, Memories, Tables, RegisterFile, VectorAccesses};
     ghost use Rattle.wasmi_core.specs.World.{world};
@@ -241,7 +241,8 @@ impl<'r> Store<'r> {
     /// Executes one call on registers, which doesn't reach the limiter: only the contract has `L`.
     fn step_register<L: ResourceLimiter>(&mut self, call: &Call) -> Reply
         requires subject { subject_of call.now ≡ RegisterFile }
-        ensures step { RepliesWithoutLimiter (optional_rules L.rules) call.now self.old result self.new }
+        ensures step { RepliesWithoutLimiter
+            (optional_rules L.rules) call.now self.old result self.new }
     {
         match call {
             Call::SetRegister { dst, value } => self.registers.set(*dst, *value),
@@ -263,7 +264,8 @@ impl<'r> Store<'r> {
     /// names `L`.
     fn step_vector_access<L: ResourceLimiter>(&mut self, call: &Call) -> Reply
         requires subject { subject_of call.now ≡ VectorAccesses }
-        ensures step { RepliesWithoutLimiter (optional_rules L.rules) call.now self.old result self.new }
+        ensures step { RepliesWithoutLimiter
+            (optional_rules L.rules) call.now self.old result self.new }
     {
         match call {
             Call::VectorLoad {

@@ -79,7 +79,7 @@ impl Slots<Table> {
         let Some(table) = self.live_mut(index) else {
             return Reply::NoSuch;
         };
-        done(table.set(element, value))
+        table_reply(table.set(element, value))
     }
 
     /// Fills a part of a table.
@@ -98,7 +98,7 @@ impl Slots<Table> {
         let Some(table) = self.live_mut(index) else {
             return Reply::NoSuch;
         };
-        done(table.fill_metered(dst, value, len, fuel))
+        table_reply(table.fill_metered(dst, value, len, fuel))
     }
 
     /// Initializes a part of a table from an element segment, if there is one.
@@ -119,7 +119,7 @@ impl Slots<Table> {
         let Some(table) = self.live_mut(index) else {
             return Reply::NoSuch;
         };
-        done(table.init_metered(segment, dst, src, len, fuel))
+        table_reply(table.init_metered(segment, dst, src, len, fuel))
     }
 
     /// Copies a range of a table to another one, or within it.
@@ -158,7 +158,7 @@ impl Slots<Table> {
         let Some(table) = self.live_mut(index) else {
             return Reply::NoSuch;
         };
-        done(table.copy_within_metered(dst, src, len, fuel))
+        table_reply(table.copy_within_metered(dst, src, len, fuel))
     }
 }
 
@@ -208,14 +208,14 @@ fn copy_from_slot(
     match (slot, source) {
         (Slot::Live(table), Slot::Live(source)) => {
             let CopyRange { dst, src, len } = range;
-            done(table.copy_metered(dst, source, src, len, fuel))
+            table_reply(table.copy_metered(dst, source, src, len, fuel))
         }
         _ => Reply::NoSuch,
     }
 }
 
 /// The reply to a call on a table that returns nothing.
-fn done(answer: Result<(), TableError>) -> Reply
+fn table_reply(answer: Result<(), TableError>) -> Reply
     ensures { result ≡ reply_of (λ _. Reply.Done) Reply.Table answer }
 {
     answer.map_or_else(Reply::Table, |()| Reply::Done)

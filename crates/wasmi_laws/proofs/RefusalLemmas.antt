@@ -27,7 +27,7 @@ use Rattle.wasmi_core.specs.declared.calls.Reply.{Reply}
 use Rattle.wasmi_core.specs.declared.calls.Reply.TheVariants as replied
 use Rattle.wasmi_core.specs.declared.slots.Slot.{Slot}
 use Rattle.wasmi_core.specs.declared.slots.Slot.TheVariants.{Live}
-use Rattle.wasmi_core.specs.Determinism.{FailsWithMemory}
+use Rattle.wasmi_core.specs.Determinism.{IsOtherFailure}
 use Rattle.wasmi_core.specs.Effects.{ActsAt, AddsEntry, Creates, reply_of}
 use Rattle.wasmi_core.specs.Exchange.{AsksFor, At, Denial, Exchange, New, Nothing, Notice, Nowhere, Passes, Permission, failed_reply, place_of, question_of}
 use Rattle.wasmi_core.specs.Laws.{Keeps, KeepsMeter, KeepsSpare}
@@ -284,7 +284,7 @@ module _ {S : Type 0} (rules : Rules S) where
     spare_stays call is step keeps = keeps
 
 -- a growth that fails after its charge has no plain refusal
-want_loud : (failure : Failure) (notice_answer : NoticeAnswer) → (FailsWithMemory failure → ⊥)
+want_loud : (failure : Failure) (notice_answer : NoticeAnswer) → (IsOtherFailure failure → ⊥)
     → IsLoud (failed_reply failure notice_answer)
 want_loud (MemoryFailure error) (Err _) wants plain = plain
 want_loud (TableFailure error) (Err _) wants plain = plain

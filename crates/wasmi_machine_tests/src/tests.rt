@@ -4,7 +4,6 @@ ghost use Rattle.wasmi_meter.specs.Amounts.{nothing};
 ghost use Rattle.wasmi_core.specs.Totals.{HoldsTotals};
 
 mod limiters;
-mod pools;
 mod regions;
 
 use std::alloc::Global;

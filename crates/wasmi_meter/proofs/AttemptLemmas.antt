@@ -23,7 +23,7 @@ pub record IsPermitted {V E S : Type 0} (rules : Rules S) (e : Request V E) (l p
   pub early : e.early ≡ None
   pub asks : rules.asked l e.question (Ok true) permitted
 
--- it is permitted, and no late cause stands against it: the charge is next
+-- a request is permitted, and no late cause stands against it: the charge is next
 pub record ReachesCharge {V E S : Type 0} (rules : Rules S) (e : Request V E) (l permitted : S) : Type 0 where
   pub permits : IsPermitted rules e l permitted
   pub late : e.late ≡ None

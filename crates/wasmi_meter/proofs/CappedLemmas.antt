@@ -54,7 +54,7 @@ module _ {L : Type 0} (c : Capped L) where
       taken taken' (c.holdings a) (c.holdings b) first.takes second.takes in
       (answered ∙ ap Ok one.0 ∙ sym answered', first.rest ∙ ap (c.with_holdings l) one.1 ∙ sym second.rest)
 
-  -- nor does a notice
+  -- a notice leaves no choice of the answer, nor of the limiter after it
   pub noticed_unique : (l : L) (failure : Failure) (answer answer' : NoticeAnswer) (a b : L)
       → Noticed c l failure answer a → Noticed c l failure answer' b → (answer ≡ answer') × (a ≡ b)
   noticed_unique l failure answer answer' a b first second = (
@@ -67,7 +67,7 @@ module _ {L : Type 0} (c : Capped L) where
     pub caps_kept : l' ≡ c.with_holdings l (c.holdings l') → (kind : Kind) → c.cap l' kind ≡ c.cap l kind
     caps_kept rest kind = ap (λ k. c.cap k kind) rest ∙ keeps.cap l (c.holdings l') kind
 
-    -- so does what others hold
+    -- what others hold stays where all but the holdings does
     pub others_kept : l' ≡ c.with_holdings l (c.holdings l') → (kind : Kind) → c.others l' kind ≡ c.others l kind
     others_kept rest kind = ap (λ k. c.others k kind) rest ∙ keeps.others l (c.holdings l') kind
 
@@ -94,7 +94,7 @@ module _ {L : Type 0} (c : Capped L) where
               omega (arith, is, bound))
         ]
 
-    -- so does a notice
+    -- a notice leads from within the caps to within them
     pub noticed_is_within : IsWithin c l → (failure : Failure) (notice_answer : NoticeAnswer)
         → Noticed c l failure notice_answer l' → IsWithin c l'
     noticed_is_within within failure notice_answer noticed =

@@ -4,8 +4,6 @@ ghost use Rattle.std.specs.Prelude.{◌≡◌};
 use crate::limiter::Kind;
 
 /// An amount of bytes of linear memories, and one of elements of tables.
-///
-/// Own: upstream implements no limiter.
 #[derive(Clone, Copy, Debug, Default)]
 pub struct Amounts {
     /// The bytes of linear memories.

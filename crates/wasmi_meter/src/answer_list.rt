@@ -7,8 +7,6 @@ use crate::limiter::{Kind, LimiterByKind};
 use std::marker::Model;
 
 /// What a limiter answers to one question, and to a notice after it.
-///
-/// Own: upstream implements no limiter.
 #[derive(Clone, Copy, Debug, PartialEq, Eq)]
 pub enum LimiterAnswer {
     /// It may grow.
@@ -47,8 +45,6 @@ impl LimiterAnswer {
 /// A limiter that answers each question by the next answer of a list, and permits once there is
 /// none left. It answers a notice by the answer to the last question, and accepts one before the
 /// first question.
-///
-/// Own: upstream implements no limiter.
 #[derive(Debug, Drop)]
 pub struct AnswerList {
     /// The answers, one for each question.

@@ -8,8 +8,6 @@ use crate::quota::Quota;
 
 /// A limiter whose kind is chosen while the program runs. It keeps its kind, and answers as a
 /// limiter of that kind.
-///
-/// Own: upstream implements no limiter.
 #[derive(Debug, Drop)]
 pub enum AnyLimiter {
     /// Permits everything, and accepts each notice.
@@ -23,16 +21,11 @@ pub enum AnyLimiter {
 impl LimiterByKind for AnyLimiter {
     ghost kind_rules = { any_limiter_rules };
 
-    fn growing(
-        &mut self,
-        kind: Kind,
-        current: usize,
-        desired: usize,
-    ) -> Result<bool, LimiterError> {
+    fn growing(&mut self, kind: Kind, from: usize, to: usize) -> Result<bool, LimiterError> {
         match self {
             AnyLimiter::Unlimited => Ok(true),
-            AnyLimiter::Quota(quota) => quota.growing(kind, current, desired),
-            AnyLimiter::Answers(list) => list.growing(kind, current, desired),
+            AnyLimiter::Quota(quota) => quota.growing(kind, from, to),
+            AnyLimiter::Answers(list) => list.growing(kind, from, to),
         }
     }
 

@@ -224,8 +224,6 @@ impl Fuel {
     }
 
     /// A meter that is off, at the default costs.
-    ///
-    /// Own: upstream has no such call.
     pub fn unmetered() -> Self
         ensures { result ≡ record { left = None; costs = default_costs } }
     {

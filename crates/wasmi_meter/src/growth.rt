@@ -31,8 +31,6 @@ pub fn permission<E: Drop>(
 }
 
 /// An error of a growth, of which a limiter can be notified.
-///
-/// Own.
 pub trait GrowthError: Drop {
     /// The notice that a limiter gets of it.
     ghost notice: { Self → Failure };

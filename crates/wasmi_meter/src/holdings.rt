@@ -6,8 +6,6 @@ use crate::limiter::Kind;
 
 /// What a limiter with caps holds of each kind, and the last difference that it took and didn't
 /// give back.
-///
-/// Own: upstream implements no limiter.
 #[derive(Clone, Copy, Debug)]
 pub struct Holdings {
     held: Amounts,

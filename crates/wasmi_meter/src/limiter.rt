@@ -1,7 +1,7 @@
 //! Who may grow: a limiter is asked before each growth, and notified if a growth that it permitted
 //! fails.
-ghost use Rattle.std.specs.Prelude.{◌≡◌, ◌≤◌, ℕ, Option};
-ghost use Rattle.wasmi_meter.specs.Limiter.{Failure, MemoryFailure, TableFailure, Rules, kind_of, unlimited_rules};
+ghost use Rattle.std.specs.Prelude.{◌≡◌, ◌≤◌, ℕ, Option, None};
+ghost use Rattle.wasmi_meter.specs.Limiter.{Failure, MemoryFailure, TableFailure, Rules, kind_of, optional_rules, unlimited_rules};
 ghost use Rattle.wasmi_meter.specs.declared.limiter.Kind.TheVariants.{Bytes, Elements};
 
 use crate::error::{LimiterError, MemoryError, TableError};
@@ -85,10 +85,79 @@ pub trait ResourceLimiter {
     fn memories(&self) -> usize;
 }
 
+/// A limiter that may be absent: without one everything is permitted, each notice is accepted, and
+/// any number of instances, tables and memories is allowed.
+impl<L: ResourceLimiter> ResourceLimiter for Option<L> {
+    ghost rules = { optional_rules L.rules };
+
+    fn memory_growing(
+        &mut self,
+        current: usize,
+        desired: usize,
+        maximum: Option<usize>,
+    ) -> Result<bool, LimiterError> {
+        match self {
+            Some(limiter) => limiter.memory_growing(current, desired, maximum),
+            None => Ok(true),
+        }
+    }
+
+    fn table_growing(
+        &mut self,
+        current: usize,
+        desired: usize,
+        maximum: Option<usize>,
+    ) -> Result<bool, LimiterError> {
+        match self {
+            Some(limiter) => limiter.table_growing(current, desired, maximum),
+            None => Ok(true),
+        }
+    }
+
+    fn memory_grow_failed(&mut self, error: &MemoryError) -> Result<(), LimiterError> {
+        match self {
+            Some(limiter) => limiter.memory_grow_failed(error),
+            None => Ok(()),
+        }
+    }
+
+    fn table_grow_failed(&mut self, error: &TableError) -> Result<(), LimiterError> {
+        match self {
+            Some(limiter) => limiter.table_grow_failed(error),
+            None => Ok(()),
+        }
+    }
+
+    fn instances(&self) -> usize
+        ensures absent { self.now ≡ None → result ≡ usize.MAX }
+    {
+        match self {
+            Some(limiter) => limiter.instances(),
+            None => usize::MAX,
+        }
+    }
+
+    fn tables(&self) -> usize
+        ensures absent { self.now ≡ None → result ≡ usize.MAX }
+    {
+        match self {
+            Some(limiter) => limiter.tables(),
+            None => usize::MAX,
+        }
+    }
+
+    fn memories(&self) -> usize
+        ensures absent { self.now ≡ None → result ≡ usize.MAX }
+    {
+        match self {
+            Some(limiter) => limiter.memories(),
+            None => usize::MAX,
+        }
+    }
+}
+
 /// Decides by the kind of what grows, and ignores the maximum of its type and the error of a
 /// notice. Each is a [`ResourceLimiter`] that allows any number of instances, tables and memories.
-///
-/// Own: upstream has no such trait.
 pub trait LimiterByKind {
     /// The answers that it may give to a question and to a notice, and its state afterwards.
     ghost kind_rules: { Rules Self };
@@ -158,24 +227,17 @@ impl<L: LimiterByKind> ResourceLimiter for L {
 }
 
 /// A limiter that permits everything and accepts each notice.
-///
-/// Own: upstream implements no limiter.
 #[derive(Clone, Copy, Debug)]
 pub struct NoLimits;
 
 impl LimiterByKind for NoLimits {
     ghost kind_rules = { unlimited_rules };
 
-    fn growing(
-        &mut self,
-        _kind: Kind,
-        _current: usize,
-        _desired: usize,
-    ) -> Result<bool, LimiterError> {
+    fn growing(&mut self, _: Kind, _: usize, _: usize) -> Result<bool, LimiterError> {
         Ok(true)
     }
 
-    fn grow_failed(&mut self, _kind: Kind) -> Result<(), LimiterError> {
+    fn grow_failed(&mut self, _: Kind) -> Result<(), LimiterError> {
         Ok(())
     }
 }

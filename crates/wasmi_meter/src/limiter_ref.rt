@@ -61,8 +61,8 @@ impl<R> fmt::Debug for LimiterRef<R> {
     }
 }
 
-/// A borrowed limiter, or none. Without a limiter every growth is permitted, and every notice is
-/// accepted.
+/// A borrowed limiter, or none. Without a limiter every growth is permitted (`Ok(true)`), and every
+/// notice is accepted (`Ok(())`).
 ///
 /// If this reference goes out of scope or is dropped, nothing is known of the limiter afterwards.
 /// To know its state, end the loan by [`LimiterRef::into_resource_limiter`], or use a function that
@@ -137,8 +137,7 @@ impl<R> LimiterRef<R> {
 }
 
 impl<'a, L: ResourceLimiter> LimiterRef<&'a mut L> {
-    /// Asks the limiter, if there is one, whether a memory may grow from `current` to `desired`
-    /// bytes, and returns its answer. Without a limiter it returns `Ok(true)`.
+    /// Asks the limiter whether a memory may grow from `current` to `desired` bytes.
     pub fn memory_growing(
         &mut self,
         current: usize,
@@ -157,8 +156,7 @@ impl<'a, L: ResourceLimiter> LimiterRef<&'a mut L> {
         }
     }
 
-    /// Asks the limiter, if there is one, whether a table may grow from `current` to `desired`
-    /// elements, and returns its answer. Without a limiter it returns `Ok(true)`.
+    /// Asks the limiter whether a table may grow from `current` to `desired` elements.
     pub fn table_growing(
         &mut self,
         current: usize,
@@ -177,8 +175,7 @@ impl<'a, L: ResourceLimiter> LimiterRef<&'a mut L> {
         }
     }
 
-    /// Notifies the limiter, if there is one, that a memory which it permitted to grow did not, and
-    /// returns its answer. Without a limiter it returns `Ok(())`.
+    /// Notifies the limiter that a memory which it permitted to grow did not.
     pub fn memory_grow_failed(&mut self, error: &MemoryError) -> Result<(), LimiterError>
         ensures loan { KeepsLoan self.old self.new }
         ensures noticed { (optional_rules L.rules).noticed (lent_limiter self.old)
@@ -190,8 +187,7 @@ impl<'a, L: ResourceLimiter> LimiterRef<&'a mut L> {
         }
     }
 
-    /// Notifies the limiter, if there is one, that a table which it permitted to grow did not, and
-    /// returns its answer. Without a limiter it returns `Ok(())`.
+    /// Notifies the limiter that a table which it permitted to grow did not.
     pub fn table_grow_failed(&mut self, error: &TableError) -> Result<(), LimiterError>
         ensures loan { KeepsLoan self.old self.new }
         ensures noticed { (optional_rules L.rules).noticed (lent_limiter self.old)

@@ -12,8 +12,6 @@ use crate::limiter::Kind;
 /// A limiter that permits what stays within two caps, and denies the rest. It counts each
 /// difference that it permitted. At a notice it takes back the last one if that is of the same
 /// kind, once. It can't be copied, since a copy would count on its own.
-///
-/// Own: upstream implements no limiter.
 #[derive(Debug, Drop)]
 pub struct Quota {
     caps: Amounts,
@@ -22,6 +20,7 @@ pub struct Quota {
 
 impl Quota {
     /// A quota with these caps, in bytes and in elements, which holds nothing yet.
+    #[tactic(auto, using(crate::proofs::QuotaLemmas::nothing_within))]
     pub fn new(bytes: u64, elements: u64) -> Self
         ensures bytes { cap_of result Bytes ≡ bytes }
         ensures elements { cap_of result Elements ≡ elements }

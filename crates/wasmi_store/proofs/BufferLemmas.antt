@@ -3,9 +3,7 @@ use Rattle.std.proofs.Common.{◌≡◌, ℕ, ◌+◌, ◌-◌, ◌≤◌, List,
 use Rattle.std.proofs.lemmas.Bool.Decides.{nat_tests}
 use Rattle.std.proofs.lemmas.List.{take_all, drop_all, append-nil, take_at, drop_at, drop-drop, take-append-le, take-append-drop, length-append, length-replicate, length-take-le, length-drop}
 use Rattle.wasmi_store.specs.Buffer as buffer
-use Rattle.wasmi_store.specs.Buffer.{BufferValue, with_zeros, fits_room}
-use Rattle.wasmi_store.specs.Front.{refilled_front}
-use Rattle.wasmi_store.specs.Storage.{view_of, EndsWithin}
+use Rattle.wasmi_store.specs.Buffer.{BufferValue, with_zeros, fits_room, refilled_front, view_of, EndsWithin}
 use Rattle.wasmi_store.specs.declared.memory.buffer.Storage.TheVariants.{Owned, Lent}
 
 -- a list, and n zeros

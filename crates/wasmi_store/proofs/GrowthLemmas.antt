@@ -44,7 +44,7 @@ TellsOf rules e cause l error l' =
     (answer : NoticeAnswer) × rules.noticed l (e.notice cause) answer l'
     × (error ≡ error_of_failure e.refusal cause answer)
 
--- it is permitted where the question is
+-- a request is permitted where its question is
 pub permitted_by : {V E S : Type 0} (rules : Rules S) (e : Request V E) (question : Question) → IsAsked e question
     → (l permitted : S) → rules.asked l question (Ok true) permitted → IsPermitted rules e l permitted
 permitted_by rules e question is l permitted asks =
@@ -103,7 +103,7 @@ module _ {V E S : Type 0} (t : GrowthAttempt V E S) where
   abbrev price : ℕ
   price = optional_due (Some t.meter) t.growth.request.price
 
-  -- it ends so, with some charge
+  -- the growth ends so, with some charge
   abbrev pub EndsIn : Result ℕ E → V → Meter → S → Type 0
   EndsIn result x' m' l' =
       (charge : ℕ)
@@ -190,15 +190,9 @@ module _ {V E S : Type 0} (rules : Rules S) (amount size : ℕ) (e : Request V E
     uncharged = g.uncharged;
     same = ap (λ (s : MeteredValue V S). metered_value s.value None s.limiter) g.same;
   })
-  grows_unmetered (inr g) = inr (record {
+  grows_unmetered (inr g) = let a = g.attempt in inr (record {
     some = g.some;
     outcome = g.outcome;
-    attempt = record {
-      may_end = g.attempt.may_end;
-      follows = g.attempt.follows;
-      charged = g.attempt.charged;
-      meter = refl;
-      value = g.attempt.value;
-    };
+    attempt = record { may_end = a.may_end; follows = a.follows; charged = a.charged; meter = refl; value = a.value };
     answered = g.answered;
   })

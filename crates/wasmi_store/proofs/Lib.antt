@@ -4,6 +4,4 @@ pub mod GrowthLemmas
 pub mod MemoryLemmas
 pub mod TableLemmas
 pub mod WriteLemmas
-pub mod CopyLemmas
-pub mod SegmentLemmas
 pub mod ValidityLemmas

@@ -116,7 +116,7 @@ pub record PermitsGrowth {S : Type 0} (rules : Rules S) (x : MemoryValue) (m : M
   pub is : IsAsked (growth_of x pages) question
   pub asks : rules.asked l question (Ok true) p
 
--- so where its sizes are asked for, and the limiter says yes
+-- a growth is permitted where its sizes are asked for and the limiter says yes
 pub growth_permitted : {S : Type 0} (rules : Rules S) (x : MemoryValue) (m : Meter) (pages : ℕ) {question : Question}
     {l p : S} {answer : Answer} → (pages ≡ 0 → ⊥) → IsAsked (growth_of x pages) question → answer ≡ Ok true
     → rules.asked l question answer p → PermitsGrowth rules x m l pages question p
@@ -136,7 +136,7 @@ module _ {S : Type 0} {rules : Rules S} {x : MemoryValue} {m : Meter} {l : S} {p
   abbrev asked_more : ℕ
   asked_more = question.desired - question.current
 
-  -- it is permitted
+  -- the request is permitted
   permitted : IsPermitted rules (growth_of x pages) l p
   permitted = permitted_by rules (growth_of x pages) question permits.is l p permits.asks
 

@@ -1,5 +1,5 @@
--- The making and the growth of a table, by what was tested on the way.
-use Rattle.std.proofs.Common.{◌≡◌, ℕ, ◌+◌, ◌-◌, Bool, true, false, Option, Some, None, Result, Ok, Err, List, ◌++◌, length, take, replicate, refl, ap, ◌∙◌, arith}
+-- The making and the growth of a table, by what was tested on the way; an element segment in the midst of being read.
+use Rattle.std.proofs.Common.{◌≡◌, ℕ, ◌+◌, ◌-◌, Bool, true, false, Option, Some, None, Result, Ok, Err, List, ◌++◌, length, take, replicate, refl, ap, ◌∙◌, arith, ◌<◌, [], ◌∷◌, sym, subst, length-append}
 use Rattle.std.proofs.lemmas.List.{take_all}
 use Rattle.std.specs.Prelude.{MatchBool}
 use Rattle.wasmi_typed.specs.declared.typed_ref.TypedRawRef.{TypedRawRef}
@@ -12,10 +12,12 @@ use Rattle.wasmi_meter.specs.Meter.{Meter, due, Charges}
 use Rattle.wasmi_meter.specs.Attempt.{MeteredValue}
 use Rattle.wasmi_store.specs.TableType.{TableTypeValue, is_indexable, is_within_maximum, same_type}
 use Rattle.wasmi_store.specs.Table.{TableValue, size_of, new_table, with_added, element_price, creation_of, growth_of, MakesTable, GrowsTableRawCharging, GrowsTableCharging}
-use Rattle.wasmi_store.proofs.GrowthLemmas as any
 use Rattle.wasmi_meter.proofs.AttemptLemmas.{IsPermitted, ReachesCharge}
 use Rattle.wasmi_store.specs.Growth.{IsAsked}
 use Rattle.wasmi_store.proofs.GrowthLemmas.{no_cause, a_cause, permitted_by, TellsOf, GrowthAttempt, EndsIn}
+use Rattle.wasmi_types.proofs.SoFarLemmas.{SoFar, SoFar-next, Yields-snoc}
+use Rattle.wasmi_store.specs.Segment.{most_items, IsOutOfMemory}
+use Rattle.wasmi_store.proofs.GrowthLemmas as any
 
 -- a list that is resized upwards
 pub resized : (xs : List ℕ) (size n desired reference : ℕ) → size ≡ length xs → desired ≡ length xs + n
@@ -76,7 +78,7 @@ pub record PermitsGrowth {S : Type 0} (rules : Rules S) (x : TableValue) (m : Me
   pub is : IsAsked (growth_of x n reference) question
   pub asks : rules.asked l question (Ok true) p
 
--- so where its sizes are asked for, and the limiter says yes
+-- a growth is permitted where its sizes are asked for and the limiter says yes
 pub growth_permitted : {S : Type 0} (rules : Rules S) (x : TableValue) (m : Meter) (n reference : ℕ)
     {question : Question} {l p : S} {answer : Answer} → (n ≡ 0 → ⊥) → IsAsked (growth_of x n reference) question
     → answer ≡ Ok true → rules.asked l question answer p → PermitsGrowth rules x m l n reference question p
@@ -89,7 +91,7 @@ module _ {S : Type 0} {rules : Rules S} {x : TableValue} {m : Meter} {l : S} {n 
   abbrev t : GrowthAttempt TableValue TableError S
   t = growing rules x m l n reference permits.some
 
-  -- it is permitted
+  -- the request is permitted
   permitted : IsPermitted rules (growth_of x n reference) l p
   permitted = permitted_by rules (growth_of x n reference) question permits.is l p permits.asks
 
@@ -134,7 +136,7 @@ module _ {S : Type 0} (rules : Rules S) (n reference : ℕ) (x : TableValue) (l 
   abbrev unmetered : MeteredValue TableValue S → MeteredValue TableValue S
   unmetered s = record s { meter = None }
 
-  -- it is so whether the type is the same or not
+  -- a growth with a meter that is off is one without, whether the type is the same or not
   by_type : (same : Bool)
       → MatchBool same (GrowsTableRawCharging rules n reference off result charge s')
       ((result ≡ Err ElementTypeMismatch) × (charge ≡ 0) × (s' ≡ off))
@@ -143,7 +145,7 @@ module _ {S : Type 0} (rules : Rules S) (n reference : ℕ) (x : TableValue) (l 
   by_type true grows = any.grows_unmetered rules n (size_of x) (growth_of x n reference) _ x l costs s' grows
   by_type false refused = (refused.0, refused.1, ap unmetered refused.2)
 
--- so for a growth whose reference is typed
+-- a growth by a typed reference with a meter that is off is one without a meter
 pub grows_unmetered : {S : Type 0} (rules : Rules S) (n : ℕ) (init : TypedRawRef) (x x' : TableValue) (l l' : S)
     (costs : CustomFuelCosts) (m' : Option Meter) (result : Result ℕ TableError) (charge : ℕ)
     → GrowsTableCharging rules n init
@@ -154,3 +156,20 @@ pub grows_unmetered : {S : Type 0} (rules : Rules S) (n : ℕ) (init : TypedRawR
 grows_unmetered rules n init x x' l l' costs m' result charge grows =
     by_type rules n init.raw x l costs (record { value = x'; meter = m'; limiter = l' }) result charge
     (same_type x.ty.element init.ty) grows
+
+module _ {I : Type 0} {steps : I → Option ℕ → I → Type 0} {can : I → Type 0} {s t u : I} (xs : List ℕ)
+    (e : SoFar steps can s [] (length xs) t xs) (x : ℕ) (next : steps t (Some x) u) where
+  -- one more item was appended
+  pub read_next : (ys : List ℕ) → ys ≡ xs ++ x ∷ [] → can u → SoFar steps can s [] (length ys) u ys
+  read_next ys appended callable =
+      subst (λ n. SoFar steps can s [] n u ys) (sym (ap length appended ∙ length-append xs (x ∷ [])))
+      (SoFar-next e x next appended callable)
+
+  -- memory was refused for one more item
+  pub read_refused : length xs < most_items → IsOutOfMemory steps s u
+  read_refused few = record {
+    items = e.items ++ x ∷ [];
+    run = Yields-snoc steps s t u e.items x e.run next;
+    some = omega (arith, length-append e.items (x ∷ []));
+    short = omega (arith, few, e.counted, length-append e.items (x ∷ []));
+  }

@@ -2,8 +2,6 @@ pub mod Limits
 pub mod Growth
 pub mod Bulk
 pub mod Buffer
-pub mod Front
-pub mod Storage
 pub mod MemoryType
 pub mod Memory
 pub mod TableType

@@ -223,8 +223,8 @@ WritesTable write = WithCharge (WritesTableCharging write)
 abbrev pub MeteredElements : Type 0 → Type 0
 MeteredElements A = MeteredValue (List A) (Unit {0})
 
--- Elements are written over, wherever they lie: by what they become, or none where a range ends past its list, the error
--- there, and how many of them are paid for, if any. A write that is refused writes and takes nothing.
+-- Elements are written over, wherever they lie: by what they become, or none where a range ends past its list, the
+-- error there, and how many of them are paid for, if any. A write that is refused writes and takes nothing.
 abbrev pub WritesElements : {A : Type 0} → Option (List A) → TableError → Option ℕ → MeteredElements A
     → Result (Unit {0}) TableError → MeteredElements A → Type 0
 WritesElements None outside paid s result s' = (result ≡ Err outside) × (s' ≡ s)

@@ -1,7 +1,8 @@
 //! The bulk instructions on bytes, wherever these lie.
 //!
 //! Own: upstream's crate has none for memories. They are tested and charged as its calls on tables:
-//! the bounds first, then the fuel. One that is refused writes no byte and takes no fuel.
+//! the bounds first (`OutOfBoundsAccess`), then the fuel (`OutOfFuel`), also for no byte. One that is
+//! refused writes no byte and takes no fuel.
 ghost use Rattle.std.specs.Prelude.{◌≡◌, length, Some};
 ghost use Rattle.wasmi_store.specs.Bulk.{filled, copied, BulkWrites};
 ghost use Rattle.wasmi_store.specs.Growth.{metered};
@@ -10,12 +11,7 @@ use crate::range::{copy_range, fill_range, lies_within, write_range};
 use wasmi_meter::growth::charge;
 use wasmi_meter::{Fuel, MemoryError};
 
-/// Fills `len` bytes from `dst` on with a value.
-///
-/// Errors, in the order of the tests: `OutOfBoundsAccess` if they end past the bytes; `OutOfFuel`,
-/// which is tested also if no byte is filled.
-///
-/// Core specification, memory.fill.
+/// Fills `len` bytes from `dst` on with a value (core specification, memory.fill).
 pub fn fill_bytes(
     bytes: &mut [u8],
     dst: u64,
@@ -39,12 +35,7 @@ pub fn fill_bytes(
 }
 
 /// Copies `len` bytes from `src` on over those from `dst` on. If the ranges overlap, the old bytes
-/// are copied.
-///
-/// Errors, in the order of the tests: `OutOfBoundsAccess` if a range ends past the bytes;
-/// `OutOfFuel`, which is tested also if no byte is copied.
-///
-/// Core specification, memory.copy.
+/// are copied (core specification, memory.copy).
 pub fn copy_bytes_within(
     bytes: &mut [u8],
     dst: u64,
@@ -66,12 +57,8 @@ pub fn copy_bytes_within(
     Ok(())
 }
 
-/// Copies `len` bytes of a source, from `src` on, over those from `dst` on.
-///
-/// Errors, in the order of the tests: `OutOfBoundsAccess` if a range ends past its bytes;
-/// `OutOfFuel`, which is tested also if no byte is copied.
-///
-/// Core specification, memory.copy of two memories, memory.init.
+/// Copies `len` bytes of a source, from `src` on, over those from `dst` on (core specification,
+/// memory.copy of two memories, memory.init).
 pub fn copy_bytes(
     bytes: &mut [u8],
     dst: u64,

@@ -86,8 +86,8 @@ pub fn copy_elements<T: Copy>(
     Ok(())
 }
 
-/// Copies `len` items of a segment, from `src` on, over the elements from `dst` on. Copying no items
-/// costs no fuel.
+/// Copies `len` items of a segment, from `src` on, over the elements from `dst` on. Copying no
+/// items costs no fuel.
 pub fn init_elements<T: Copy>(
     elements: &mut [T],
     dst: u64,

@@ -13,17 +13,16 @@ ghost use Rattle.wasmi_store.specs.Memory.{MemoryValue, PermitsMinimum, GrowsMem
 ghost use Rattle.wasmi_store.specs.MemoryType.{in_bounds};
 
 mod buffer;
-mod region;
 mod ty;
 
 use crate::bulk::{copy_bytes, copy_bytes_within, fill_bytes};
 use crate::growth::{MEMORY_DENIED as DENIED, decide_growth, permitted_minimum};
-use crate::optional_meter::with_meter;
 use crate::range::{read_bytes, write_bytes};
-pub use buffer::{Buffer, ByteBuffer};
-pub use region::Region;
+use crate::with_meter;
+pub use buffer::{Buffer, ByteBuffer, Region};
 use std::alloc::Global;
 use std::marker::Model;
+pub(crate) use ty::is_no_looser;
 pub use ty::{MemoryType, MemoryTypeBuilder};
 use wasmi_meter::growth::tell;
 use wasmi_meter::{Fuel, MemoryError, ResourceLimiter, ResourceLimiterRef};
@@ -223,8 +222,6 @@ impl<R: Region> LinearMemory<R> {
     }
 
     /// As `grow`, with a meter that isn't optional.
-    ///
-    /// Own: upstream's `grow` takes an optional meter.
     pub fn grow_metered<L: ResourceLimiter>(
         &mut self,
         additional: u64,
@@ -255,8 +252,6 @@ impl<R: Region> LinearMemory<R> {
 
     /// As `grow_metered`, but borrows the limiter for this call alone, so that its state afterwards
     /// is known.
-    ///
-    /// Own.
     pub fn grow_lending<L: ResourceLimiter>(
         &mut self,
         additional: u64,
@@ -296,10 +291,9 @@ impl<R: Region> LinearMemory<R> {
     ///
     /// Errors, in the order of the tests: `OutOfBoundsAccess` if they end past the memory;
     /// `OutOfFuel`, which is tested also if no byte is filled. Then no byte is written, and no fuel
-    /// taken.
+    /// taken. It is charged as a table's `fill`, by the bytes.
     ///
-    /// Core specification, memory.fill. Own: upstream's memories have no bulk instructions. This
-    /// one is charged as a table's `fill`, by the bytes.
+    /// Core specification, memory.fill.
     pub fn fill(
         &mut self,
         dst: u64,
@@ -332,14 +326,9 @@ impl<R: Region> LinearMemory<R> {
     }
 
     /// Copies `len` bytes from `src` on over those from `dst` on. If the ranges overlap, the old
-    /// bytes are copied.
+    /// bytes are copied. The errors are those of `fill`, if a range ends past the memory.
     ///
-    /// Errors, in the order of the tests: `OutOfBoundsAccess` if a range ends past the memory;
-    /// `OutOfFuel`, which is tested also if no byte is copied. Then no byte is written, and no fuel
-    /// taken.
-    ///
-    /// Core specification, memory.copy within a memory. Own: upstream's memories have no bulk
-    /// instructions.
+    /// Core specification, memory.copy within a memory.
     pub fn copy_within(
         &mut self,
         dst: u64,
@@ -372,14 +361,9 @@ impl<R: Region> LinearMemory<R> {
     }
 
     /// Copies `len` bytes of another memory, from `src` on, over the bytes of a memory from `dst`
-    /// on.
+    /// on. The errors are those of `fill`, if a range ends past its memory.
     ///
-    /// Errors, in the order of the tests: `OutOfBoundsAccess` if a range ends past its memory;
-    /// `OutOfFuel`, which is tested also if no byte is copied. Then no byte is written, and no fuel
-    /// taken.
-    ///
-    /// Core specification, memory.copy of two memories. Own: upstream's memories have no bulk
-    /// instructions.
+    /// Core specification, memory.copy of two memories.
     pub fn copy<S: Region>(
         dst_memory: &mut LinearMemory<R>,
         dst: u64,
@@ -422,13 +406,10 @@ impl<R: Region> LinearMemory<R> {
     }
 
     /// Copies `len` bytes of a data segment, from `src` on, over the bytes from `dst` on. A segment
-    /// that was dropped has no bytes.
+    /// that was dropped has no bytes. The errors are those of `fill`, if a range ends past the
+    /// segment or the memory.
     ///
-    /// Errors, in the order of the tests: `OutOfBoundsAccess` if a range ends past the segment or
-    /// the memory; `OutOfFuel`, which is tested also if no byte is copied. Then no byte is written,
-    /// and no fuel taken.
-    ///
-    /// Core specification, memory.init. Own: upstream's memories have no bulk instructions.
+    /// Core specification, memory.init.
     pub fn init(
         &mut self,
         segment: &[u8],

@@ -12,7 +12,7 @@ mod ty;
 
 use crate::elements::{copy_elements, copy_elements_within, fill_elements, init_elements};
 use crate::growth::TABLE_DENIED as DENIED;
-use crate::optional_meter::with_meter;
+use crate::with_meter;
 pub use element::{ElementSegment, ElementSegmentRef, SegmentError};
 use std::alloc::Global;
 use std::marker::Model;
@@ -146,8 +146,6 @@ impl Table {
     }
 
     /// As `grow`, with a meter that isn't optional.
-    ///
-    /// Own: upstream's `grow` takes an optional meter.
     pub fn grow_metered<L: ResourceLimiter>(
         &mut self,
         delta: u64,
@@ -166,8 +164,6 @@ impl Table {
 
     /// As `grow_metered`, but borrows the limiter for this call alone, so that its state afterwards
     /// is known.
-    ///
-    /// Own.
     pub fn grow_lending<L: ResourceLimiter>(
         &mut self,
         delta: u64,
@@ -244,8 +240,6 @@ impl Table {
 
     /// As `grow_raw` with a meter that isn't optional, but borrows the limiter for this call alone,
     /// so that its state afterwards is known.
-    ///
-    /// Own.
     pub fn grow_raw_lending<L: ResourceLimiter>(
         &mut self,
         delta: u64,
@@ -313,8 +307,6 @@ impl Table {
     }
 
     /// As `init`, with a meter that isn't optional.
-    ///
-    /// Own: upstream's `init` takes an optional meter.
     pub fn init_metered(
         &mut self,
         element: ElementSegmentRef,
@@ -352,8 +344,6 @@ impl Table {
     }
 
     /// As `copy`, with a meter that isn't optional.
-    ///
-    /// Own: upstream's `copy` takes an optional meter.
     pub fn copy_metered(
         &mut self,
         dst: u64,
@@ -399,8 +389,6 @@ impl Table {
     }
 
     /// As `copy_within`, with a meter that isn't optional.
-    ///
-    /// Own: upstream's `copy_within` takes an optional meter.
     pub fn copy_within_metered(
         &mut self,
         dst: u64,
@@ -431,8 +419,6 @@ impl Table {
     }
 
     /// As `fill`, with a meter that isn't optional.
-    ///
-    /// Own: upstream's `fill` takes an optional meter.
     pub fn fill_metered(
         &mut self,
         dst: u64,
@@ -479,6 +465,7 @@ impl Table {
 }
 
 /// Sets one item.
+#[tactic(auto, using(crate::proofs::WriteLemmas::overwritten_item))]
 fn set_item(elements: &mut [RawRef], index: usize, value: RawRef)
     requires inside { index < length elements.old }
     ensures written { overwrite elements.old index (value ∷ []) ≡ Some elements.new }

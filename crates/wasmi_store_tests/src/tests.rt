@@ -1,10 +1,8 @@
 //! What the tests share: comparisons, types, meters, and memories and tables.
-mod buffers;
 mod fuel;
 mod limiters;
 mod memories;
 mod recorder;
-mod segments;
 mod tables;
 
 use std::alloc::Global;

@@ -21,7 +21,7 @@ mod error {
     /// output = λ error. Some (add_error_text error)
     /// ```
     ///
-    /// Definitions: [`add_error_text`](crate::specs::budget::Texts#add_error_text).
+    /// Definitions: [`add_error_text`](crate::specs::budget::Pool#add_error_text).
     impl fmt::Display for AddError {
         #[inline]
         fn fmt(&self, f: &mut fmt::Formatter<'_>) -> fmt::Result {
@@ -35,8 +35,6 @@ mod error {
     impl core::error::Error for AddError {}
 
     /// Why a pool doesn't run a tenant's calls, in the order of the tests.
-    ///
-    /// Own: upstream has no pool.
     #[derive(Debug, PartialEq, Eq)]
     pub enum PoolError {
         /// No tenant has the index.
@@ -51,7 +49,7 @@ mod error {
     /// output = λ error. Some (pool_error_text error)
     /// ```
     ///
-    /// Definitions: [`pool_error_text`](crate::specs::budget::Texts#pool_error_text).
+    /// Definitions: [`pool_error_text`](crate::specs::budget::Pool#pool_error_text).
     impl fmt::Display for PoolError {
         #[inline]
         fn fmt(&self, f: &mut fmt::Formatter<'_>) -> fmt::Result {
@@ -169,8 +167,6 @@ mod pool {
     /// tables: what all of them have, with what they dropped, stays within both. Each machine is a
     /// tenant; the indices of tenants count from 0. No tenant is ever removed, and what it dropped
     /// counts for ever.
-    ///
-    /// Own: upstream has no pool.
     ///
     /// # Model
     ///
@@ -415,8 +411,6 @@ mod tenant {
     /// caps, and denies the rest. It counts each difference that it permitted. At a notice it takes
     /// back the last one if that is of the same kind, once. What the others hold stays the same while
     /// its machine runs.
-    ///
-    /// Own: upstream has no pool.
     #[derive(Clone, Copy, Debug)]
     pub struct Tenant {
         caps: Amounts,

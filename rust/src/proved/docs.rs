@@ -175,14 +175,9 @@ invariant = λ m. IsSized m.ty (length m.buffer.bytes)
 Definitions: [`MemoryValue`](crate::specs::store::Memory#MemoryValue), [`memory_of`](crate::specs::store::Memory#memory_of), [`IsSized`](crate::specs::store::Memory#IsSized).
 "#### };
     (store LinearMemory.copy) => { r####"Copies `len` bytes of another memory, from `src` on, over the bytes of a memory from `dst`
-on.
+on. The errors are those of `fill`, if a range ends past its memory.
 
-Errors, in the order of the tests: `OutOfBoundsAccess` if a range ends past its memory;
-`OutOfFuel`, which is tested also if no byte is copied. Then no byte is written, and no fuel
-taken.
-
-Core specification, memory.copy of two memories. Own: upstream's memories have no bulk
-instructions.
+Core specification, memory.copy of two memories.
 
 # Contract
 
@@ -197,14 +192,9 @@ ensures kept: KeepsPlace dst_memory.old dst_memory.new
 Definitions: [`BulkWrites`](crate::specs::store::Bulk#BulkWrites), [`copied`](crate::specs::store::Bulk#copied), [`metered`](crate::specs::store::Growth#metered), [`meter_at_entry`](crate::specs::meter::Meter#meter_at_entry), [`meter_at_exit`](crate::specs::meter::Meter#meter_at_exit), [`KeepsPlace`](crate::specs::store::Memory#KeepsPlace).
 "#### };
     (store LinearMemory.copy_within) => { r####"Copies `len` bytes from `src` on over those from `dst` on. If the ranges overlap, the old
-bytes are copied.
+bytes are copied. The errors are those of `fill`, if a range ends past the memory.
 
-Errors, in the order of the tests: `OutOfBoundsAccess` if a range ends past the memory;
-`OutOfFuel`, which is tested also if no byte is copied. Then no byte is written, and no fuel
-taken.
-
-Core specification, memory.copy within a memory. Own: upstream's memories have no bulk
-instructions.
+Core specification, memory.copy within a memory.
 
 # Contract
 
@@ -264,10 +254,9 @@ Definitions: [`dynamic_type`](crate::specs::store::Memory#dynamic_type), [`IsSub
 
 Errors, in the order of the tests: `OutOfBoundsAccess` if they end past the memory;
 `OutOfFuel`, which is tested also if no byte is filled. Then no byte is written, and no fuel
-taken.
+taken. It is charged as a table's `fill`, by the bytes.
 
-Core specification, memory.fill. Own: upstream's memories have no bulk instructions. This
-one is charged as a table's `fill`, by the bytes.
+Core specification, memory.fill.
 
 # Contract
 
@@ -304,13 +293,10 @@ ensures grown: GrowsMemory (optional_rules L.rules) additional
 Definitions: [`KeepsLoan`](crate::specs::meter::LimiterRef#KeepsLoan), [`GrowsMemory`](crate::specs::store::Memory#GrowsMemory), [`optional_rules`](crate::specs::meter::Limiter#optional_rules), [`metered_value`](crate::specs::store::Growth#metered_value), [`meter_at_entry`](crate::specs::meter::Meter#meter_at_entry), [`lent_limiter`](crate::specs::meter::LimiterRef#lent_limiter), [`meter_at_exit`](crate::specs::meter::Meter#meter_at_exit).
 "#### };
     (store LinearMemory.init) => { r####"Copies `len` bytes of a data segment, from `src` on, over the bytes from `dst` on. A segment
-that was dropped has no bytes.
+that was dropped has no bytes. The errors are those of `fill`, if a range ends past the
+segment or the memory.
 
-Errors, in the order of the tests: `OutOfBoundsAccess` if a range ends past the segment or
-the memory; `OutOfFuel`, which is tested also if no byte is copied. Then no byte is written,
-and no fuel taken.
-
-Core specification, memory.init. Own: upstream's memories have no bulk instructions.
+Core specification, memory.init.
 
 # Contract
 

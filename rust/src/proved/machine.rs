@@ -1,4 +1,4 @@
-//! MeteredTables WebAssembly memories and tables under a resource limiter, and a machine that runs lists
+//! Metered WebAssembly memories and tables under a resource limiter, and a machine that runs lists
 //! of calls on them.
 mod calls {
     //! What a machine can be asked, and what it replies. Both are our own: upstream leaves running to
@@ -749,7 +749,7 @@ mod machine {
     use crate::proved::machine::calls::Reply;
     use crate::proved::machine::registers::Registers;
     use crate::proved::machine::slots::Slots;
-    use crate::proved::machine::store::Store;
+    use crate::proved::machine::store::MachineStore;
     use crate::proved::machine::values::value_at;
     use crate::proved::meter::{Fuel, FuelError};
     use crate::proved::ops::StoreOp;
@@ -764,8 +764,6 @@ mod machine {
     ///
     /// Its state is valid at any time: see [`laws::states_are_valid`](crate::proved::machine::laws::states_are_valid).
     ///
-    /// Own: upstream's interpreter has a store of its own.
-    ///
     /// # Model
     ///
     /// ```text
@@ -778,7 +776,7 @@ mod machine {
     #[doc = examples!(machine Machine)]
     #[derive(Debug)]
     pub struct Machine<'r> {
-        pub(crate) store: Store<'r>,
+        pub(crate) store: MachineStore<'r>,
     }
 
     impl<'r> Machine<'r> {
@@ -822,7 +820,7 @@ mod machine {
         /// Definitions: [`new_state`](crate::specs::machine::State#new_state).
         #[inline]
         fn empty(fuel: Fuel, spare: Option<&'r mut [u8]>) -> Machine<'r> {
-            let store = Store {
+            let store = MachineStore {
                 memories: Slots::new(),
                 tables: Slots::new(),
                 segments: Vec::new(),
@@ -851,8 +849,6 @@ mod machine {
         ///
         /// It isn't a call, so a run has no turn for it: an interpreter pays by it for the instructions
         /// that it executes between calls.
-        ///
-        /// Own: upstream's interpreter has the meter itself.
         ///
         /// # Contract
         ///
@@ -894,8 +890,6 @@ mod machine {
         /// Stores an item to a memory at `ptr + offset`, as `Call::Store` does, which reaches no
         /// limiter. The reply is `Done`, `NoSuch` if there is no such memory, or `Trap` with
         /// `MemoryOutOfBounds`; after the last two nothing has changed.
-        ///
-        /// Own: upstream's interpreter has the memory itself.
         ///
         /// # Contract
         ///
@@ -1136,7 +1130,7 @@ mod memories {
         #[inline(always)]
         pub(crate) fn read(&self, index: usize, offset: usize, len: usize) -> Reply {
             match self.live(index) {
-                Some(memory) => read_bytes(memory.data(), offset, len),
+                Some(memory) => bytes_reply(memory.data(), offset, len),
                 None => Reply::NoSuch,
             }
         }
@@ -1204,7 +1198,7 @@ mod memories {
             let Some(memory) = self.live_mut(index) else {
                 return Reply::NoSuch;
             };
-            stored(store(memory, op, ptr, offset, value))
+            store_reply(store(memory, op, ptr, offset, value))
         }
     }
 
@@ -1234,7 +1228,7 @@ mod memories {
             let Some(memory) = self.live_mut(index) else {
                 return Reply::NoSuch;
             };
-            stored(store_vector(memory, vector, ptr, offset))
+            store_reply(store_vector(memory, vector, ptr, offset))
         }
 
         /// Stores a lane of a vector to a memory, if its register is there.
@@ -1262,7 +1256,7 @@ mod memories {
             let Some(memory) = self.live_mut(index) else {
                 return Reply::NoSuch;
             };
-            stored(store_lane(memory, op, vector, ptr, offset))
+            store_reply(store_lane(memory, op, vector, ptr, offset))
         }
     }
 
@@ -1276,7 +1270,7 @@ mod memories {
     ///
     /// Definitions: [`reply_of`](crate::specs::machine::Effects#reply_of).
     #[inline(always)]
-    fn stored(answer: Result<(), TrapCode>) -> Reply {
+    fn store_reply(answer: Result<(), TrapCode>) -> Reply {
         answer.map_or_else(Reply::Trap, |()| Reply::Done)
     }
 
@@ -1290,7 +1284,7 @@ mod memories {
     ///
     /// Definitions: [`ReadsBytes`](crate::specs::machine::MemoryEffects#ReadsBytes), [`at`](crate::specs::types::Access#at).
     #[inline(always)]
-    fn read_bytes(memory: &[u8], offset: usize, len: usize) -> Reply {
+    fn bytes_reply(memory: &[u8], offset: usize, len: usize) -> Reply {
         if !lies_within(memory, offset as u64, len as u64) {
             return Reply::Memory(MemoryError::OutOfBoundsAccess);
         }
@@ -1726,8 +1720,6 @@ mod running {
         /// `Number` with the old size in pages, `NoSuch` if there is no such memory, or `Memory` with
         /// an error of [`LinearMemory::grow`](crate::proved::store::LinearMemory::grow).
         ///
-        /// Own: upstream's interpreter has the memory itself.
-        ///
         /// # Contract
         ///
         /// ```text
@@ -1776,8 +1768,6 @@ mod running {
 
         /// Executes one call, as `step`, but borrows the limiter for this call alone, so that its state
         /// afterwards is known.
-        ///
-        /// Own: upstream leaves running to the interpreter.
         ///
         /// # Contract
         ///
@@ -1829,8 +1819,6 @@ mod running {
 
     /// Executes calls, as `run`, but borrows the limiter for this run alone, so that its state
     /// afterwards is known.
-    ///
-    /// Own: upstream leaves running to the interpreter.
     ///
     /// # Contract
     ///
@@ -2226,7 +2214,7 @@ mod store {
     ///
     /// Definitions: [`State`](crate::specs::machine::State#State).
     #[derive(Debug)]
-    pub(crate) struct Store<'r> {
+    pub(crate) struct MachineStore<'r> {
         pub(crate) memories: Slots<Memory<'r>>,
         pub(crate) tables: Slots<Table>,
         pub(crate) segments: Vec<ElementSegment>,
@@ -2236,7 +2224,7 @@ mod store {
         pub(crate) spare: Option<&'r mut [u8]>,
     }
 
-    impl<'r> Store<'r> {
+    impl<'r> MachineStore<'r> {
         /// # Contract
         ///
         /// ```text
@@ -2476,7 +2464,8 @@ mod store {
         ///
         /// ```text
         /// requires subject: subject_of call.now ≡ RegisterFile
-        /// ensures step: RepliesWithoutLimiter (optional_rules L.rules) call.now self.old result self.new
+        /// ensures step: RepliesWithoutLimiter
+        ///     (optional_rules L.rules) call.now self.old result self.new
         /// ```
         ///
         /// Definitions: [`subject_of`](crate::specs::machine::Steps#subject_of), [`RegisterFile`](crate::specs::machine::Steps#RegisterFile), [`RepliesWithoutLimiter`](crate::specs::machine::Steps#RepliesWithoutLimiter), [`optional_rules`](crate::specs::meter::Limiter#optional_rules).
@@ -2505,7 +2494,8 @@ mod store {
         ///
         /// ```text
         /// requires subject: subject_of call.now ≡ VectorAccesses
-        /// ensures step: RepliesWithoutLimiter (optional_rules L.rules) call.now self.old result self.new
+        /// ensures step: RepliesWithoutLimiter
+        ///     (optional_rules L.rules) call.now self.old result self.new
         /// ```
         ///
         /// Definitions: [`subject_of`](crate::specs::machine::Steps#subject_of), [`VectorAccesses`](crate::specs::machine::Steps#VectorAccesses), [`RepliesWithoutLimiter`](crate::specs::machine::Steps#RepliesWithoutLimiter), [`optional_rules`](crate::specs::meter::Limiter#optional_rules).
@@ -2658,7 +2648,7 @@ mod tables {
             let Some(table) = self.live_mut(index) else {
                 return Reply::NoSuch;
             };
-            done(table.set(element, value))
+            table_reply(table.set(element, value))
         }
 
         /// Fills a part of a table.
@@ -2684,7 +2674,7 @@ mod tables {
             let Some(table) = self.live_mut(index) else {
                 return Reply::NoSuch;
             };
-            done(table.fill_metered(dst, value, len, fuel))
+            table_reply(table.fill_metered(dst, value, len, fuel))
         }
 
         /// Initializes a part of a table from an element segment, if there is one.
@@ -2712,7 +2702,7 @@ mod tables {
             let Some(table) = self.live_mut(index) else {
                 return Reply::NoSuch;
             };
-            done(table.init_metered(segment, dst, src, len, fuel))
+            table_reply(table.init_metered(segment, dst, src, len, fuel))
         }
 
         /// Copies a range of a table to another one, or within it.
@@ -2772,7 +2762,7 @@ mod tables {
             let Some(table) = self.live_mut(index) else {
                 return Reply::NoSuch;
             };
-            done(table.copy_within_metered(dst, src, len, fuel))
+            table_reply(table.copy_within_metered(dst, src, len, fuel))
         }
     }
 
@@ -2836,7 +2826,7 @@ mod tables {
         match (slot, source) {
             (Slot::Live(table), Slot::Live(source)) => {
                 let CopyRange { dst, src, len } = range;
-                done(table.copy_metered(dst, source, src, len, fuel))
+                table_reply(table.copy_metered(dst, source, src, len, fuel))
             }
             _ => Reply::NoSuch,
         }
@@ -2852,7 +2842,7 @@ mod tables {
     ///
     /// Definitions: [`reply_of`](crate::specs::machine::Effects#reply_of).
     #[inline(always)]
-    fn done(answer: Result<(), TableError>) -> Reply {
+    fn table_reply(answer: Result<(), TableError>) -> Reply {
         answer.map_or_else(Reply::Table, |()| Reply::Done)
     }
 }

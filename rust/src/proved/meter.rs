@@ -5,8 +5,6 @@ mod amounts {
     use crate::proved::meter::limiter::Kind;
 
     /// An amount of bytes of linear memories, and one of elements of tables.
-    ///
-    /// Own: upstream implements no limiter.
     #[derive(Clone, Copy, Debug, Default)]
     pub struct Amounts {
         /// The bytes of linear memories.
@@ -42,8 +40,6 @@ mod answer_list {
     use crate::rattle::Vec;
 
     /// What a limiter answers to one question, and to a notice after it.
-    ///
-    /// Own: upstream implements no limiter.
     #[derive(Clone, Copy, Debug, PartialEq, Eq)]
     pub enum LimiterAnswer {
         /// It may grow.
@@ -96,8 +92,6 @@ mod answer_list {
     /// A limiter that answers each question by the next answer of a list, and permits once there is
     /// none left. It answers a notice by the answer to the last question, and accepts one before the
     /// first question.
-    ///
-    /// Own: upstream implements no limiter.
     ///
     /// # Model
     ///
@@ -188,8 +182,6 @@ mod any_limiter {
 
     /// A limiter whose kind is chosen while the program runs. It keeps its kind, and answers as a
     /// limiter of that kind.
-    ///
-    /// Own: upstream implements no limiter.
     #[derive(Debug)]
     pub enum AnyLimiter {
         /// Permits everything, and accepts each notice.
@@ -209,20 +201,11 @@ mod any_limiter {
     /// Definitions: [`any_limiter_rules`](crate::specs::meter::AnyLimiter#any_limiter_rules).
     impl LimiterByKind for AnyLimiter {
         #[inline]
-        fn growing(
-            &mut self,
-            kind: Kind,
-            current: usize,
-            desired: usize,
-        ) -> Result<bool, LimiterError> {
-            assert!(
-                current <= desired,
-                "the desired size is below the current one"
-            );
+        fn growing(&mut self, kind: Kind, from: usize, to: usize) -> Result<bool, LimiterError> {
             match self {
                 AnyLimiter::Unlimited => Ok(true),
-                AnyLimiter::Quota(quota) => quota.growing(kind, current, desired),
-                AnyLimiter::Answers(list) => list.growing(kind, current, desired),
+                AnyLimiter::Quota(quota) => quota.growing(kind, from, to),
+                AnyLimiter::Answers(list) => list.growing(kind, from, to),
             }
         }
 
@@ -237,18 +220,54 @@ mod any_limiter {
     }
 }
 mod capped {
-    //! Limiters with caps: what is taken and given back decides each answer.
+    //! Limiters that count what they permitted, and those with caps, whose answers that count decides.
 
     use crate::proved::meter::error::LimiterError;
     use crate::proved::meter::holdings::Holdings;
-    use crate::proved::meter::limiter::{Kind, LimiterByKind};
-    use crate::proved::meter::reserving::Reserving;
+    use crate::proved::meter::limiter::{Kind, LimiterByKind, ResourceLimiter};
+
+    /// A limiter that holds what it permitted, in bytes and in elements, until it is notified that what
+    /// it permitted failed. It isn't notified of what is dropped.
+    ///
+    /// # Contract
+    ///
+    /// ```text
+    /// -- What it holds of each kind, and the last difference that it permitted and that wasn't given back.
+    /// holdings: Self → Holdings
+    /// -- A permission adds the difference that was asked for; any other answer leaves what is held.
+    /// reserves: (l l' : Self) (question : Question) (answer : Answer)
+    ///     → Self.rules.asked l question answer l'
+    ///     → Reserves question answer (holdings l) (holdings l')
+    /// -- A notice takes back the last permitted difference of its kind, once, whatever the answer to it is. If there is none of its kind, what is held stays.
+    /// gives_back: (l l' : Self) (failure : Failure) (notice_answer : NoticeAnswer)
+    ///     → Self.rules.noticed l failure notice_answer l'
+    ///     → GivesBack (kind_of failure) (holdings l) (holdings l')
+    /// ```
+    ///
+    /// Definitions: [`Question`](crate::specs::meter::Limiter#Question), [`Answer`](crate::specs::meter::Limiter#Answer), [`Reserves`](crate::specs::meter::Holdings#Reserves), [`Failure`](crate::specs::meter::Limiter#Failure), [`NoticeAnswer`](crate::specs::meter::Limiter#NoticeAnswer), [`GivesBack`](crate::specs::meter::Holdings#GivesBack), [`kind_of`](crate::specs::meter::Limiter#kind_of).
+    pub trait Reserving: ResourceLimiter {
+        /// The bytes that it permitted and that weren't given back.
+        ///
+        /// # Contract
+        ///
+        /// ```text
+        /// ensures: result ≡ (holdings self.now).held.bytes
+        /// ```
+        fn held_bytes(&self) -> u64;
+
+        /// The elements that it permitted and that weren't given back.
+        ///
+        /// # Contract
+        ///
+        /// ```text
+        /// ensures: result ≡ (holdings self.now).held.elements
+        /// ```
+        fn held_elements(&self) -> u64;
+    }
 
     /// A limiter that permits what keeps all that is held of a kind within a cap, and denies the rest.
     /// It counts each difference that it permitted. At a notice it takes back the last one if that is
     /// of the same kind, once.
-    ///
-    /// Own: upstream implements no limiter.
     ///
     /// # Contract
     ///
@@ -302,17 +321,8 @@ mod capped {
     /// Definitions: [`capped_rules`](crate::specs::meter::Capped#capped_rules).
     impl<L: CappedLimiter> LimiterByKind for L {
         #[inline]
-        fn growing(
-            &mut self,
-            kind: Kind,
-            current: usize,
-            desired: usize,
-        ) -> Result<bool, LimiterError> {
-            assert!(
-                current <= desired,
-                "the desired size is below the current one"
-            );
-            Ok(self.take(kind, (desired - current) as u64))
+        fn growing(&mut self, kind: Kind, from: usize, to: usize) -> Result<bool, LimiterError> {
+            Ok(self.take(kind, (to - from) as u64))
         }
 
         #[inline]
@@ -849,8 +859,6 @@ mod fuel {
 
         /// A meter that is off, at the default costs.
         ///
-        /// Own: upstream has no such call.
-        ///
         /// # Contract
         ///
         /// ```text
@@ -1022,8 +1030,6 @@ pub mod growth {
 
     /// An error of a growth, of which a limiter can be notified.
     ///
-    /// Own.
-    ///
     /// # Contract
     ///
     /// ```text
@@ -1140,8 +1146,6 @@ mod holdings {
 
     /// What a limiter with caps holds of each kind, and the last difference that it took and didn't
     /// give back.
-    ///
-    /// Own: upstream implements no limiter.
     #[derive(Clone, Copy, Debug)]
     pub struct Holdings {
         held: Amounts,
@@ -1362,10 +1366,101 @@ mod limiter {
         fn memories(&self) -> usize;
     }
 
+    /// A limiter that may be absent: without one everything is permitted, each notice is accepted, and
+    /// any number of instances, tables and memories is allowed.
+    ///
+    /// # Contract
+    ///
+    /// ```text
+    /// rules = optional_rules L.rules
+    /// ```
+    ///
+    /// Definitions: [`optional_rules`](crate::specs::meter::Limiter#optional_rules).
+    impl<L: ResourceLimiter> ResourceLimiter for Option<L> {
+        #[inline]
+        fn memory_growing(
+            &mut self,
+            current: usize,
+            desired: usize,
+            maximum: Option<usize>,
+        ) -> Result<bool, LimiterError> {
+            match self {
+                Some(limiter) => limiter.memory_growing(current, desired, maximum),
+                None => Ok(true),
+            }
+        }
+
+        #[inline]
+        fn table_growing(
+            &mut self,
+            current: usize,
+            desired: usize,
+            maximum: Option<usize>,
+        ) -> Result<bool, LimiterError> {
+            match self {
+                Some(limiter) => limiter.table_growing(current, desired, maximum),
+                None => Ok(true),
+            }
+        }
+
+        #[inline]
+        fn memory_grow_failed(&mut self, error: &MemoryError) -> Result<(), LimiterError> {
+            match self {
+                Some(limiter) => limiter.memory_grow_failed(error),
+                None => Ok(()),
+            }
+        }
+
+        #[inline]
+        fn table_grow_failed(&mut self, error: &TableError) -> Result<(), LimiterError> {
+            match self {
+                Some(limiter) => limiter.table_grow_failed(error),
+                None => Ok(()),
+            }
+        }
+
+        /// # Contract
+        ///
+        /// ```text
+        /// ensures absent: self.now ≡ None → result ≡ usize.MAX
+        /// ```
+        #[inline]
+        fn instances(&self) -> usize {
+            match self {
+                Some(limiter) => limiter.instances(),
+                None => usize::MAX,
+            }
+        }
+
+        /// # Contract
+        ///
+        /// ```text
+        /// ensures absent: self.now ≡ None → result ≡ usize.MAX
+        /// ```
+        #[inline]
+        fn tables(&self) -> usize {
+            match self {
+                Some(limiter) => limiter.tables(),
+                None => usize::MAX,
+            }
+        }
+
+        /// # Contract
+        ///
+        /// ```text
+        /// ensures absent: self.now ≡ None → result ≡ usize.MAX
+        /// ```
+        #[inline]
+        fn memories(&self) -> usize {
+            match self {
+                Some(limiter) => limiter.memories(),
+                None => usize::MAX,
+            }
+        }
+    }
+
     /// Decides by the kind of what grows, and ignores the maximum of its type and the error of a
     /// notice. Each is a [`ResourceLimiter`] that allows any number of instances, tables and memories.
-    ///
-    /// Own: upstream has no such trait.
     ///
     /// # Contract
     ///
@@ -1478,8 +1573,6 @@ mod limiter {
     }
 
     /// A limiter that permits everything and accepts each notice.
-    ///
-    /// Own: upstream implements no limiter.
     #[derive(Clone, Copy, Debug)]
     pub struct NoLimits;
 
@@ -1492,17 +1585,12 @@ mod limiter {
     /// Definitions: [`unlimited_rules`](crate::specs::meter::Limiter#unlimited_rules).
     impl LimiterByKind for NoLimits {
         #[inline]
-        fn growing(
-            &mut self,
-            _kind: Kind,
-            _current: usize,
-            _desired: usize,
-        ) -> Result<bool, LimiterError> {
+        fn growing(&mut self, _: Kind, _: usize, _: usize) -> Result<bool, LimiterError> {
             Ok(true)
         }
 
         #[inline]
-        fn grow_failed(&mut self, _kind: Kind) -> Result<(), LimiterError> {
+        fn grow_failed(&mut self, _: Kind) -> Result<(), LimiterError> {
             Ok(())
         }
     }
@@ -1577,8 +1665,8 @@ mod limiter_ref {
         }
     }
 
-    /// A borrowed limiter, or none. Without a limiter every growth is permitted, and every notice is
-    /// accepted.
+    /// A borrowed limiter, or none. Without a limiter every growth is permitted (`Ok(true)`), and every
+    /// notice is accepted (`Ok(())`).
     ///
     /// If this reference goes out of scope or is dropped, nothing is known of the limiter afterwards.
     /// To know its state, end the loan by [`LimiterRef::into_resource_limiter`], or use a function that
@@ -1698,8 +1786,7 @@ mod limiter_ref {
     }
 
     impl<'a, L: ResourceLimiter> LimiterRef<&'a mut L> {
-        /// Asks the limiter, if there is one, whether a memory may grow from `current` to `desired`
-        /// bytes, and returns its answer. Without a limiter it returns `Ok(true)`.
+        /// Asks the limiter whether a memory may grow from `current` to `desired` bytes.
         ///
         /// # Panics
         ///
@@ -1733,8 +1820,7 @@ mod limiter_ref {
             }
         }
 
-        /// Asks the limiter, if there is one, whether a table may grow from `current` to `desired`
-        /// elements, and returns its answer. Without a limiter it returns `Ok(true)`.
+        /// Asks the limiter whether a table may grow from `current` to `desired` elements.
         ///
         /// # Panics
         ///
@@ -1768,8 +1854,7 @@ mod limiter_ref {
             }
         }
 
-        /// Notifies the limiter, if there is one, that a memory which it permitted to grow did not, and
-        /// returns its answer. Without a limiter it returns `Ok(())`.
+        /// Notifies the limiter that a memory which it permitted to grow did not.
         ///
         /// # Contract
         ///
@@ -1788,8 +1873,7 @@ mod limiter_ref {
             }
         }
 
-        /// Notifies the limiter, if there is one, that a table which it permitted to grow did not, and
-        /// returns its answer. Without a limiter it returns `Ok(())`.
+        /// Notifies the limiter that a table which it permitted to grow did not.
         ///
         /// # Contract
         ///
@@ -1809,103 +1893,6 @@ mod limiter_ref {
         }
     }
 }
-mod optional_limiter {
-    //! A limiter that may be absent: then everything is permitted, each notice is accepted, and any
-    //! number of instances, tables and memories is allowed.
-
-    use crate::proved::meter::error::{LimiterError, MemoryError, TableError};
-    use crate::proved::meter::limiter::ResourceLimiter;
-
-    /// # Contract
-    ///
-    /// ```text
-    /// rules = optional_rules L.rules
-    /// ```
-    ///
-    /// Definitions: [`optional_rules`](crate::specs::meter::Limiter#optional_rules).
-    impl<L: ResourceLimiter> ResourceLimiter for Option<L> {
-        #[inline]
-        fn memory_growing(
-            &mut self,
-            current: usize,
-            desired: usize,
-            maximum: Option<usize>,
-        ) -> Result<bool, LimiterError> {
-            match self {
-                Some(limiter) => limiter.memory_growing(current, desired, maximum),
-                None => Ok(true),
-            }
-        }
-
-        #[inline]
-        fn table_growing(
-            &mut self,
-            current: usize,
-            desired: usize,
-            maximum: Option<usize>,
-        ) -> Result<bool, LimiterError> {
-            match self {
-                Some(limiter) => limiter.table_growing(current, desired, maximum),
-                None => Ok(true),
-            }
-        }
-
-        #[inline]
-        fn memory_grow_failed(&mut self, error: &MemoryError) -> Result<(), LimiterError> {
-            match self {
-                Some(limiter) => limiter.memory_grow_failed(error),
-                None => Ok(()),
-            }
-        }
-
-        #[inline]
-        fn table_grow_failed(&mut self, error: &TableError) -> Result<(), LimiterError> {
-            match self {
-                Some(limiter) => limiter.table_grow_failed(error),
-                None => Ok(()),
-            }
-        }
-
-        /// # Contract
-        ///
-        /// ```text
-        /// ensures absent: self.now ≡ None → result ≡ usize.MAX
-        /// ```
-        #[inline]
-        fn instances(&self) -> usize {
-            match self {
-                Some(limiter) => limiter.instances(),
-                None => usize::MAX,
-            }
-        }
-
-        /// # Contract
-        ///
-        /// ```text
-        /// ensures absent: self.now ≡ None → result ≡ usize.MAX
-        /// ```
-        #[inline]
-        fn tables(&self) -> usize {
-            match self {
-                Some(limiter) => limiter.tables(),
-                None => usize::MAX,
-            }
-        }
-
-        /// # Contract
-        ///
-        /// ```text
-        /// ensures absent: self.now ≡ None → result ≡ usize.MAX
-        /// ```
-        #[inline]
-        fn memories(&self) -> usize {
-            match self {
-                Some(limiter) => limiter.memories(),
-                None => usize::MAX,
-            }
-        }
-    }
-}
 mod quota {
     //! A limiter with a cap on the bytes of memories and one on the elements of tables.
 
@@ -1917,8 +1904,6 @@ mod quota {
     /// A limiter that permits what stays within two caps, and denies the rest. It counts each
     /// difference that it permitted. At a notice it takes back the last one if that is of the same
     /// kind, once. It can't be copied, since a copy would count on its own.
-    ///
-    /// Own: upstream implements no limiter.
     #[doc = examples!(meter Quota)]
     #[derive(Debug)]
     pub struct Quota {
@@ -2041,61 +2026,14 @@ mod quota {
         }
     }
 }
-mod reserving {
-    //! Limiters that count what they permitted.
-
-    use crate::proved::meter::limiter::ResourceLimiter;
-
-    /// A limiter that holds what it permitted, in bytes and in elements, until it is notified that what
-    /// it permitted failed. It isn't notified of what is dropped.
-    ///
-    /// Own: upstream implements no limiter.
-    ///
-    /// # Contract
-    ///
-    /// ```text
-    /// -- What it holds of each kind, and the last difference that it permitted and that wasn't given back.
-    /// holdings: Self → Holdings
-    /// -- A permission adds the difference that was asked for; any other answer leaves what is held.
-    /// reserves: (l l' : Self) (question : Question) (answer : Answer)
-    ///     → Self.rules.asked l question answer l'
-    ///     → Reserves question answer (holdings l) (holdings l')
-    /// -- A notice takes back the last permitted difference of its kind, once, whatever the answer to it is. If there is none of its kind, what is held stays.
-    /// gives_back: (l l' : Self) (failure : Failure) (notice_answer : NoticeAnswer)
-    ///     → Self.rules.noticed l failure notice_answer l'
-    ///     → GivesBack (kind_of failure) (holdings l) (holdings l')
-    /// ```
-    ///
-    /// Definitions: [`Question`](crate::specs::meter::Limiter#Question), [`Answer`](crate::specs::meter::Limiter#Answer), [`Reserves`](crate::specs::meter::Holdings#Reserves), [`Failure`](crate::specs::meter::Limiter#Failure), [`NoticeAnswer`](crate::specs::meter::Limiter#NoticeAnswer), [`GivesBack`](crate::specs::meter::Holdings#GivesBack), [`kind_of`](crate::specs::meter::Limiter#kind_of).
-    pub trait Reserving: ResourceLimiter {
-        /// The bytes that it permitted and that weren't given back.
-        ///
-        /// # Contract
-        ///
-        /// ```text
-        /// ensures: result ≡ (holdings self.now).held.bytes
-        /// ```
-        fn held_bytes(&self) -> u64;
-
-        /// The elements that it permitted and that weren't given back.
-        ///
-        /// # Contract
-        ///
-        /// ```text
-        /// ensures: result ≡ (holdings self.now).held.elements
-        /// ```
-        fn held_elements(&self) -> u64;
-    }
-}
 
 pub use amounts::Amounts;
 pub use answer_list::{AnswerList, LimiterAnswer};
 pub use any_limiter::AnyLimiter;
-pub use capped::CappedLimiter;
+pub use capped::{CappedLimiter, Reserving};
 pub use error::{LimiterError, MemoryError, TableError};
 pub use fuel::{CustomFuelCosts, Fuel, FuelCosts, FuelCostsProvider, FuelError, ValueSize};
 pub use holdings::Holdings;
 pub use limiter::{Kind, LimiterByKind, NoLimits, ResourceLimiter};
 pub use limiter_ref::{Lender, LimiterRef, ResourceLimiterRef};
 pub use quota::Quota;
-pub use reserving::Reserving;

@@ -2956,12 +2956,17 @@ abbrev pub <b id="table_error_text">table_error_text</b> : TableError → List �
 }
 /// Definitions of `wasmi_store`.
 pub mod store {
-    #[doc = r####"The bytes of a linear memory, and the room that they may grow into.
+    #[doc = r####"The bytes of a linear memory: the room that they may grow into, and the block of which they are the front.
 
-<pre><code>use Rattle.std.specs.Prelude.{◌≡◌, ℕ, Bool, true, nat_le, MatchBool, List, ◌++◌, length, drop, replicate}
+<pre><code>use Rattle.std.specs.Prelude.{◌≡◌, ℕ, Bool, true, nat_le, MatchBool, List, ◌++◌, length, drop, replicate, take, ◌≤◌}
 use Rattle.std.specs.List.{refill}
 use Rattle.wasmi_meter.specs.declared.error.MemoryError.{MemoryError}
 use Rattle.wasmi_meter.specs.declared.error.MemoryError.TheVariants.{OutOfSystemMemory, InvalidStaticBufferSize}
+use Rattle.std.specs.Borrow.{MutBor}
+use denote.Ref.{at_last}
+use Rattle.std.specs.Vec.{with_items_from}
+use Rattle.wasmi_store.specs.declared.memory.buffer.Storage.{Storage}
+use Rattle.wasmi_store.specs.declared.memory.buffer.Storage.TheVariants as storage
 
 -- where bytes may grow: into memory of their own, or into the bytes that are left of a lent region
 pub data <b id="Room">Room</b> : Type 0 where
@@ -3003,6 +3008,36 @@ abbrev pub <b id="zeros_in">zeros_in</b> : <a href="../../store/Buffer/index.htm
 -- the buffer with n zeros after its bytes
 abbrev pub <b id="with_zeros">with_zeros</b> : <a href="../../store/Buffer/index.html#BufferValue">BufferValue</a> → ℕ → <a href="../../store/Buffer/index.html#BufferValue">BufferValue</a>
 <a href="../../store/Buffer/index.html#with_zeros">with_zeros</a> b n = record { <a href="../../store/Buffer/index.html#bytes">bytes</a> = b.bytes ++ replicate n 0; <a href="../../store/Buffer/index.html#room">room</a> = <a href="../../store/Buffer/index.html#room_after">room_after</a> b.room n }
+
+-- xs with its first items, up to place end, written over by as many
+abbrev pub <b id="refilled_front">refilled_front</b> : List ℕ → ℕ → List ℕ → List ℕ
+<a href="../../store/Buffer/index.html#refilled_front">refilled_front</a> xs end ws = refill (length (take end xs)) (take end xs) ws ++ drop end xs
+
+-- the reference to a region whose front was written over
+abbrev pub <b id="region_refilled">region_refilled</b> : MutBor (List ℕ) → ℕ → List ℕ → MutBor (List ℕ)
+<a href="../../store/Buffer/index.html#region_refilled">region_refilled</a> r end ws = at_last r (<a href="../../store/Buffer/index.html#refilled_front">refilled_front</a> r.now end ws)
+
+module _ {Region : Type 0} where
+  -- the block of bytes of which a buffer&#x27;s are the first: memory of its own, or a region
+  abbrev pub <b id="block">block</b> : (Region → List ℕ) → Storage Region → List ℕ
+  <a href="../../store/Buffer/index.html#block">block</a> <a href="../../store/Buffer/index.html#bytes">bytes</a> (<a href="../../store/Buffer/index.html#Owned">storage.Owned</a> v) = v.items
+  <a href="../../store/Buffer/index.html#block">block</a> <a href="../../store/Buffer/index.html#bytes">bytes</a> (<a href="../../store/Buffer/index.html#Lent">storage.Lent</a> region) = <a href="../../store/Buffer/index.html#bytes">bytes</a> region
+
+  -- the buffer of the first bytes of a block, up to an end
+  abbrev pub <b id="view_of">view_of</b> : (Region → List ℕ) → Storage Region → ℕ → <a href="../../store/Buffer/index.html#BufferValue">BufferValue</a>
+  <a href="../../store/Buffer/index.html#view_of">view_of</a> <a href="../../store/Buffer/index.html#bytes">bytes</a> (<a href="../../store/Buffer/index.html#Owned">storage.Owned</a> v) end = record { <a href="../../store/Buffer/index.html#bytes">bytes</a> = take end v.items; <a href="../../store/Buffer/index.html#room">room</a> = <a href="../../store/Buffer/index.html#Owned">Owned</a> }
+  <a href="../../store/Buffer/index.html#view_of">view_of</a> <a href="../../store/Buffer/index.html#bytes">bytes</a> (<a href="../../store/Buffer/index.html#Lent">storage.Lent</a> region) end =
+      record { <a href="../../store/Buffer/index.html#bytes">bytes</a> = take end (<a href="../../store/Buffer/index.html#bytes">bytes</a> region); <a href="../../store/Buffer/index.html#room">room</a> = <a href="../../store/Buffer/index.html#Lent">Lent</a> (drop end (<a href="../../store/Buffer/index.html#bytes">bytes</a> region)) }
+
+  -- memory of a buffer&#x27;s own ends with its bytes, and a region doesn&#x27;t end before them
+  abbrev pub <b id="EndsWithin">EndsWithin</b> : (Region → List ℕ) → Storage Region → ℕ → Type 0
+  <a href="../../store/Buffer/index.html#EndsWithin">EndsWithin</a> <a href="../../store/Buffer/index.html#bytes">bytes</a> (<a href="../../store/Buffer/index.html#Owned">storage.Owned</a> v) end = end ≡ length v.items
+  <a href="../../store/Buffer/index.html#EndsWithin">EndsWithin</a> <a href="../../store/Buffer/index.html#bytes">bytes</a> (<a href="../../store/Buffer/index.html#Lent">storage.Lent</a> region) end = end ≤ length (<a href="../../store/Buffer/index.html#bytes">bytes</a> region)
+
+  -- the storage once the front of its block, up to an end, was written over
+  abbrev pub <b id="block_refilled">block_refilled</b> : (Region → ℕ → List ℕ → Region) → Storage Region → ℕ → List ℕ → Storage Region
+  <a href="../../store/Buffer/index.html#block_refilled">block_refilled</a> refilled (<a href="../../store/Buffer/index.html#Owned">storage.Owned</a> v) end ws = <a href="../../store/Buffer/index.html#Owned">storage.Owned</a> (with_items_from v 0 ws)
+  <a href="../../store/Buffer/index.html#block_refilled">block_refilled</a> refilled (<a href="../../store/Buffer/index.html#Lent">storage.Lent</a> region) end ws = <a href="../../store/Buffer/index.html#Lent">storage.Lent</a> (refilled region end ws)
 </code></pre>
 "####]
     pub mod Buffer {}
@@ -3045,23 +3080,6 @@ abbrev pub <b id="BulkWrites">BulkWrites</b> : Option (List ℕ) → ℕ → <a 
 </code></pre>
 "####]
     pub mod Bulk {}
-    #[doc = r####"The front of a list, written over.
-
-<pre><code>use Rattle.std.specs.Prelude.{ℕ, List, ◌++◌, length, take, drop}
-use Rattle.std.specs.List.{refill}
-use Rattle.std.specs.Borrow.{MutBor}
-use denote.Ref.{at_last}
-
--- xs with its first items, up to place end, written over by as many
-abbrev pub <b id="refilled_front">refilled_front</b> : List ℕ → ℕ → List ℕ → List ℕ
-<a href="../../store/Front/index.html#refilled_front">refilled_front</a> xs end ws = refill (length (take end xs)) (take end xs) ws ++ drop end xs
-
--- the reference to a region whose front was written over
-abbrev pub <b id="region_refilled">region_refilled</b> : MutBor (List ℕ) → ℕ → List ℕ → MutBor (List ℕ)
-<a href="../../store/Front/index.html#region_refilled">region_refilled</a> r end ws = at_last r (<a href="../../store/Front/index.html#refilled_front">refilled_front</a> r.now end ws)
-</code></pre>
-"####]
-    pub mod Front {}
     #[doc = r####"Making and growing a memory or a table, as an attempt with its answer.
 
 <pre><code>use Rattle.std.specs.Prelude.{◌≡◌, ◌&lt;◌, ◌⊎◌, ℕ, Option, None, Result, Ok}
@@ -3403,38 +3421,6 @@ abbrev pub <b id="segment_error_text">segment_error_text</b> : SegmentError → 
 </code></pre>
 "####]
     pub mod Segment {}
-    #[doc = r####"Where a buffer keeps its bytes.
-
-<pre><code>use Rattle.std.specs.Prelude.{◌≡◌, ℕ, ◌≤◌, List, length, take, drop}
-use Rattle.std.specs.Vec.{with_items_from}
-use Rattle.wasmi_store.specs.Buffer as buffer
-use Rattle.wasmi_store.specs.declared.memory.buffer.Storage.{Storage}
-use Rattle.wasmi_store.specs.declared.memory.buffer.Storage.TheVariants.{<a href="../../store/Buffer/index.html#Owned">Owned</a>, <a href="../../store/Buffer/index.html#Lent">Lent</a>}
-
-module _ {Region : Type 0} where
-  -- the block of bytes of which a buffer&#x27;s are the first: memory of its own, or a region
-  abbrev pub <b id="block">block</b> : (Region → List ℕ) → Storage Region → List ℕ
-  <a href="../../store/Storage/index.html#block">block</a> bytes (<a href="../../store/Buffer/index.html#Owned">Owned</a> v) = v.items
-  <a href="../../store/Storage/index.html#block">block</a> bytes (<a href="../../store/Buffer/index.html#Lent">Lent</a> region) = bytes region
-
-  -- the buffer of the first bytes of a block, up to an end
-  abbrev pub <b id="view_of">view_of</b> : (Region → List ℕ) → Storage Region → ℕ → <a href="../../store/Buffer/index.html#BufferValue">buffer.BufferValue</a>
-  <a href="../../store/Storage/index.html#view_of">view_of</a> bytes (<a href="../../store/Buffer/index.html#Owned">Owned</a> v) end = record { bytes = take end v.items; room = <a href="../../store/Buffer/index.html#Owned">buffer.Owned</a> }
-  <a href="../../store/Storage/index.html#view_of">view_of</a> bytes (<a href="../../store/Buffer/index.html#Lent">Lent</a> region) end =
-      record { bytes = take end (bytes region); room = <a href="../../store/Buffer/index.html#Lent">buffer.Lent</a> (drop end (bytes region)) }
-
-  -- memory of a buffer&#x27;s own ends with its bytes, and a region doesn&#x27;t end before them
-  abbrev pub <b id="EndsWithin">EndsWithin</b> : (Region → List ℕ) → Storage Region → ℕ → Type 0
-  <a href="../../store/Storage/index.html#EndsWithin">EndsWithin</a> bytes (<a href="../../store/Buffer/index.html#Owned">Owned</a> v) end = end ≡ length v.items
-  <a href="../../store/Storage/index.html#EndsWithin">EndsWithin</a> bytes (<a href="../../store/Buffer/index.html#Lent">Lent</a> region) end = end ≤ length (bytes region)
-
-  -- the storage once the front of its block, up to an end, was written over
-  abbrev pub <b id="block_refilled">block_refilled</b> : (Region → ℕ → List ℕ → Region) → Storage Region → ℕ → List ℕ → Storage Region
-  <a href="../../store/Storage/index.html#block_refilled">block_refilled</a> refilled (<a href="../../store/Buffer/index.html#Owned">Owned</a> v) end ws = <a href="../../store/Buffer/index.html#Owned">Owned</a> (with_items_from v 0 ws)
-  <a href="../../store/Storage/index.html#block_refilled">block_refilled</a> refilled (<a href="../../store/Buffer/index.html#Lent">Lent</a> region) end ws = <a href="../../store/Buffer/index.html#Lent">Lent</a> (refilled region end ws)
-</code></pre>
-"####]
-    pub mod Storage {}
     #[doc = r####"Tables: making one, growing it, reading and writing its elements (core specification, table instances).
 
 <pre><code>use Rattle.std.specs.Prelude.{◌≡◌, ◌+◌, ◌≤◌, ℕ, Bool, true, false, List, [], ◌∷◌, ◌++◌, length, replicate, nat_eq, if◌then◌else◌, MatchBool, MatchOption, Option, Some, None, Result, Ok, Err, slice_get}
@@ -3661,8 +3647,8 @@ abbrev pub <b id="WritesTable">WritesTable</b> : (<a href="../../store/Table/ind
 abbrev pub <b id="MeteredElements">MeteredElements</b> : Type 0 → Type 0
 <a href="../../store/Table/index.html#MeteredElements">MeteredElements</a> A = <a href="../../meter/Attempt/index.html#MeteredValue">MeteredValue</a> (List A) (Unit {0})
 
--- Elements are written over, wherever they lie: by what they become, or none where a range ends past its list, the error
--- there, and how many of them are paid for, if any. A write that is refused writes and takes nothing.
+-- Elements are written over, wherever they lie: by what they become, or none where a range ends past its list, the
+-- error there, and how many of them are paid for, if any. A write that is refused writes and takes nothing.
 abbrev pub <b id="WritesElements">WritesElements</b> : {A : Type 0} → Option (List A) → TableError → Option ℕ → <a href="../../store/Table/index.html#MeteredElements">MeteredElements</a> A
     → Result (Unit {0}) TableError → <a href="../../store/Table/index.html#MeteredElements">MeteredElements</a> A → Type 0
 <a href="../../store/Table/index.html#WritesElements">WritesElements</a> None <a href="../../store/Table/index.html#outside">outside</a> <a href="../../store/Table/index.html#paid">paid</a> s <a href="../../store/Table/index.html#result">result</a> s&#x27; = (<a href="../../store/Table/index.html#result">result</a> ≡ Err <a href="../../store/Table/index.html#outside">outside</a>) × (s&#x27; ≡ s)
@@ -3810,11 +3796,11 @@ abbrev pub <b id="IsIn">IsIn</b> : {S : Type 0} → (S → Type 0) → Option S 
 <a href="../../machine/Determinism/index.html#IsIn">IsIn</a> IsAccepting (Some l) = IsAccepting l
 <a href="../../machine/Determinism/index.html#IsIn">IsIn</a> IsAccepting None = Unit {0}
 
--- the failure isn&#x27;t out of memory
-abbrev pub <b id="FailsWithMemory">FailsWithMemory</b> : <a href="../../meter/Limiter/index.html#Failure">Failure</a> → Type 0
-<a href="../../machine/Determinism/index.html#FailsWithMemory">FailsWithMemory</a> (<a href="../../meter/Limiter/index.html#MemoryFailure">MemoryFailure</a> memory.OutOfSystemMemory) = ⊥
-<a href="../../machine/Determinism/index.html#FailsWithMemory">FailsWithMemory</a> (<a href="../../meter/Limiter/index.html#TableFailure">TableFailure</a> table.OutOfSystemMemory) = ⊥
-<a href="../../machine/Determinism/index.html#FailsWithMemory">FailsWithMemory</a> failure = Unit {0}
+-- the failure is another one than that memory was refused
+abbrev pub <b id="IsOtherFailure">IsOtherFailure</b> : <a href="../../meter/Limiter/index.html#Failure">Failure</a> → Type 0
+<a href="../../machine/Determinism/index.html#IsOtherFailure">IsOtherFailure</a> (<a href="../../meter/Limiter/index.html#MemoryFailure">MemoryFailure</a> memory.OutOfSystemMemory) = ⊥
+<a href="../../machine/Determinism/index.html#IsOtherFailure">IsOtherFailure</a> (<a href="../../meter/Limiter/index.html#TableFailure">TableFailure</a> table.OutOfSystemMemory) = ⊥
+<a href="../../machine/Determinism/index.html#IsOtherFailure">IsOtherFailure</a> failure = Unit {0}
 
 -- the rules by which no limiter is notified that memory was refused
 abbrev pub <b id="never_out_of_memory">never_out_of_memory</b> : {S : Type 0} → <a href="../../meter/Limiter/index.html#Rules">Rules</a> S → <a href="../../meter/Limiter/index.html#Rules">Rules</a> S
@@ -3822,7 +3808,7 @@ abbrev pub <b id="never_out_of_memory">never_out_of_memory</b> : {S : Type 0} �
     record {
       <a href="../../machine/Determinism/index.html#asked">asked</a> = rules.asked;
       <a href="../../machine/Determinism/index.html#noticed">noticed</a> = λ l failure notice_answer l&#x27;. rules.noticed l failure notice_answer l&#x27;
-          × <a href="../../machine/Determinism/index.html#FailsWithMemory">FailsWithMemory</a> failure;
+          × <a href="../../machine/Determinism/index.html#IsOtherFailure">IsOtherFailure</a> failure;
     }
 
 -- the reply doesn&#x27;t say out of memory
@@ -4183,7 +4169,7 @@ pub <b id="use">use</b> Rattle.wasmi_core.specs.World.{<a href="../../machine/Wo
 <a href="../../machine/Laws/index.html#use">use</a> Rattle.wasmi_core.specs.Account.{<a href="../../machine/Account/index.html#opened">opened</a>, <a href="../../machine/Account/index.html#account_after">account_after</a>, <a href="../../machine/Account/index.html#Balances">Balances</a>, <a href="../../machine/Account/index.html#PaysCharge">PaysCharge</a>, <a href="../../machine/Account/index.html#SetsNoFuel">SetsNoFuel</a>}
 <a href="../../machine/Laws/index.html#use">use</a> Rattle.wasmi_core.specs.Exchange.{<a href="../../machine/Exchange/index.html#Notice">Notice</a>, <a href="../../machine/Exchange/index.html#Passes">Passes</a>, <a href="../../machine/Exchange/index.html#At">At</a>, <a href="../../machine/Exchange/index.html#place_of">place_of</a>, <a href="../../machine/Exchange/index.html#question_of">question_of</a>, <a href="../../machine/Exchange/index.html#failed_reply">failed_reply</a>, <a href="../../machine/Exchange/index.html#growth_due">growth_due</a>, <a href="../../machine/Exchange/index.html#Exchanges">Exchanges</a>}
 <a href="../../machine/Laws/index.html#use">use</a> Rattle.wasmi_core.specs.MemoryEffects.{<a href="../../machine/MemoryEffects/index.html#spare_after">spare_after</a>}
-<a href="../../machine/Laws/index.html#use">use</a> Rattle.wasmi_core.specs.Determinism.{<a href="../../machine/Determinism/index.html#IsDeterministic">IsDeterministic</a>, <a href="../../machine/Determinism/index.html#AcceptsNotices">AcceptsNotices</a>, <a href="../../machine/Determinism/index.html#FailsWithMemory">FailsWithMemory</a>, <a href="../../machine/Determinism/index.html#never_out_of_memory">never_out_of_memory</a>, <a href="../../machine/Determinism/index.html#IsNotOutOfMemory">IsNotOutOfMemory</a>, <a href="../../machine/Determinism/index.html#AreNotOutOfMemory">AreNotOutOfMemory</a>}
+<a href="../../machine/Laws/index.html#use">use</a> Rattle.wasmi_core.specs.Determinism.{<a href="../../machine/Determinism/index.html#IsDeterministic">IsDeterministic</a>, <a href="../../machine/Determinism/index.html#AcceptsNotices">AcceptsNotices</a>, <a href="../../machine/Determinism/index.html#IsOtherFailure">IsOtherFailure</a>, <a href="../../machine/Determinism/index.html#never_out_of_memory">never_out_of_memory</a>, <a href="../../machine/Determinism/index.html#IsNotOutOfMemory">IsNotOutOfMemory</a>, <a href="../../machine/Determinism/index.html#AreNotOutOfMemory">AreNotOutOfMemory</a>}
 <a href="../../machine/Laws/index.html#use">use</a> Rattle.wasmi_core.specs.LentMemory.{<a href="../../machine/LentMemory/index.html#owned_world">owned_world</a>, <a href="../../machine/LentMemory/index.html#unlent_world">unlent_world</a>, <a href="../../machine/LentMemory/index.html#RunInRegions">RunInRegions</a>}
 <a href="../../machine/Laws/index.html#use">use</a> Rattle.wasmi_core.specs.Writing.{<a href="../../machine/Writing/index.html#IsBounded">IsBounded</a>, <a href="../../machine/Writing/index.html#IsSpent">IsSpent</a>}
 <a href="../../machine/Laws/index.html#use">use</a> Rattle.wasmi_core.specs.Permission.{<a href="../../machine/Permission/index.html#permitting">permitting</a>, <a href="../../machine/Permission/index.html#TellsNoDenial">TellsNoDenial</a>}
@@ -4212,7 +4198,7 @@ pub record <b id="FailsAfterCharge">FailsAfterCharge</b> {S : Type 0} (rules : <
   pub <b id="asks">asks</b> : <a href="../../machine/Exchange/index.html#question_of">question_of</a> w.state turn.call ≡ Some <a href="../../machine/Laws/index.html#question">question</a>
   pub <b id="failure">failure</b> : <a href="../../meter/Limiter/index.html#Failure">Failure</a>
   pub <b id="notice_answer">notice_answer</b> : <a href="../../meter/Limiter/index.html#NoticeAnswer">NoticeAnswer</a>
-  pub <b id="wants">wants</b> : <a href="../../machine/Determinism/index.html#FailsWithMemory">FailsWithMemory</a> <a href="../../machine/Laws/index.html#failure">failure</a> → ⊥
+  pub <b id="wants">wants</b> : <a href="../../machine/Determinism/index.html#IsOtherFailure">IsOtherFailure</a> <a href="../../machine/Laws/index.html#failure">failure</a> → ⊥
   pub <b id="tells">tells</b> : <a href="../../machine/Exchange/index.html#Passes">Passes</a> rules w.limiter (<a href="../../machine/Exchange/index.html#Notice">Notice</a> <a href="../../machine/Laws/index.html#question">question</a> <a href="../../machine/Laws/index.html#failure">failure</a> <a href="../../machine/Laws/index.html#notice_answer">notice_answer</a>) w&#x27;.limiter
   pub <b id="replies">replies</b> : turn.reply ≡ <a href="../../machine/Exchange/index.html#failed_reply">failed_reply</a> <a href="../../machine/Laws/index.html#failure">failure</a> <a href="../../machine/Laws/index.html#notice_answer">notice_answer</a>
   pub <b id="meter">meter</b> : <a href="../../machine/Account/index.html#PaysCharge">PaysCharge</a> w.state.<a href="../../machine/Laws/index.html#meter">meter</a> (<a href="../../machine/Exchange/index.html#growth_due">growth_due</a> w.state.<a href="../../machine/Laws/index.html#meter">meter</a> <a href="../../machine/Laws/index.html#question">question</a>) w&#x27;.state.meter
@@ -5054,7 +5040,8 @@ abbrev pub <b id="WritesTableAt">WritesTableAt</b> : ℕ → (<a href="../../sto
 
 -- a part of the table of an index is written over with what a source has, with its charge; without a source the reply
 -- is `NoSuch`, and nothing has changed
-abbrev pub <b id="WritesTableFrom">WritesTableFrom</b> : {X : Type 0} → Option X → ℕ → (X → <a href="../../store/Table/index.html#TableValue">TableValue</a> → <a href="../../store/Table/index.html#TableWrite">TableWrite</a>) → <a href="../../machine/TableEffects/index.html#MeteredTables">MeteredTables</a> → Reply → ℕ → <a href="../../machine/TableEffects/index.html#MeteredTables">MeteredTables</a>
+abbrev pub <b id="WritesTableFrom">WritesTableFrom</b> : {X : Type 0} → Option X → ℕ → (X → <a href="../../store/Table/index.html#TableValue">TableValue</a> → <a href="../../store/Table/index.html#TableWrite">TableWrite</a>) → <a href="../../machine/TableEffects/index.html#MeteredTables">MeteredTables</a> → Reply → ℕ
+    → <a href="../../machine/TableEffects/index.html#MeteredTables">MeteredTables</a>
     → Type 0
 <a href="../../machine/TableEffects/index.html#WritesTableFrom">WritesTableFrom</a> source k write s reply charge s&#x27; =
     <a href="../../machine/Effects/index.html#OnLive">OnLive</a> source (<a href="../../machine/Effects/index.html#IsNoSuch">IsNoSuch</a> s reply charge s&#x27;) (λ x. <a href="../../machine/TableEffects/index.html#WritesTableAt">WritesTableAt</a> k (write x) s reply charge s&#x27;)
@@ -5298,15 +5285,7 @@ abbrev pub <b id="IsRefusal">IsRefusal</b> : Reply → Type 0
 <a href="../../machine/World/index.html#IsRefusal">IsRefusal</a> (reply.Number number) = ⊥
 <a href="../../machine/World/index.html#IsRefusal">IsRefusal</a> (reply.Bytes bytes) = ⊥
 <a href="../../machine/World/index.html#IsRefusal">IsRefusal</a> (reply.Reference element) = ⊥
-<a href="../../machine/World/index.html#IsRefusal">IsRefusal</a> (reply.Memory error) = Unit {0}
-<a href="../../machine/World/index.html#IsRefusal">IsRefusal</a> (reply.Table error) = Unit {0}
-<a href="../../machine/World/index.html#IsRefusal">IsRefusal</a> (reply.Fuel error) = Unit {0}
-<a href="../../machine/World/index.html#IsRefusal">IsRefusal</a> (reply.Global error) = Unit {0}
-<a href="../../machine/World/index.html#IsRefusal">IsRefusal</a> (reply.Segment error) = Unit {0}
-<a href="../../machine/World/index.html#IsRefusal">IsRefusal</a> (reply.Trap code) = Unit {0}
-<a href="../../machine/World/index.html#IsRefusal">IsRefusal</a> reply.NoSuch = Unit {0}
-<a href="../../machine/World/index.html#IsRefusal">IsRefusal</a> reply.NoRegion = Unit {0}
-<a href="../../machine/World/index.html#IsRefusal">IsRefusal</a> reply.NoRoom = Unit {0}
+<a href="../../machine/World/index.html#IsRefusal">IsRefusal</a> refusal = Unit {0}
 </code></pre>
 "####]
     pub mod World {}
@@ -5860,51 +5839,39 @@ abbrev pub <b id="MoreFuelChangesNothing">MoreFuelChangesNothing</b> : {L : Type
 }
 /// Definitions of `wasmi_budget`.
 pub mod budget {
-    #[doc = r####"Runs in which a tenant is never denied.
-
-<pre><code>use Rattle.std.specs.Prelude.{ℕ, nat_eq, if◌then◌else◌, MatchBool, List, [], ◌∷◌}
-use Rattle.wasmi_meter.specs.Limiter.{<a href="../../meter/Limiter/index.html#optional_rules">optional_rules</a>}
-use Rattle.wasmi_core.specs.Permission.{<a href="../../machine/Permission/index.html#permitting">permitting</a>}
-use Rattle.wasmi_budget.specs.Tenant.{<a href="../../budget/Tenant/index.html#tenant_rules">tenant_rules</a>}
-use Rattle.wasmi_budget.specs.Pool.{<a href="../../budget/Pool/index.html#PoolValue">PoolValue</a>, <a href="../../budget/Pool/index.html#RunsTenantBy">RunsTenantBy</a>, <a href="../../budget/Pool/index.html#RunsTenant">RunsTenant</a>}
-use Rattle.wasmi_budget.specs.Runs.{<a href="../../budget/Runs/index.html#PoolTurn">PoolTurn</a>, <a href="../../budget/Runs/index.html#Added">Added</a>, <a href="../../budget/Runs/index.html#Ran">Ran</a>, <a href="../../budget/Runs/index.html#Refused">Refused</a>, <a href="../../budget/Runs/index.html#PoolStep">PoolStep</a>, <a href="../../budget/Runs/index.html#RunBy">RunBy</a>}
-
--- a call on a pool, which permits each question where it is a run of the tenant of an index
-abbrev pub <b id="PermittingStep">PermittingStep</b> : ℕ → <a href="../../budget/Pool/index.html#PoolValue">PoolValue</a> → <a href="../../budget/Runs/index.html#PoolTurn">PoolTurn</a> → <a href="../../budget/Pool/index.html#PoolValue">PoolValue</a> → Type 0
-<a href="../../budget/Isolation/index.html#PermittingStep">PermittingStep</a> index pool (<a href="../../budget/Runs/index.html#Ran">Ran</a> i calls replies) pool&#x27; = MatchBool (nat_eq i index)
-    (<a href="../../budget/Pool/index.html#RunsTenantBy">RunsTenantBy</a> (<a href="../../machine/Permission/index.html#permitting">permitting</a> (<a href="../../meter/Limiter/index.html#optional_rules">optional_rules</a> <a href="../../budget/Tenant/index.html#tenant_rules">tenant_rules</a>)) pool i calls replies pool&#x27;)
-    (<a href="../../budget/Pool/index.html#RunsTenant">RunsTenant</a> pool i calls replies pool&#x27;)
-<a href="../../budget/Isolation/index.html#PermittingStep">PermittingStep</a> index pool turn pool&#x27; = <a href="../../budget/Runs/index.html#PoolStep">PoolStep</a> pool turn pool&#x27;
-
--- such calls one after another: the tenant of the index is never denied
-abbrev pub <b id="PermittingRun">PermittingRun</b> : ℕ → <a href="../../budget/Pool/index.html#PoolValue">PoolValue</a> → List <a href="../../budget/Runs/index.html#PoolTurn">PoolTurn</a> → <a href="../../budget/Pool/index.html#PoolValue">PoolValue</a> → Type 0
-<a href="../../budget/Isolation/index.html#PermittingRun">PermittingRun</a> index = <a href="../../budget/Runs/index.html#RunBy">RunBy</a> (<a href="../../budget/Isolation/index.html#PermittingStep">PermittingStep</a> index)
-
--- the runs of the tenant of an index, as those of the only tenant
-abbrev pub <b id="own_turns">own_turns</b> : ℕ → List <a href="../../budget/Runs/index.html#PoolTurn">PoolTurn</a> → List <a href="../../budget/Runs/index.html#PoolTurn">PoolTurn</a>
-<a href="../../budget/Isolation/index.html#own_turns">own_turns</a> index [] = []
-<a href="../../budget/Isolation/index.html#own_turns">own_turns</a> index (<a href="../../budget/Runs/index.html#Added">Added</a> s ∷ turns) = <a href="../../budget/Isolation/index.html#own_turns">own_turns</a> index turns
-<a href="../../budget/Isolation/index.html#own_turns">own_turns</a> index (<a href="../../budget/Runs/index.html#Ran">Ran</a> i calls replies ∷ turns) =
-    if nat_eq i index then <a href="../../budget/Runs/index.html#Ran">Ran</a> 0 calls replies ∷ <a href="../../budget/Isolation/index.html#own_turns">own_turns</a> index turns else <a href="../../budget/Isolation/index.html#own_turns">own_turns</a> index turns
-<a href="../../budget/Isolation/index.html#own_turns">own_turns</a> index (<a href="../../budget/Runs/index.html#Refused">Refused</a> ∷ turns) = <a href="../../budget/Isolation/index.html#own_turns">own_turns</a> index turns
-</code></pre>
-"####]
-    pub mod Isolation {}
     #[doc = r####"What holds of all calls on a pool, and of all runs of a tenant's machine.
 
-<pre><code>use Rattle.std.specs.Prelude.{◌≡◌, ℕ, Some, All, List, [], ◌∷◌, slice_get}
+<pre><code>use Rattle.std.specs.Prelude.{ℕ, nat_eq, if◌then◌else◌, MatchBool, List, [], ◌∷◌, ◌≡◌, Some, All, slice_get}
 use Rattle.wasmi_meter.specs.Limiter.{<a href="../../meter/Limiter/index.html#optional_rules">optional_rules</a>}
+use Rattle.wasmi_core.specs.Permission.{<a href="../../machine/Permission/index.html#permitting">permitting</a>, <a href="../../machine/Permission/index.html#TellsNoDenial">TellsNoDenial</a>}
+use Rattle.wasmi_budget.specs.Tenant.{<a href="../../budget/Tenant/index.html#tenant_rules">tenant_rules</a>, <a href="../../budget/Tenant/index.html#without_others">without_others</a>}
+use Rattle.wasmi_budget.specs.Pool.{<a href="../../budget/Pool/index.html#PoolValue">PoolValue</a>, <a href="../../budget/Pool/index.html#RunsTenantBy">RunsTenantBy</a>, <a href="../../budget/Pool/index.html#RunsTenant">RunsTenant</a>, <a href="../../budget/Pool/index.html#IsWithinCaps">IsWithinCaps</a>}
+use Rattle.wasmi_budget.specs.Runs.{<a href="../../budget/Runs/index.html#PoolTurn">PoolTurn</a>, <a href="../../budget/Runs/index.html#Added">Added</a>, <a href="../../budget/Runs/index.html#Ran">Ran</a>, <a href="../../budget/Runs/index.html#Refused">Refused</a>, <a href="../../budget/Runs/index.html#PoolStep">PoolStep</a>, <a href="../../budget/Runs/index.html#RunBy">RunBy</a>, <a href="../../budget/Runs/index.html#PoolRun">PoolRun</a>}
 use Rattle.wasmi_core.specs.State.{<a href="../../machine/State/index.html#State">State</a>}
 use Rattle.wasmi_core.specs.World.{<a href="../../machine/World/index.html#Turn">Turn</a>}
 use Rattle.wasmi_core.specs.Runs.{<a href="../../machine/Runs/index.html#Run">Run</a>}
 use Rattle.wasmi_budget.specs.declared.tenant.Tenant.{Tenant}
-use Rattle.wasmi_budget.specs.Tenant.{<a href="../../budget/Tenant/index.html#tenant_rules">tenant_rules</a>, <a href="../../budget/Tenant/index.html#without_others">without_others</a>}
 use Rattle.wasmi_core.specs.declared.calls.Call.{Call}
 use Rattle.wasmi_core.specs.declared.calls.Reply.{Reply}
-use Rattle.wasmi_budget.specs.Pool.{<a href="../../budget/Pool/index.html#PoolValue">PoolValue</a>, <a href="../../budget/Pool/index.html#IsWithinCaps">IsWithinCaps</a>, <a href="../../budget/Pool/index.html#RunsTenantBy">RunsTenantBy</a>, <a href="../../budget/Pool/index.html#RunsTenant">RunsTenant</a>}
-use Rattle.wasmi_budget.specs.Runs.{<a href="../../budget/Runs/index.html#PoolTurn">PoolTurn</a>, <a href="../../budget/Runs/index.html#PoolRun">PoolRun</a>}
-use Rattle.wasmi_core.specs.Permission.{<a href="../../machine/Permission/index.html#permitting">permitting</a>, <a href="../../machine/Permission/index.html#TellsNoDenial">TellsNoDenial</a>}
-use Rattle.wasmi_budget.specs.Isolation.{<a href="../../budget/Isolation/index.html#PermittingRun">PermittingRun</a>, <a href="../../budget/Isolation/index.html#own_turns">own_turns</a>}
+
+-- a call on a pool, which permits each question where it is a run of the tenant of an index
+abbrev pub <b id="PermittingStep">PermittingStep</b> : ℕ → <a href="../../budget/Pool/index.html#PoolValue">PoolValue</a> → <a href="../../budget/Runs/index.html#PoolTurn">PoolTurn</a> → <a href="../../budget/Pool/index.html#PoolValue">PoolValue</a> → Type 0
+<a href="../../budget/Laws/index.html#PermittingStep">PermittingStep</a> index pool (<a href="../../budget/Runs/index.html#Ran">Ran</a> i calls replies) pool&#x27; = MatchBool (nat_eq i index)
+    (<a href="../../budget/Pool/index.html#RunsTenantBy">RunsTenantBy</a> (<a href="../../machine/Permission/index.html#permitting">permitting</a> (<a href="../../meter/Limiter/index.html#optional_rules">optional_rules</a> <a href="../../budget/Tenant/index.html#tenant_rules">tenant_rules</a>)) pool i calls replies pool&#x27;)
+    (<a href="../../budget/Pool/index.html#RunsTenant">RunsTenant</a> pool i calls replies pool&#x27;)
+<a href="../../budget/Laws/index.html#PermittingStep">PermittingStep</a> index pool turn pool&#x27; = <a href="../../budget/Runs/index.html#PoolStep">PoolStep</a> pool turn pool&#x27;
+
+-- such calls one after another: the tenant of the index is never denied
+abbrev pub <b id="PermittingRun">PermittingRun</b> : ℕ → <a href="../../budget/Pool/index.html#PoolValue">PoolValue</a> → List <a href="../../budget/Runs/index.html#PoolTurn">PoolTurn</a> → <a href="../../budget/Pool/index.html#PoolValue">PoolValue</a> → Type 0
+<a href="../../budget/Laws/index.html#PermittingRun">PermittingRun</a> index = <a href="../../budget/Runs/index.html#RunBy">RunBy</a> (<a href="../../budget/Laws/index.html#PermittingStep">PermittingStep</a> index)
+
+-- the runs of the tenant of an index, as those of the only tenant
+abbrev pub <b id="own_turns">own_turns</b> : ℕ → List <a href="../../budget/Runs/index.html#PoolTurn">PoolTurn</a> → List <a href="../../budget/Runs/index.html#PoolTurn">PoolTurn</a>
+<a href="../../budget/Laws/index.html#own_turns">own_turns</a> index [] = []
+<a href="../../budget/Laws/index.html#own_turns">own_turns</a> index (<a href="../../budget/Runs/index.html#Added">Added</a> s ∷ turns) = <a href="../../budget/Laws/index.html#own_turns">own_turns</a> index turns
+<a href="../../budget/Laws/index.html#own_turns">own_turns</a> index (<a href="../../budget/Runs/index.html#Ran">Ran</a> i calls replies ∷ turns) =
+    if nat_eq i index then <a href="../../budget/Runs/index.html#Ran">Ran</a> 0 calls replies ∷ <a href="../../budget/Laws/index.html#own_turns">own_turns</a> index turns else <a href="../../budget/Laws/index.html#own_turns">own_turns</a> index turns
+<a href="../../budget/Laws/index.html#own_turns">own_turns</a> index (<a href="../../budget/Runs/index.html#Refused">Refused</a> ∷ turns) = <a href="../../budget/Laws/index.html#own_turns">own_turns</a> index turns
 
 -- after all calls the caps are the same, and all machines together are within them
 abbrev pub <b id="CapsHold">CapsHold</b> : Type 0
@@ -5924,9 +5891,9 @@ abbrev pub <b id="OthersDontShow">OthersDontShow</b> : Type 0
 -- a tenant that is never denied gets, run after run, what it gets alone under the same caps
 abbrev pub <b id="RunsAsAlone">RunsAsAlone</b> : Type 0
 <a href="../../budget/Laws/index.html#RunsAsAlone">RunsAsAlone</a> = (pool : <a href="../../budget/Pool/index.html#PoolValue">PoolValue</a>) (index : ℕ) (s : <a href="../../machine/State/index.html#State">State</a>) → slice_get pool.machines index ≡ Some s
-    → (turns : List <a href="../../budget/Runs/index.html#PoolTurn">PoolTurn</a>) (pool&#x27; : <a href="../../budget/Pool/index.html#PoolValue">PoolValue</a>) → <a href="../../budget/Isolation/index.html#PermittingRun">PermittingRun</a> index pool turns pool&#x27;
+    → (turns : List <a href="../../budget/Runs/index.html#PoolTurn">PoolTurn</a>) (pool&#x27; : <a href="../../budget/Pool/index.html#PoolValue">PoolValue</a>) → <a href="../../budget/Laws/index.html#PermittingRun">PermittingRun</a> index pool turns pool&#x27;
     → (s&#x27; : <a href="../../machine/State/index.html#State">State</a>) × (slice_get pool&#x27;.machines index ≡ Some s&#x27;)
-    × <a href="../../budget/Runs/index.html#PoolRun">PoolRun</a> (record { caps = pool.caps; machines = s ∷ [] }) (<a href="../../budget/Isolation/index.html#own_turns">own_turns</a> index turns)
+    × <a href="../../budget/Runs/index.html#PoolRun">PoolRun</a> (record { caps = pool.caps; machines = s ∷ [] }) (<a href="../../budget/Laws/index.html#own_turns">own_turns</a> index turns)
     (record { caps = pool.caps; machines = s&#x27; ∷ [] })
 
 -- an accepted run of a tenant in which no reply reports a denial is one in which each question was permitted
@@ -5939,9 +5906,9 @@ abbrev pub <b id="RepliesPermit">RepliesPermit</b> : Type 0
 </code></pre>
 "####]
     pub mod Laws {}
-    #[doc = r####"A pool of tenants: what its machines hold together, and what a run of one of them does.
+    #[doc = r####"A pool of tenants: what its machines hold together, what a run of one of them does, and what its errors print.
 
-<pre><code>use Rattle.std.specs.Prelude.{◌≡◌, ◌≤◌, ◌&lt;◌, ◌^◌, ◌++◌, ℕ, List, [], ◌∷◌, Option, Some, None, slice_get, slice_set, sum_by, remove}
+<pre><code>use Rattle.std.specs.Prelude.{◌≡◌, ◌≤◌, ◌&lt;◌, ◌^◌, ◌++◌, ℕ, List, [], ◌∷◌, Option, Some, None, slice_get, slice_set, sum_by, remove, codes}
 use Rattle.wasmi_meter.specs.declared.limiter.Kind.{Kind}
 use Rattle.wasmi_meter.specs.declared.limiter.Kind.TheVariants.{Bytes, Elements}
 use Rattle.wasmi_meter.specs.declared.amounts.Amounts.{Amounts}
@@ -5956,6 +5923,8 @@ use Rattle.wasmi_budget.specs.declared.error.AddError.{AddError}
 use Rattle.wasmi_budget.specs.declared.error.AddError.TheVariants.{NotEmpty, NoRoom}
 use Rattle.wasmi_budget.specs.declared.tenant.Tenant.{Tenant}
 use Rattle.wasmi_budget.specs.Tenant.{<a href="../../budget/Tenant/index.html#tenant_rules">tenant_rules</a>}
+use Rattle.wasmi_budget.specs.declared.error.PoolError.{PoolError}
+use Rattle.wasmi_budget.specs.declared.error.PoolError.TheVariants.{NoTenant, OutOfMemory}
 
 -- a pool: its caps, and the machines of its tenants by their indices
 pub record <b id="PoolValue">PoolValue</b> : Type 0 where
@@ -6014,6 +5983,16 @@ pub record <b id="RunsTenantBy">RunsTenantBy</b> (rules : <a href="../../meter/L
 -- the machine of an index has run these calls under its limiter by a tenant&#x27;s rules, and all else is the same
 abbrev pub <b id="RunsTenant">RunsTenant</b> : <a href="../../budget/Pool/index.html#PoolValue">PoolValue</a> → ℕ → List Call → List Reply → <a href="../../budget/Pool/index.html#PoolValue">PoolValue</a> → Type 0
 <a href="../../budget/Pool/index.html#RunsTenant">RunsTenant</a> = <a href="../../budget/Pool/index.html#RunsTenantBy">RunsTenantBy</a> (<a href="../../meter/Limiter/index.html#optional_rules">optional_rules</a> <a href="../../budget/Tenant/index.html#tenant_rules">tenant_rules</a>)
+
+-- the text of why a machine isn&#x27;t added to a pool
+abbrev pub <b id="add_error_text">add_error_text</b> : AddError → List ℕ
+<a href="../../budget/Pool/index.html#add_error_text">add_error_text</a> NotEmpty = codes "tried to add a <a href="../../budget/Pool/index.html#machine">machine</a> that has or had <a href="../../budget/Pool/index.html#bytes">bytes</a> or <a href="../../budget/Pool/index.html#elements">elements</a>"
+<a href="../../budget/Pool/index.html#add_error_text">add_error_text</a> NoRoom = codes "out of memory for one more tenant"
+
+-- the text of why a pool makes no run
+abbrev pub <b id="pool_error_text">pool_error_text</b> : PoolError → List ℕ
+<a href="../../budget/Pool/index.html#pool_error_text">pool_error_text</a> NoTenant = codes "tried to run a tenant that is not in the pool"
+<a href="../../budget/Pool/index.html#pool_error_text">pool_error_text</a> OutOfMemory = codes "out of memory for the replies"
 </code></pre>
 "####]
     pub mod Pool {}
@@ -6079,26 +6058,6 @@ abbrev pub <b id="without_others">without_others</b> : Tenant → Tenant
 </code></pre>
 "####]
     pub mod Tenant {}
-    #[doc = r####"What the errors of pools print.
-
-<pre><code>use Rattle.std.specs.Prelude.{ℕ, List, codes}
-use Rattle.wasmi_budget.specs.declared.error.AddError.{AddError}
-use Rattle.wasmi_budget.specs.declared.error.AddError.TheVariants.{NotEmpty, NoRoom}
-use Rattle.wasmi_budget.specs.declared.error.PoolError.{PoolError}
-use Rattle.wasmi_budget.specs.declared.error.PoolError.TheVariants.{NoTenant, OutOfMemory}
-
--- the text of why a machine isn&#x27;t added to a pool
-abbrev pub <b id="add_error_text">add_error_text</b> : AddError → List ℕ
-<a href="../../budget/Texts/index.html#add_error_text">add_error_text</a> NotEmpty = codes "tried to add a machine that has or had bytes or elements"
-<a href="../../budget/Texts/index.html#add_error_text">add_error_text</a> NoRoom = codes "out of memory for one more tenant"
-
--- the text of why a pool makes no run
-abbrev pub <b id="pool_error_text">pool_error_text</b> : PoolError → List ℕ
-<a href="../../budget/Texts/index.html#pool_error_text">pool_error_text</a> NoTenant = codes "tried to run a tenant that is not in the pool"
-<a href="../../budget/Texts/index.html#pool_error_text">pool_error_text</a> OutOfMemory = codes "out of memory for the replies"
-</code></pre>
-"####]
-    pub mod Texts {}
 }
 /// Definitions of `wasmi_region`.
 pub mod region {

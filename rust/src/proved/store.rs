@@ -3,18 +3,14 @@ pub mod bulk {
     //! The bulk instructions on bytes, wherever these lie.
     //!
     //! Own: upstream's crate has none for memories. They are tested and charged as its calls on tables:
-    //! the bounds first, then the fuel. One that is refused writes no byte and takes no fuel.
+    //! the bounds first (`OutOfBoundsAccess`), then the fuel (`OutOfFuel`), also for no byte. One that is
+    //! refused writes no byte and takes no fuel.
 
     use crate::proved::meter::growth::charge;
     use crate::proved::meter::{Fuel, MemoryError};
     use crate::proved::store::range::{copy_range, fill_range, lies_within, write_range};
 
-    /// Fills `len` bytes from `dst` on with a value.
-    ///
-    /// Errors, in the order of the tests: `OutOfBoundsAccess` if they end past the bytes; `OutOfFuel`,
-    /// which is tested also if no byte is filled.
-    ///
-    /// Core specification, memory.fill.
+    /// Fills `len` bytes from `dst` on with a value (core specification, memory.fill).
     ///
     /// # Contract
     ///
@@ -45,12 +41,7 @@ pub mod bulk {
     }
 
     /// Copies `len` bytes from `src` on over those from `dst` on. If the ranges overlap, the old bytes
-    /// are copied.
-    ///
-    /// Errors, in the order of the tests: `OutOfBoundsAccess` if a range ends past the bytes;
-    /// `OutOfFuel`, which is tested also if no byte is copied.
-    ///
-    /// Core specification, memory.copy.
+    /// are copied (core specification, memory.copy).
     ///
     /// # Contract
     ///
@@ -79,12 +70,8 @@ pub mod bulk {
         Ok(())
     }
 
-    /// Copies `len` bytes of a source, from `src` on, over those from `dst` on.
-    ///
-    /// Errors, in the order of the tests: `OutOfBoundsAccess` if a range ends past its bytes;
-    /// `OutOfFuel`, which is tested also if no byte is copied.
-    ///
-    /// Core specification, memory.copy of two memories, memory.init.
+    /// Copies `len` bytes of a source, from `src` on, over those from `dst` on (core specification,
+    /// memory.copy of two memories, memory.init).
     ///
     /// # Contract
     ///
@@ -223,8 +210,8 @@ pub mod elements {
         Ok(())
     }
 
-    /// Copies `len` items of a segment, from `src` on, over the elements from `dst` on. Copying no items
-    /// costs no fuel.
+    /// Copies `len` items of a segment, from `src` on, over the elements from `dst` on. Copying no
+    /// items costs no fuel.
     ///
     /// # Contract
     ///
@@ -452,37 +439,79 @@ pub mod laws {
     #[inline]
     pub fn table_subtyping_is_transitive() {}
 }
-mod limits {
-    //! The limits of memory and table types.
-
-    /// Whether an optional maximum is no looser than another.
-    ///
-    /// # Contract
-    ///
-    /// ```text
-    /// ensures: IsTrue result ↔ IsNoLooser own other
-    /// ```
-    ///
-    /// Definitions: [`IsNoLooser`](crate::specs::store::Limits#IsNoLooser).
-    #[inline]
-    pub(crate) fn is_no_looser(own: Option<u64>, other: Option<u64>) -> bool {
-        match (own, other) {
-            (_, None) => true,
-            (None, Some(_)) => false,
-            (Some(maximum), Some(most)) => maximum <= most,
-        }
-    }
-}
 mod memory {
     //! Linear memories.
 
     mod buffer {
-        //! The bytes of a linear memory.
+        //! The bytes of a linear memory: its own, or the front of a borrowed region.
 
-        use super::region::Region;
         use crate::proved::meter::MemoryError;
         use crate::proved::store::range::fill_range;
         use crate::rattle::Vec;
+
+        mod sealed {
+            pub trait Sealed {}
+
+            impl<'r> Sealed for &'r mut [u8] {}
+        }
+
+        /// A borrowed buffer of bytes: a `&mut [u8]`, and nothing else.
+        ///
+        /// # Contract
+        ///
+        /// ```text
+        /// -- The buffer's bytes.
+        /// bytes: Self → List ℕ
+        /// -- The buffer after its front, up to an end, was overwritten.
+        /// refilled: Self → ℕ → List ℕ → Self
+        /// -- The bytes of a buffer whose front was overwritten.
+        /// refills: (r : Self) (end : ℕ) (ws : List ℕ)
+        ///     → bytes (refilled r end ws) ≡ refilled_front (bytes r) end ws
+        /// ```
+        ///
+        /// Definitions: [`refilled_front`](crate::specs::store::Buffer#refilled_front).
+        pub trait Region: sealed::Sealed {
+            /// All of its bytes.
+            ///
+            /// # Contract
+            ///
+            /// ```text
+            /// ensures: result.now ≡ bytes self.now
+            /// ```
+            fn whole(&self) -> &[u8];
+
+            /// Lends its front.
+            ///
+            /// # Contract
+            ///
+            /// ```text
+            /// requires: end ≤ length (bytes self.old)
+            /// ensures* writes_back: sem 𝓛
+            ///     (Lends Self.row (Array u8 0) self.entry result (refilled self.old end))
+            /// ensures value: result.now ≡ take end (bytes self.old)
+            /// ```
+            fn front_mut(&mut self, end: usize) -> &mut [u8];
+        }
+
+        /// # Contract
+        ///
+        /// ```text
+        /// bytes = λ r. r.now
+        /// refilled = region_refilled
+        /// ```
+        ///
+        /// Definitions: [`region_refilled`](crate::specs::store::Buffer#region_refilled).
+        impl<'r> Region for &'r mut [u8] {
+            #[inline]
+            fn whole(&self) -> &[u8] {
+                &self[..]
+            }
+
+            #[inline]
+            fn front_mut(&mut self, end: usize) -> &mut [u8] {
+                &mut self[..end]
+            }
+        }
 
         /// A block of bytes; a buffer's bytes are the first of it. Both forms begin with their pointer, so
         /// that an access to a buffer doesn't depend on the form.
@@ -500,7 +529,7 @@ mod memory {
             /// ensures value: result.now ≡ take end (block R.bytes self.now)
             /// ```
             ///
-            /// Definitions: [`block`](crate::specs::store::Storage#block).
+            /// Definitions: [`block`](crate::specs::store::Buffer#block).
             #[inline]
             fn front(&self, end: usize) -> &[u8] {
                 let whole = match self {
@@ -519,7 +548,7 @@ mod memory {
             /// ensures value: result.now ≡ take end (block R.bytes self.old)
             /// ```
             ///
-            /// Definitions: [`block`](crate::specs::store::Storage#block), [`block_refilled`](crate::specs::store::Storage#block_refilled).
+            /// Definitions: [`block`](crate::specs::store::Buffer#block), [`block_refilled`](crate::specs::store::Buffer#block_refilled).
             #[inline]
             fn front_mut(&mut self, end: usize) -> &mut [u8] {
                 match self {
@@ -540,7 +569,7 @@ mod memory {
         /// invariant = λ b. EndsWithin R.bytes b.storage b.len
         /// ```
         ///
-        /// Definitions: [`BufferValue`](crate::specs::store::Buffer#BufferValue), [`view_of`](crate::specs::store::Storage#view_of), [`EndsWithin`](crate::specs::store::Storage#EndsWithin).
+        /// Definitions: [`BufferValue`](crate::specs::store::Buffer#BufferValue), [`view_of`](crate::specs::store::Buffer#view_of), [`EndsWithin`](crate::specs::store::Buffer#EndsWithin).
         #[derive(Debug)]
         pub struct Buffer<R: Region> {
             storage: Storage<R>,
@@ -714,78 +743,10 @@ mod memory {
             }
         }
     }
-    mod region {
-        //! A borrowed buffer of bytes, whose front can be lent.
-
-        mod sealed {
-            pub trait Sealed {}
-
-            impl<'r> Sealed for &'r mut [u8] {}
-        }
-
-        /// A borrowed buffer of bytes: a `&mut [u8]`, and nothing else.
-        ///
-        /// # Contract
-        ///
-        /// ```text
-        /// -- The buffer's bytes.
-        /// bytes: Self → List ℕ
-        /// -- The buffer after its front, up to an end, was overwritten.
-        /// refilled: Self → ℕ → List ℕ → Self
-        /// -- The bytes of a buffer whose front was overwritten.
-        /// refills: (r : Self) (end : ℕ) (ws : List ℕ)
-        ///     → bytes (refilled r end ws) ≡ refilled_front (bytes r) end ws
-        /// ```
-        ///
-        /// Definitions: [`refilled_front`](crate::specs::store::Front#refilled_front).
-        pub trait Region: sealed::Sealed {
-            /// All of its bytes.
-            ///
-            /// # Contract
-            ///
-            /// ```text
-            /// ensures: result.now ≡ bytes self.now
-            /// ```
-            fn whole(&self) -> &[u8];
-
-            /// Lends its front.
-            ///
-            /// # Contract
-            ///
-            /// ```text
-            /// requires: end ≤ length (bytes self.old)
-            /// ensures* writes_back: sem 𝓛
-            ///     (Lends Self.row (Array u8 0) self.entry result (refilled self.old end))
-            /// ensures value: result.now ≡ take end (bytes self.old)
-            /// ```
-            fn front_mut(&mut self, end: usize) -> &mut [u8];
-        }
-
-        /// # Contract
-        ///
-        /// ```text
-        /// bytes = λ r. r.now
-        /// refilled = region_refilled
-        /// ```
-        ///
-        /// Definitions: [`region_refilled`](crate::specs::store::Front#region_refilled).
-        impl<'r> Region for &'r mut [u8] {
-            #[inline]
-            fn whole(&self) -> &[u8] {
-                &self[..]
-            }
-
-            #[inline]
-            fn front_mut(&mut self, end: usize) -> &mut [u8] {
-                &mut self[..end]
-            }
-        }
-    }
     mod ty {
         //! The types of linear memories.
 
         use crate::proved::meter::MemoryError;
-        use crate::proved::store::limits::is_no_looser;
         use crate::proved::types::IndexType;
 
         /// A page has one byte or 64 KiB.
@@ -1132,6 +1093,24 @@ mod memory {
             }
         }
 
+        /// Whether an optional maximum is no looser than another.
+        ///
+        /// # Contract
+        ///
+        /// ```text
+        /// ensures: IsTrue result ↔ IsNoLooser own other
+        /// ```
+        ///
+        /// Definitions: [`IsNoLooser`](crate::specs::store::Limits#IsNoLooser).
+        #[inline]
+        pub(crate) fn is_no_looser(own: Option<u64>, other: Option<u64>) -> bool {
+            match (own, other) {
+                (_, None) => true,
+                (None, Some(_)) => false,
+                (Some(maximum), Some(most)) => maximum <= most,
+            }
+        }
+
         /// Builds a [`MemoryType`] step by step.
         ///
         /// Upstream: `wasmi_core::MemoryTypeBuilder`.
@@ -1276,10 +1255,10 @@ mod memory {
     use crate::proved::meter::{Fuel, MemoryError, ResourceLimiter, ResourceLimiterRef};
     use crate::proved::store::bulk::{copy_bytes, copy_bytes_within, fill_bytes};
     use crate::proved::store::growth::{MEMORY_DENIED as DENIED, decide_growth, permitted_minimum};
-    use crate::proved::store::optional_meter::with_meter;
     use crate::proved::store::range::{read_bytes, write_bytes};
-    pub use buffer::{Buffer, ByteBuffer};
-    pub use region::Region;
+    use crate::proved::store::with_meter;
+    pub use buffer::{Buffer, ByteBuffer, Region};
+    pub(crate) use ty::is_no_looser;
     pub use ty::{MemoryType, MemoryTypeBuilder};
 
     /// A linear memory. Its name in signatures is [`Memory`].
@@ -1546,8 +1525,6 @@ mod memory {
 
         /// As `grow`, with a meter that isn't optional.
         ///
-        /// Own: upstream's `grow` takes an optional meter.
-        ///
         /// # Contract
         ///
         /// ```text
@@ -1584,8 +1561,6 @@ mod memory {
 
         /// As `grow_metered`, but borrows the limiter for this call alone, so that its state afterwards
         /// is known.
-        ///
-        /// Own.
         ///
         /// # Contract
         ///
@@ -1646,10 +1621,9 @@ mod memory {
         ///
         /// Errors, in the order of the tests: `OutOfBoundsAccess` if they end past the memory;
         /// `OutOfFuel`, which is tested also if no byte is filled. Then no byte is written, and no fuel
-        /// taken.
+        /// taken. It is charged as a table's `fill`, by the bytes.
         ///
-        /// Core specification, memory.fill. Own: upstream's memories have no bulk instructions. This
-        /// one is charged as a table's `fill`, by the bytes.
+        /// Core specification, memory.fill.
         ///
         /// # Contract
         ///
@@ -1696,14 +1670,9 @@ mod memory {
         }
 
         /// Copies `len` bytes from `src` on over those from `dst` on. If the ranges overlap, the old
-        /// bytes are copied.
+        /// bytes are copied. The errors are those of `fill`, if a range ends past the memory.
         ///
-        /// Errors, in the order of the tests: `OutOfBoundsAccess` if a range ends past the memory;
-        /// `OutOfFuel`, which is tested also if no byte is copied. Then no byte is written, and no fuel
-        /// taken.
-        ///
-        /// Core specification, memory.copy within a memory. Own: upstream's memories have no bulk
-        /// instructions.
+        /// Core specification, memory.copy within a memory.
         ///
         /// # Contract
         ///
@@ -1750,14 +1719,9 @@ mod memory {
         }
 
         /// Copies `len` bytes of another memory, from `src` on, over the bytes of a memory from `dst`
-        /// on.
+        /// on. The errors are those of `fill`, if a range ends past its memory.
         ///
-        /// Errors, in the order of the tests: `OutOfBoundsAccess` if a range ends past its memory;
-        /// `OutOfFuel`, which is tested also if no byte is copied. Then no byte is written, and no fuel
-        /// taken.
-        ///
-        /// Core specification, memory.copy of two memories. Own: upstream's memories have no bulk
-        /// instructions.
+        /// Core specification, memory.copy of two memories.
         ///
         /// # Contract
         ///
@@ -1814,13 +1778,10 @@ mod memory {
         }
 
         /// Copies `len` bytes of a data segment, from `src` on, over the bytes from `dst` on. A segment
-        /// that was dropped has no bytes.
+        /// that was dropped has no bytes. The errors are those of `fill`, if a range ends past the
+        /// segment or the memory.
         ///
-        /// Errors, in the order of the tests: `OutOfBoundsAccess` if a range ends past the segment or
-        /// the memory; `OutOfFuel`, which is tested also if no byte is copied. Then no byte is written,
-        /// and no fuel taken.
-        ///
-        /// Core specification, memory.init. Own: upstream's memories have no bulk instructions.
+        /// Core specification, memory.init.
         ///
         /// # Contract
         ///
@@ -1869,29 +1830,6 @@ mod memory {
             copy_bytes(self.buffer.data_mut(), dst, segment, src, len, fuel)
         }
     }
-}
-mod optional_meter {
-    //! Calls that take an optional meter.
-
-    /// Makes a call with the meter of an option, or, if there is none, with one that is off. The call
-    /// is of a function whose name ends in `_metered`, which takes a meter that isn't optional.
-    ///
-    /// This is a macro because the prover knows what is left in the meter where the option is matched,
-    /// and not where the option is passed on.
-    macro_rules! with_meter {
-        ($fuel:ident => $call:expr) => {
-            match $fuel {
-                Some($fuel) => $call,
-                None => {
-                    let mut off = Fuel::unmetered();
-                    let $fuel = &mut off;
-                    $call
-                }
-            }
-        };
-    }
-
-    pub(crate) use with_meter;
 }
 pub mod range {
     //! Ranges of lists: whether one lies within its list, and how one is read and written over.
@@ -2377,7 +2315,7 @@ mod table {
         //! The types of tables.
 
         use crate::proved::meter::TableError;
-        use crate::proved::store::limits::is_no_looser;
+        use crate::proved::store::memory::is_no_looser;
         use crate::proved::types::{IndexType, RefType};
 
         /// The type of a table: its index type, the type of its elements, and its minimum and optional
@@ -2670,7 +2608,7 @@ mod table {
         copy_elements, copy_elements_within, fill_elements, init_elements,
     };
     use crate::proved::store::growth::TABLE_DENIED as DENIED;
-    use crate::proved::store::optional_meter::with_meter;
+    use crate::proved::store::with_meter;
     use crate::proved::typed::TypedRawRef;
     pub use element::{ElementSegment, ElementSegmentRef, SegmentError};
     pub use ty::TableType;
@@ -2840,8 +2778,6 @@ mod table {
 
         /// As `grow`, with a meter that isn't optional.
         ///
-        /// Own: upstream's `grow` takes an optional meter.
-        ///
         /// # Contract
         ///
         /// ```text
@@ -2866,8 +2802,6 @@ mod table {
 
         /// As `grow_metered`, but borrows the limiter for this call alone, so that its state afterwards
         /// is known.
-        ///
-        /// Own.
         ///
         /// # Contract
         ///
@@ -2968,8 +2902,6 @@ mod table {
 
         /// As `grow_raw` with a meter that isn't optional, but borrows the limiter for this call alone,
         /// so that its state afterwards is known.
-        ///
-        /// Own.
         ///
         /// # Contract
         ///
@@ -3073,8 +3005,6 @@ mod table {
 
         /// As `init`, with a meter that isn't optional.
         ///
-        /// Own: upstream's `init` takes an optional meter.
-        ///
         /// # Contract
         ///
         /// ```text
@@ -3125,8 +3055,6 @@ mod table {
         }
 
         /// As `copy`, with a meter that isn't optional.
-        ///
-        /// Own: upstream's `copy` takes an optional meter.
         ///
         /// # Contract
         ///
@@ -3188,8 +3116,6 @@ mod table {
 
         /// As `copy_within`, with a meter that isn't optional.
         ///
-        /// Own: upstream's `copy_within` takes an optional meter.
-        ///
         /// # Contract
         ///
         /// ```text
@@ -3233,8 +3159,6 @@ mod table {
         }
 
         /// As `fill`, with a meter that isn't optional.
-        ///
-        /// Own: upstream's `fill` takes an optional meter.
         ///
         /// # Contract
         ///
@@ -3318,3 +3242,23 @@ mod table {
 
 pub use memory::{Buffer, ByteBuffer, LinearMemory, Memory, MemoryType, MemoryTypeBuilder, Region};
 pub use table::{ElementSegment, ElementSegmentRef, SegmentError, Table, TableType};
+
+/// Makes a call with the meter of an option, or, if there is none, with one that is off. The call
+/// is of a function whose name ends in `_metered`, which takes a meter that isn't optional.
+///
+/// This is a macro because the prover knows what is left in the meter where the option is matched,
+/// and not where the option is passed on.
+macro_rules! with_meter {
+    ($fuel:ident => $call:expr) => {
+        match $fuel {
+            Some($fuel) => $call,
+            None => {
+                let mut off = Fuel::unmetered();
+                let $fuel = &mut off;
+                $call
+            }
+        }
+    };
+}
+
+pub(crate) use with_meter;

@@ -1,12 +1,14 @@
 //! Runs under a limiter of one's own that reserves, under one that answers by random numbers, and
-//! runs that find no memory.
+//! runs that find no memory; and what a pool of tenants refuses (`wasmi_script_tests` has scripts of
+//! tenants).
 ghost use Rattle.std.specs.Prelude.{◌≡◌};
 ghost use Rattle.wasmi_meter.specs.Holdings.{Reserves, GivesBack};
 ghost use Rattle.wasmi_meter.specs.Limiter.{kind_of};
 
-use super::{func, memory_type, meter, metered, runs_to, same};
+use super::{func, memory_type, meter, metered, runs_to, same, unmetered};
 use std::alloc::AllocGlobal;
 use std::process::Abort;
+use wasmi_budget::{AddError, Pool};
 use wasmi_core::{
     Call, Kind, LimiterByKind, LimiterError, Machine, MemoryError, RefType, Reply, Reserving,
     TableType, run_lending, run_reserving,
@@ -256,4 +258,22 @@ fn a_run_without_room_does_nothing(rt: HostRuntime) {
     same(&rt, "the fuel", machine.fuel().get_fuel(), Ok(fuel));
     same(&rt, "the bytes", machine.total_bytes(), bytes);
     drop(machine);
+}
+
+#[test]
+fn a_machine_that_dropped_a_memory_comes_back(rt: HostRuntime) {
+    let mut used = unmetered(rt.alloc());
+    let calls = [
+        Call::NewMemory(memory_type(&rt, 1, 16)),
+        Call::DropMemory(0),
+    ];
+    runs_to(&rt, &mut used, &calls, &[Reply::Made(0), Reply::Done]);
+    let mut pool = Pool::new(rt.alloc(), 131072, 0);
+    match pool.add(used) {
+        Ok(index) => same(&rt, "an index", Some(index), None),
+        Err((error, back)) => {
+            same(&rt, "the refusal", error, AddError::NotEmpty);
+            same(&rt, "its bytes", back.total_bytes(), 65536);
+        }
+    }
 }

@@ -1,12 +1,59 @@
-//! The bytes of a linear memory.
-ghost use Rattle.std.specs.Prelude.{◌≡◌, ◌≤◌, ◌<◌, length, take, drop, IfOk, IfErr, IsOk, ◌↔◌, ◌-◌, OnOk, OnErr, true, false};
+//! The bytes of a linear memory: its own, or the front of a borrowed region.
+ghost use Rattle.std.specs.Prelude.{◌≡◌, ◌≤◌, ◌<◌, ℕ, List, length, take, drop, IfOk, IfErr, IsOk, ◌↔◌, ◌-◌, OnOk, OnErr, true, false};
+ghost use Rattle.std.proofs.Common.{refl};
 ghost use Rattle.std.specs.Borrow.{sem, Lends, Array, u8};
+ghost use Rattle.wasmi_store.specs.Buffer.{refilled_front, region_refilled};
 
-use super::region::Region;
 use crate::range::fill_range;
 use std::alloc::Global;
 use std::marker::Model;
 use wasmi_meter::MemoryError;
+
+mod sealed {
+    pub trait Sealed {}
+
+    impl<'r> Sealed for &'r mut [u8] {}
+}
+
+/// A borrowed buffer of bytes: a `&mut [u8]`, and nothing else.
+pub trait Region: sealed::Sealed {
+    /// The buffer's bytes.
+    ghost bytes: { Self → List ℕ };
+
+    /// The buffer after its front, up to an end, was overwritten.
+    ghost refilled: { Self → ℕ → List ℕ → Self };
+
+    /// All of its bytes.
+    fn whole(&self) -> &[u8]
+        ensures { result.now ≡ bytes self.now };
+
+    /// Lends its front.
+    fn front_mut(&mut self, end: usize) -> &mut [u8]
+        requires { end ≤ length (bytes self.old) }
+        ensures* writes_back { sem 𝓛
+            (Lends Self.row (Array u8 0) self.entry result (refilled self.old end)) }
+        ensures value { result.now ≡ take end (bytes self.old) };
+
+    /// The bytes of a buffer whose front was overwritten.
+    ghost refills: { (r : Self) (end : ℕ) (ws : List ℕ)
+        → bytes (refilled r end ws) ≡ refilled_front (bytes r) end ws };
+}
+
+impl<'r> Region for &'r mut [u8] {
+    ghost bytes = { λ r. r.now };
+
+    ghost refilled = { region_refilled };
+
+    ghost refills = { λ r end ws. refl };
+
+    fn whole(&self) -> &[u8] {
+        &self[..]
+    }
+
+    fn front_mut(&mut self, end: usize) -> &mut [u8] {
+        &mut self[..end]
+    }
+}
 
 /// A block of bytes; a buffer's bytes are the first of it. Both forms begin with their pointer, so
 /// that an access to a buffer doesn't depend on the form.
@@ -17,7 +64,7 @@ enum Storage<R: Region> {
 }
 
 impl<R: Region> Storage<R> {
-    ghost use Rattle.wasmi_store.specs.Storage.{block, block_refilled};
+    ghost use Rattle.wasmi_store.specs.Buffer.{block, block_refilled};
     ghost use Rattle.wasmi_store.specs.contracts.memory.buffer.Storage.{the_row};
 
     fn front(&self, end: usize) -> &[u8]
@@ -53,8 +100,7 @@ pub struct Buffer<R: Region> {
 }
 
 impl<R: Region> Model for Buffer<R> {
-    ghost use Rattle.wasmi_store.specs.Buffer.{BufferValue};
-    ghost use Rattle.wasmi_store.specs.Storage.{view_of, EndsWithin};
+    ghost use Rattle.wasmi_store.specs.Buffer.{BufferValue, view_of, EndsWithin};
 
     ghost Value = { BufferValue };
 

@@ -1,9 +1,9 @@
 //! The types of linear memories.
 ghost use Rattle.std.specs.Prelude.{◌≡◌, ◌+◌, ◌-◌, ◌*◌, ◌/◌, ◌%◌, ◌^◌, ◌≤◌, ◌<◌, ◌↔◌, ℕ, Option, Some, None, IsTrue, true, false, MatchOption, MatchResult, IsSomeAnd, nat_lt, if◌then◌else◌, min};
 ghost use Rattle.wasmi_types.specs.IndexType.{address_bits};
+ghost use Rattle.wasmi_store.specs.Limits.{IsNoLooser};
 ghost use Rattle.wasmi_store.specs.MemoryType.{page_bytes};
 
-use crate::limits::is_no_looser;
 use std::marker::Model;
 use wasmi_meter::MemoryError;
 use wasmi_types::IndexType;
@@ -220,6 +220,17 @@ fn most_pages(index: IndexType, page: PageSize) -> u64
         (IndexType::I32, PageSize::Wasm) => 1 << 16,
         (IndexType::I64, PageSize::Byte) => u64::MAX,
         (IndexType::I64, PageSize::Wasm) => 1 << 48,
+    }
+}
+
+/// Whether an optional maximum is no looser than another.
+pub(crate) fn is_no_looser(own: Option<u64>, other: Option<u64>) -> bool
+    ensures { IsTrue result ↔ IsNoLooser own other }
+{
+    match (own, other) {
+        (_, None) => true,
+        (None, Some(_)) => false,
+        (Some(maximum), Some(most)) => maximum <= most,
     }
 }
 

@@ -2,7 +2,7 @@
 ghost use Rattle.std.specs.Prelude.{◌≡◌, ◌≤◌, ◌+◌, ◌-◌, ◌^◌, ◌↔◌, IfSome, IsTrue, true, false, MatchOption, MatchResult};
 ghost use Rattle.wasmi_types.specs.IndexType.{address_bits};
 
-use crate::limits::is_no_looser;
+use crate::memory::is_no_looser;
 use std::marker::Model;
 use wasmi_meter::TableError;
 use wasmi_types::{IndexType, RefType};

@@ -1,4 +1,5 @@
-//! Tables: their types, and how they grow, are filled, copied and initialized.
+//! Tables: their types, and how they grow, are filled, copied and initialized; element segments,
+//! and the iterators that they are read of.
 use super::recorder::{COMPLAINT, Failure, Recorder, same_record, table_question};
 use super::{
     SUBTYPES, external, five_functions, func, metered, metered_at, same, same_elements, table_of,
@@ -163,4 +164,42 @@ fn charges_for_no_element(rt: HostRuntime) {
     let expected = [Ok(()), Err(out_of_fuel)];
     same(&rt, "an initialization, a copy", answers, expected);
     same(&rt, "the fuel", meter.get_fuel(), Ok(10));
+}
+
+/// Gives two references, then `None` once, then references without end.
+#[derive(Drop)]
+struct Wavering {
+    calls: u32,
+}
+
+impl Iterator for Wavering {
+    type Item = RawRef;
+
+    fn next(&mut self) -> Option<RawRef> {
+        let call = self.calls;
+        self.calls = call.saturating_add(1);
+        if call == 2 {
+            return None;
+        }
+        Some(RawRef::from(call))
+    }
+}
+
+#[test]
+fn ends_at_the_first_none(rt: HostRuntime) {
+    let mut items = Wavering { calls: 0 };
+    let read = ElementSegment::read(rt.alloc(), RefType::Func, &mut items);
+    let segment = read.expect(&rt, "a segment");
+    let expected = [RawRef::from(0), RawRef::from(1)];
+    same(&rt, "the items", segment.items(), expected.as_slice());
+    let rest = Wavering { calls: 1 };
+    let again = ElementSegment::new(rt.alloc(), RefType::Extern, rest).expect(&rt, "a segment");
+    let answer = (items.calls, again.size(), again.ty());
+    let expected = (3, 1, RefType::Extern);
+    same(
+        &rt,
+        "the calls, the second's size and type",
+        answer,
+        expected,
+    );
 }

@@ -2,9 +2,11 @@
 
 mod limiters {
     //! Runs under a limiter of one's own that reserves, under one that answers by random numbers, and
-    //! runs that find no memory.
+    //! runs that find no memory; and what a pool of tenants refuses (`wasmi_script_tests` has scripts of
+    //! tenants).
 
-    use super::{func, memory_type, meter, metered, runs_to, same};
+    use super::{func, memory_type, meter, metered, runs_to, same, unmetered};
+    use crate::proved::budget::{AddError, Pool};
     use crate::proved::machine::{
         Call, Kind, LimiterByKind, LimiterError, Machine, MemoryError, RefType, Reply, Reserving,
         TableType, run_lending, run_reserving,
@@ -235,12 +237,6 @@ mod limiters {
         same("the bytes", machine.total_bytes(), bytes);
         drop(machine);
     }
-}
-mod pools {
-    //! Pools of tenants; `wasmi_script_tests` has scripts of tenants.
-    use super::{memory_type, runs_to, same, unmetered};
-    use crate::proved::budget::{AddError, Pool};
-    use crate::proved::machine::{Call, Reply};
 
     #[test]
     fn a_machine_that_dropped_a_memory_comes_back() {

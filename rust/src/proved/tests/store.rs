@@ -1,89 +1,4 @@
 //! What the tests share: comparisons, types, meters, and memories and tables.
-mod buffers {
-    //! Buffers of bytes, and what the lender of a region finds in it after the loan.
-    use super::same;
-    use crate::proved::meter::MemoryError;
-    use crate::proved::store::ByteBuffer;
-
-    #[test]
-    fn test_basic_allocation_deallocation() {
-        let buffer = ByteBuffer::new(10).expect("a buffer");
-        same("length", buffer.len(), 10);
-    }
-
-    #[test]
-    fn test_basic_data_manipulation() {
-        let mut buffer = ByteBuffer::new(10).expect("a buffer");
-        same("zeros", buffer.data(), [0; 10].as_slice());
-        buffer.data_mut()[4] = 4;
-        let written = [0, 0, 0, 0, 4, 0, 0, 0, 0, 0];
-        same("a byte written", buffer.data(), written.as_slice());
-    }
-
-    #[test]
-    fn test_growing_buffer() {
-        let mut buffer = ByteBuffer::new(5).expect("a buffer");
-        buffer.grow(10).expect("ten");
-        same("zeros", buffer.data(), [0; 10].as_slice());
-    }
-
-    #[test]
-    fn out_of_memory_works() {
-        let refused = Err(MemoryError::OutOfSystemMemory);
-        let mut buffer = ByteBuffer::new(0).expect("a buffer");
-        let from_no_byte = buffer.grow(usize::MAX);
-        assert!(buffer.len() == 0);
-        buffer.grow(1).expect("one");
-        let answers = [from_no_byte, buffer.grow(usize::MAX)];
-        same("from no byte, from one", answers, [refused; 2]);
-        same("one byte", buffer.data(), [0].as_slice());
-    }
-
-    #[test]
-    fn test_growing_static() {
-        let mut region = [7; 10];
-        let mut buffer = ByteBuffer::new_static(&mut region, 5).expect("a buffer");
-        same("five", buffer.data(), [0; 5].as_slice());
-        buffer.grow(8).expect("eight");
-        same("eight", buffer.data(), [0; 8].as_slice());
-        buffer.grow(10).expect("ten");
-        same("ten", buffer.data(), [0; 10].as_slice());
-    }
-
-    #[test]
-    fn test_static_buffer_overflow() {
-        let mut region = [7; 5];
-        let mut buffer = ByteBuffer::new_static(&mut region, 5).expect("a buffer");
-        same(
-            "ten of five",
-            buffer.grow(10),
-            Err(MemoryError::InvalidStaticBufferSize),
-        );
-        same("five", buffer.data(), [0; 5].as_slice());
-    }
-
-    #[test]
-    fn test_static_buffer_initialization() {
-        let mut region = [7; 10];
-        let mut buffer = ByteBuffer::new_static(&mut region, 5).expect("a buffer");
-        same("length", buffer.len(), 5);
-        buffer.data_mut()[0] = 1;
-        drop(buffer);
-        let found = [1, 0, 0, 0, 0, 7, 7, 7, 7, 7];
-        same("the lender's bytes", region, found);
-    }
-
-    #[test]
-    fn only_a_shorter_region_has_no_room() {
-        let mut region = [7; 10];
-        let lent = ByteBuffer::new_static(&mut region, 5).expect("a buffer");
-        let owned = ByteBuffer::new(5).expect("a buffer");
-        for size in [0, 5, 10, 11, usize::MAX] {
-            let rooms = (size, lent.has_room(size), owned.has_room(size));
-            same("room", rooms, (size, size <= 10, true));
-        }
-    }
-}
 mod fuel {
     //! Costs, and meters that are off.
 
@@ -229,12 +144,14 @@ mod limiters {
     }
 }
 mod memories {
-    //! Linear memories: their types, and how they are made, grow, are read and are written.
+    //! Linear memories and their buffers: types, and how they are made, grow, are read and are written;
+    //! what the lender of a region finds in it after the loan.
     use super::recorder::{COMPLAINT, Failure, Recorder, memory_question, same_record};
     use super::{
         SUBTYPES, ample_memory, build_type, grow, lent_memory, metered, new_memory, page_type, same,
     };
     use crate::proved::meter::{LimiterError, MemoryError, NoLimits, Quota, ResourceLimiter};
+    use crate::proved::store::ByteBuffer;
 
     const DENIED: MemoryError = MemoryError::ResourceLimiterDeniedAllocation;
 
@@ -412,6 +329,85 @@ mod memories {
         let expected = (Some(MemoryError::InvalidStaticBufferSize), [7; 4]);
         same("the error, the bytes", (made, region), expected);
     }
+
+    #[test]
+    fn test_basic_allocation_deallocation() {
+        let buffer = ByteBuffer::new(10).expect("a buffer");
+        same("length", buffer.len(), 10);
+    }
+
+    #[test]
+    fn test_basic_data_manipulation() {
+        let mut buffer = ByteBuffer::new(10).expect("a buffer");
+        same("zeros", buffer.data(), [0; 10].as_slice());
+        buffer.data_mut()[4] = 4;
+        let written = [0, 0, 0, 0, 4, 0, 0, 0, 0, 0];
+        same("a byte written", buffer.data(), written.as_slice());
+    }
+
+    #[test]
+    fn test_growing_buffer() {
+        let mut buffer = ByteBuffer::new(5).expect("a buffer");
+        buffer.grow(10).expect("ten");
+        same("zeros", buffer.data(), [0; 10].as_slice());
+    }
+
+    #[test]
+    fn out_of_memory_works() {
+        let refused = Err(MemoryError::OutOfSystemMemory);
+        let mut buffer = ByteBuffer::new(0).expect("a buffer");
+        let from_no_byte = buffer.grow(usize::MAX);
+        assert!(buffer.len() == 0);
+        buffer.grow(1).expect("one");
+        let answers = [from_no_byte, buffer.grow(usize::MAX)];
+        same("from no byte, from one", answers, [refused; 2]);
+        same("one byte", buffer.data(), [0].as_slice());
+    }
+
+    #[test]
+    fn test_growing_static() {
+        let mut region = [7; 10];
+        let mut buffer = ByteBuffer::new_static(&mut region, 5).expect("a buffer");
+        same("five", buffer.data(), [0; 5].as_slice());
+        buffer.grow(8).expect("eight");
+        same("eight", buffer.data(), [0; 8].as_slice());
+        buffer.grow(10).expect("ten");
+        same("ten", buffer.data(), [0; 10].as_slice());
+    }
+
+    #[test]
+    fn test_static_buffer_overflow() {
+        let mut region = [7; 5];
+        let mut buffer = ByteBuffer::new_static(&mut region, 5).expect("a buffer");
+        same(
+            "ten of five",
+            buffer.grow(10),
+            Err(MemoryError::InvalidStaticBufferSize),
+        );
+        same("five", buffer.data(), [0; 5].as_slice());
+    }
+
+    #[test]
+    fn test_static_buffer_initialization() {
+        let mut region = [7; 10];
+        let mut buffer = ByteBuffer::new_static(&mut region, 5).expect("a buffer");
+        same("length", buffer.len(), 5);
+        buffer.data_mut()[0] = 1;
+        drop(buffer);
+        let found = [1, 0, 0, 0, 0, 7, 7, 7, 7, 7];
+        same("the lender's bytes", region, found);
+    }
+
+    #[test]
+    fn only_a_shorter_region_has_no_room() {
+        let mut region = [7; 10];
+        let lent = ByteBuffer::new_static(&mut region, 5).expect("a buffer");
+        let owned = ByteBuffer::new(5).expect("a buffer");
+        for size in [0, 5, 10, 11, usize::MAX] {
+            let rooms = (size, lent.has_room(size), owned.has_room(size));
+            same("room", rooms, (size, size <= 10, true));
+        }
+    }
 }
 mod recorder {
     //! A limiter that remembers.
@@ -557,47 +553,9 @@ mod recorder {
         same(what, last, (question, notice));
     }
 }
-mod segments {
-    //! Element segments, and the iterators that they are read of.
-    use super::same;
-    use crate::proved::raw::RawRef;
-    use crate::proved::store::ElementSegment;
-    use crate::proved::types::RefType;
-
-    /// Gives two references, then `None` once, then references without end.
-    struct Wavering {
-        calls: u32,
-    }
-
-    impl Iterator for Wavering {
-        type Item = RawRef;
-
-        fn next(&mut self) -> Option<RawRef> {
-            let call = self.calls;
-            self.calls = call.saturating_add(1);
-            if call == 2 {
-                return None;
-            }
-            Some(RawRef::from(call))
-        }
-    }
-
-    #[test]
-    fn ends_at_the_first_none() {
-        let mut items = Wavering { calls: 0 };
-        let read = ElementSegment::read(RefType::Func, &mut items);
-        let segment = read.expect("a segment");
-        let expected = [RawRef::from(0), RawRef::from(1)];
-        same("the items", segment.items(), expected.as_slice());
-        let rest = Wavering { calls: 1 };
-        let again = ElementSegment::new(RefType::Extern, rest).expect("a segment");
-        let answer = (items.calls, again.size(), again.ty());
-        let expected = (3, 1, RefType::Extern);
-        same("the calls, the second's size and type", answer, expected);
-    }
-}
 mod tables {
-    //! Tables: their types, and how they grow, are filled, copied and initialized.
+    //! Tables: their types, and how they grow, are filled, copied and initialized; element segments,
+    //! and the iterators that they are read of.
     use super::recorder::{COMPLAINT, Failure, Recorder, same_record, table_question};
     use super::{
         SUBTYPES, external, five_functions, func, metered, metered_at, same, same_elements,
@@ -755,6 +713,38 @@ mod tables {
         let expected = [Ok(()), Err(out_of_fuel)];
         same("an initialization, a copy", answers, expected);
         same("the fuel", meter.get_fuel(), Ok(10));
+    }
+
+    /// Gives two references, then `None` once, then references without end.
+    struct Wavering {
+        calls: u32,
+    }
+
+    impl Iterator for Wavering {
+        type Item = RawRef;
+
+        fn next(&mut self) -> Option<RawRef> {
+            let call = self.calls;
+            self.calls = call.saturating_add(1);
+            if call == 2 {
+                return None;
+            }
+            Some(RawRef::from(call))
+        }
+    }
+
+    #[test]
+    fn ends_at_the_first_none() {
+        let mut items = Wavering { calls: 0 };
+        let read = ElementSegment::read(RefType::Func, &mut items);
+        let segment = read.expect("a segment");
+        let expected = [RawRef::from(0), RawRef::from(1)];
+        same("the items", segment.items(), expected.as_slice());
+        let rest = Wavering { calls: 1 };
+        let again = ElementSegment::new(RefType::Extern, rest).expect("a segment");
+        let answer = (items.calls, again.size(), again.ty());
+        let expected = (3, 1, RefType::Extern);
+        same("the calls, the second's size and type", answer, expected);
     }
 }
 

@@ -3,7 +3,7 @@ use Rattle.wasmi_meter.specs.Meter.{Meter}
 use Rattle.wasmi_store.specs.Table.{TableValue, copy_of}
 use Rattle.wasmi_core.specs.declared.slots.Slot.{Slot}
 use Rattle.wasmi_core.specs.declared.tables.CopyRange.{CopyRange}
-use Rattle.wasmi_core.proofs.CopyLemmas.{Copying, copies_backward, copies_forward}
+use Rattle.wasmi_core.proofs.TotalLemmas.{Copying, copies_backward, copies_forward}
 use Rattle.wasmi_core.proofs.tables.copy_to_other.Goals as goal
 
 -- the copy of a range

@@ -2,7 +2,7 @@ use Rattle.std.proofs.Common.{ap, subst, ◌∙◌}
 use Rattle.std.specs.Iterator.Adapters.{copied_source}
 use Rattle.std.specs.Slice.Iter.{iter_rest}
 use Rattle.wasmi_core.specs.ValueEffects.{IsSegmentOf}
-use Rattle.wasmi_core.proofs.SegmentLemmas.{first_copied, last_copied, segment_read}
+use Rattle.wasmi_core.proofs.ValueEffectsLemmas.{first_copied, last_copied, segment_read}
 use Rattle.wasmi_core.proofs.values.segment.Goals as goal
 
 pub returns : goal.returns

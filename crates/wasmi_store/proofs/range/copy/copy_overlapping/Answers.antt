@@ -1,5 +1,5 @@
 use Rattle.std.proofs.Common.{◌+◌, ◌≤◌, ◌∙◌, arith}
-use Rattle.wasmi_store.proofs.CopyLemmas.{copied_down, copied_up}
+use Rattle.wasmi_store.proofs.WriteLemmas.{copied_down, copied_up}
 use Rattle.wasmi_store.proofs.range.copy.copy_overlapping.Goals as goal
 
 pub loop-done-preserved : goal.loop-done-preserved

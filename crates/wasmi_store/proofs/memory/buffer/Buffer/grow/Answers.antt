@@ -1,6 +1,5 @@
 use Rattle.std.proofs.Common.{◌≡◌, ◌≤◌, ◌-◌, subst, sym, length, true}
-use Rattle.wasmi_store.specs.Storage.{view_of, EndsWithin}
-use Rattle.wasmi_store.specs.Buffer.{fits_room}
+use Rattle.wasmi_store.specs.Buffer.{view_of, EndsWithin, fits_room}
 use Rattle.wasmi_store.proofs.BufferLemmas.{owned_grows, lent_grows}
 use Rattle.wasmi_store.proofs.memory.buffer.Buffer.grow.Goals as goal
 use Rattle.wasmi_store.proofs.memory.buffer.Buffer.grow.Goals.{in-Owned+in-Ok, in-Lent}
