@@ -1,7 +1,6 @@
 //! The instructions of two operands.
 ghost use Rattle.std.specs.Prelude.{◌≡◌, length};
-ghost use Rattle.wasmi_c.specs.Instruction.Calls.{Leaves, each_of_two};
-ghost use Rattle.wasmi_c.specs.Instruction.Binary.{binary_numbered, binary_outcome, binary_result, binary_results, binary_value};
+ghost use Rattle.wasmi_c.specs.Instruction.{Leaves, each_of_two, binary_numbered, binary_outcome, binary_result, binary_results, binary_value};
 
 use crate::instruction::list::numbered;
 use crate::instruction::numbers::{BINARY_INSTRUCTIONS, binary_numbers};
@@ -37,7 +36,7 @@ impl Binary {
     }
 
     #[inline(always)]
-    #[tactic(auto, unfolding(crate::specs::Instruction::Binary::binary_outcome))]
+    #[tactic(auto, unfolding(crate::specs::Instruction::binary_outcome))]
     fn outcome(self, a: RawVal, b: RawVal) -> InstructionResult
         ensures { result ≡ binary_outcome self a b }
     {
@@ -62,7 +61,7 @@ impl Binary {
 }
 
 /// The instruction that has a number, if there is one.
-#[tactic(auto, unfolding(crate::specs::Instruction::Binary::binary_numbered))]
+#[tactic(auto, unfolding(crate::specs::Instruction::binary_numbered))]
 pub fn binary_numbered(number: u16) -> Option<Binary>
     ensures { result ≡ binary_numbered number }
 {

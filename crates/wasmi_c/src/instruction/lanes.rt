@@ -1,7 +1,6 @@
 //! The instructions on one lane.
 ghost use Rattle.std.specs.Prelude.{◌≡◌, ◌+◌, length};
-ghost use Rattle.wasmi_c.specs.Instruction.Calls.{Leaves, each_of, each_of_two};
-ghost use Rattle.wasmi_c.specs.Instruction.Lanes.{extract_result, extract_results, extracted_value, extraction_of, lane_load_of, lane_store_of, load_lane_result, replace_result, replace_results, replaced_value, replacement_of, store_lane_result};
+ghost use Rattle.wasmi_c.specs.Instruction.{Leaves, each_of, each_of_two, extract_result, extract_results, extracted_value, extraction_of, lane_load_of, lane_store_of, load_lane_result, replace_result, replace_results, replaced_value, replacement_of, store_lane_result};
 
 use crate::instruction::list::op_numbered;
 use crate::instruction::refusal::Refusal;
@@ -13,7 +12,7 @@ use wasmi_ops::{
 use wasmi_raw::RawVal;
 
 /// The extraction that has a number, at the lane of an index.
-#[tactic(auto, unfolding(crate::specs::Instruction::Calls::op_numbered))]
+#[tactic(auto, unfolding(crate::specs::Instruction::op_numbered))]
 pub fn extraction(number: u16, lane: u8) -> Result<ExtractOp, Refusal>
     ensures { result ≡ extraction_of number lane }
 {
@@ -22,7 +21,7 @@ pub fn extraction(number: u16, lane: u8) -> Result<ExtractOp, Refusal>
 }
 
 /// The replacement that has a number, at the lane of an index.
-#[tactic(auto, unfolding(crate::specs::Instruction::Calls::op_numbered))]
+#[tactic(auto, unfolding(crate::specs::Instruction::op_numbered))]
 pub fn replacement(number: u16, lane: u8) -> Result<ReplaceOp, Refusal>
     ensures { result ≡ replacement_of number lane }
 {
@@ -31,7 +30,7 @@ pub fn replacement(number: u16, lane: u8) -> Result<ReplaceOp, Refusal>
 }
 
 /// The load of a lane that has a number, at the lane of an index.
-#[tactic(auto, unfolding(crate::specs::Instruction::Calls::op_numbered))]
+#[tactic(auto, unfolding(crate::specs::Instruction::op_numbered))]
 pub fn lane_load(number: u16, lane: u8) -> Result<LoadLaneOp, Refusal>
     ensures { result ≡ lane_load_of number lane }
 {
@@ -40,7 +39,7 @@ pub fn lane_load(number: u16, lane: u8) -> Result<LoadLaneOp, Refusal>
 }
 
 /// The store of a lane that has a number, at the lane of an index.
-#[tactic(auto, unfolding(crate::specs::Instruction::Calls::op_numbered))]
+#[tactic(auto, unfolding(crate::specs::Instruction::op_numbered))]
 pub fn lane_store(number: u16, lane: u8) -> Result<StoreLaneOp, Refusal>
     ensures { result ≡ lane_store_of number lane }
 {
@@ -54,7 +53,7 @@ fn extracted(op: &ExtractOp, a: RawVal) -> RawVal
     op.apply(a.into())
 }
 
-#[tactic(auto, unfolding(crate::specs::Instruction::Lanes::replaced_value))]
+#[tactic(auto, unfolding(crate::specs::Instruction::replaced_value))]
 fn replaced(op: &ReplaceOp, a: RawVal, item: RawVal) -> RawVal
     ensures { result ≡ replaced_value op.now a item }
 {

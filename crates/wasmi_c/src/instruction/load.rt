@@ -1,7 +1,6 @@
 //! The loads.
 ghost use Rattle.std.specs.Prelude.{◌≡◌, ◌+◌, length};
-ghost use Rattle.wasmi_c.specs.Instruction.Calls.{Leaves, each_of};
-ghost use Rattle.wasmi_c.specs.Instruction.Accesses.{load_numbered, load_outcome, load_result, load_results, loaded_value};
+ghost use Rattle.wasmi_c.specs.Instruction.{Leaves, each_of, load_numbered, load_outcome, load_result, load_results, loaded_value};
 
 use crate::instruction::list::numbered;
 use crate::instruction::numbers::{LOAD_INSTRUCTIONS, load_numbers};
@@ -34,7 +33,7 @@ impl Load {
     }
 
     #[inline(always)]
-    #[tactic(auto, unfolding(crate::specs::Instruction::Accesses::load_outcome))]
+    #[tactic(auto, unfolding(crate::specs::Instruction::load_outcome))]
     fn outcome(self, memory: &[u8], offset: u64, ptr: u64) -> InstructionResult
         ensures { result ≡ load_outcome self memory.now offset ptr }
     {
@@ -59,7 +58,7 @@ impl Load {
 }
 
 /// The load that has a number, if there is one.
-#[tactic(auto, unfolding(crate::specs::Instruction::Accesses::load_numbered))]
+#[tactic(auto, unfolding(crate::specs::Instruction::load_numbered))]
 pub fn load_numbered(number: u16) -> Option<Load>
     ensures { result ≡ load_numbered number }
 {

@@ -1,8 +1,7 @@
 //! The stores.
 ghost use Rattle.std.specs.Prelude.{◌≡◌, ◌+◌};
 ghost use Rattle.wasmi_access.specs.LoadStore.{IsStore};
-ghost use Rattle.wasmi_c.specs.Instruction.Accesses.{memory_after, store_numbered, store_result, stored_value};
-ghost use Rattle.wasmi_c.specs.Instruction.Calls.{Leaves};
+ghost use Rattle.wasmi_c.specs.Instruction.{memory_after, store_numbered, store_result, stored_value, Leaves};
 
 use crate::instruction::list::numbered;
 use crate::instruction::numbers::STORE_INSTRUCTIONS;
@@ -34,7 +33,7 @@ impl Store {
 }
 
 /// The store that has a number, if there is one.
-#[tactic(auto, unfolding(crate::specs::Instruction::Accesses::store_numbered))]
+#[tactic(auto, unfolding(crate::specs::Instruction::store_numbered))]
 pub fn store_numbered(number: u16) -> Option<Store>
     ensures { result ≡ store_numbered number }
 {

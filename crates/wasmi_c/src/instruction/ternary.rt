@@ -1,7 +1,6 @@
 //! The instructions of three vectors.
 ghost use Rattle.std.specs.Prelude.{◌≡◌, length};
-ghost use Rattle.wasmi_c.specs.Instruction.Calls.{Leaves, each_of_three, op_numbered};
-ghost use Rattle.wasmi_c.specs.Instruction.Ternary.{ternary_result, ternary_results, ternary_value};
+ghost use Rattle.wasmi_c.specs.Instruction.{Leaves, each_of_three, op_numbered, ternary_result, ternary_results, ternary_value};
 ghost use Rattle.wasmi_ops.specs.declared.vector.ternary.TheConstants.{TERNARIES};
 
 use crate::instruction::list::op_numbered;
@@ -17,7 +16,7 @@ fn apply(op: TernaryOp, a: RawVal, b: RawVal, c: RawVal) -> RawVal
 }
 
 /// The instruction that has a number, if there is one.
-#[tactic(auto, unfolding(crate::specs::Instruction::Calls::op_numbered))]
+#[tactic(auto, unfolding(crate::specs::Instruction::op_numbered))]
 pub fn ternary_numbered(number: u16) -> Option<TernaryOp>
     ensures { result ≡ op_numbered TERNARIES number }
 {

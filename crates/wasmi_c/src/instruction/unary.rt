@@ -1,7 +1,6 @@
 //! The instructions of one operand.
 ghost use Rattle.std.specs.Prelude.{◌≡◌, length};
-ghost use Rattle.wasmi_c.specs.Instruction.Calls.{Leaves, each_of};
-ghost use Rattle.wasmi_c.specs.Instruction.Unary.{unary_numbered, unary_result, unary_results, unary_value};
+ghost use Rattle.wasmi_c.specs.Instruction.{Leaves, each_of, unary_numbered, unary_result, unary_results, unary_value};
 
 use crate::instruction::list::numbered;
 use crate::instruction::numbers::{UNARY_INSTRUCTIONS, unary_numbers};
@@ -55,7 +54,7 @@ impl Unary {
 }
 
 /// The instruction that has a number, if there is one.
-#[tactic(auto, unfolding(crate::specs::Instruction::Unary::unary_numbered))]
+#[tactic(auto, unfolding(crate::specs::Instruction::unary_numbered))]
 pub fn unary_numbered(number: u16) -> Option<Unary>
     ensures { result ≡ unary_numbered number }
 {

@@ -7,8 +7,7 @@ ghost use Rattle.wasmi_c.specs.Placement.{status_of, written_number};
 use crate::fuel::MeterNumbers;
 use crate::memory::numbers::MemoryNumbers;
 use crate::range::Range;
-use crate::refusal::memory_refusal;
-use crate::status::{DONE, INVALID_STATE};
+use crate::status::{DONE, INVALID_STATE, memory_refusal};
 use wasmi_meter::MemoryError;
 use wasmi_region::memory as region_memory;
 

@@ -11,8 +11,7 @@ ghost use Rattle.wasmi_c.specs.TableCalls.{AsksTableEmbedded, IsNoTable, by_elem
 use crate::fuel::MeterNumbers;
 use crate::host::{HostAnswers, Question};
 use crate::quota::QuotaNumbers;
-use crate::refusal::table_refusal;
-use crate::status::{ASKS, DONE, INVALID_STATE, OTHER_SIZE, TABLE_GROWTH};
+use crate::status::{ASKS, DONE, INVALID_STATE, OTHER_SIZE, TABLE_GROWTH, table_refusal};
 use crate::table::numbers::TableNumbers;
 use wasmi_meter::{ResourceLimiter, ResourceLimiterRef, TableError};
 use wasmi_region::table as region_table;

@@ -7,8 +7,7 @@ ghost use Rattle.wasmi_c.specs.Placement.{status_of, written_number};
 
 use crate::fuel::MeterNumbers;
 use crate::range::Range;
-use crate::refusal::table_refusal;
-use crate::status::{DONE, INVALID_STATE};
+use crate::status::{DONE, INVALID_STATE, table_refusal};
 use crate::table::numbers::TableNumbers;
 use wasmi_meter::TableError;
 use wasmi_region::table as region_table;

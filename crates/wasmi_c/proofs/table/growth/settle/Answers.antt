@@ -1,5 +1,5 @@
 use Rattle.std.proofs.Common.{inr, refl}
-use Rattle.wasmi_c.proofs.HostLemmas.{on_true, on_false}
+use Rattle.wasmi_c.proofs.PlacementLemmas.{on_true, on_false}
 use Rattle.wasmi_c.proofs.table.growth.settle.Goals as goal
 
 pub returns-then-not-are_about : goal.returns-then-not-are_about
