@@ -10,7 +10,19 @@ use Rattle.wasmi_meter.specs.declared.fuel.FuelError.{FuelError}
 use Rattle.wasmi_meter.specs.declared.fuel.FuelError.TheVariants as fuel
 use Rattle.wasmi_store.specs.declared.table.element.SegmentError.{SegmentError}
 use Rattle.wasmi_store.specs.declared.table.element.SegmentError.TheVariants as segment
-pub use Rattle.wasmi_c.specs.declared.status.TheConstants.{DONE as done_status, TEXT_TOO_SHORT as text_too_short_status, NO_MACHINE as no_machine_status, NO_CALL as no_call_status, NO_SUCH as no_such_status, NO_REGION as no_region_status, NO_ROOM as no_room_status, NO_ELEMENT as no_element_status, HAS_MACHINE as has_machine_status, BAD_LINE as bad_line_status, HEADER_LINE as header_line_status, TEXT_CUT as text_cut_status, NO_ANSWER as no_answer_status, NO_POOL as no_pool_status, HAS_POOL as has_pool_status, NO_TENANT as no_tenant_status, MEMORY_GROWTH as memory_growth_status, MEMORY_ACCESS as memory_access_status, TABLE_GROWTH as table_growth_status, METERING_DISABLED as metering_disabled_status, OUT_OF_FUEL as out_of_fuel_status, INVALID_STATE as invalid_state_status, ASKS as asks_status, OTHER_SIZE as other_size_status, NO_LANE as no_lane_status, LENGTHS_DIFFER as lengths_differ_status, UNKNOWN as unknown_status}
+pub use Rattle.wasmi_c.specs.declared.status.TheConstants.{DONE as done_status, TEXT_TOO_SHORT as text_too_short_status, NO_SUCH as no_such_status, NO_REGION as no_region_status, NO_ROOM as no_room_status, NO_ELEMENT as no_element_status, HAS_MACHINE as has_machine_status, BAD_LINE as bad_line_status, HEADER_LINE as header_line_status, TEXT_CUT as text_cut_status, NO_ANSWER as no_answer_status, HAS_POOL as has_pool_status, NO_TENANT as no_tenant_status, MEMORY_GROWTH as memory_growth_status, MEMORY_ACCESS as memory_access_status, TABLE_GROWTH as table_growth_status, METERING_DISABLED as metering_disabled_status, OUT_OF_FUEL as out_of_fuel_status, INVALID_STATE as invalid_state_status, ASKS as asks_status, OTHER_SIZE as other_size_status, NO_LANE as no_lane_status, LENGTHS_DIFFER as lengths_differ_status, UNKNOWN as unknown_status}
+
+-- the status if a handle has no machine
+abbrev pub no_machine_status : ℕ
+no_machine_status = 16
+
+-- the status if numbers stand for no call
+abbrev pub no_call_status : ℕ
+no_call_status = 17
+
+-- the status if a handle has no pool
+abbrev pub no_pool_status : ℕ
+no_pool_status = 27
 
 -- the status of a refused call on a memory
 abbrev pub memory_status : MemoryError → ℕ
