@@ -372,15 +372,19 @@ binaries_are numbers (Some op) kind_is is =
     found (Some (two.Shift other)) op is = absurd cc
     found (Some (two.Vector other)) op is = ap (λ o. Some (two.Vector o)) (same_Some other op is)
 
+-- a machine replies to the call that numbers stand for with the struct of its reply
+pub struct_told : (numbers : CallStruct) (call : Call) (machine : MachineValue) (full : Reply) (reply : ReplyStruct)
+    (machine' : MachineValue) → call_of numbers ≡ Some call → MachineReplies call machine full machine'
+    → reply ≡ reply_struct full → RepliesToStruct numbers machine reply machine'
+struct_told numbers call machine full reply machine' is replies told =
+    subst (λ called. MatchOption called ((reply ≡ only no_call_status) × (machine' ≡ machine))
+    (λ call. RepliesInStruct call machine reply machine')) (sym is) (full, replies, told)
+
 -- a load of an item that numbers stand for leaves the struct of its reply, and the machine stays
 pub struct_loaded : (numbers : CallStruct) (op : LoadOp) (machine : MachineValue) (reply : ReplyStruct)
     → call_of numbers ≡ Some (Load op numbers.index numbers.ptr numbers.offset)
     → reply ≡ reply_struct (load_reply op (numbers.ptr + numbers.offset) (live_at machine.state.memories numbers.index))
     → RepliesToStruct numbers machine reply machine
-struct_loaded numbers op machine reply is same =
-    subst (λ called. MatchOption called ((reply ≡ only no_call_status) × (machine ≡ machine))
-    (λ call. RepliesInStruct call machine reply machine)) (sym is) (
-      load_reply op (numbers.ptr + numbers.offset) (live_at machine.state.memories numbers.index),
-      (0, 0, record { free = (refl, refl); effect = refl; after = refl }),
-      same,
-    )
+struct_loaded numbers op machine reply is told =
+    struct_told numbers (Load op numbers.index numbers.ptr numbers.offset) machine _ reply machine is
+    (0, 0, record { free = (refl, refl); effect = refl; after = refl }) told

@@ -18,16 +18,6 @@ use Rattle.wasmi_meter.specs.declared.quota.Quota.{Quota}
 use Rattle.wasmi_meter.specs.Quota.{quota_rules}
 use Rattle.wasmi_c.specs.declared.quota.QuotaNumbers.{QuotaNumbers}
 
--- the fact of a test that holds
-pub on_true : (test : Bool) (Holds Fails : Type 0) → true ≡ test → Holds → MatchBool test Holds Fails
-on_true true Holds Fails is holds = holds
-on_true false Holds Fails is holds = absurd cc
-
--- the fact of a test that fails
-pub on_false : (test : Bool) (Holds Fails : Type 0) → false ≡ test → Fails → MatchBool test Holds Fails
-on_false true Holds Fails is fails = absurd cc
-on_false false Holds Fails is fails = fails
-
 -- a meter of which nothing is taken
 pub none_taken : (left : Option ℕ) (costs : CustomFuelCosts)
     → (let m : Meter = record { left = left; costs = costs } in meter_after m 0 ≡ m)

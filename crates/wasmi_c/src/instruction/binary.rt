@@ -68,8 +68,7 @@ pub fn binary_numbered(number: u16) -> Option<Binary>
     numbered(&BINARY_INSTRUCTIONS, number)
 }
 
-/// Writes what the instruction of a number gives, and returns 0; 255 if there is none; or the
-/// number of its trap. After any status except 0 nothing is written.
+/// Writes what the instruction of a number gives.
 pub fn binary_by_number(number: u16, a: RawVal, b: RawVal, value: &mut RawVal) -> u8
     ensures { Leaves (binary_result number a b) value.old value.new result }
 {
@@ -79,9 +78,7 @@ pub fn binary_by_number(number: u16, a: RawVal, b: RawVal, value: &mut RawVal) -
     }
 }
 
-/// Writes what the instruction of a number gives for each two elements of two arrays, or its trap,
-/// and returns 0; 255 if there is none; or 254 if the arrays differ in length. After 254 and 255
-/// nothing is written.
+/// Writes what the instruction of a number gives for each two elements of two arrays, or its trap.
 pub fn binary_each(number: u16, a: &[RawVal], b: &[RawVal], results: &mut [InstructionResult]) -> u8
     ensures { Leaves (binary_results number a.now b.now (length results.old))
         results.old results.new result }

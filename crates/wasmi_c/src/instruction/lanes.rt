@@ -60,8 +60,7 @@ fn replaced(op: &ReplaceOp, a: RawVal, item: RawVal) -> RawVal
     op.apply(a.into(), item).into()
 }
 
-/// Writes the lane of a vector, and returns 0; 255 if no extraction has the number; or 253 if no
-/// lane has the index. After 253 and 255 nothing is written.
+/// Writes the lane of a vector.
 pub fn extract_by_number(number: u16, lane: u8, a: RawVal, value: &mut RawVal) -> u8
     ensures { Leaves (extract_result number lane a) value.old value.new result }
 {
@@ -74,9 +73,7 @@ pub fn extract_by_number(number: u16, lane: u8, a: RawVal, value: &mut RawVal) -
     }
 }
 
-/// Writes the lane of each vector of an array, and returns 0; 255 if no extraction has the number;
-/// 253 if no lane has the index; or 254 if the arrays differ in length. After 253, 254 and 255
-/// nothing is written.
+/// Writes the lane of each vector of an array.
 pub fn extract_each(number: u16, lane: u8, a: &[RawVal], values: &mut [RawVal]) -> u8
     ensures { Leaves (extract_results number lane a.now (length values.old))
         values.old values.new result }
@@ -101,8 +98,7 @@ fn extract_each_by_op(op: &ExtractOp, a: &[RawVal], values: &mut [RawVal]) -> u8
     DONE
 }
 
-/// Writes a vector with a lane replaced by an item, and returns 0; 255 if no replacement has the
-/// number; or 253 if no lane has the index. After 253 and 255 nothing is written.
+/// Writes a vector with a lane replaced by an item.
 pub fn replace_by_number(number: u16, lane: u8, a: RawVal, item: RawVal, value: &mut RawVal) -> u8
     ensures { Leaves (replace_result number lane a item) value.old value.new result }
 {
@@ -115,9 +111,7 @@ pub fn replace_by_number(number: u16, lane: u8, a: RawVal, item: RawVal, value: 
     }
 }
 
-/// Writes each vector of an array with a lane replaced by the item at its index, and returns 0; 255
-/// if no replacement has the number; 253 if no lane has the index; or 254 if the arrays differ in
-/// length. After 253, 254 and 255 nothing is written.
+/// Writes each vector of an array with a lane replaced by the item at its index.
 pub fn replace_each(
     number: u16,
     lane: u8,
@@ -148,9 +142,7 @@ fn replace_each_by_op(op: &ReplaceOp, a: &[RawVal], items: &[RawVal], values: &m
     DONE
 }
 
-/// Writes a vector with a lane loaded from `ptr + offset`. Returns 0; 255 if no load of a lane has
-/// the number; 253 if no lane has the index; or the number of the trap past the end. After any
-/// status except 0 nothing is written.
+/// Writes a vector with a lane loaded from `ptr + offset`.
 pub fn load_lane(
     number: u16,
     lane: u8,
@@ -175,9 +167,7 @@ pub fn load_lane(
     }
 }
 
-/// Stores a lane of a vector at `ptr + offset`. Returns 0; 255 if no store of a lane has the
-/// number; 253 if no lane has the index; or the number of the trap past the end. After any status
-/// except 0 nothing is written.
+/// Stores a lane of a vector at `ptr + offset`.
 pub fn store_lane(number: u16, lane: u8, memory: &mut [u8], ptr: u64, offset: u64, a: RawVal) -> u8
     ensures { Leaves (store_lane_result number lane memory.old (ptr + offset) a)
         memory.old memory.new result }

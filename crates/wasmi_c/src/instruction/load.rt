@@ -65,8 +65,7 @@ pub fn load_numbered(number: u16) -> Option<Load>
     numbered(&LOAD_INSTRUCTIONS, number)
 }
 
-/// Writes what the load of a number gives from `ptr + offset`, and returns 0; 255 if there is none;
-/// or the number of the trap past the end. After any status except 0 nothing is written.
+/// Writes what the load of a number gives from `ptr + offset`.
 pub fn load_by_number(number: u16, memory: &[u8], ptr: u64, offset: u64, value: &mut RawVal) -> u8
     ensures { Leaves (load_result number memory.now (ptr + offset)) value.old value.new result }
 {
@@ -83,9 +82,8 @@ fn load_by_op(op: Load, memory: &[u8], ptr: u64, offset: u64) -> Result<RawVal, 
     load_numbers!(op_once! op Load load(memory, ptr, offset))
 }
 
-/// Writes what the load of a number gives from each pointer of an array, plus the offset, or its
-/// trap, and returns 0; 255 if there is none; or 254 if the arrays differ in length. After 254 and
-/// 255 nothing is written.
+/// Writes what the load of a number gives from each pointer of an array plus the offset, or its
+/// trap.
 pub fn load_each(
     number: u16,
     memory: &[u8],

@@ -40,8 +40,7 @@ pub fn store_numbered(number: u16) -> Option<Store>
     numbered(&STORE_INSTRUCTIONS, number)
 }
 
-/// Stores a value at `ptr + offset`, by the store that has the number. Returns 0; 255 if there is
-/// none; or the number of the trap past the end. After any status except 0 nothing is written.
+/// Stores a value at `ptr + offset`, by the store that has the number.
 pub fn store_by_number(number: u16, memory: &mut [u8], ptr: u64, offset: u64, value: RawVal) -> u8
     ensures { Leaves (store_result number memory.old (ptr + offset) value)
         memory.old memory.new result }

@@ -23,8 +23,7 @@ pub fn ternary_numbered(number: u16) -> Option<TernaryOp>
     op_numbered(&TERNARIES, number)
 }
 
-/// Writes what the instruction of a number gives, and returns 0, or 255 if there is none; then
-/// nothing is written.
+/// Writes what the instruction of a number gives.
 pub fn ternary_by_number(number: u16, a: RawVal, b: RawVal, c: RawVal, value: &mut RawVal) -> u8
     ensures { Leaves (ternary_result number a b c) value.old value.new result }
 {
@@ -37,9 +36,7 @@ pub fn ternary_by_number(number: u16, a: RawVal, b: RawVal, c: RawVal, value: &m
     }
 }
 
-/// Writes what the instruction of a number gives for each three elements of three arrays, and
-/// returns 0; 255 if there is none; or 254 if the arrays differ in length. After 254 and 255
-/// nothing is written.
+/// Writes what the instruction of a number gives for each three elements of three arrays.
 pub fn ternary_each(
     number: u16,
     a: &[RawVal],

@@ -61,8 +61,7 @@ pub fn unary_numbered(number: u16) -> Option<Unary>
     numbered(&UNARY_INSTRUCTIONS, number)
 }
 
-/// Writes what the instruction of a number gives, and returns 0, or 255 if there is none; then
-/// nothing is written.
+/// Writes what the instruction of a number gives.
 pub fn unary_by_number(number: u16, a: RawVal, value: &mut RawVal) -> u8
     ensures { Leaves (unary_result number a) value.old value.new result }
 {
@@ -75,8 +74,7 @@ pub fn unary_by_number(number: u16, a: RawVal, value: &mut RawVal) -> u8
     }
 }
 
-/// Writes what the instruction of a number gives for each element of an array, and returns 0; 255
-/// if there is none; or 254 if the arrays differ in length. After 254 and 255 nothing is written.
+/// Writes what the instruction of a number gives for each element of an array.
 pub fn unary_each(number: u16, a: &[RawVal], values: &mut [RawVal]) -> u8
     ensures { Leaves (unary_results number a.now (length values.old)) values.old values.new result }
 {

@@ -1,4 +1,5 @@
-//! What C holds: a machine with its limiter, or none.
+//! What C holds: a machine with its limiter, or none; and the calls on it. Each works on the machine
+//! where it is. `include/wasmi_machine.h` says which statuses they return, in which order.
 ghost use Rattle.std.specs.Prelude.{◌≡◌, Some, None, is_some, MatchOption, ℕ, List};
 ghost use Rattle.wasmi_core.specs.declared.calls.Call.TheVariants.{GetFuel, GrowMemory, Write};
 ghost use Rattle.wasmi_c.specs.Machine.Calls.{RepliesInStatus, RepliesInWord, item_load, item_store, vector_binary, OnHeld, ReadsOut, RepliesToCopy, RepliesToSegment, RepliesToStruct, PaysFuel, no_totals, totals_of};
@@ -17,6 +18,20 @@ use crate::machine::reply_struct::ReplyStruct;
 use crate::status::{DONE, HAS_MACHINE, NO_ANSWER, NO_MACHINE, NO_ROOM};
 use std::alloc::Global;
 use std::mem;
+
+/// What a call leaves of the machine of a handle and returns; or what is returned where there is
+/// none.
+macro_rules! on_machine {
+    ($handle:expr, $none:expr, $machine:ident => $call:expr) => {{
+        if !$handle.is_made() {
+            return $none;
+        }
+        let $machine = $handle.machine.machine_mut();
+        let reply = $call;
+        $machine.show_within();
+        reply
+    }};
+}
 
 /// A machine with its limiter, or none. A handle of zeros has none.
 #[repr(C)]
@@ -85,33 +100,8 @@ impl Handle {
         } = mem::replace(self, Handle::from_box(machine));
         machine.into_held().end();
     }
-}
 
-/// Does nothing: that it compiles says that a handle may go to another thread.
-pub fn handles_may_move() {
-    may_move::<Handle>();
-}
-
-/// Does nothing: it can be called at a type that may go to another thread, and at no other.
-fn may_move<T: Send>() {}
-
-/// What a call leaves of the machine of a handle and returns; or what is returned where there is
-/// none.
-macro_rules! on_machine {
-    ($handle:expr, $none:expr, $machine:ident => $call:expr) => {{
-        if !$handle.is_made() {
-            return $none;
-        }
-        let $machine = $handle.machine.machine_mut();
-        let reply = $call;
-        $machine.show_within();
-        reply
-    }};
-}
-
-impl Handle {
-    /// Makes a machine in a handle that has none: `DONE`; `HAS_MACHINE` where it has one, then
-    /// `NO_ROOM` where the system refuses memory. After a refusal the handle is as it was.
+    /// Makes a machine in a handle that has none.
     pub fn new_machine(&mut self, alloc: Global, limits: &Limits) -> u8
         ensures { MakesMachine (IsNewMachine limits.now) self.old.machine.held result
             self.new.machine.held }
@@ -128,10 +118,7 @@ impl Handle {
 
     /// Makes a machine with a list of answers in a handle that has none. Each byte is the number of
     /// an answer: 0 permits, 1 denies, 2 is an error, and 3 permits and returns an error to a
-    /// notice. The caps of the limits aren't read. The status is `DONE`; `HAS_MACHINE` if the
-    /// handle has a machine, then `NO_ANSWER` if a byte is no such number, then `NO_ROOM` if memory
-    /// is refused for a copy of the answers or for the machine. After a refusal the handle is as it
-    /// was.
+    /// notice. The caps of the limits aren't read.
     pub fn new_with_answers(&mut self, alloc: Global, limits: &Limits, answers: &[u8]) -> u8
         ensures { MakesWithAnswers limits.now answers.now self.old.machine.held result
             self.new.machine.held }
@@ -160,8 +147,7 @@ impl Handle {
         let _machine = self.take(alloc);
     }
 
-    /// Replies to a call. Where the handle has no machine, the status is `NO_MACHINE`; then, where
-    /// the numbers stand for no call, it is `NO_CALL`, and nothing has changed.
+    /// Replies to a call, if the numbers stand for one.
     #[inline(always)]
     pub fn call(&mut self, call: &CallStruct) -> ReplyStruct
         ensures { OnHeld (RepliesToStruct call.now) (only no_machine_status)
@@ -170,10 +156,7 @@ impl Handle {
         on_machine!(self, ReplyStruct::only(NO_MACHINE), machine => machine.reply_to_struct(call))
     }
 
-    /// Copies as many bytes of a memory as the caller's array has, from an offset on, to that
-    /// array. Where the handle has no machine the status is `NO_MACHINE`, then `NO_SUCH` where
-    /// there is no such memory, then that of `MemoryError::OutOfBoundsAccess` where they end past
-    /// it; then the caller's bytes stay.
+    /// Copies bytes of a memory from an offset on to the caller's array, as many as it has.
     pub fn read(&mut self, memory: usize, offset: usize, bytes: &mut [u8]) -> ReplyStruct
         ensures { OnHeld {R = ReplyStruct × List ℕ}
             (λ machine left machine'. (machine' ≡ machine)
@@ -186,9 +169,7 @@ impl Handle {
         })
     }
 
-    /// Writes the caller's bytes over those of a memory from an offset on. Where the handle has no
-    /// machine the status is `NO_MACHINE`, then `NO_ROOM` where memory for a copy of the bytes is
-    /// refused, then as `Call::Write` says.
+    /// Writes the caller's bytes over those of a memory from an offset on, by a copy of them.
     pub fn write(
         &mut self,
         alloc: Global,
@@ -204,10 +185,7 @@ impl Handle {
         })
     }
 
-    /// Makes an element segment of the caller's references. The status is `NO_MACHINE` if the
-    /// handle has no machine, then `NO_CALL` if the number is none of a reference type, then
-    /// `NO_ROOM` if memory for a copy of the references is refused, then as `Call::NewSegment`
-    /// says.
+    /// Makes an element segment of a copy of the caller's references.
     pub fn new_segment(&mut self, alloc: Global, ty: u8, items: &[u32]) -> ReplyStruct
         ensures { OnHeld (RepliesToSegment ty items.now) (only no_machine_status)
             self.old.machine.held result self.new.machine.held }
@@ -218,8 +196,7 @@ impl Handle {
     }
 
     /// How many bytes and elements the machine has. Without caps its cost grows with the number of
-    /// memories and tables that were ever made. Where the handle has no machine the status is
-    /// `NO_MACHINE`, and the totals are 0.
+    /// memories and tables that were ever made.
     pub fn totals(&mut self) -> Totals
         ensures { OnHeld
             (λ machine totals machine'. (machine' ≡ machine) × (totals ≡ totals_of machine))
@@ -229,9 +206,7 @@ impl Handle {
     }
 
     /// Takes fuel, as an interpreter does for the instructions that it executes between calls; the
-    /// number is what is left. Where the handle has no machine it is `NO_MACHINE`, then
-    /// `FUEL_METERING_DISABLED` where the meter is off, then `OUT_OF_FUEL` with the amount where
-    /// less is left; then nothing is taken.
+    /// number is what is left.
     pub fn consume_fuel(&mut self, amount: u64) -> ReplyStruct
         ensures { OnHeld (PaysFuel amount) (only no_machine_status)
             self.old.machine.held result self.new.machine.held }
@@ -240,9 +215,7 @@ impl Handle {
     }
 
     /// Loads an item of a memory from `ptr + offset`, by the load that has the number, and sets
-    /// `value` to it. The status is `NO_MACHINE` if the handle has no machine, then `NO_CALL` if no
-    /// load of an item has the number, then as `Call::Load` says. After any status but `DONE` the
-    /// value stays.
+    /// `value` to it.
     pub fn load(&mut self, op: u16, memory: usize, ptr: u64, offset: u64, value: &mut u64) -> u8
         ensures { OnHeld (RepliesInWord (item_load op memory ptr offset) value.old)
             (no_machine_status, value.old)
@@ -251,9 +224,7 @@ impl Handle {
         on_machine!(self, NO_MACHINE, machine => machine.load(op, memory, ptr, offset, value))
     }
 
-    /// Stores an item to a memory at `ptr + offset`, by the store that has the number. The status
-    /// is `NO_MACHINE` if the handle has no machine, then `NO_CALL` if no store of an item has the
-    /// number, then as `Call::Store` says.
+    /// Stores an item to a memory at `ptr + offset`, by the store that has the number.
     pub fn store(&mut self, op: u16, memory: usize, ptr: u64, offset: u64, value: u64) -> u8
         ensures { OnHeld (RepliesInStatus (item_store op memory ptr offset value)) no_machine_status
             self.old.machine.held result self.new.machine.held }
@@ -261,9 +232,7 @@ impl Handle {
         on_machine!(self, NO_MACHINE, machine => machine.store(op, memory, ptr, offset, value))
     }
 
-    /// Sets a register to what the instruction of the number makes of the vectors in two registers.
-    /// The status is `NO_MACHINE` if the handle has no machine, then `NO_CALL` if no instruction on
-    /// two vectors has the number, then as `Call::Binary` says.
+    /// Sets a register to what the instruction of a number makes of the vectors in two registers.
     pub fn binary(&mut self, op: u16, dst: u8, a: u8, b: u8) -> u8
         ensures { OnHeld (RepliesInStatus (vector_binary op dst a b)) no_machine_status
             self.old.machine.held result self.new.machine.held }
@@ -272,8 +241,7 @@ impl Handle {
     }
 
     /// Grows a memory by so many pages, and sets `number` to its old size in pages, or to the fuel
-    /// that is needed if less is left. The status is `NO_MACHINE` if the handle has no machine,
-    /// then as `Call::GrowMemory` says. After other refusals the number stays.
+    /// that is needed if less is left.
     pub fn grow(&mut self, memory: usize, pages: u64, number: &mut u64) -> u8
         ensures { OnHeld (RepliesInWord (Some (GrowMemory memory pages)) number.old)
             (no_machine_status, number.old)
@@ -282,8 +250,7 @@ impl Handle {
         on_machine!(self, NO_MACHINE, machine => machine.grow(memory, pages, number))
     }
 
-    /// Sets `left` to the fuel that is left. The status is `NO_MACHINE` if the handle has no
-    /// machine, then as `Call::GetFuel` says. After any status but `DONE` the number stays.
+    /// Sets `left` to the fuel that is left.
     pub fn fuel_left(&mut self, left: &mut u64) -> u8
         ensures { OnHeld (RepliesInWord (Some GetFuel) left.old) (no_machine_status, left.old)
             self.old.machine.held (result, left.new) self.new.machine.held }
@@ -293,15 +260,7 @@ impl Handle {
 
     /// Runs lines of calls, one after the other, and writes what a script prints for them to the
     /// front of `text`, as much of it as fits. The number of the reply is the length of the whole
-    /// text.
-    ///
-    /// The status is `NO_MACHINE` if the handle has no machine; then, with nothing run and `text`
-    /// unchanged, `BAD_LINE` with the number of the first line that is no command of a script,
-    /// `HEADER_LINE` if the lines are a script with header lines, or `NO_ROOM` if memory is refused
-    /// for the calls or for their replies.
-    ///
-    /// Then the lines are run. Their text takes no memory. The status is `TEXT_CUT` if it has 2^64
-    /// - 1 bytes or more, and this is the number then.
+    /// text, which takes no memory, or that of the first bad line.
     pub fn run_lines(&mut self, alloc: Global, lines: &[u8], text: &mut [u8]) -> ReplyStruct
         ensures { OnHeld {R = ReplyStruct × List ℕ}
             (λ machine left machine'. RunsLines lines.now machine text.old left.0 left.1 machine')
@@ -313,3 +272,11 @@ impl Handle {
         })
     }
 }
+
+/// Does nothing: that it compiles says that a handle may go to another thread.
+pub fn handles_may_move() {
+    may_move::<Handle>();
+}
+
+/// Does nothing: it can be called at a type that may go to another thread, and at no other.
+fn may_move<T: Send>() {}

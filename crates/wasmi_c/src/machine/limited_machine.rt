@@ -3,7 +3,7 @@ ghost use Rattle.std.specs.Prelude.{◌≡◌, ◌+◌, IfOk, ◌↔◌, IsTrue,
 ghost use Rattle.wasmi_meter.specs.AnyLimiter.{caps_of};
 ghost use Rattle.wasmi_core.specs.MemoryEffects.{load_reply};
 ghost use Rattle.wasmi_core.specs.State.{live_at};
-ghost use Rattle.wasmi_core.specs.declared.calls.Call.TheVariants.{Binary, NewSegment, Store, Write};
+ghost use Rattle.wasmi_core.specs.declared.calls.Call.TheVariants.{NewSegment, Write};
 ghost use Rattle.wasmi_c.specs.Machine.Calls.{ReadsOut};
 ghost use Rattle.wasmi_grammar.specs.Lines.{WritesScript};
 ghost use Rattle.wasmi_script.specs.Outcomes.{replies_text};
@@ -20,7 +20,7 @@ use std::marker::Model;
 use wasmi_core::{Call, Machine, Reply, run_lending};
 use wasmi_grammar::{Header, ParseError, Script, parse};
 use wasmi_meter::{AnswerList, AnyLimiter, LimiterAnswer};
-use wasmi_ops::{BinaryOp, LoadOp, StoreOp};
+use wasmi_ops::LoadOp;
 use wasmi_raw::RawRef;
 use wasmi_script::write_lines;
 
@@ -109,7 +109,7 @@ impl LimitedMachine {
 
     /// Replies to the call that numbers stand for, if there is one.
     #[inline(always)]
-    #[tactic(auto, using(crate::proofs::MachineLemmas::struct_loaded))]
+    #[tactic(auto, using(crate::proofs::MachineLemmas::struct_loaded, crate::proofs::MachineLemmas::struct_told))]
     pub fn reply_to_struct(&mut self, numbers: &CallStruct) -> ReplyStruct
         ensures step { RepliesToStruct numbers.now self.old result self.new }
         ensures caps { caps_of self.new.limiter ≡ caps_of self.old.limiter }
@@ -119,12 +119,17 @@ impl LimitedMachine {
             return self.load_to_struct(op, numbers.index, numbers.ptr, numbers.offset);
         }
         if let Some(op) = numbers.item_store() {
-            return self.store_to_struct(op, numbers);
+            let (index, ptr, offset) = (numbers.index, numbers.ptr, numbers.offset);
+            return ReplyStruct::from_common(self.store_item(op, index, ptr, offset, numbers.value));
         }
         if let Some(op) = numbers.vector_binary() {
-            return self.binary_to_struct(op, numbers.dst, numbers.a, numbers.b);
+            let (dst, a, b) = (numbers.dst, numbers.a, numbers.b);
+            return ReplyStruct::from_common(self.reply(&Call::Binary { op, dst, a, b }));
         }
-        self.reply_to_decoded(numbers)
+        match &numbers.call() {
+            Some(call) => self.reply_in_struct(call).by_fields(),
+            None => ReplyStruct::only(NO_CALL),
+        }
     }
 
     /// Loads an item, and replies with a struct.
@@ -139,45 +144,6 @@ impl LimitedMachine {
         match op.load(memory.data(), ptr, offset) {
             Ok(raw) => ReplyStruct::with_value(raw),
             Err(trap) => ReplyStruct::only(u8::from(trap)),
-        }
-    }
-
-    /// Stores an item by the fields of a store, and replies with a struct.
-    #[inline(always)]
-    #[tactic(auto, using(crate::proofs::MachineLemmas::in_struct))]
-    fn store_to_struct(&mut self, op: StoreOp, numbers: &CallStruct) -> ReplyStruct
-        ensures step { RepliesInStruct (Store op numbers.now.index numbers.now.ptr
-            numbers.now.offset numbers.now.value) self.old result self.new }
-        ensures caps { caps_of self.new.limiter ≡ caps_of self.old.limiter }
-    {
-        ReplyStruct::from_common(self.store_item(
-            op,
-            numbers.index,
-            numbers.ptr,
-            numbers.offset,
-            numbers.value,
-        ))
-    }
-
-    /// Executes an instruction of two vectors, and replies with a struct.
-    #[inline(always)]
-    #[tactic(auto, using(crate::proofs::MachineLemmas::in_struct))]
-    fn binary_to_struct(&mut self, op: BinaryOp, dst: u8, a: u8, b: u8) -> ReplyStruct
-        ensures step { RepliesInStruct (Binary op dst a b) self.old result self.new }
-        ensures caps { caps_of self.new.limiter ≡ caps_of self.old.limiter }
-    {
-        ReplyStruct::from_common(self.reply(&Call::Binary { op, dst, a, b }))
-    }
-
-    /// Replies to the call that numbers stand for, if there is one, after it is made.
-    #[inline(always)]
-    fn reply_to_decoded(&mut self, numbers: &CallStruct) -> ReplyStruct
-        ensures step { RepliesToStruct numbers.now self.old result self.new }
-        ensures caps { caps_of self.new.limiter ≡ caps_of self.old.limiter }
-    {
-        match &numbers.call() {
-            Some(call) => self.reply_in_struct(call).by_fields(),
-            None => ReplyStruct::only(NO_CALL),
         }
     }
 

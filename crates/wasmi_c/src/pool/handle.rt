@@ -1,4 +1,5 @@
-//! What C holds: a pool, or none.
+//! What C holds: a pool, or none; and the calls on it. Each takes the pool out and puts it back.
+//! `include/wasmi_machine.h` says which statuses they return, in which order.
 ghost use Rattle.std.specs.Prelude.{◌≡◌, Some, None, is_some, MatchOption, ℕ, List};
 ghost use Rattle.wasmi_core.specs.declared.calls.Call.TheVariants.{Write};
 ghost use Rattle.wasmi_c.specs.Machine.Calls.{ActsOnHeld};
@@ -16,6 +17,19 @@ use crate::pool::tenant_pool::TenantPool;
 use crate::status::{DONE, HAS_POOL, NO_POOL, NO_ROOM};
 use std::alloc::Global;
 use std::mem;
+
+/// What a call leaves of the pool of a handle and returns; or what is returned where there is
+/// none.
+macro_rules! on_pool {
+    ($handle:expr, $alloc:expr, $none:expr, $pool:ident => $call:expr) => {{
+        let Some(mut $pool) = $handle.take($alloc) else {
+            return $none;
+        };
+        let reply = $call;
+        $handle.put($pool);
+        reply
+    }};
+}
 
 /// A pool, or none. A handle of zeros has none.
 #[repr(C)]
@@ -79,32 +93,8 @@ impl PoolHandle {
         let PoolHandle { pool, is_made: _ } = mem::replace(self, PoolHandle::from_box(pool));
         pool.into_held().end();
     }
-}
 
-/// Does nothing: that it compiles says that a handle may go to another thread.
-pub fn pool_handles_may_move() {
-    may_move::<PoolHandle>();
-}
-
-/// Does nothing: it can be called at a type that may go to another thread, and at no other.
-fn may_move<T: Send>() {}
-
-/// What a call leaves of the pool of a handle and returns; or what is returned where there is
-/// none.
-macro_rules! on_pool {
-    ($handle:expr, $alloc:expr, $none:expr, $pool:ident => $call:expr) => {{
-        let Some(mut $pool) = $handle.take($alloc) else {
-            return $none;
-        };
-        let reply = $call;
-        $handle.put($pool);
-        reply
-    }};
-}
-
-impl PoolHandle {
-    /// Makes a pool with these caps in a handle that has none: `DONE`; `HAS_POOL` where it has one,
-    /// then `NO_ROOM` where the system refuses memory. After a refusal the handle is as it was.
+    /// Makes a pool with these caps in a handle that has none.
     pub fn new_pool(&mut self, alloc: Global, bytes: u64, elements: u64) -> u8
         ensures { MakesPool bytes elements self.old.pool.held result self.new.pool.held }
     {
@@ -126,8 +116,7 @@ impl PoolHandle {
     }
 
     /// Adds a tenant: a machine with nothing on it, with the meter of the limits, whose caps aren't
-    /// read. The number is its index. Where the handle has no pool the status is `NO_POOL`, then
-    /// `NO_ROOM` where memory is refused.
+    /// read. The number is its index.
     pub fn add(&mut self, alloc: Global, limits: &Limits) -> ReplyStruct
         ensures step { ActsOnHeld (only no_pool_status) self.old.pool.held result self.new.pool.held
             (AddsNewTenant limits.now result) }
@@ -136,9 +125,7 @@ impl PoolHandle {
         on_pool!(self, alloc, ReplyStruct::only(NO_POOL), pool => pool.add(alloc, limits))
     }
 
-    /// Replies to a call on the machine of a tenant. The status is `NO_POOL` where the handle has
-    /// no pool, then `NO_CALL` where the numbers stand for no call, then `NO_TENANT` where no
-    /// tenant has the index, then `NO_ROOM` where memory for the reply is refused.
+    /// Replies to a call on the machine of a tenant, if the numbers stand for one.
     pub fn call(&mut self, alloc: Global, tenant: usize, call: &CallStruct) -> ReplyStruct
         ensures step { ActsOnHeld (only no_pool_status) self.old.pool.held result self.new.pool.held
             (TenantRepliesToStruct tenant call.now result) }
@@ -149,9 +136,8 @@ impl PoolHandle {
         })
     }
 
-    /// Copies as many bytes of a memory of a tenant as the caller's array has, from an offset on,
-    /// to that array. The status is `NO_POOL`, then `NO_TENANT`, then as `Handle::read` says; after
-    /// any but `DONE` the caller's bytes stay.
+    /// Copies bytes of a memory of a tenant from an offset on to the caller's array, as many as it
+    /// has.
     pub fn read(
         &mut self,
         alloc: Global,
@@ -170,10 +156,7 @@ impl PoolHandle {
         })
     }
 
-    /// Writes the caller's bytes over those of a memory of a tenant from an offset on. The status
-    /// is `NO_POOL`, then `NO_ROOM` where memory for a copy of the bytes is refused, then
-    /// `NO_TENANT`, then `NO_ROOM` where memory for the reply is refused, then as `Call::Write`
-    /// says.
+    /// Writes the caller's bytes over those of a memory of a tenant from an offset on, by a copy.
     pub fn write(
         &mut self,
         alloc: Global,
@@ -192,9 +175,6 @@ impl PoolHandle {
     }
 
     /// Runs lines of calls on the machine of a tenant, as `Handle::run_lines` does on a machine.
-    /// The status is `NO_POOL` if the handle has no pool; then, with nothing run and `text`
-    /// unchanged, `BAD_LINE`, `HEADER_LINE` or `NO_ROOM` as there, `NO_TENANT` where no tenant has
-    /// the index, or `NO_ROOM` where memory for the replies is refused; then as there.
     pub fn run_lines(
         &mut self,
         alloc: Global,
@@ -212,8 +192,7 @@ impl PoolHandle {
         })
     }
 
-    /// How many bytes and elements a tenant has, with what it dropped. The status is `NO_POOL`,
-    /// then `NO_TENANT`, and the totals are 0 then.
+    /// How many bytes and elements a tenant has, with what it dropped.
     pub fn tenant_totals(&mut self, alloc: Global, tenant: usize) -> Totals
         ensures step { ActsOnHeld no_pool_totals self.old.pool.held result self.new.pool.held
             (λ pool pool'. (pool' ≡ pool) × (result ≡ tenant_totals tenant pool)) }
@@ -224,8 +203,7 @@ impl PoolHandle {
         })
     }
 
-    /// How many bytes and elements all tenants have together. The status is `NO_POOL` where the
-    /// handle has no pool, and the totals are 0 then.
+    /// How many bytes and elements all tenants have together.
     pub fn totals(&mut self, alloc: Global) -> Totals
         ensures step { ActsOnHeld no_pool_totals self.old.pool.held result self.new.pool.held
             (λ pool pool'. (pool' ≡ pool) × (result ≡ pool_totals pool)) }
@@ -234,3 +212,11 @@ impl PoolHandle {
         on_pool!(self, alloc, Totals::from_amounts(NO_POOL, 0, 0), pool => pool.totals())
     }
 }
+
+/// Does nothing: that it compiles says that a handle may go to another thread.
+pub fn pool_handles_may_move() {
+    may_move::<PoolHandle>();
+}
+
+/// Does nothing: it can be called at a type that may go to another thread, and at no other.
+fn may_move<T: Send>() {}

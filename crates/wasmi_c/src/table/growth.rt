@@ -124,7 +124,7 @@ pub fn settle(
     let Some(ty) = table.type_if_valid(region) else {
         return INVALID_STATE;
     };
-    if !are_about(table, ty, region, delta, answers) {
+    if !are_about(table, ty, region, delta, reference, answers) {
         return OTHER_SIZE;
     }
     answers.reset();
@@ -137,12 +137,12 @@ fn are_about(
     ty: TableType,
     region: &[u32],
     delta: u64,
+    _reference: u32,
     answers: &HostAnswers,
 ) -> bool
     requires state { IsTable table.now region.now ty }
-    ensures about { (reference : ℕ) → result ≡ is_about answers.now
-        (region_growth (length region.now) delta reference
-        (table_in ty region.now table.now.size)) }
+    ensures about { result ≡ is_about answers.now
+        (region_growth (length region.now) delta _reference (table_in ty region.now table.now.size)) }
 {
     if table.size != answers.current {
         return false;
