@@ -27,7 +27,7 @@ MODULES = {
 SHAPES = {"UNARY": ("SCALAR_UNARIES",), "BINARY": ("SCALAR_BINARIES",), "LOAD": ("LOADS", "VECTOR_LOADS"), "STORE": ("STORES",)}
 # The words of clauses that the functions of the library don't have, and where they stand.
 OWN = {
-    "Gives": "Rattle.wasmi_c.specs.Instruction.Calls", "StoresBytes": "Rattle.wasmi_c.specs.Instruction.Accesses",
+    "Gives": "Rattle.wasmi_c.specs.Instruction", "StoresBytes": "Rattle.wasmi_c.specs.Instruction",
     "as_raw": "Rattle.wasmi_ops.specs.RawResults", "raw_of_vector": "Rattle.wasmi_raw.specs.RawVal",
 }
 

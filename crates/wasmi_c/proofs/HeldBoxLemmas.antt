@@ -30,6 +30,10 @@ use Rattle.std_heap.specs.contracts.Global as Heap
 use Rattle.std_heap.specs.contracts.GlobalAllocator.TheImpl.{ghosts, dict}
 use Rattle.std_heap.proofs.Global.TheLaws as heap
 use Rattle.wasmi_c.specs.HeldBox.{box_or_none_owns, global_token}
+use Rattle.wasmi_c.specs.contracts.machine.limited_machine.LimitedMachine as machine_home
+use Rattle.wasmi_c.proofs.machine.limited_machine.LimitedMachine.TheLaws as machine_laws
+use Rattle.wasmi_c.specs.contracts.pool.tenant_pool.TenantPool as pool_home
+use Rattle.wasmi_c.proofs.pool.tenant_pool.TenantPool.TheLaws as pool_laws
 
 -- an option that has a value is that value's
 pub found : {X : Type 0} (o : Option X) → IsSome o → (x : X) × (o ≡ Some x)
@@ -92,3 +96,11 @@ pub owned_keyless : (row : RattleType) → IsSend row → (alloc : Global) (at :
     → Keyless (box_or_none_owns (global_token alloc) row at held)
 owned_keyless row value alloc at (Some x) = (lies row value at x, frees.frees alloc (raw (lone row.mir)) at)
 owned_keyless row value alloc at None = tt
+
+-- a box of a machine by the allocator of the system
+abbrev pub machine_in_box : Bx
+machine_in_box = system_box machine_home.the_row machine_laws.the_row_laws
+
+-- a box of a pool by the allocator of the system
+abbrev pub pool_in_box : Bx
+pool_in_box = system_box pool_home.the_row pool_laws.the_row_laws

@@ -1,8 +1,11 @@
--- Arrays that a call of an instruction writes, and refusals of such calls.
-use Rattle.std.proofs.Common.{◌≡◌, ◌≢◌, ℕ, suc, ◌<◌, ◌⊎◌, ◌&&◌, Bool, true, false, List, [], ◌∷◌, length, map, get_or, refl, arith, rules, tests}
-use Rattle.std.specs.Prelude.{◌==◌, Ok, Err, if◌then◌else◌}
+-- Arrays that a call of an instruction writes, refusals of such calls, and the lanes of a shuffle.
+use Rattle.std.proofs.Common.{◌≡◌, ◌≢◌, ℕ, suc, ◌<◌, ◌⊎◌, ◌&&◌, Bool, true, false, List, [], ◌∷◌, length, map, get_or, refl, arith, rules, tests, ◌≤◌, Some, None, take, sym, ap, ◌∙◌}
+use Rattle.std.specs.Prelude.{◌==◌, Ok, Err, if◌then◌else◌, nat_lt}
 use Rattle.std.specs.Simd.Lanes.{zip2}
-use Rattle.wasmi_c.specs.Instruction.Calls.{Leaves, each_of, each_of_two, each_of_three, zip3}
+use Rattle.std.proofs.lemmas.Grind.{same_number_lists}
+use Rattle.std.proofs.lemmas.List.{take_all}
+use Rattle.std.specs.List.{list_all}
+use Rattle.wasmi_c.specs.Instruction.{Leaves, each_of, each_of_two, each_of_three, zip3, lanes_of}
 use Rattle.wasmi_c.specs.declared.instruction.refusal.Refusal.TheVariants.{LengthsDiffer}
 
 -- what passes a test is written
@@ -118,3 +121,21 @@ each_three_refused f a b c old new status differs unequal kept =
 -- what an array of results is left with
 pub ruleset arrays =
     (each_written, each_refused, each_two_written, each_two_refused, each_three_written, each_three_refused)
+
+-- whether a lane has the index
+abbrev pub has_lane : ℕ → Bool
+has_lane index = nat_lt index 32
+
+-- the first so many indices have lanes, which are these
+pub record AreLanes (indices lanes : List ℕ) (count : ℕ) : Type 0 where
+  pub long : length lanes ≡ 16
+  pub all : list_all has_lane (take count indices) ≡ true
+  pub same : (k : ℕ) → k < count → get_or lanes k 0 ≡ get_or indices k 0
+
+-- where all have lanes, these are the lanes
+pub lanes_there : (indices lanes : List ℕ) (count : ℕ) → length indices ≡ 16 → 16 ≤ count
+    → AreLanes indices lanes count → Some lanes ≡ lanes_of indices
+lanes_there indices lanes count long all are =
+    let fit : list_all has_lane indices ≡ true = rw (take_all count indices (omega arith)) at are.all in
+    ap Some (same_number_lists lanes indices (omega arith) (λ k inside. are.same k (omega arith)))
+    ∙ sym (ap (λ fit. if fit then Some indices else None) fit)

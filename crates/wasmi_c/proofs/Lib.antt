@@ -1,19 +1,8 @@
-mod BulkLemmas
-mod ByArgumentsLemmas
 mod HeldBoxLemmas
-mod HostLemmas
 mod InstructionLemmas
-mod LanesLemmas
-mod MachineBoxLemmas
-mod MachineCapsLemmas
-mod MachineLinesLemmas
-mod MachineRunsLemmas
-mod MeterLemmas
+mod MachineLemmas
 pub mod PlacementLemmas
-mod PoolBoxLemmas
-mod QuotaNumbersLemmas
 mod ScriptLemmas
-mod SegmentLemmas
 mod SettlementLemmas
 pub mod SharedQuotaLemmas
 mod TenantLemmas

@@ -30,18 +30,14 @@ use Rattle.wasmi_store.specs.MemoryType.{MemoryTypeValue, minimum_bytes, page_by
 use Rattle.wasmi_store.specs.Table.{TableValue, new_table, size_of}
 use Rattle.wasmi_store.specs.TableType.{TableTypeValue}
 use Rattle.wasmi_region.specs.Memory as memory
-use Rattle.wasmi_region.specs.Memory.{memory_in}
 use Rattle.wasmi_region.specs.Table as table
-use Rattle.wasmi_region.specs.Table.{MakesTableIn, table_in, creation_in, region_growth}
-use Rattle.wasmi_c.specs.Numbers.{KeepsQuota, limiter_of, quota_of}
-use Rattle.wasmi_c.specs.Host.{memory_growth}
-use Rattle.wasmi_c.specs.MemoryCalls.{of_memory}
-use Rattle.wasmi_c.specs.Placement.{LeavesAs, MakesAs, status_of}
-use Rattle.wasmi_c.specs.TableCalls.{of_table}
+use Rattle.wasmi_region.specs.Table.{MakesTableIn, creation_in}
+use Rattle.wasmi_c.specs.Numbers.{Embedded, KeepsQuota, Placed, limiter_of, quota_of, table_type_of}
+use Rattle.wasmi_c.specs.MemoryCalls.{by_pages, of_memory}
+use Rattle.wasmi_c.specs.Placement.{GrowsBy, LeavesAs, MakesAs, Placement, status_of}
+use Rattle.wasmi_c.specs.TableCalls.{by_elements, of_table}
 use Rattle.wasmi_c.specs.SharedQuota.{UnderQuota, HoldsSums, MakesMemoryUnder, GrowsMemoryUnder, MakesTableUnder, GrowsTableUnder, CallsUnder, OneQuotaHoldsAll, sizes_made}
-use Rattle.wasmi_c.specs.Numbers.{Placed}
 use Rattle.wasmi_c.specs.Status.{invalid_state_status, memory_status, table_status}
-use Rattle.wasmi_c.specs.Numbers.{table_type_of}
 use Rattle.wasmi_c.specs.declared.memory.numbers.MemoryNumbers.{MemoryNumbers}
 use Rattle.wasmi_c.specs.declared.quota.QuotaNumbers.{QuotaNumbers}
 use Rattle.wasmi_c.specs.declared.table.numbers.TableNumbers.{TableNumbers}
@@ -228,29 +224,13 @@ length_grown xs n y = omega (arith, length-append xs (replicate n y), length-rep
 
 -- no error of a memory has the status of a call that is done
 refused_status : (e : MemoryError) → nat_eq (memory_status e) 0 ≡ false
-refused_status memory_error.OutOfSystemMemory = refl
-refused_status memory_error.OutOfBoundsGrowth = refl
-refused_status memory_error.OutOfBoundsAccess = refl
-refused_status memory_error.InvalidMemoryType = refl
-refused_status memory_error.InvalidStaticBufferSize = refl
-refused_status memory_error.ResourceLimiterDeniedAllocation = refl
-refused_status memory_error.MinimumSizeOverflow = refl
-refused_status memory_error.MaximumSizeOverflow = refl
 refused_status (memory_error.OutOfFuel required) = refl
+refused_status other = refl
 
 -- and none of a table
 refused_table_status : (e : TableError) → nat_eq (table_status e) 0 ≡ false
-refused_table_status table_error.OutOfSystemMemory = refl
-refused_table_status table_error.MinimumSizeOverflow = refl
-refused_table_status table_error.MaximumSizeOverflow = refl
-refused_table_status table_error.ResourceLimiterDeniedAllocation = refl
-refused_table_status table_error.GrowOutOfBounds = refl
-refused_table_status table_error.InitOutOfBounds = refl
-refused_table_status table_error.FillOutOfBounds = refl
-refused_table_status table_error.SetOutOfBounds = refl
-refused_table_status table_error.CopyOutOfBounds = refl
-refused_table_status table_error.ElementTypeMismatch = refl
 refused_table_status (table_error.OutOfFuel required) = refl
+refused_table_status other = refl
 
 -- the bytes of a memory that was made, if it was
 abbrev bytes_made : Result MemoryValue MemoryError → ℕ
@@ -310,9 +290,9 @@ module _ (u u' : UnderQuota) (holds : HoldsSums u) (keeps : KeepsQuota u.quota u
       cc
 
   -- as the sum of the bytes, so what is held
-  by_bytes : (size size' : ℕ) → Counts Bytes size size' q q' → sum u'.bytes + size ≡ sum u.bytes + size'
+  summed_bytes : (size size' : ℕ) → Counts Bytes size size' q q' → sum u'.bytes + size ≡ sum u.bytes + size'
       → u'.elements ≡ u.elements → HoldsSums u'
-  by_bytes size size' counts sums same = record {
+  summed_bytes size size' counts sums same = record {
     on = on;
     bytes = omega (arith, counts.held, holds.bytes, sums);
     elements = counts.others ∙ holds.elements ∙ ap sum (sym same);
@@ -320,9 +300,9 @@ module _ (u u' : UnderQuota) (holds : HoldsSums u) (keeps : KeepsQuota u.quota u
   }
 
   -- as the sum of the elements, so what is held
-  by_elements : (size size' : ℕ) → Counts Elements size size' q q'
+  summed_elements : (size size' : ℕ) → Counts Elements size size' q q'
       → sum u'.elements + size ≡ sum u.elements + size' → u'.bytes ≡ u.bytes → HoldsSums u'
-  by_elements size size' counts sums same = record {
+  summed_elements size size' counts sums same = record {
     on = on;
     bytes = counts.others ∙ holds.bytes ∙ ap sum (sym same);
     elements = omega (arith, counts.held, holds.elements, sums);
@@ -335,7 +315,7 @@ module _ (u u' : UnderQuota) (holds : HoldsSums u) (keeps : KeepsQuota u.quota u
       elim c.makes [
         | inl refused ↦
             let sums : sum u'.bytes + 0 ≡ sum u.bytes + 0 = rw (c.bytes, refused.1) refl in
-            by_bytes 0 0 (nothing_counts Bytes 0 q q' (same_quota refused.3)) sums c.elements
+            summed_bytes 0 0 (nothing_counts Bytes 0 q q' (same_quota refused.3)) sums c.elements
         | inr made ↦
             let room = Lent c.before.region in
             let makes = rw (limiter_on u.quota holds.on, limiter_on u'.quota on) at made.2.makes in
@@ -343,7 +323,7 @@ module _ (u u' : UnderQuota) (holds : HoldsSums u) (keeps : KeepsQuota u.quota u
             (length_made (minimum_bytes made.0) 0) (λ cause. refl) (λ cause. refl) q q' _ makes in
             let sized = ap sum c.bytes
             ∙ memory_summed made.0 c.before c.after made.2.result c.status u.bytes made.2.status_is made.2.left in
-            by_bytes 0 _ counts (omega (arith, sized)) c.elements
+            summed_bytes 0 _ counts (omega (arith, sized)) c.elements
       ]
 
   -- a table is made
@@ -359,7 +339,7 @@ module _ (u u' : UnderQuota) (holds : HoldsSums u) (keeps : KeepsQuota u.quota u
           → HoldsSums u'
       by_type None refused =
           let sums : sum u'.elements + 0 ≡ sum u.elements + 0 = rw (c.elements, refused.0) refl in
-          by_elements 0 0 (nothing_counts Elements 0 q q' (same_quota refused.2)) sums c.bytes
+          summed_elements 0 0 (nothing_counts Elements 0 q q' (same_quota refused.2)) sums c.bytes
       by_type (Some ty) made =
           let room = length c.before.region in
           let makes = rw (limiter_on u.quota holds.on, limiter_on u'.quota on) at made.makes in
@@ -367,59 +347,49 @@ module _ (u u' : UnderQuota) (holds : HoldsSums u) (keeps : KeepsQuota u.quota u
           (length_made ty.minimum c.reference) (λ cause. refl) (λ cause. refl) q q' _ makes in
           let sized = ap sum c.elements
           ∙ table_summed ty c.before c.after made.result c.status u.elements made.status_is made.left in
-          by_elements 0 _ counts (omega (arith, sized)) c.bytes
+          summed_elements 0 _ counts (omega (arith, sized)) c.bytes
+
+  -- a growth by a call counts as the difference of the sizes, or as nothing where it isn't made
+  module _ {H T V E : Type 0} (p : Placement H T V E) (growth : List ℕ → V → Growth V E) (count : V → ℕ) (k : Kind)
+      (sizes : (h : H) (region : List ℕ) (ty : T) → p.IsAt h region ty
+      → count (p.value ty region (p.size h)) ≡ p.size h)
+      (counted : (region : List ℕ) (x : V) → IsCounted (growth region x) count x)
+      (of_kind : (region : List ℕ) (x : V) → kind (growth region x).request ≡ k) where
+    grown_counts : (s : Embedded H Quota) (status : ℕ) (s' : Embedded H Quota) → GrowsBy p quota_rules growth s status s'
+        → s.limiter ≡ limiter_of u.quota → s'.limiter ≡ limiter_of u'.quota
+        → Counts k (p.size s.numbers) (p.size s'.numbers) q q'
+    grown_counts s status s' (inl refused) asked left =
+        let limiter : limiter_of u'.quota ≡ limiter_of u.quota = sym left ∙ ap (λ s. s.limiter) refused.2 ∙ asked in
+        rw refused.2 (nothing_counts k (p.size s.numbers) q q' (same_quota limiter))
+    grown_counts s status s' (inr grown) asked left =
+        let x = p.value grown.0 s.region (p.size s.numbers) in
+        let grows = rw (asked, left, limiter_on u.quota holds.on, limiter_on u'.quota on) at grown.2.grows in
+        rw (
+          of_kind s.region x,
+          sizes s.numbers s.region grown.0 grown.1,
+          sizes s'.numbers s'.region grown.0 grown.2.state,
+        ) at (growth_counts (growth s.region x) count x (counted s.region x) _ _ q q' _ _ _ grows.1)
 
   -- a memory grows
   memory_grown : GrowsMemoryUnder u u' → HoldsSums u'
   memory_grown c =
-      let set : sum u'.bytes + c.before.numbers.size ≡ sum u.bytes + c.after.numbers.size =
-      rw c.bytes (sum_set u.bytes c.index c.before.numbers.size c.after.numbers.size c.there) in
-      elim c.grows [
-        | inl refused ↦
-            let limiter : limiter_of u'.quota ≡ limiter_of u.quota =
-            sym c.left ∙ ap (λ s. s.limiter) refused.2 ∙ c.asked in
-            let size : c.after.numbers.size ≡ c.before.numbers.size = ap (λ s. s.numbers.size) refused.2 in
-            by_bytes c.before.numbers.size c.after.numbers.size
-            (rw size (nothing_counts Bytes c.before.numbers.size q q' (same_quota limiter))) set c.elements
-        | inr grown ↦
-            let x = memory_in grown.0 c.before.region c.before.numbers.size in
-            let grows = rw (c.asked, c.left, limiter_on u.quota holds.on, limiter_on u'.quota on) at grown.2.grows in
-            let counts = growth_counts (memory_growth x c.pages) (λ (y : MemoryValue). length y.bytes) x
-            (record { full = length_grown x.bytes (c.pages * page_bytes grown.0.page) 0; tells = λ cause. refl })
-            _ _ q q' _ _ _ grows.1 in
-            by_bytes c.before.numbers.size c.after.numbers.size
-            (rw (
-              length-take-le c.before.numbers.size c.before.region grown.1.within,
-              length-take-le c.after.numbers.size c.after.region grown.2.state.within,
-            ) at counts)
-            set c.elements
-      ]
+      let counts = grown_counts of_memory (by_pages c.pages) (λ (y : MemoryValue). length y.bytes) Bytes
+      (λ h region ty at. length-take-le h.size region at.within)
+      (λ region x. record {
+        full = length_grown x.bytes (c.pages * page_bytes x.ty.page) 0;
+        tells = λ cause. refl;
+      })
+      (λ region x. refl) c.before c.status c.after c.grows c.asked c.left in
+      summed_bytes _ _ counts (rw c.bytes (sum_set u.bytes c.index _ _ c.there)) c.elements
 
   -- a table grows
   table_grown : GrowsTableUnder u u' → HoldsSums u'
   table_grown c =
-      let set : sum u'.elements + c.before.numbers.size ≡ sum u.elements + c.after.numbers.size =
-      rw c.elements (sum_set u.elements c.index c.before.numbers.size c.after.numbers.size c.there) in
-      elim c.grows [
-        | inl refused ↦
-            let limiter : limiter_of u'.quota ≡ limiter_of u.quota =
-            sym c.left ∙ ap (λ s. s.limiter) refused.2 ∙ c.asked in
-            let size : c.after.numbers.size ≡ c.before.numbers.size = ap (λ s. s.numbers.size) refused.2 in
-            by_elements c.before.numbers.size c.after.numbers.size
-            (rw size (nothing_counts Elements c.before.numbers.size q q' (same_quota limiter))) set c.bytes
-        | inr grown ↦
-            let x = table_in grown.0 c.before.region c.before.numbers.size in
-            let grows = rw (c.asked, c.left, limiter_on u.quota holds.on, limiter_on u'.quota on) at grown.2.grows in
-            let counts = growth_counts (region_growth (length c.before.region) c.delta c.reference x) size_of x
-            (record { full = length_grown x.elements c.delta c.reference; tells = λ cause. refl })
-            _ _ q q' _ _ _ grows.1 in
-            by_elements c.before.numbers.size c.after.numbers.size
-            (rw (
-              length-take-le c.before.numbers.size c.before.region grown.1.within,
-              length-take-le c.after.numbers.size c.after.region grown.2.state.within,
-            ) at counts)
-            set c.bytes
-      ]
+      let counts = grown_counts of_table (by_elements c.delta c.reference) size_of Elements
+      (λ h region ty at. length-take-le h.size region at.within)
+      (λ region x. record { full = length_grown x.elements c.delta c.reference; tells = λ cause. refl })
+      (λ region x. refl) c.before c.status c.after c.grows c.asked c.left in
+      summed_elements _ _ counts (rw c.elements (sum_set u.elements c.index _ _ c.there)) c.bytes
 
 -- so after each call
 after_call : (u u' : UnderQuota) → HoldsSums u → CallsUnder u u' → HoldsSums u'

@@ -1,4 +1,4 @@
--- What owns a value on the heap or none.
+-- What owns a value on the heap or none, of which a box for C has a machine or a pool.
 use mir.Syntax.{Ty}
 use base.Fml.{Fml, ftrue}
 use denote.RattleType.{RattleType}
@@ -7,6 +7,8 @@ use Rattle.std.specs.Prelude.{Option, Some, None}
 use Rattle.std.specs.Box.Ownership.{box_owns}
 use Rattle.std.specs.Global.{Global}
 use Rattle.std_heap.specs.contracts.GlobalAllocator.TheImpl.{ghosts}
+pub use Rattle.wasmi_c.specs.contracts.machine.limited_machine.LimitedMachine.{the_row as machine_row}
+pub use Rattle.wasmi_c.specs.contracts.pool.tenant_pool.TenantPool.{the_row as pool_row}
 
 -- what is owned: the same as by a box where there is a value, else nothing
 abbrev pub box_or_none_owns : (Ty → Ptr → Fml) → (row : RattleType) → Ptr → Option row.Denot → Fml

@@ -23,14 +23,7 @@ use Rattle.wasmi_c.specs.declared.range.Range.{Range}
 -- the fuel that is needed, after an error; else the number stays
 abbrev pub memory_fuel_needed : MemoryError → ℕ → ℕ
 memory_fuel_needed (error.OutOfFuel required) before = required
-memory_fuel_needed error.OutOfSystemMemory before = before
-memory_fuel_needed error.OutOfBoundsGrowth before = before
-memory_fuel_needed error.OutOfBoundsAccess before = before
-memory_fuel_needed error.InvalidMemoryType before = before
-memory_fuel_needed error.InvalidStaticBufferSize before = before
-memory_fuel_needed error.ResourceLimiterDeniedAllocation before = before
-memory_fuel_needed error.MinimumSizeOverflow before = before
-memory_fuel_needed error.MaximumSizeOverflow before = before
+memory_fuel_needed other before = before
 
 -- a memory's numbers stand for a memory
 abbrev pub of_memory : Placement MemoryNumbers MemoryTypeValue MemoryValue MemoryError

@@ -1,3 +1,2 @@
 -- A pool behind a handle.
 pub mod Calls
-pub mod PoolBox

@@ -19,16 +19,7 @@ use Rattle.wasmi_c.specs.declared.range.Range.{Range}
 -- the fuel that is needed, after an error; else the number stays
 abbrev pub table_fuel_needed : TableError → ℕ → ℕ
 table_fuel_needed (error.OutOfFuel required) before = required
-table_fuel_needed error.OutOfSystemMemory before = before
-table_fuel_needed error.MinimumSizeOverflow before = before
-table_fuel_needed error.MaximumSizeOverflow before = before
-table_fuel_needed error.ResourceLimiterDeniedAllocation before = before
-table_fuel_needed error.GrowOutOfBounds before = before
-table_fuel_needed error.InitOutOfBounds before = before
-table_fuel_needed error.FillOutOfBounds before = before
-table_fuel_needed error.SetOutOfBounds before = before
-table_fuel_needed error.CopyOutOfBounds before = before
-table_fuel_needed error.ElementTypeMismatch before = before
+table_fuel_needed other before = before
 
 -- a table's numbers stand for a table
 abbrev pub of_table : Placement TableNumbers TableTypeValue TableValue TableError

@@ -13,7 +13,6 @@ pub mod memory;
 pub mod pool;
 pub mod quota;
 pub mod range;
-pub mod refusal;
 pub mod script;
 pub mod status;
 pub mod table;

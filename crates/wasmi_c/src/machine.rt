@@ -5,16 +5,12 @@
 
 mod by_arguments;
 pub mod call_struct;
-mod calls;
 mod decode;
 pub mod handle;
 mod instructions;
-mod item_instructions;
 mod kind;
 pub mod laws;
 pub mod limited_machine;
-mod limiter_answers;
 pub mod limits;
-pub(crate) mod lines;
 pub mod machine_box;
 pub mod reply_struct;

@@ -2,7 +2,6 @@
 //!
 //! What the calls take and give stands in `include/wasmi_machine.h`.
 
-mod calls;
 pub mod handle;
 mod pool_box;
 pub mod tenant_pool;

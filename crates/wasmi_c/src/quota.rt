@@ -33,18 +33,12 @@ impl QuotaNumbers {
         if self.is_on == 0 {
             return None;
         }
-        Some(self.quota_when_on())
-    }
-
-    fn quota_when_on(&self) -> Quota
-        ensures { result ≡ quota_of self.now }
-    {
         let last = match self.last_kind {
             1 => Some((Kind::Bytes, self.last)),
             2 => Some((Kind::Elements, self.last)),
             _ => None,
         };
-        Quota::resume(
+        Some(Quota::resume(
             Amounts {
                 bytes: self.cap_bytes,
                 elements: self.cap_elements,
@@ -56,7 +50,7 @@ impl QuotaNumbers {
                 },
                 last,
             ),
-        )
+        ))
     }
 
     /// Stores what a quota that is on has become; the flag stays.

@@ -1,7 +1,9 @@
-//! The statuses that calls return, besides the numbers of trap codes. The contracts have the
-//! numbers of `specs/Status.antt`, C those of the headers.
+//! The statuses that calls return, besides the numbers of trap codes. Contracts name them as
+//! `specs/Status.antt` does; `tools/header --check` compares them with the numbers of the headers.
 ghost use Rattle.std.specs.Prelude.{◌≡◌};
 ghost use Rattle.wasmi_c.specs.Status.{fuel_status, global_status, memory_status, segment_status, table_status};
+ghost use Rattle.wasmi_c.specs.MemoryCalls.{memory_fuel_needed};
+ghost use Rattle.wasmi_c.specs.TableCalls.{table_fuel_needed};
 
 use wasmi_meter::{FuelError, MemoryError, TableError};
 use wasmi_store::SegmentError;
@@ -169,4 +171,26 @@ pub fn segment_status(error: &SegmentError) -> u8
         SegmentError::TooManyItems => SEGMENT_TOO_MANY_ITEMS,
         SegmentError::OutOfSystemMemory => SEGMENT_OUT_OF_MEMORY,
     }
+}
+
+/// Leaves the fuel that a call on a memory needs, and returns its status.
+pub fn memory_refusal(error: MemoryError, number: &mut u64) -> u8
+    ensures status { result ≡ memory_status error }
+    ensures number { number.new ≡ memory_fuel_needed error number.old }
+{
+    if let MemoryError::OutOfFuel { required_fuel } = error {
+        *number = required_fuel;
+    }
+    memory_status(error)
+}
+
+/// Leaves the fuel that a call on a table needs, and returns its status.
+pub fn table_refusal(error: TableError, number: &mut u64) -> u8
+    ensures status { result ≡ table_status error }
+    ensures number { number.new ≡ table_fuel_needed error number.old }
+{
+    if let TableError::OutOfFuel { required_fuel } = error {
+        *number = required_fuel;
+    }
+    table_status(error)
 }

@@ -1,15 +1,17 @@
-//! Each instruction by its number, on values and on arrays.
+//! Each instruction by its number, on values and on arrays; the shuffle and the store of a vector by
+//! name; a script of calls.
 ghost use Rattle.std.specs.Prelude.{◌+◌, length};
-ghost use Rattle.wasmi_c.specs.Instruction.Calls.{Leaves};
-ghost use Rattle.wasmi_c.specs.Instruction.Unary.{unary_result, unary_results};
-ghost use Rattle.wasmi_c.specs.Instruction.Binary.{binary_result, binary_results};
-ghost use Rattle.wasmi_c.specs.Instruction.Ternary.{ternary_result, ternary_results};
-ghost use Rattle.wasmi_c.specs.Instruction.Accesses.{load_result, load_results, store_result};
-ghost use Rattle.wasmi_c.specs.Instruction.Lanes.{extract_result, extract_results, load_lane_result, replace_result, replace_results, store_lane_result};
+ghost use Rattle.wasmi_c.specs.Instruction.{Leaves, unary_result, unary_results, binary_result, binary_results, ternary_result, ternary_results, load_result, load_results, store_result, extract_result, extract_results, load_lane_result, replace_result, replace_results, store_lane_result, StoresBytes, shuffle_result};
+ghost use Rattle.wasmi_types.specs.Bytes.{le_bytes};
+ghost use Rattle.wasmi_raw.specs.RawVal.{vector_in};
+ghost use Rattle.wasmi_c.specs.Script.{AnswersScript};
 
-use wasmi_c::instruction::result::InstructionResult;
-use wasmi_c::instruction::{binary, lanes, load, store, ternary, unary};
+use std::alloc::Global;
+use wasmi_c::instruction::result::{InstructionResult, status_of};
+use wasmi_c::instruction::{binary, lanes, load, shuffle, store, ternary, unary};
+use wasmi_c::script;
 use wasmi_raw::RawVal;
+use wasmi_vector_access::simd;
 
 /// Gives the result of an instruction of one operand: `unary::unary_by_number`.
 #[unsafe(no_mangle)]
@@ -204,4 +206,40 @@ pub extern "C" fn wasmi_store_lane(
         memory.old memory.new result }
 {
     lanes::store_lane(number, lane, memory, ptr, offset, a)
+}
+
+/// The bytes of two vectors that have these indices: those of `a` are 0 to 15, those of `b` 16 to
+/// 31. Returns 0, or 253 if no lane has an index; then nothing is written.
+#[unsafe(no_mangle)]
+pub extern "C" fn wasm_i8x16_shuffle(
+    a: RawVal,
+    b: RawVal,
+    lanes: &[u8; 16],
+    value: &mut RawVal,
+) -> u8
+    ensures { Leaves (shuffle_result a b lanes.now) value.old value.new result }
+{
+    shuffle::shuffle(a, b, *lanes, value)
+}
+
+/// `v128.store`: the 128 bits of the value. Returns 0, or the number of the trap; then nothing is
+/// written.
+#[unsafe(no_mangle)]
+pub extern "C" fn wasm_v128_store(memory: &mut [u8], ptr: u64, offset: u64, value: RawVal) -> u8
+    ensures { StoresBytes memory.old (ptr + offset) (le_bytes 16 (vector_in value)) memory.new result }
+{
+    status_of(simd::v128_store(memory, ptr, offset, value.into()))
+}
+
+/// Runs a script, and writes what it prints to the front of `text`: `script::run`.
+#[unsafe(no_mangle)]
+pub extern "C" fn wasmi_script_run(
+    alloc: Global,
+    script: &[u8],
+    text: &mut [u8],
+    needed: &mut usize,
+) -> u8
+    ensures answers { AnswersScript script.now text.old text.new needed.new result }
+{
+    script::run(alloc, script, text, needed)
 }

@@ -3,15 +3,12 @@
 //! The headers of `include/` declare them.
 #![tactic(auto)]
 
-mod fuel;
 mod instructions;
 mod loads;
 mod machine;
 mod memory;
 mod pool;
 mod scalar;
-mod script;
 mod stores;
 mod table;
 mod vector_loads;
-mod vectors;

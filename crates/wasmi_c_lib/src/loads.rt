@@ -4,7 +4,7 @@
 ghost use Rattle.std.specs.Int.{w8, w16, w32, cast_signed};
 ghost use Rattle.std.specs.Prelude.{◌+◌, pos};
 ghost use Rattle.wasmi_access.specs.LoadStore.{loaded};
-ghost use Rattle.wasmi_c.specs.Instruction.Calls.{Gives};
+ghost use Rattle.wasmi_c.specs.Instruction.{Gives};
 
 use wasmi_access::wasm;
 use wasmi_c::instruction::result::leave_item;

@@ -1,14 +1,16 @@
-//! Memories in regions of the caller's.
+//! Memories in regions of the caller's, and fuel meters.
 ghost use Rattle.std.specs.Prelude.{◌≡◌, ◌+◌, ◌/◌, false, Some};
 ghost use Rattle.wasmi_c.specs.MemoryCalls.{AsksEmbedded, CopiesBytesEmbedded, CountsEmbedded, IsNoState, IsNoType, MakesEmbedded, ReadsEmbedded, WritesBytesEmbedded, WritesEmbedded, by_pages, of_memory};
 ghost use Rattle.wasmi_c.specs.Placement.{GrowsBy, SettlesBy};
-ghost use Rattle.wasmi_c.specs.Numbers.{limiter_of, KeepsQuota, embedded, IsState};
+ghost use Rattle.wasmi_c.specs.Numbers.{limiter_of, KeepsQuota, embedded, IsState, meter_of};
 ghost use Rattle.wasmi_meter.specs.Quota.{quota_rules};
 ghost use Rattle.wasmi_store.specs.MemoryType.{MemoryTypeValue, in_bounds, page_bytes};
 ghost use Rattle.wasmi_store.specs.Bulk.{filled, copied};
+ghost use Rattle.wasmi_c.specs.FuelCalls.{SetsFuel, TellsFuel, PaysFuel};
+ghost use Rattle.wasmi_meter.specs.Costs.{copy_cost};
 
 use wasmi_c::memory::{bulk, bytes, creation, growth};
-use wasmi_c::{HostAnswers, MemoryNumbers, MeterNumbers, Question, QuotaNumbers, Range};
+use wasmi_c::{HostAnswers, MemoryNumbers, MeterNumbers, Question, QuotaNumbers, Range, fuel};
 
 /// Makes a memory of zeros at its minimum, under a quota.
 #[unsafe(no_mangle)]
@@ -186,4 +188,49 @@ pub extern "C" fn wasmi_memory_init(
         (record { region = region.new; meter = meter.new; number = number.new }) }
 {
     bulk::init(memory, region, bytes, range, meter, number)
+}
+
+/// Sets the fuel that is left.
+#[unsafe(no_mangle)]
+pub extern "C" fn wasmi_fuel_set(meter: &mut MeterNumbers, amount: u64) -> u8
+    ensures { SetsFuel amount meter.old result meter.new }
+{
+    fuel::set(meter, amount)
+}
+
+/// The fuel that is left.
+#[unsafe(no_mangle)]
+pub extern "C" fn wasmi_fuel_left(meter: &MeterNumbers, left: &mut u64) -> u8
+    ensures { TellsFuel meter.now left.old result left.new }
+{
+    fuel::left(meter, left)
+}
+
+/// Takes an amount of fuel.
+#[unsafe(no_mangle)]
+pub extern "C" fn wasmi_fuel_consume(meter: &mut MeterNumbers, amount: u64, number: &mut u64) -> u8
+    ensures { PaysFuel amount meter.old number.old result meter.new number.new }
+{
+    fuel::consume(meter, amount, number)
+}
+
+/// The price of a copy of so many bytes.
+#[unsafe(no_mangle)]
+pub extern "C" fn wasmi_fuel_copy_cost(meter: &MeterNumbers, bytes: u64) -> u64
+    ensures { result ≡ copy_cost (meter_of meter.now).costs bytes 1 }
+{
+    fuel::copy_cost(meter, bytes)
+}
+
+/// Takes the price of a copy of so many bytes.
+#[unsafe(no_mangle)]
+pub extern "C" fn wasmi_fuel_consume_copy(
+    meter: &mut MeterNumbers,
+    bytes: u64,
+    number: &mut u64,
+) -> u8
+    ensures { PaysFuel (copy_cost (meter_of meter.old).costs bytes 1) meter.old number.old result
+        meter.new number.new }
+{
+    fuel::consume_copy(meter, bytes, number)
 }

@@ -3,7 +3,7 @@
 //! A status is 0, or the number of the trap; then nothing is written.
 ghost use Rattle.std.specs.Int.{w32, w64, cast_unsigned};
 ghost use Rattle.std.specs.Prelude.{◌+◌, ◌%◌, ◌^◌};
-ghost use Rattle.wasmi_c.specs.Instruction.Accesses.{StoresBytes};
+ghost use Rattle.wasmi_c.specs.Instruction.{StoresBytes};
 ghost use Rattle.wasmi_types.specs.Bytes.{le_bytes};
 
 use wasmi_access::wasm;

@@ -3,7 +3,7 @@
 //! A status is 0, or the number of the trap; then nothing is written.
 ghost use Rattle.std.specs.Prelude.{◌+◌};
 ghost use Rattle.wasmi_access.specs.LoadStore.{loaded};
-ghost use Rattle.wasmi_c.specs.Instruction.Calls.{Gives};
+ghost use Rattle.wasmi_c.specs.Instruction.{Gives};
 ghost use Rattle.wasmi_lanes.specs.Vector.{splat_of};
 ghost use Rattle.wasmi_ops.specs.RawResults.{as_raw};
 ghost use Rattle.wasmi_raw.specs.RawVal.{raw_of_vector};

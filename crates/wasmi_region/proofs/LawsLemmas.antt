@@ -131,3 +131,6 @@ module _ {S : Type 0} (rules : Rules S) where
       })
     ],
   )
+
+-- what tables on regions do as others
+pub ruleset tables = (creations_are_tables, growths_are_tables)

@@ -143,6 +143,7 @@ pub fn set(
 
 /// Fills `len` elements from `dst` on with a reference. The errors are those of
 /// [`wasmi_store::Table::fill_raw`].
+#[tactic(auto, using(crate::proofs::TableLemmas::writes))]
 pub fn fill(
     ty: TableType,
     elements: &mut [u32],
@@ -160,6 +161,7 @@ pub fn fill(
 
 /// Copies `len` elements from `src` on over those from `dst` on. The errors are those of
 /// [`wasmi_store::Table::copy_within`].
+#[tactic(auto, using(crate::proofs::TableLemmas::writes))]
 pub fn copy_within(
     ty: TableType,
     elements: &mut [u32],
@@ -177,6 +179,7 @@ pub fn copy_within(
 
 /// Copies `len` items of a table, from `src` on, over the elements of another table from `dst` on.
 /// The errors are those of [`wasmi_store::Table::copy`].
+#[tactic(auto, using(crate::proofs::TableLemmas::writes))]
 pub fn copy(
     ty: TableType,
     elements: &mut [u32],
@@ -198,6 +201,7 @@ pub fn copy(
 
 /// Copies `len` items of the type of a table's elements, from `src` on, over the elements from
 /// `dst` on. The errors are those of [`wasmi_store::Table::init`].
+#[tactic(auto, using(crate::proofs::TableLemmas::writes))]
 pub fn init(
     ty: TableType,
     elements: &mut [u32],

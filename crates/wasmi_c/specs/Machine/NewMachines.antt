@@ -1,5 +1,5 @@
 -- What a machine is made with, and what a new one has.
-use Rattle.std.specs.Prelude.{◌≡◌, ◌≢◌, ◌⊎◌, ℕ, All, List, map, Option, Some, None}
+use Rattle.std.specs.Prelude.{◌≡◌, ◌≢◌, ◌⊎◌, ℕ, All, List, map, Option, Some, None, ◌<◌, nat_eq, if◌then◌else◌}
 use Rattle.wasmi_meter.specs.Amounts.{nothing}
 use Rattle.wasmi_meter.specs.AnswerList.{new_answers}
 use Rattle.wasmi_meter.specs.Meter.{Meter}
@@ -11,10 +11,10 @@ use Rattle.wasmi_meter.specs.declared.limiter.Kind.TheVariants.{Bytes, Elements}
 use Rattle.wasmi_meter.specs.declared.quota.Quota.{Quota}
 use Rattle.wasmi_core.specs.State.{new_state}
 use Rattle.wasmi_c.specs.Machine.Caps.{MachineValue}
-use Rattle.wasmi_c.specs.Machine.LimiterAnswers.{IsAnswer, answer_of}
 use Rattle.wasmi_c.specs.Status.{done_status, has_machine_status, no_answer_status, no_room_status}
 use Rattle.wasmi_c.specs.Types.{if_flag, meter_of}
 use Rattle.wasmi_c.specs.declared.machine.limits.Limits.{Limits}
+use Rattle.wasmi_meter.specs.declared.answer_list.LimiterAnswer.TheVariants.{Permit, Deny, Error, Complain}
 
 -- the meter that a machine is made with
 abbrev pub meter_with : Limits → Meter
@@ -36,6 +36,15 @@ abbrev pub IsNewLimiter : Limits → AnyLimiter → Type 0
 IsNewLimiter limits limiter.Unlimited = limits.is_unlimited ≢ 0
 IsNewLimiter limits (limiter.Quota quota) = IsNewQuota limits quota
 IsNewLimiter limits (limiter.Answers answers) = ⊥
+
+-- a number that stands for an answer
+abbrev pub IsAnswer : ℕ → Type 0
+IsAnswer number = number < 4
+
+-- the answer that such a number stands for
+abbrev pub answer_of : ℕ → LimiterAnswer
+answer_of number = if nat_eq number 0 then Permit else if nat_eq number 1 then Deny
+    else if nat_eq number 2 then Error else Complain
 
 -- a machine with nothing on it, and with its quota if there are caps
 pub record IsNewMachine (limits : Limits) (machine : MachineValue) : Type 0 where

@@ -1,7 +1,6 @@
 //! The instructions of two operands.
 ghost use Rattle.std.specs.Prelude.{◌≡◌, length};
-ghost use Rattle.wasmi_c.specs.Instruction.Calls.{Leaves, each_of_two};
-ghost use Rattle.wasmi_c.specs.Instruction.Binary.{binary_numbered, binary_outcome, binary_result, binary_results, binary_value};
+ghost use Rattle.wasmi_c.specs.Instruction.{Leaves, each_of_two, binary_numbered, binary_outcome, binary_result, binary_results, binary_value};
 
 use crate::instruction::list::numbered;
 use crate::instruction::numbers::{BINARY_INSTRUCTIONS, binary_numbers};
@@ -37,7 +36,7 @@ impl Binary {
     }
 
     #[inline(always)]
-    #[tactic(auto, unfolding(crate::specs::Instruction::Binary::binary_outcome))]
+    #[tactic(auto, unfolding(crate::specs::Instruction::binary_outcome))]
     fn outcome(self, a: RawVal, b: RawVal) -> InstructionResult
         ensures { result ≡ binary_outcome self a b }
     {
@@ -62,15 +61,14 @@ impl Binary {
 }
 
 /// The instruction that has a number, if there is one.
-#[tactic(auto, unfolding(crate::specs::Instruction::Binary::binary_numbered))]
+#[tactic(auto, unfolding(crate::specs::Instruction::binary_numbered))]
 pub fn binary_numbered(number: u16) -> Option<Binary>
     ensures { result ≡ binary_numbered number }
 {
     numbered(&BINARY_INSTRUCTIONS, number)
 }
 
-/// Writes what the instruction of a number gives, and returns 0; 255 if there is none; or the
-/// number of its trap. After any status except 0 nothing is written.
+/// Writes what the instruction of a number gives.
 pub fn binary_by_number(number: u16, a: RawVal, b: RawVal, value: &mut RawVal) -> u8
     ensures { Leaves (binary_result number a b) value.old value.new result }
 {
@@ -80,9 +78,7 @@ pub fn binary_by_number(number: u16, a: RawVal, b: RawVal, value: &mut RawVal) -
     }
 }
 
-/// Writes what the instruction of a number gives for each two elements of two arrays, or its trap,
-/// and returns 0; 255 if there is none; or 254 if the arrays differ in length. After 254 and 255
-/// nothing is written.
+/// Writes what the instruction of a number gives for each two elements of two arrays, or its trap.
 pub fn binary_each(number: u16, a: &[RawVal], b: &[RawVal], results: &mut [InstructionResult]) -> u8
     ensures { Leaves (binary_results number a.now b.now (length results.old))
         results.old results.new result }

@@ -1,7 +1,6 @@
 //! The instructions on one lane.
 ghost use Rattle.std.specs.Prelude.{◌≡◌, ◌+◌, length};
-ghost use Rattle.wasmi_c.specs.Instruction.Calls.{Leaves, each_of, each_of_two};
-ghost use Rattle.wasmi_c.specs.Instruction.Lanes.{extract_result, extract_results, extracted_value, extraction_of, lane_load_of, lane_store_of, load_lane_result, replace_result, replace_results, replaced_value, replacement_of, store_lane_result};
+ghost use Rattle.wasmi_c.specs.Instruction.{Leaves, each_of, each_of_two, extract_result, extract_results, extracted_value, extraction_of, lane_load_of, lane_store_of, load_lane_result, replace_result, replace_results, replaced_value, replacement_of, store_lane_result};
 
 use crate::instruction::list::op_numbered;
 use crate::instruction::refusal::Refusal;
@@ -13,7 +12,7 @@ use wasmi_ops::{
 use wasmi_raw::RawVal;
 
 /// The extraction that has a number, at the lane of an index.
-#[tactic(auto, unfolding(crate::specs::Instruction::Calls::op_numbered))]
+#[tactic(auto, unfolding(crate::specs::Instruction::op_numbered))]
 pub fn extraction(number: u16, lane: u8) -> Result<ExtractOp, Refusal>
     ensures { result ≡ extraction_of number lane }
 {
@@ -22,7 +21,7 @@ pub fn extraction(number: u16, lane: u8) -> Result<ExtractOp, Refusal>
 }
 
 /// The replacement that has a number, at the lane of an index.
-#[tactic(auto, unfolding(crate::specs::Instruction::Calls::op_numbered))]
+#[tactic(auto, unfolding(crate::specs::Instruction::op_numbered))]
 pub fn replacement(number: u16, lane: u8) -> Result<ReplaceOp, Refusal>
     ensures { result ≡ replacement_of number lane }
 {
@@ -31,7 +30,7 @@ pub fn replacement(number: u16, lane: u8) -> Result<ReplaceOp, Refusal>
 }
 
 /// The load of a lane that has a number, at the lane of an index.
-#[tactic(auto, unfolding(crate::specs::Instruction::Calls::op_numbered))]
+#[tactic(auto, unfolding(crate::specs::Instruction::op_numbered))]
 pub fn lane_load(number: u16, lane: u8) -> Result<LoadLaneOp, Refusal>
     ensures { result ≡ lane_load_of number lane }
 {
@@ -40,7 +39,7 @@ pub fn lane_load(number: u16, lane: u8) -> Result<LoadLaneOp, Refusal>
 }
 
 /// The store of a lane that has a number, at the lane of an index.
-#[tactic(auto, unfolding(crate::specs::Instruction::Calls::op_numbered))]
+#[tactic(auto, unfolding(crate::specs::Instruction::op_numbered))]
 pub fn lane_store(number: u16, lane: u8) -> Result<StoreLaneOp, Refusal>
     ensures { result ≡ lane_store_of number lane }
 {
@@ -54,15 +53,14 @@ fn extracted(op: &ExtractOp, a: RawVal) -> RawVal
     op.apply(a.into())
 }
 
-#[tactic(auto, unfolding(crate::specs::Instruction::Lanes::replaced_value))]
+#[tactic(auto, unfolding(crate::specs::Instruction::replaced_value))]
 fn replaced(op: &ReplaceOp, a: RawVal, item: RawVal) -> RawVal
     ensures { result ≡ replaced_value op.now a item }
 {
     op.apply(a.into(), item).into()
 }
 
-/// Writes the lane of a vector, and returns 0; 255 if no extraction has the number; or 253 if no
-/// lane has the index. After 253 and 255 nothing is written.
+/// Writes the lane of a vector.
 pub fn extract_by_number(number: u16, lane: u8, a: RawVal, value: &mut RawVal) -> u8
     ensures { Leaves (extract_result number lane a) value.old value.new result }
 {
@@ -75,9 +73,7 @@ pub fn extract_by_number(number: u16, lane: u8, a: RawVal, value: &mut RawVal) -
     }
 }
 
-/// Writes the lane of each vector of an array, and returns 0; 255 if no extraction has the number;
-/// 253 if no lane has the index; or 254 if the arrays differ in length. After 253, 254 and 255
-/// nothing is written.
+/// Writes the lane of each vector of an array.
 pub fn extract_each(number: u16, lane: u8, a: &[RawVal], values: &mut [RawVal]) -> u8
     ensures { Leaves (extract_results number lane a.now (length values.old))
         values.old values.new result }
@@ -102,8 +98,7 @@ fn extract_each_by_op(op: &ExtractOp, a: &[RawVal], values: &mut [RawVal]) -> u8
     DONE
 }
 
-/// Writes a vector with a lane replaced by an item, and returns 0; 255 if no replacement has the
-/// number; or 253 if no lane has the index. After 253 and 255 nothing is written.
+/// Writes a vector with a lane replaced by an item.
 pub fn replace_by_number(number: u16, lane: u8, a: RawVal, item: RawVal, value: &mut RawVal) -> u8
     ensures { Leaves (replace_result number lane a item) value.old value.new result }
 {
@@ -116,9 +111,7 @@ pub fn replace_by_number(number: u16, lane: u8, a: RawVal, item: RawVal, value: 
     }
 }
 
-/// Writes each vector of an array with a lane replaced by the item at its index, and returns 0; 255
-/// if no replacement has the number; 253 if no lane has the index; or 254 if the arrays differ in
-/// length. After 253, 254 and 255 nothing is written.
+/// Writes each vector of an array with a lane replaced by the item at its index.
 pub fn replace_each(
     number: u16,
     lane: u8,
@@ -149,9 +142,7 @@ fn replace_each_by_op(op: &ReplaceOp, a: &[RawVal], items: &[RawVal], values: &m
     DONE
 }
 
-/// Writes a vector with a lane loaded from `ptr + offset`. Returns 0; 255 if no load of a lane has
-/// the number; 253 if no lane has the index; or the number of the trap past the end. After any
-/// status except 0 nothing is written.
+/// Writes a vector with a lane loaded from `ptr + offset`.
 pub fn load_lane(
     number: u16,
     lane: u8,
@@ -176,9 +167,7 @@ pub fn load_lane(
     }
 }
 
-/// Stores a lane of a vector at `ptr + offset`. Returns 0; 255 if no store of a lane has the
-/// number; 253 if no lane has the index; or the number of the trap past the end. After any status
-/// except 0 nothing is written.
+/// Stores a lane of a vector at `ptr + offset`.
 pub fn store_lane(number: u16, lane: u8, memory: &mut [u8], ptr: u64, offset: u64, a: RawVal) -> u8
     ensures { Leaves (store_lane_result number lane memory.old (ptr + offset) a)
         memory.old memory.new result }

@@ -1,7 +1,6 @@
 //! The loads.
 ghost use Rattle.std.specs.Prelude.{◌≡◌, ◌+◌, length};
-ghost use Rattle.wasmi_c.specs.Instruction.Calls.{Leaves, each_of};
-ghost use Rattle.wasmi_c.specs.Instruction.Accesses.{load_numbered, load_outcome, load_result, load_results, loaded_value};
+ghost use Rattle.wasmi_c.specs.Instruction.{Leaves, each_of, load_numbered, load_outcome, load_result, load_results, loaded_value};
 
 use crate::instruction::list::numbered;
 use crate::instruction::numbers::{LOAD_INSTRUCTIONS, load_numbers};
@@ -34,7 +33,7 @@ impl Load {
     }
 
     #[inline(always)]
-    #[tactic(auto, unfolding(crate::specs::Instruction::Accesses::load_outcome))]
+    #[tactic(auto, unfolding(crate::specs::Instruction::load_outcome))]
     fn outcome(self, memory: &[u8], offset: u64, ptr: u64) -> InstructionResult
         ensures { result ≡ load_outcome self memory.now offset ptr }
     {
@@ -59,15 +58,14 @@ impl Load {
 }
 
 /// The load that has a number, if there is one.
-#[tactic(auto, unfolding(crate::specs::Instruction::Accesses::load_numbered))]
+#[tactic(auto, unfolding(crate::specs::Instruction::load_numbered))]
 pub fn load_numbered(number: u16) -> Option<Load>
     ensures { result ≡ load_numbered number }
 {
     numbered(&LOAD_INSTRUCTIONS, number)
 }
 
-/// Writes what the load of a number gives from `ptr + offset`, and returns 0; 255 if there is none;
-/// or the number of the trap past the end. After any status except 0 nothing is written.
+/// Writes what the load of a number gives from `ptr + offset`.
 pub fn load_by_number(number: u16, memory: &[u8], ptr: u64, offset: u64, value: &mut RawVal) -> u8
     ensures { Leaves (load_result number memory.now (ptr + offset)) value.old value.new result }
 {
@@ -84,9 +82,8 @@ fn load_by_op(op: Load, memory: &[u8], ptr: u64, offset: u64) -> Result<RawVal, 
     load_numbers!(op_once! op Load load(memory, ptr, offset))
 }
 
-/// Writes what the load of a number gives from each pointer of an array, plus the offset, or its
-/// trap, and returns 0; 255 if there is none; or 254 if the arrays differ in length. After 254 and
-/// 255 nothing is written.
+/// Writes what the load of a number gives from each pointer of an array plus the offset, or its
+/// trap.
 pub fn load_each(
     number: u16,
     memory: &[u8],

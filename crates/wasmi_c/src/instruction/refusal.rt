@@ -1,6 +1,6 @@
 //! Why a call of an instruction writes nothing, and the status that says so.
 ghost use Rattle.std.specs.Prelude.{◌≡◌};
-ghost use Rattle.wasmi_c.specs.Instruction.Calls.{refusal_status};
+ghost use Rattle.wasmi_c.specs.Instruction.{refusal_status};
 
 use crate::status::{LENGTHS_DIFFER, NO_LANE, UNKNOWN};
 use wasmi_types::TrapCode;

@@ -1,7 +1,6 @@
 //! The shuffle of the bytes of two vectors.
 ghost use Rattle.std.specs.Prelude.{◌≡◌};
-ghost use Rattle.wasmi_c.specs.Instruction.Calls.{Leaves};
-ghost use Rattle.wasmi_c.specs.Instruction.Shuffle.{lanes_of, shuffle_result};
+ghost use Rattle.wasmi_c.specs.Instruction.{Leaves, lanes_of, shuffle_result};
 
 use crate::instruction::refusal::Refusal;
 use crate::status::DONE;
@@ -10,6 +9,7 @@ use wasmi_lanewise::simd;
 use wasmi_raw::RawVal;
 
 /// The lanes of these indices, if there are such lanes.
+#[tactic(auto, using(crate::proofs::InstructionLemmas::lanes_there))]
 pub fn lanes_of(indices: [u8; 16]) -> Option<[ImmLaneIdx32; 16]>
     ensures { result ≡ lanes_of indices }
 {
@@ -21,7 +21,7 @@ pub fn lanes_of(indices: [u8; 16]) -> Option<[ImmLaneIdx32; 16]>
 }
 
 /// Writes the bytes of two vectors that have these indices: those of `a` are 0 to 15, those of `b`
-/// 16 to 31. Returns 0, or 253 if no lane has an index; then nothing is written.
+/// 16 to 31.
 pub fn shuffle(a: RawVal, b: RawVal, indices: [u8; 16], value: &mut RawVal) -> u8
     ensures { Leaves (shuffle_result a b indices) value.old value.new result }
 {

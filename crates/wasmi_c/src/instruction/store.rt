@@ -1,8 +1,7 @@
 //! The stores.
 ghost use Rattle.std.specs.Prelude.{◌≡◌, ◌+◌};
 ghost use Rattle.wasmi_access.specs.LoadStore.{IsStore};
-ghost use Rattle.wasmi_c.specs.Instruction.Accesses.{memory_after, store_numbered, store_result, stored_value};
-ghost use Rattle.wasmi_c.specs.Instruction.Calls.{Leaves};
+ghost use Rattle.wasmi_c.specs.Instruction.{memory_after, store_numbered, store_result, stored_value, Leaves};
 
 use crate::instruction::list::numbered;
 use crate::instruction::numbers::STORE_INSTRUCTIONS;
@@ -34,15 +33,14 @@ impl Store {
 }
 
 /// The store that has a number, if there is one.
-#[tactic(auto, unfolding(crate::specs::Instruction::Accesses::store_numbered))]
+#[tactic(auto, unfolding(crate::specs::Instruction::store_numbered))]
 pub fn store_numbered(number: u16) -> Option<Store>
     ensures { result ≡ store_numbered number }
 {
     numbered(&STORE_INSTRUCTIONS, number)
 }
 
-/// Stores a value at `ptr + offset`, by the store that has the number. Returns 0; 255 if there is
-/// none; or the number of the trap past the end. After any status except 0 nothing is written.
+/// Stores a value at `ptr + offset`, by the store that has the number.
 pub fn store_by_number(number: u16, memory: &mut [u8], ptr: u64, offset: u64, value: RawVal) -> u8
     ensures { Leaves (store_result number memory.old (ptr + offset) value)
         memory.old memory.new result }

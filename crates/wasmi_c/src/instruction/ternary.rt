@@ -1,7 +1,6 @@
 //! The instructions of three vectors.
 ghost use Rattle.std.specs.Prelude.{◌≡◌, length};
-ghost use Rattle.wasmi_c.specs.Instruction.Calls.{Leaves, each_of_three, op_numbered};
-ghost use Rattle.wasmi_c.specs.Instruction.Ternary.{ternary_result, ternary_results, ternary_value};
+ghost use Rattle.wasmi_c.specs.Instruction.{Leaves, each_of_three, op_numbered, ternary_result, ternary_results, ternary_value};
 ghost use Rattle.wasmi_ops.specs.declared.vector.ternary.TheConstants.{TERNARIES};
 
 use crate::instruction::list::op_numbered;
@@ -17,15 +16,14 @@ fn apply(op: TernaryOp, a: RawVal, b: RawVal, c: RawVal) -> RawVal
 }
 
 /// The instruction that has a number, if there is one.
-#[tactic(auto, unfolding(crate::specs::Instruction::Calls::op_numbered))]
+#[tactic(auto, unfolding(crate::specs::Instruction::op_numbered))]
 pub fn ternary_numbered(number: u16) -> Option<TernaryOp>
     ensures { result ≡ op_numbered TERNARIES number }
 {
     op_numbered(&TERNARIES, number)
 }
 
-/// Writes what the instruction of a number gives, and returns 0, or 255 if there is none; then
-/// nothing is written.
+/// Writes what the instruction of a number gives.
 pub fn ternary_by_number(number: u16, a: RawVal, b: RawVal, c: RawVal, value: &mut RawVal) -> u8
     ensures { Leaves (ternary_result number a b c) value.old value.new result }
 {
@@ -38,9 +36,7 @@ pub fn ternary_by_number(number: u16, a: RawVal, b: RawVal, c: RawVal, value: &m
     }
 }
 
-/// Writes what the instruction of a number gives for each three elements of three arrays, and
-/// returns 0; 255 if there is none; or 254 if the arrays differ in length. After 254 and 255
-/// nothing is written.
+/// Writes what the instruction of a number gives for each three elements of three arrays.
 pub fn ternary_each(
     number: u16,
     a: &[RawVal],

@@ -1,7 +1,6 @@
 //! The instructions of one operand.
 ghost use Rattle.std.specs.Prelude.{◌≡◌, length};
-ghost use Rattle.wasmi_c.specs.Instruction.Calls.{Leaves, each_of};
-ghost use Rattle.wasmi_c.specs.Instruction.Unary.{unary_numbered, unary_result, unary_results, unary_value};
+ghost use Rattle.wasmi_c.specs.Instruction.{Leaves, each_of, unary_numbered, unary_result, unary_results, unary_value};
 
 use crate::instruction::list::numbered;
 use crate::instruction::numbers::{UNARY_INSTRUCTIONS, unary_numbers};
@@ -55,15 +54,14 @@ impl Unary {
 }
 
 /// The instruction that has a number, if there is one.
-#[tactic(auto, unfolding(crate::specs::Instruction::Unary::unary_numbered))]
+#[tactic(auto, unfolding(crate::specs::Instruction::unary_numbered))]
 pub fn unary_numbered(number: u16) -> Option<Unary>
     ensures { result ≡ unary_numbered number }
 {
     numbered(&UNARY_INSTRUCTIONS, number)
 }
 
-/// Writes what the instruction of a number gives, and returns 0, or 255 if there is none; then
-/// nothing is written.
+/// Writes what the instruction of a number gives.
 pub fn unary_by_number(number: u16, a: RawVal, value: &mut RawVal) -> u8
     ensures { Leaves (unary_result number a) value.old value.new result }
 {
@@ -76,8 +74,7 @@ pub fn unary_by_number(number: u16, a: RawVal, value: &mut RawVal) -> u8
     }
 }
 
-/// Writes what the instruction of a number gives for each element of an array, and returns 0; 255
-/// if there is none; or 254 if the arrays differ in length. After 254 and 255 nothing is written.
+/// Writes what the instruction of a number gives for each element of an array.
 pub fn unary_each(number: u16, a: &[RawVal], values: &mut [RawVal]) -> u8
     ensures { Leaves (unary_results number a.now (length values.old)) values.old values.new result }
 {

@@ -7,11 +7,10 @@ ghost use Rattle.wasmi_core.specs.MemoryEffects.{load_reply};
 ghost use Rattle.wasmi_core.specs.State.{live_at};
 ghost use Rattle.wasmi_core.specs.declared.calls.Call.TheVariants.{GetFuel, GrowMemory, Store};
 ghost use Rattle.wasmi_core.specs.declared.calls.Reply.TheVariants.{Memory};
-ghost use Rattle.wasmi_c.specs.Machine.ByArguments.{RepliesInStatus, RepliesInWord, item_load, item_store, vector_binary, word_after};
-ghost use Rattle.wasmi_c.specs.Machine.Calls.{MachineReplies};
+ghost use Rattle.wasmi_c.specs.Machine.Calls.{RepliesInStatus, RepliesInWord, item_load, item_store, vector_binary, word_after, MachineReplies};
 ghost use Rattle.wasmi_c.specs.Machine.Replies.{status_of};
 
-use crate::machine::item_instructions::{
+use crate::machine::instructions::{
     item_load_numbered, item_store_numbered, vector_binary_numbered,
 };
 use crate::machine::laws;
@@ -26,6 +25,7 @@ use wasmi_raw::RawVal;
 impl LimitedMachine {
     /// Loads an item by the load that has the number, if there is one.
     #[inline(always)]
+    #[tactic(auto, using(crate::proofs::MachineLemmas::load_leaves, crate::proofs::MachineLemmas::no_load))]
     pub fn load(&self, number: u16, memory: usize, ptr: u64, offset: u64, value: &mut u64) -> u8
         ensures { RepliesInWord (item_load number memory ptr offset) value.old self.now
             (result, value.new) self.now }
@@ -58,6 +58,7 @@ impl LimitedMachine {
 
     /// Tells the fuel that is left.
     #[inline(always)]
+    #[tactic(auto, using(crate::proofs::MachineLemmas::fuel_told))]
     pub fn fuel_left(&self, left: &mut u64) -> u8
         ensures { RepliesInWord (Some GetFuel) left.old self.now (result, left.new) self.now }
     {
@@ -81,6 +82,7 @@ impl LimitedMachine {
 
     /// Stores an item by the store that has the number, if there is one.
     #[inline(always)]
+    #[tactic(auto, using(crate::proofs::MachineLemmas::no_call_left))]
     pub fn store(&mut self, number: u16, memory: usize, ptr: u64, offset: u64, value: u64) -> u8
         ensures step { RepliesInStatus (item_store number memory ptr offset value) self.old result
             self.new }
@@ -95,6 +97,7 @@ impl LimitedMachine {
 
     /// Stores an item, which asks no limiter.
     #[inline(always)]
+    #[tactic(auto, using(crate::proofs::MachineLemmas::kept_by_store, crate::proofs::MachineLemmas::replies_to_store))]
     pub(super) fn store_item(
         &mut self,
         op: StoreOp,
@@ -111,6 +114,7 @@ impl LimitedMachine {
 
     /// Executes the instruction on two vectors that has the number, if there is one.
     #[inline(always)]
+    #[tactic(auto, using(crate::proofs::MachineLemmas::no_call_left))]
     pub fn binary(&mut self, number: u16, dst: u8, a: u8, b: u8) -> u8
         ensures step { RepliesInStatus (vector_binary number dst a b) self.old result self.new }
         ensures caps { caps_of self.new.limiter ≡ caps_of self.old.limiter }
@@ -123,6 +127,7 @@ impl LimitedMachine {
 
     /// Grows a memory by so many pages, and leaves a status and a word of the reply.
     #[inline(always)]
+    #[tactic(auto, using(crate::proofs::MachineLemmas::word_left))]
     pub fn grow(&mut self, memory: usize, pages: u64, number: &mut u64) -> u8
         ensures step { RepliesInWord (Some (GrowMemory memory pages)) number.old self.old
             (result, number.new) self.new }
@@ -140,6 +145,7 @@ impl LimitedMachine {
 
     /// Grows a memory by so many pages.
     #[inline(always)]
+    #[tactic(auto, using(crate::proofs::MachineLemmas::call_keeps_caps))]
     fn grow_memory(&mut self, memory: usize, pages: u64) -> Reply
         ensures step { MachineReplies (GrowMemory memory pages) self.old result self.new }
         ensures caps { caps_of self.new.limiter ≡ caps_of self.old.limiter }

@@ -1,6 +1,6 @@
 //! Calls as structs of plain numbers.
 ghost use Rattle.std.specs.Prelude.{◌≡◌};
-ghost use Rattle.wasmi_c.specs.Machine.Operands.{maximum_of, memory_type_in, mutability_of, table_type_in, typed_reference_of};
+ghost use Rattle.wasmi_c.specs.Machine.CallStructs.{maximum_of, memory_type_in, mutability_of, table_type_in, typed_reference_of};
 
 use crate::types::{if_flag, memory_type, reference_type, table_type};
 use wasmi_raw::{RawRef, RawVal};

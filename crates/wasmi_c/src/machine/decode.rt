@@ -4,7 +4,7 @@ ghost use Rattle.wasmi_core.specs.declared.calls.Call.TheVariants.{Binary, Load,
 ghost use Rattle.wasmi_c.specs.Machine.CallStructs.{call_of, global_call, memory_call, meter_call, register_call, table_call};
 
 use crate::machine::call_struct::CallStruct;
-use crate::machine::item_instructions::{
+use crate::machine::instructions::{
     item_load_numbered, item_store_numbered, vector_binary_numbered,
 };
 use crate::machine::kind::{GlobalCall, Kind, MemoryCall, MeterCall, RegisterCall, TableCall};
@@ -31,6 +31,7 @@ impl CallStruct {
 
     /// The load of an item, if the numbers stand for one.
     #[inline(always)]
+    #[tactic(auto, using(crate::proofs::MachineLemmas::loads_are))]
     pub fn item_load(&self) -> Option<LoadOp>
         ensures { IfSome result (λ op. call_of self.now
             ≡ Some (Load op self.now.index self.now.ptr self.now.offset)) }
@@ -43,6 +44,7 @@ impl CallStruct {
 
     /// The store of an item, if the numbers stand for one.
     #[inline(always)]
+    #[tactic(auto, using(crate::proofs::MachineLemmas::stores_are))]
     pub fn item_store(&self) -> Option<StoreOp>
         ensures { IfSome result (λ op. call_of self.now
             ≡ Some (Store op self.now.index self.now.ptr self.now.offset self.now.value)) }
@@ -55,6 +57,7 @@ impl CallStruct {
 
     /// The instruction of two vectors, if the numbers stand for one.
     #[inline(always)]
+    #[tactic(auto, using(crate::proofs::MachineLemmas::binaries_are))]
     pub fn vector_binary(&self) -> Option<BinaryOp>
         ensures { IfSome result (λ op. call_of self.now
             ≡ Some (Binary op self.now.dst self.now.a self.now.b)) }

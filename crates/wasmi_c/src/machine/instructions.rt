@@ -1,6 +1,7 @@
 //! The calls of instructions that numbers stand for.
 ghost use Rattle.std.specs.Prelude.{◌≡◌};
-ghost use Rattle.wasmi_c.specs.Machine.Instructions.{binary_as, binary_call, extract_lane_call, load_as, load_call, load_lane_call, replace_lane_call, shuffle_call, store_as, store_call, store_lane_call, ternary_call, unary_as, unary_call};
+ghost use Rattle.wasmi_c.specs.Machine.CallStructs.{binary_call, extract_lane_call, load_call, load_lane_call, replace_lane_call, shuffle_call, store_call, store_lane_call, ternary_call, unary_call};
+ghost use Rattle.wasmi_c.specs.Machine.Calls.{item_load_numbered, item_store_numbered, vector_binary_numbered};
 
 use crate::instruction::binary::{Binary, binary_numbered};
 use crate::instruction::lanes::{extraction, lane_load, lane_store, replacement};
@@ -12,20 +13,15 @@ use crate::instruction::unary::{Unary, unary_numbered};
 use crate::machine::call_struct::CallStruct;
 use crate::types::to_u32;
 use wasmi_core::Call;
+use wasmi_ops::{BinaryOp, LoadOp, StoreOp};
 
 impl CallStruct {
     /// A load of an item or of a vector.
     pub fn load_call(&self) -> Option<Call>
         ensures { result ≡ load_call self.now }
     {
-        Some(self.load_as(load_numbered(self.op)?))
-    }
-
-    fn load_as(&self, load: Load) -> Call
-        ensures { result ≡ load_as self.now load }
-    {
         let (memory, ptr, offset) = (self.index, self.ptr, self.offset);
-        match load {
+        Some(match load_numbered(self.op)? {
             Load::Scalar(op) => Call::Load {
                 op,
                 memory,
@@ -39,21 +35,15 @@ impl CallStruct {
                 ptr,
                 offset,
             },
-        }
+        })
     }
 
     /// A store of an item or of a vector.
     pub fn store_call(&self) -> Option<Call>
         ensures { result ≡ store_call self.now }
     {
-        Some(self.store_as(store_numbered(self.op)?))
-    }
-
-    fn store_as(&self, store: Store) -> Call
-        ensures { result ≡ store_as self.now store }
-    {
         let (memory, ptr, offset) = (self.index, self.ptr, self.offset);
-        match store {
+        Some(match store_numbered(self.op)? {
             Store::Scalar(op) => Call::Store {
                 op,
                 memory,
@@ -67,7 +57,7 @@ impl CallStruct {
                 ptr,
                 offset,
             },
-        }
+        })
     }
 
     /// An instruction of one register: one that makes a vector of an item, one on a vector, or a
@@ -75,14 +65,8 @@ impl CallStruct {
     pub fn unary_call(&self) -> Option<Call>
         ensures { result ≡ unary_call self.now }
     {
-        self.unary_as(unary_numbered(self.op)?)
-    }
-
-    fn unary_as(&self, unary: Unary) -> Option<Call>
-        ensures { result ≡ unary_as self.now unary }
-    {
         let (dst, a) = (self.dst, self.a);
-        match unary {
+        match unary_numbered(self.op)? {
             Unary::Scalar(_) => None,
             Unary::Make(op) => Some(Call::Make { op, dst, a }),
             Unary::Vector(op) => Some(Call::Unary { op, dst, a }),
@@ -94,14 +78,8 @@ impl CallStruct {
     pub fn binary_call(&self) -> Option<Call>
         ensures { result ≡ binary_call self.now }
     {
-        self.binary_as(binary_numbered(self.op)?)
-    }
-
-    fn binary_as(&self, binary: Binary) -> Option<Call>
-        ensures { result ≡ binary_as self.now binary }
-    {
         let (dst, a, b) = (self.dst, self.a, self.b);
-        match binary {
+        match binary_numbered(self.op)? {
             Binary::Scalar(_) => None,
             Binary::Vector(op) => Some(Call::Binary { op, dst, a, b }),
             Binary::Shift(op) => {
@@ -183,5 +161,62 @@ impl CallStruct {
             b: self.b,
             lanes: lanes_of(self.lanes)?,
         })
+    }
+}
+
+/// The load of an item that has a number, if there is one.
+#[tactic(auto, unfolding(crate::specs::Instruction::load_numbered))]
+pub fn item_load_numbered(number: u16) -> Option<LoadOp>
+    ensures { result ≡ item_load_numbered number }
+{
+    match number {
+        // Each of the first by itself, so that a load's code is reached by one jump.
+        0 => Some(LoadOp::I32Load8S),
+        1 => Some(LoadOp::I32Load8U),
+        2 => Some(LoadOp::I32Load16S),
+        3 => Some(LoadOp::I32Load16U),
+        4 => Some(LoadOp::I64Load8S),
+        5 => Some(LoadOp::I64Load8U),
+        6 => Some(LoadOp::I64Load16S),
+        7 => Some(LoadOp::I64Load16U),
+        8 => Some(LoadOp::I64Load32S),
+        9 => Some(LoadOp::I64Load32U),
+        10 => Some(LoadOp::LoadU32),
+        11 => Some(LoadOp::LoadU64),
+        _ => match load_numbered(number)? {
+            Load::Scalar(op) => Some(op),
+            Load::Vector(_) => None,
+        },
+    }
+}
+
+/// The store of an item that has a number, if there is one.
+#[tactic(auto, unfolding(crate::specs::Instruction::store_numbered))]
+pub fn item_store_numbered(number: u16) -> Option<StoreOp>
+    ensures { result ≡ item_store_numbered number }
+{
+    match number {
+        // As for the loads.
+        0 => Some(StoreOp::I32Store8),
+        1 => Some(StoreOp::I32Store16),
+        2 => Some(StoreOp::I64Store8),
+        3 => Some(StoreOp::I64Store16),
+        4 => Some(StoreOp::I64Store32),
+        5 => Some(StoreOp::Store32),
+        6 => Some(StoreOp::Store64),
+        _ => match store_numbered(number)? {
+            Store::Scalar(op) => Some(op),
+            Store::V128Store => None,
+        },
+    }
+}
+
+/// The instruction on two vectors that has a number, if there is one.
+pub fn vector_binary_numbered(number: u16) -> Option<BinaryOp>
+    ensures { result ≡ vector_binary_numbered number }
+{
+    match binary_numbered(number)? {
+        Binary::Vector(op) => Some(op),
+        _ => None,
     }
 }

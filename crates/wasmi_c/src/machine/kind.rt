@@ -108,6 +108,7 @@ pub const KINDS: [Kind; 29] = [
 
 impl Kind {
     /// The kind of a number, if there is one.
+    #[tactic(auto, unfolding(crate::specs::Machine::CallStructs::kind_of))]
     pub fn from_number(number: u16) -> Option<Kind>
         ensures { result ≡ kind_of number }
     {

@@ -1,23 +1,28 @@
 //! A machine with the limiter that it asks.
-ghost use Rattle.std.specs.Prelude.{◌≡◌, ◌+◌, IfOk};
+ghost use Rattle.std.specs.Prelude.{◌≡◌, ◌+◌, IfOk, ◌↔◌, IsTrue, ℕ, List, OnErr};
 ghost use Rattle.wasmi_meter.specs.AnyLimiter.{caps_of};
 ghost use Rattle.wasmi_core.specs.MemoryEffects.{load_reply};
 ghost use Rattle.wasmi_core.specs.State.{live_at};
-ghost use Rattle.wasmi_core.specs.declared.calls.Call.TheVariants.{Binary, NewSegment, Store, Write};
+ghost use Rattle.wasmi_core.specs.declared.calls.Call.TheVariants.{NewSegment, Write};
 ghost use Rattle.wasmi_c.specs.Machine.Calls.{ReadsOut};
+ghost use Rattle.wasmi_grammar.specs.Lines.{WritesScript};
+ghost use Rattle.wasmi_script.specs.Outcomes.{replies_text};
+ghost use Rattle.wasmi_c.specs.Machine.Lines.{MachineRuns, RunsLines, WritesOut, no_header};
 
 use crate::machine::call_struct::CallStruct;
 use crate::machine::laws;
 use crate::machine::limits::{Limits, Totals};
 use crate::machine::reply_struct::ReplyStruct;
-use crate::status::{DONE, NO_CALL, NO_ROOM, NO_SUCH};
+use crate::status::{BAD_LINE, DONE, HEADER_LINE, NO_CALL, NO_ROOM, NO_SUCH, TEXT_CUT};
 use crate::types::reference_type;
 use std::alloc::{AllocError, Global};
 use std::marker::Model;
-use wasmi_core::{Call, Machine, Reply};
+use wasmi_core::{Call, Machine, Reply, run_lending};
+use wasmi_grammar::{Header, ParseError, Script, parse};
 use wasmi_meter::{AnswerList, AnyLimiter, LimiterAnswer};
-use wasmi_ops::{BinaryOp, LoadOp, StoreOp};
+use wasmi_ops::LoadOp;
 use wasmi_raw::RawRef;
+use wasmi_script::write_lines;
 
 /// A machine with the limiter that it asks. A quota holds what the machine has, so the machine is
 /// within the caps at any time.
@@ -69,6 +74,7 @@ impl LimitedMachine {
     }
 
     /// Does nothing: its contract says that the machine is within its caps.
+    #[tactic(auto, using(crate::proofs::MachineLemmas::seen_within))]
     pub fn show_within(&self)
         ensures { IsCapped self.now }
     {
@@ -86,6 +92,7 @@ impl LimitedMachine {
     }
 
     /// Replies to one call, with the reply as a struct.
+    #[tactic(auto, using(crate::proofs::MachineLemmas::in_struct))]
     fn reply_in_struct(&mut self, call: &Call) -> ReplyStruct
         ensures step { RepliesInStruct call.now self.old result self.new }
         ensures caps { caps_of self.new.limiter ≡ caps_of self.old.limiter }
@@ -102,6 +109,7 @@ impl LimitedMachine {
 
     /// Replies to the call that numbers stand for, if there is one.
     #[inline(always)]
+    #[tactic(auto, using(crate::proofs::MachineLemmas::struct_loaded, crate::proofs::MachineLemmas::struct_told))]
     pub fn reply_to_struct(&mut self, numbers: &CallStruct) -> ReplyStruct
         ensures step { RepliesToStruct numbers.now self.old result self.new }
         ensures caps { caps_of self.new.limiter ≡ caps_of self.old.limiter }
@@ -111,12 +119,17 @@ impl LimitedMachine {
             return self.load_to_struct(op, numbers.index, numbers.ptr, numbers.offset);
         }
         if let Some(op) = numbers.item_store() {
-            return self.store_to_struct(op, numbers);
+            let (index, ptr, offset) = (numbers.index, numbers.ptr, numbers.offset);
+            return ReplyStruct::from_common(self.store_item(op, index, ptr, offset, numbers.value));
         }
         if let Some(op) = numbers.vector_binary() {
-            return self.binary_to_struct(op, numbers.dst, numbers.a, numbers.b);
+            let (dst, a, b) = (numbers.dst, numbers.a, numbers.b);
+            return ReplyStruct::from_common(self.reply(&Call::Binary { op, dst, a, b }));
         }
-        self.reply_to_decoded(numbers)
+        match &numbers.call() {
+            Some(call) => self.reply_in_struct(call).by_fields(),
+            None => ReplyStruct::only(NO_CALL),
+        }
     }
 
     /// Loads an item, and replies with a struct.
@@ -134,43 +147,6 @@ impl LimitedMachine {
         }
     }
 
-    /// Stores an item by the fields of a store, and replies with a struct.
-    #[inline(always)]
-    fn store_to_struct(&mut self, op: StoreOp, numbers: &CallStruct) -> ReplyStruct
-        ensures step { RepliesInStruct (Store op numbers.now.index numbers.now.ptr
-            numbers.now.offset numbers.now.value) self.old result self.new }
-        ensures caps { caps_of self.new.limiter ≡ caps_of self.old.limiter }
-    {
-        ReplyStruct::from_common(self.store_item(
-            op,
-            numbers.index,
-            numbers.ptr,
-            numbers.offset,
-            numbers.value,
-        ))
-    }
-
-    /// Executes an instruction of two vectors, and replies with a struct.
-    #[inline(always)]
-    fn binary_to_struct(&mut self, op: BinaryOp, dst: u8, a: u8, b: u8) -> ReplyStruct
-        ensures step { RepliesInStruct (Binary op dst a b) self.old result self.new }
-        ensures caps { caps_of self.new.limiter ≡ caps_of self.old.limiter }
-    {
-        ReplyStruct::from_common(self.reply(&Call::Binary { op, dst, a, b }))
-    }
-
-    /// Replies to the call that numbers stand for, if there is one, after it is made.
-    #[inline(always)]
-    fn reply_to_decoded(&mut self, numbers: &CallStruct) -> ReplyStruct
-        ensures step { RepliesToStruct numbers.now self.old result self.new }
-        ensures caps { caps_of self.new.limiter ≡ caps_of self.old.limiter }
-    {
-        match &numbers.call() {
-            Some(call) => self.reply_in_struct(call).by_fields(),
-            None => ReplyStruct::only(NO_CALL),
-        }
-    }
-
     /// Copies the bytes of a memory from an offset on to the caller's.
     pub fn read(&self, memory: usize, offset: usize, bytes: &mut [u8]) -> ReplyStruct
         ensures { ReadsOut memory offset self.now.state bytes.old result bytes.new }
@@ -179,6 +155,7 @@ impl LimitedMachine {
     }
 
     /// Writes a copy of the caller's bytes over those of a memory from an offset on.
+    #[tactic(auto, using(crate::proofs::MachineLemmas::not_copied))]
     pub fn write(
         &mut self,
         alloc: Global,
@@ -201,6 +178,7 @@ impl LimitedMachine {
 
     /// Makes an element segment of a copy of the caller's references, if the number is one of a
     /// reference type.
+    #[tactic(auto, using(crate::proofs::MachineLemmas::replies_of_type, crate::proofs::MachineLemmas::not_copied))]
     pub fn new_segment(&mut self, alloc: Global, ty: u8, items: &[u32]) -> ReplyStruct
         ensures step { RepliesToSegment ty items.now self.old result self.new }
         ensures caps { caps_of self.new.limiter ≡ caps_of self.old.limiter }
@@ -247,6 +225,47 @@ impl LimitedMachine {
             Err(error) => ReplyStruct::from_fuel_error(&error),
         }
     }
+
+    /// Runs lines of calls, and writes their replies to the front of a text.
+    #[tactic(auto, using(crate::proofs::MachineLemmas::bad_line, crate::proofs::MachineLemmas::no_room))]
+    pub fn run_lines(&mut self, alloc: Global, lines: &[u8], text: &mut [u8]) -> ReplyStruct
+        ensures lines { RunsLines lines.now self.old text.old result text.new self.new }
+        ensures caps { caps_of self.new.limiter ≡ caps_of self.old.limiter }
+    {
+        match parse(alloc, lines) {
+            Ok(script) => self.run_script(&script, text),
+            Err(ParseError::BadCommand { line }) => ReplyStruct::with_number(BAD_LINE, line as u64),
+            Err(ParseError::OutOfMemory) => ReplyStruct::only(NO_ROOM),
+        }
+    }
+
+    /// Runs a script without header lines, whatever lines write it.
+    #[tactic(auto, using(crate::proofs::MachineLemmas::no_room))]
+    fn run_script(&mut self, script: &Script, text: &mut [u8]) -> ReplyStruct
+        ensures lines { (lines : List ℕ) → WritesScript lines script.now
+            → RunsLines lines self.old text.old result text.new self.new }
+        ensures caps { caps_of self.new.limiter ≡ caps_of self.old.limiter }
+    {
+        if !is_empty(&script.header) {
+            return ReplyStruct::only(HEADER_LINE);
+        }
+        let calls = script.parts.calls();
+        let Ok(replies) = self.run(calls) else {
+            return ReplyStruct::only(NO_ROOM);
+        };
+        write_out(calls, &replies, text)
+    }
+
+    /// Runs calls. If memory for the replies is refused, nothing has happened.
+    fn run(&mut self, calls: &[Call]) -> Result<Vec<Reply>, AllocError>
+        ensures run { IfOk result
+            (λ replies. MachineRuns calls.now self.old replies.items self.new) }
+        ensures err { OnErr result (self.new ≡ self.old) }
+        ensures caps { caps_of self.new.limiter ≡ caps_of self.old.limiter }
+    {
+        laws::quotas_are_kept();
+        run_lending(&mut self.machine, calls, &mut self.limiter)
+    }
 }
 
 /// A copy of the references.
@@ -276,4 +295,22 @@ pub(crate) fn read_out(
         Ok(()) => ReplyStruct::only(DONE),
         Err(error) => ReplyStruct::from_memory_error(error),
     }
+}
+
+/// Whether there is no header line.
+pub(crate) fn is_empty(header: &Header) -> bool
+    ensures { IsTrue result ↔ (header.now ≡ no_header) }
+{
+    header.meter.is_none() && header.limiter.is_none() && header.region.is_none()
+}
+
+/// Writes the replies to calls to the front of the bytes, as much of their text as fits.
+pub(crate) fn write_out(calls: &[Call], replies: &[Reply], bytes: &mut [u8]) -> ReplyStruct
+    ensures text { WritesOut (replies_text calls.now replies.now) bytes.old result bytes.new }
+{
+    let length = write_lines(bytes, calls, replies);
+    if length == usize::MAX {
+        return ReplyStruct::with_number(TEXT_CUT, u64::MAX);
+    }
+    ReplyStruct::with_number(DONE, length as u64)
 }

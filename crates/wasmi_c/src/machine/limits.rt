@@ -1,11 +1,12 @@
 //! What a machine is made with, and what it has.
-ghost use Rattle.std.specs.Prelude.{◌≡◌};
+ghost use Rattle.std.specs.Prelude.{◌≡◌, ◌↔◌, All, IfOk, IsTrue, map};
 ghost use Rattle.wasmi_c.specs.Machine.Calls.{totals_in};
-ghost use Rattle.wasmi_c.specs.Machine.NewMachines.{IsNewLimiter, meter_with};
+ghost use Rattle.wasmi_c.specs.Machine.NewMachines.{IsNewLimiter, meter_with, IsAnswer, answer_of};
 
 use crate::status::DONE;
 use crate::types::{if_flag, meter};
-use wasmi_meter::{AnyLimiter, CustomFuelCosts, Fuel, Quota};
+use std::alloc::{AllocError, Global};
+use wasmi_meter::{AnyLimiter, CustomFuelCosts, Fuel, LimiterAnswer, Quota};
 use wasmi_raw::{RawVal, V128};
 
 /// What a machine is made with: its caps, if it has any, and its meter with what work costs.
@@ -76,5 +77,36 @@ impl Totals {
             elements: RawVal::from(V128::from(elements)),
             status,
         }
+    }
+}
+
+/// Whether each number stands for an answer.
+pub(super) fn are_answers(numbers: &[u8]) -> bool
+    ensures { IsTrue result ↔ All IsAnswer numbers.now }
+{
+    numbers.iter().all(|number| *number < 4)
+}
+
+/// The answers that numbers stand for.
+pub(super) fn answers_of(alloc: Global, numbers: &[u8]) -> Result<Vec<LimiterAnswer>, AllocError>
+    requires known { All IsAnswer numbers.now }
+    ensures answers { IfOk result (λ answers. answers.items ≡ map answer_of numbers.now) }
+{
+    let mut answers = Vec::with_capacity(alloc, numbers.len())?;
+    for number in numbers {
+        answers.push_reserved(answer(*number));
+    }
+    Ok(answers)
+}
+
+/// The answer that a number below 4 stands for.
+fn answer(number: u8) -> LimiterAnswer
+    ensures { result ≡ answer_of number }
+{
+    match number {
+        0 => LimiterAnswer::Permit,
+        1 => LimiterAnswer::Deny,
+        2 => LimiterAnswer::Error,
+        _ => LimiterAnswer::Complain,
     }
 }

@@ -1,8 +1,8 @@
 //! A machine on the heap, or none, as C holds it.
+ghost use Rattle.std.specs.Coded.{coded_option};
 ghost use Rattle.std.specs.Prelude.{◌≡◌, Option, IsSome};
-ghost use Rattle.wasmi_c.specs.HeldBox.{box_or_none_owns, global_token};
+ghost use Rattle.wasmi_c.specs.HeldBox.{box_or_none_owns, global_token, machine_row};
 ghost use Rattle.wasmi_c.specs.Machine.Caps.{MachineValue};
-ghost use Rattle.wasmi_c.specs.Machine.MachineBox.{held_coded, machine_row};
 
 use crate::held_box::HeldBox;
 use crate::machine::limited_machine::LimitedMachine;
@@ -15,7 +15,7 @@ pub struct MachineBox {
     at: *mut u8,
     alloc: Global,
     /// The machine, if there is one.
-    pub ghost held: { Option MachineValue } by { held_coded },
+    pub ghost held: { Option MachineValue } by { coded_option machine_row.coded },
 }
 
 impl Model for MachineBox {

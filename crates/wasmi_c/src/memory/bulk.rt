@@ -1,4 +1,5 @@
-//! A range of a memory is written over.
+//! A range of a memory is written over. `number` is set to the fuel that is needed where less is
+//! left.
 ghost use Rattle.std.specs.Prelude.{◌≡◌};
 ghost use Rattle.wasmi_store.specs.Bulk.{copied, filled};
 ghost use Rattle.wasmi_c.specs.MemoryCalls.{CopiesBytesEmbedded, WritesBytesEmbedded, of_memory};
@@ -7,8 +8,7 @@ ghost use Rattle.wasmi_c.specs.Placement.{status_of, written_number};
 use crate::fuel::MeterNumbers;
 use crate::memory::numbers::MemoryNumbers;
 use crate::range::Range;
-use crate::refusal::memory_refusal;
-use crate::status::{DONE, INVALID_STATE};
+use crate::status::{DONE, INVALID_STATE, memory_refusal};
 use wasmi_meter::MemoryError;
 use wasmi_region::memory as region_memory;
 
@@ -23,8 +23,7 @@ fn leave_write(written: Result<(), MemoryError>, number: &mut u64) -> u8
     }
 }
 
-/// Fills the bytes of a range with a value. `number` is set to the fuel that is needed where less
-/// is left.
+/// Fills the bytes of a range with a value.
 pub fn fill(
     memory: &MemoryNumbers,
     region: &mut [u8],
@@ -48,8 +47,7 @@ pub fn fill(
     leave_write(written, number)
 }
 
-/// Copies bytes of a memory over others of it. `number` is set to the fuel that is needed where
-/// less is left.
+/// Copies bytes of a memory over others of it.
 pub fn copy_within(
     memory: &MemoryNumbers,
     region: &mut [u8],
@@ -73,8 +71,7 @@ pub fn copy_within(
     leave_write(written, number)
 }
 
-/// Copies bytes of another memory over those of a memory. `number` is set to the fuel that is
-/// needed where less is left.
+/// Copies bytes of another memory over those of a memory.
 pub fn copy(
     memory: &MemoryNumbers,
     region: &mut [u8],
@@ -103,8 +100,7 @@ pub fn copy(
     leave_write(written, number)
 }
 
-/// Copies bytes, such as a data segment's, over those of a memory. `number` is set to the fuel that
-/// is needed where less is left.
+/// Copies bytes, such as a data segment's, over those of a memory.
 pub fn init(
     memory: &MemoryNumbers,
     region: &mut [u8],

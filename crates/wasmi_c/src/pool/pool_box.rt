@@ -1,8 +1,8 @@
 //! A pool on the heap, or none, as C holds it.
+ghost use Rattle.std.specs.Coded.{coded_option};
 ghost use Rattle.std.specs.Prelude.{◌≡◌, Option};
 ghost use Rattle.wasmi_budget.specs.Pool.{PoolValue};
-ghost use Rattle.wasmi_c.specs.HeldBox.{box_or_none_owns, global_token};
-ghost use Rattle.wasmi_c.specs.Pool.PoolBox.{held_coded, pool_row};
+ghost use Rattle.wasmi_c.specs.HeldBox.{box_or_none_owns, global_token, pool_row};
 
 use crate::held_box::HeldBox;
 use crate::pool::tenant_pool::TenantPool;
@@ -15,7 +15,7 @@ pub struct PoolBox {
     at: *mut u8,
     alloc: Global,
     /// The pool, if there is one.
-    pub ghost held: { Option PoolValue } by { held_coded },
+    pub ghost held: { Option PoolValue } by { coded_option pool_row.coded },
 }
 
 impl Model for PoolBox {

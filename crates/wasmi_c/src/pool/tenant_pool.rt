@@ -3,9 +3,8 @@ ghost use Rattle.std.specs.Prelude.{◌≡◌, ℕ, IfErr, IfOk, List};
 ghost use Rattle.wasmi_core.specs.declared.calls.Call.TheVariants.{Write};
 
 use crate::machine::call_struct::CallStruct;
-use crate::machine::limited_machine::read_out;
+use crate::machine::limited_machine::{is_empty, read_out, write_out};
 use crate::machine::limits::{Limits, Totals};
-use crate::machine::lines::{is_empty, write_out};
 use crate::machine::reply_struct::ReplyStruct;
 use crate::status::{BAD_LINE, DONE, HEADER_LINE, NO_CALL, NO_ROOM, NO_TENANT};
 use std::alloc::Global;
@@ -74,6 +73,7 @@ impl TenantPool {
     }
 
     /// Replies to one call on the machine of a tenant.
+    #[tactic(auto, using(crate::proofs::TenantLemmas::tenant_refused))]
     fn reply(&mut self, tenant: usize, call: &Call) -> ReplyStruct
         ensures step { TenantReplies tenant call.now result self.old self.new }
         ensures caps { self.new.caps ≡ self.old.caps }
@@ -111,6 +111,7 @@ impl TenantPool {
     }
 
     /// Writes a copy of the caller's bytes over those of a memory of a tenant from an offset on.
+    #[tactic(auto, using(crate::proofs::TenantLemmas::not_copied))]
     pub fn write(
         &mut self,
         alloc: Global,
@@ -136,6 +137,7 @@ impl TenantPool {
 
     /// Runs lines of calls on the machine of a tenant, and writes their replies to the front of a
     /// text.
+    #[tactic(auto, using(crate::proofs::TenantLemmas::bad_line, crate::proofs::TenantLemmas::no_room))]
     pub fn run_lines(
         &mut self,
         alloc: Global,
@@ -154,6 +156,7 @@ impl TenantPool {
     }
 
     /// Runs a script without header lines on the machine of a tenant, whatever lines write it.
+    #[tactic(auto, using(crate::proofs::TenantLemmas::refused_tenant))]
     fn run_script(&mut self, tenant: usize, script: &Script, text: &mut [u8]) -> ReplyStruct
         ensures step { (lines : List ℕ) → WritesScript lines script.now
             → RunsTenantLines tenant lines text.old result text.new self.old self.new }

@@ -11,8 +11,7 @@ ghost use Rattle.wasmi_c.specs.TableCalls.{AsksTableEmbedded, IsNoTable, by_elem
 use crate::fuel::MeterNumbers;
 use crate::host::{HostAnswers, Question};
 use crate::quota::QuotaNumbers;
-use crate::refusal::table_refusal;
-use crate::status::{ASKS, DONE, INVALID_STATE, OTHER_SIZE, TABLE_GROWTH};
+use crate::status::{ASKS, DONE, INVALID_STATE, OTHER_SIZE, TABLE_GROWTH, table_refusal};
 use crate::table::numbers::TableNumbers;
 use wasmi_meter::{ResourceLimiter, ResourceLimiterRef, TableError};
 use wasmi_region::table as region_table;
@@ -125,7 +124,7 @@ pub fn settle(
     let Some(ty) = table.type_if_valid(region) else {
         return INVALID_STATE;
     };
-    if !are_about(table, ty, region, delta, answers) {
+    if !are_about(table, ty, region, delta, reference, answers) {
         return OTHER_SIZE;
     }
     answers.reset();
@@ -138,12 +137,12 @@ fn are_about(
     ty: TableType,
     region: &[u32],
     delta: u64,
+    _reference: u32,
     answers: &HostAnswers,
 ) -> bool
     requires state { IsTable table.now region.now ty }
-    ensures about { (reference : ℕ) → result ≡ is_about answers.now
-        (region_growth (length region.now) delta reference
-        (table_in ty region.now table.now.size)) }
+    ensures about { result ≡ is_about answers.now
+        (region_growth (length region.now) delta _reference (table_in ty region.now table.now.size)) }
 {
     if table.size != answers.current {
         return false;

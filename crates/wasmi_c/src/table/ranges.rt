@@ -1,4 +1,5 @@
-//! A range of a table is written over.
+//! A range of a table is written over. `number` is set to the fuel that is needed where less is
+//! left.
 ghost use Rattle.std.specs.Prelude.{◌≡◌};
 ghost use Rattle.wasmi_region.specs.Table.{table_in, items_of};
 ghost use Rattle.wasmi_store.specs.Table.{raw_filling_of, copy_of, initialization_of};
@@ -7,8 +8,7 @@ ghost use Rattle.wasmi_c.specs.Placement.{status_of, written_number};
 
 use crate::fuel::MeterNumbers;
 use crate::range::Range;
-use crate::refusal::table_refusal;
-use crate::status::{DONE, INVALID_STATE};
+use crate::status::{DONE, INVALID_STATE, table_refusal};
 use crate::table::numbers::TableNumbers;
 use wasmi_meter::TableError;
 use wasmi_region::table as region_table;
@@ -24,8 +24,7 @@ fn leave_write(written: Result<(), TableError>, number: &mut u64) -> u8
     }
 }
 
-/// Fills the elements of a range with a reference. `number` is set to the fuel that is needed where
-/// less is left.
+/// Fills the elements of a range with a reference.
 pub fn fill(
     table: &TableNumbers,
     region: &mut [u32],
@@ -48,8 +47,7 @@ pub fn fill(
     leave_write(written, number)
 }
 
-/// Copies elements of a table over others of it. `number` is set to the fuel that is needed where
-/// less is left.
+/// Copies elements of a table over others of it.
 pub fn copy_within(
     table: &TableNumbers,
     region: &mut [u32],
@@ -73,8 +71,7 @@ pub fn copy_within(
     leave_write(written, number)
 }
 
-/// Copies elements of another table over those of a table. `number` is set to the fuel that is
-/// needed where less is left.
+/// Copies elements of another table over those of a table.
 pub fn copy(
     table: &TableNumbers,
     region: &mut [u32],
@@ -103,8 +100,7 @@ pub fn copy(
     leave_write(written, number)
 }
 
-/// Copies items over the elements of a table. `number` is set to the fuel that is needed where less
-/// is left.
+/// Copies items over the elements of a table.
 pub fn init(
     table: &TableNumbers,
     region: &mut [u32],

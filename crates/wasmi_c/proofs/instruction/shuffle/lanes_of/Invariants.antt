@@ -1,4 +1,4 @@
-use Rattle.wasmi_c.proofs.LanesLemmas.{AreLanes}
+use Rattle.wasmi_c.proofs.InstructionLemmas.{AreLanes}
 use Rattle.wasmi_c.proofs.instruction.shuffle.lanes_of.Given as goal
 
 abbrev pub invariant-loop-i : goal.invariant-loop-i

@@ -1,8 +1,4 @@
-use Rattle.wasmi_c.proofs.MachineRunsLemmas.{calls_run}
 use Rattle.wasmi_c.proofs.machine.laws.calls_are_runs.Goals as goal
-
-pub returns-clause-call : goal.returns-clause-call
-returns-clause-call c = calls_run
 
 pub returns-clause-join : goal.returns-clause-join
 returns-clause-join c =

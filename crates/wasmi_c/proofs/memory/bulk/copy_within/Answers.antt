@@ -1,5 +1,5 @@
 use Rattle.std.proofs.Common.{inr}
-use Rattle.wasmi_c.proofs.BulkLemmas.{written_with}
+use Rattle.wasmi_c.proofs.PlacementLemmas.{written_with}
 use Rattle.wasmi_c.proofs.memory.bulk.copy_within.Goals as goal
 
 pub returns : goal.returns

@@ -5,7 +5,7 @@ use Rattle.wasmi_store.proofs.GrowthLemmas.{of_loan}
 use Rattle.wasmi_c.specs.TableCalls.{by_elements, of_table}
 use Rattle.wasmi_c.specs.Numbers.{embedded}
 use Rattle.wasmi_c.specs.Placement.{GrowsAs}
-use Rattle.wasmi_c.proofs.MeterLemmas.{kept_growth}
+use Rattle.wasmi_c.proofs.PlacementLemmas.{kept_growth}
 use Rattle.wasmi_c.proofs.table.growth.grow_under.Goals as goal
 
 pub returns : goal.returns

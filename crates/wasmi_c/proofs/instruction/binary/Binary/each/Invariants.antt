@@ -1,5 +1,5 @@
 use Rattle.std.proofs.Common.{◌≡◌, ℕ, ◌<◌, get_or}
-use Rattle.wasmi_c.specs.Instruction.Binary.{binary_outcome}
+use Rattle.wasmi_c.specs.Instruction.{binary_outcome}
 use Rattle.wasmi_c.specs.declared.instruction.result.InstructionResult.{InstructionResult}
 use Rattle.wasmi_raw.specs.declared.raw.RawVal.{RawVal}
 use Rattle.wasmi_c.proofs.instruction.binary.Binary.each.Given as goal

@@ -1,5 +1,5 @@
 use Rattle.std.proofs.Common.{◌≡◌, ℕ, ◌<◌, get_or}
-use Rattle.wasmi_c.specs.Instruction.Accesses.{load_outcome}
+use Rattle.wasmi_c.specs.Instruction.{load_outcome}
 use Rattle.wasmi_c.specs.declared.instruction.result.InstructionResult.{InstructionResult}
 use Rattle.wasmi_c.proofs.instruction.load.Load.each.Given as goal
 

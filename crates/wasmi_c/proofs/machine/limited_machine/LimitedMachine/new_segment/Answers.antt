@@ -1,16 +1,8 @@
-use Rattle.std.proofs.Common.{◌∙◌, inl, inr, refl, sym}
-use Rattle.wasmi_c.specs.Machine.Calls.{RepliesToCopy}
-use Rattle.wasmi_c.proofs.SegmentLemmas.{replies_of_type}
+use Rattle.std.proofs.Common.{◌∙◌, sym}
+use Rattle.wasmi_c.proofs.MachineLemmas.{copied, replies_of_type}
 use Rattle.wasmi_c.proofs.machine.limited_machine.LimitedMachine.new_segment.Goals as goal
 
-pub returns-in_default-references-clause-step : goal.returns-in_default-references-clause-step
-unfolding RepliesToCopy
-returns-in_default-references-clause-step c =
-    replies_of_type c.args.ty c.in-Some.ty _ _ _ _ (sym c.reference_type.ensures ∙ c.in-Some.is)
-    (inl (c.only-in_default-references.ensures, refl))
-
 pub returns-clause-step : goal.returns-clause-step
-unfolding RepliesToCopy
 returns-clause-step c =
     replies_of_type c.args.ty c.in-Some.ty _ _ _ _ (sym c.reference_type.ensures ∙ c.in-Some.is)
-    (inr (c.in-Ok.items, c.in-Ok.ensures, c.reply_in_struct.ensures.step))
+    (copied _ _ _ _ _ c.in-Ok.items c.in-Ok.ensures c.reply_in_struct.ensures.step)

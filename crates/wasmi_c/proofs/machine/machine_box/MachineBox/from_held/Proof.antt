@@ -26,10 +26,8 @@ use denote.Triple.Walked.{says, Stays, stay_dropped, walk_of, ends_at, walk_Meet
 use Rattle.std.proofs.alloc.Calls.{Goes-blank}
 use Rattle.std_heap.specs.contracts.Global as Heap
 use Rattle.std_heap.specs.contracts.GlobalAllocator.TheImpl.{ghosts}
-use Rattle.wasmi_c.specs.Machine.MachineBox.{machine_row}
-use Rattle.wasmi_c.specs.HeldBox.{box_or_none_owns, global_token}
-use Rattle.wasmi_c.proofs.HeldBoxLemmas.{pair, pair_typed, paired, ptr_typed}
-use Rattle.wasmi_c.proofs.MachineBoxLemmas.{E}
+use Rattle.wasmi_c.specs.HeldBox.{box_or_none_owns, global_token, machine_row}
+use Rattle.wasmi_c.proofs.HeldBoxLemmas.{pair, pair_typed, paired, ptr_typed, machine_in_box as E}
 use Rattle.wasmi_c.specs.contracts.held_box.HeldBox as held_box
 use Rattle.wasmi_c.specs.contracts.machine.machine_box.MachineBox.from_held as F
 use Rattle.wasmi_c.specs.contracts.machine.machine_box.MachineBox.from_held.Key.{name as #self}

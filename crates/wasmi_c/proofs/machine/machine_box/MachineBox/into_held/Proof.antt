@@ -23,10 +23,8 @@ use denote.Steps.{nothing}
 use denote.Triple.Spec.{triple_of}
 use denote.Triple.Table.{entered}
 use denote.Triple.Walked.{says, Stays, stay_dropped, walk_of, ends_at, Goes-dropped, walk_Meets}
-use Rattle.wasmi_c.specs.Machine.MachineBox.{machine_row}
-use Rattle.wasmi_c.specs.HeldBox.{box_or_none_owns, global_token}
-use Rattle.wasmi_c.proofs.HeldBoxLemmas.{pair, pair_typed, paired, ptr_typed}
-use Rattle.wasmi_c.proofs.MachineBoxLemmas.{E}
+use Rattle.wasmi_c.specs.HeldBox.{box_or_none_owns, global_token, machine_row}
+use Rattle.wasmi_c.proofs.HeldBoxLemmas.{pair, pair_typed, paired, ptr_typed, machine_in_box as E}
 use Rattle.wasmi_c.specs.contracts.machine.machine_box.MachineBox as machine_box
 use Rattle.wasmi_c.specs.contracts.machine.machine_box.MachineBox.into_held as F
 use Rattle.wasmi_c.specs.contracts.machine.machine_box.MachineBox.into_held.Key.{name as #self}

@@ -4,7 +4,7 @@ use denote.Struct.Owning.{shape, fields, to}
 use denote.Param.Send.{IsSend, AllSend, owning_send, struct_send, sendable}
 use Rattle.std_alloc.proofs.SendSync.{quiet}
 use Rattle.std_heap.proofs.Global.TheSendSync as handle
-use Rattle.wasmi_c.specs.Pool.PoolBox.{pool_row}
+use Rattle.wasmi_c.specs.HeldBox.{pool_row}
 use Rattle.wasmi_c.specs.contracts.pool.pool_box.PoolBox.{the_row, the_type}
 use Rattle.wasmi_c.proofs.HeldBoxLemmas.{owned_keyless}
 use Rattle.wasmi_c.proofs.pool.tenant_pool.TenantPool.TheSendSync.{the_send as home}

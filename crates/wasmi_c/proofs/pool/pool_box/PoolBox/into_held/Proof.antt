@@ -23,10 +23,8 @@ use denote.Steps.{nothing}
 use denote.Triple.Spec.{triple_of}
 use denote.Triple.Table.{entered}
 use denote.Triple.Walked.{says, Stays, stay_dropped, walk_of, ends_at, Goes-dropped, walk_Meets}
-use Rattle.wasmi_c.specs.Pool.PoolBox.{pool_row}
-use Rattle.wasmi_c.specs.HeldBox.{box_or_none_owns, global_token}
-use Rattle.wasmi_c.proofs.HeldBoxLemmas.{pair, pair_typed, paired, ptr_typed}
-use Rattle.wasmi_c.proofs.PoolBoxLemmas.{E}
+use Rattle.wasmi_c.specs.HeldBox.{box_or_none_owns, global_token, pool_row}
+use Rattle.wasmi_c.proofs.HeldBoxLemmas.{pair, pair_typed, paired, ptr_typed, pool_in_box as E}
 use Rattle.wasmi_c.specs.contracts.pool.pool_box.PoolBox as pool_box
 use Rattle.wasmi_c.specs.contracts.pool.pool_box.PoolBox.into_held as F
 use Rattle.wasmi_c.specs.contracts.pool.pool_box.PoolBox.into_held.Key.{name as #self}

@@ -1,7 +1,7 @@
 use Rattle.std.proofs.Common.{◌≡◌, ◌≤◌, length, map, take, vec_len}
 use Rattle.std.specs.Vec.{vec_capacity}
-use Rattle.wasmi_c.specs.Machine.LimiterAnswers.{answer_of}
-use Rattle.wasmi_c.proofs.machine.limiter_answers.answers_of.Given as goal
+use Rattle.wasmi_c.specs.Machine.NewMachines.{answer_of}
+use Rattle.wasmi_c.proofs.machine.limits.answers_of.Given as goal
 
 -- the answers of the numbers so far are there, and there is room for the rest
 abbrev pub invariant-loop-number : goal.invariant-loop-number

@@ -1,9 +1,0 @@
--- A machine on the heap as a box of the standard library, for the proofs by hand.
-use Rattle.std_alloc.proofs.BoxSteps.Form.{Bx}
-use Rattle.wasmi_c.specs.contracts.machine.limited_machine.LimitedMachine as Home
-use Rattle.wasmi_c.proofs.machine.limited_machine.LimitedMachine.TheLaws as home
-use Rattle.wasmi_c.proofs.HeldBoxLemmas.{system_box}
-
--- a box of a machine by the allocator of the system
-abbrev pub E : Bx
-E = system_box Home.the_row home.the_row_laws

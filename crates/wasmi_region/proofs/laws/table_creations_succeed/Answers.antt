@@ -1,6 +1,0 @@
-use Rattle.wasmi_meter.specs.Limiter.{optional_rules}
-use Rattle.wasmi_region.proofs.LawsLemmas as laws
-use Rattle.wasmi_region.proofs.laws.table_creations_succeed.Goals as goal
-
-pub returns : goal.returns
-returns g c = laws.table_creations_succeed (optional_rules g.L.ResourceLimiter.rules)
