@@ -8,7 +8,7 @@ use Rattle.std.proofs.lemmas.Bool.{leb-true}
 use Rattle.std.proofs.lemmas.Grind.{common_steps}
 use Rattle.std.proofs.Math.Seq.{drop-append_seam, take-append_seam}
 use Rattle.std.specs.Int.{bytes_low_first}
-use Rattle.wasmi_types.specs.Bytes.{number_of, le_bytes}
+use Rattle.wasmi_types.specs.Numbers.{number_of, le_bytes}
 use Rattle.wasmi_types.specs.Access.{at, overwrite}
 use Rattle.wasmi_access.specs.LoadStore.{loaded, value_of_bytes, IsStore, IsSameOutside}
 use Rattle.wasmi_access.proofs.ByteLemmas.{number_of-low_first}

@@ -3,7 +3,7 @@
 use Rattle.std.specs.Prelude.{◌≡◌, ℕ, ◌+◌, ◌^◌, nat_lt, if◌then◌else◌, List, take, drop, Option, Some, None, Result, Ok, Err, MatchResult}
 use Rattle.wasmi_types.specs.declared.trap.TrapCode.{TrapCode}
 use Rattle.wasmi_types.specs.declared.trap.TrapCode.TheVariants.{MemoryOutOfBounds}
-use Rattle.wasmi_types.specs.Bytes.{number_of}
+use Rattle.wasmi_types.specs.Numbers.{number_of}
 use Rattle.wasmi_types.specs.Access.{at, overwrite}
 
 -- an access at the address a, which is what is found there; none where a is 2 ^ 64 or more

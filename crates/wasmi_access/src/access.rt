@@ -7,9 +7,8 @@
 ghost use Rattle.std.specs.Prelude.{◌≡◌, ℕ, ◌+◌, ◌*◌, ◌^◌, ◌≤◌, List, MatchResult, length, Some};
 ghost use Rattle.std.specs.Int.{int_wrap};
 ghost use mir.Val.{bits};
-ghost use Rattle.wasmi_types.specs.Bytes.{number_of, le_bytes};
+ghost use Rattle.wasmi_types.specs.Numbers.{number_of, le_bytes, wrap};
 ghost use Rattle.wasmi_types.specs.Access.{overwrite};
-ghost use Rattle.wasmi_types.specs.Wrapping.{wrap};
 ghost use Rattle.wasmi_raw.specs.Number.{number_of_bits};
 ghost use Rattle.wasmi_access.specs.LoadStore.{loaded, GivesNumber, IsStore, IsCopy};
 

@@ -3,11 +3,11 @@
 //! A form without `_at` accesses the address `ptr + offset`, a form with `_at` the given one;
 //! addresses count bytes. The only error is `MemoryOutOfBounds`, and then nothing is written. Core
 //! specification: memory instructions. Upstream: `wasmi_core::wasm`.
-#![tactic(auto, using(crate::proofs::WrapLemmas::low_bits))]
+#![tactic(auto, using(crate::proofs::ByteLemmas::low_bits))]
 
 ghost use Rattle.std.specs.Prelude.{◌≡◌, ◌+◌, ◌%◌, ◌^◌, pos};
 ghost use Rattle.std.specs.Int.{w8, w16, w32, w64, cast_signed, cast_unsigned};
-ghost use Rattle.wasmi_types.specs.Bytes.{le_bytes};
+ghost use Rattle.wasmi_types.specs.Numbers.{le_bytes};
 ghost use Rattle.wasmi_access.specs.LoadStore.{loaded, IsStore};
 
 use crate::access::{

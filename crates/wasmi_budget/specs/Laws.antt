@@ -1,16 +1,34 @@
--- What holds of all calls on a pool, and of all runs of a tenant's machine.
-use Rattle.std.specs.Prelude.{ℕ, nat_eq, if◌then◌else◌, MatchBool, List, [], ◌∷◌, ◌≡◌, Some, All, slice_get}
-use Rattle.wasmi_meter.specs.Limiter.{optional_rules}
-use Rattle.wasmi_core.specs.Permission.{permitting, TellsNoDenial}
-use Rattle.wasmi_budget.specs.Tenant.{tenant_rules, without_others}
-use Rattle.wasmi_budget.specs.Pool.{PoolValue, RunsTenantBy, RunsTenant, IsWithinCaps}
-use Rattle.wasmi_budget.specs.Runs.{PoolTurn, Added, Ran, Refused, PoolStep, RunBy, PoolRun}
-use Rattle.wasmi_core.specs.State.{State}
-use Rattle.wasmi_core.specs.World.{Turn}
-use Rattle.wasmi_core.specs.Runs.{Run}
-use Rattle.wasmi_budget.specs.declared.tenant.Tenant.{Tenant}
+-- What holds of all calls on a pool, one after another, and of all runs of a tenant's machine.
+use Rattle.std.specs.Prelude.{◌≡◌, ℕ, List, [], ◌∷◌, nat_eq, if◌then◌else◌, MatchBool, Some, All, slice_get}
 use Rattle.wasmi_core.specs.declared.calls.Call.{Call}
 use Rattle.wasmi_core.specs.declared.calls.Reply.{Reply}
+use Rattle.wasmi_core.specs.State.{State, Turn}
+use Rattle.wasmi_budget.specs.Pool.{PoolValue, AddsTenant, RunsTenant, tenant_rules, without_others, RunsTenantBy, IsWithinCaps}
+use Rattle.wasmi_meter.specs.Limiter.{optional_rules}
+use Rattle.wasmi_core.specs.Determinism.{permitting, TellsNoDenial}
+use Rattle.wasmi_core.specs.Steps.{Run}
+use Rattle.wasmi_budget.specs.declared.tenant.Tenant.{Tenant}
+
+-- one call on a pool: a machine was added, a tenant's machine has run, or the call was refused
+pub data PoolTurn : Type 0 where
+  Added : State → PoolTurn
+  Ran : ℕ → List Call → List Reply → PoolTurn
+  Refused : PoolTurn
+
+-- a call leads a pool to another
+abbrev pub PoolStep : PoolValue → PoolTurn → PoolValue → Type 0
+PoolStep pool (Added s) pool' = AddsTenant pool s pool'
+PoolStep pool (Ran index calls replies) pool' = RunsTenant pool index calls replies pool'
+PoolStep pool Refused pool' = pool' ≡ pool
+
+-- calls one after another, each a step of this kind
+abbrev pub RunBy : (PoolValue → PoolTurn → PoolValue → Type 0) → PoolValue → List PoolTurn → PoolValue → Type 0
+RunBy Step pool [] pool' = pool' ≡ pool
+RunBy Step pool (turn ∷ turns) pool' = (next : PoolValue) × Step pool turn next × RunBy Step next turns pool'
+
+-- calls one after another lead a pool to another
+abbrev pub PoolRun : PoolValue → List PoolTurn → PoolValue → Type 0
+PoolRun = RunBy PoolStep
 
 -- a call on a pool, which permits each question where it is a run of the tenant of an index
 abbrev pub PermittingStep : ℕ → PoolValue → PoolTurn → PoolValue → Type 0

@@ -1,4 +1,2 @@
-pub mod Tenant
 pub mod Pool
-pub mod Runs
 pub mod Laws

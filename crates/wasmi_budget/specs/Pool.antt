@@ -1,21 +1,41 @@
--- A pool of tenants: what its machines hold together, what a run of one of them does, and what its errors print.
+-- A pool of tenants: a tenant's rules, what the machines hold together, what a run of one of them does, and what its errors print.
+use Rattle.wasmi_meter.specs.declared.holdings.Holdings.{Holdings}
+use Rattle.wasmi_meter.specs.Capped.{amount_of, nothing, amounts_of, Capped, capped_rules}
+use Rattle.wasmi_meter.specs.Limiter.{Rules, optional_rules}
+use Rattle.wasmi_budget.specs.declared.tenant.Tenant.{Tenant}
 use Rattle.std.specs.Prelude.{◌≡◌, ◌≤◌, ◌<◌, ◌^◌, ◌++◌, ℕ, List, [], ◌∷◌, Option, Some, None, slice_get, slice_set, sum_by, remove, codes}
 use Rattle.wasmi_meter.specs.declared.limiter.Kind.{Kind}
 use Rattle.wasmi_meter.specs.declared.limiter.Kind.TheVariants.{Bytes, Elements}
 use Rattle.wasmi_meter.specs.declared.amounts.Amounts.{Amounts}
-use Rattle.wasmi_meter.specs.Amounts.{amount_of, amounts_of}
-use Rattle.wasmi_meter.specs.Limiter.{Rules, optional_rules}
 use Rattle.wasmi_core.specs.declared.calls.Call.{Call}
 use Rattle.wasmi_core.specs.declared.calls.Reply.{Reply}
-use Rattle.wasmi_core.specs.State.{State}
-use Rattle.wasmi_core.specs.Totals.{total}
-use Rattle.wasmi_core.specs.Runs.{IsRunOf}
+use Rattle.wasmi_core.specs.State.{State, total}
+use Rattle.wasmi_core.specs.Steps.{IsRunOf}
 use Rattle.wasmi_budget.specs.declared.error.AddError.{AddError}
 use Rattle.wasmi_budget.specs.declared.error.AddError.TheVariants.{NotEmpty, NoRoom}
-use Rattle.wasmi_budget.specs.declared.tenant.Tenant.{Tenant}
-use Rattle.wasmi_budget.specs.Tenant.{tenant_rules}
 use Rattle.wasmi_budget.specs.declared.error.PoolError.{PoolError}
 use Rattle.wasmi_budget.specs.declared.error.PoolError.TheVariants.{NoTenant, OutOfMemory}
+
+-- what a tenant holds
+abbrev pub holdings : Tenant → Holdings
+holdings tenant = tenant.holdings
+
+-- tenants as limiters with caps
+abbrev pub capped_tenant : Capped Tenant
+capped_tenant = record {
+  holdings = holdings;
+  with_holdings = λ tenant h. record tenant { holdings = h };
+  others = λ tenant kind. amount_of tenant.others kind;
+  cap = λ tenant kind. amount_of tenant.caps kind;
+}
+
+-- the rules of a tenant
+abbrev pub tenant_rules : Rules Tenant
+tenant_rules = capped_rules capped_tenant
+
+-- the tenant where the others hold nothing
+abbrev pub without_others : Tenant → Tenant
+without_others tenant = record tenant { others = nothing }
 
 -- a pool: its caps, and the machines of its tenants by their indices
 pub record PoolValue : Type 0 where

@@ -1,7 +1,7 @@
 //! What holds of all pools. These functions do nothing: each states a law as its contract.
 ghost use Rattle.wasmi_core.specs.Determinism.{IsDeterministic, AcceptsNotices};
 ghost use Rattle.wasmi_budget.specs.Laws.{CapsHold, OthersDontShow, RepliesPermit, RunsAsAlone};
-ghost use Rattle.wasmi_budget.specs.Tenant.{tenant_rules};
+ghost use Rattle.wasmi_budget.specs.Pool.{tenant_rules};
 
 /// From a pool whose machines are within its caps, as a new one's are, all calls lead to one whose
 /// machines are within the same caps.

@@ -2,8 +2,8 @@
 ghost use Rattle.std.specs.Prelude.{◌≡◌, ◌≤◌, ◌↔◌, length, [], IsTrue, IfOk, IfErr, OnErr, IsErrOf, slice_get};
 ghost use Rattle.std.specs.Option.{option_map, option_copied};
 ghost use Rattle.wasmi_meter.specs.declared.limiter.Kind.TheVariants.{Bytes, Elements};
-ghost use Rattle.wasmi_meter.specs.Amounts.{amounts_of};
-ghost use Rattle.wasmi_core.specs.Totals.{total};
+ghost use Rattle.wasmi_meter.specs.Capped.{amounts_of};
+ghost use Rattle.wasmi_core.specs.State.{total};
 
 use crate::error::{AddError, PoolError};
 use crate::tenant::{CountedMachine, Tenant};

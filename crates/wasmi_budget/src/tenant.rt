@@ -1,14 +1,11 @@
 //! One machine of a pool, with what it has, and its limiter.
 ghost use Rattle.std.specs.Prelude.{◌≡◌, ◌<◌, ◌^◌, None, Some, IfOk, OnErr};
 ghost use Rattle.wasmi_meter.specs.declared.limiter.Kind.{Kind};
-ghost use Rattle.wasmi_meter.specs.Amounts.{amounts_of};
-ghost use Rattle.wasmi_meter.specs.Capped.{held_together};
+ghost use Rattle.wasmi_meter.specs.Capped.{amounts_of, held_together};
 ghost use Rattle.wasmi_meter.specs.Limiter.{optional_rules};
-ghost use Rattle.wasmi_core.specs.Runs.{IsRunOf};
-ghost use Rattle.wasmi_core.specs.Totals.{total, HoldsTotals};
-ghost use Rattle.wasmi_core.specs.World.{world};
-ghost use Rattle.wasmi_budget.specs.Pool.{HasNothing};
-ghost use Rattle.wasmi_budget.specs.Tenant.{holdings, capped_tenant, tenant_rules};
+ghost use Rattle.wasmi_core.specs.Steps.{IsRunOf};
+ghost use Rattle.wasmi_core.specs.State.{total, HoldsTotals, world};
+ghost use Rattle.wasmi_budget.specs.Pool.{HasNothing, holdings, capped_tenant, tenant_rules};
 
 use std::alloc::AllocError;
 use std::marker::Model;
@@ -86,9 +83,8 @@ pub(crate) struct CountedMachine<'r> {
 
 impl<'r> Model for CountedMachine<'r> {
     ghost use Rattle.std.specs.Prelude.{◌≡◌};
-    ghost use Rattle.wasmi_meter.specs.Amounts.{amounts_of};
-    ghost use Rattle.wasmi_core.specs.State.{State};
-    ghost use Rattle.wasmi_core.specs.Totals.{total};
+    ghost use Rattle.wasmi_meter.specs.Capped.{amounts_of};
+    ghost use Rattle.wasmi_core.specs.State.{State, total};
 
     ghost Value = { State };
 

@@ -7,25 +7,21 @@ use Rattle.std.specs.declared.alloc.AllocError.{AllocError}
 use Rattle.std.specs.Option.{option_and_then, option_map}
 use Rattle.wasmi_meter.specs.AnyLimiter.{any_limiter_rules, caps_of}
 use Rattle.wasmi_meter.specs.Limiter.{optional_rules}
-use Rattle.wasmi_meter.specs.Quota.{holdings, quota_rules, IsWithinCaps, SameCaps}
+use Rattle.wasmi_meter.specs.Capped.{holdings, quota_rules, IsWithinCaps, SameCaps}
 use Rattle.wasmi_meter.specs.declared.any_limiter.AnyLimiter.{AnyLimiter}
 use Rattle.wasmi_meter.specs.declared.any_limiter.AnyLimiter.TheVariants as limiter
 use Rattle.wasmi_meter.specs.declared.limiter.Kind.TheVariants.{Bytes, Elements}
 use Rattle.wasmi_meter.specs.declared.quota.Quota.{Quota}
-use Rattle.wasmi_core.specs.LimiterKinds.{RelatesByKind, RunsKeepKind}
+use Rattle.wasmi_core.specs.Determinism.{RelatesByKind, RunsKeepKind}
 use Rattle.wasmi_core.specs.Laws.{HoldsTotalsAlways, QuotasStayWithin}
-use Rattle.wasmi_core.specs.Runs.{IsRunOf, Run}
-use Rattle.wasmi_core.specs.State.{State, live_at, with_memories}
-use Rattle.wasmi_core.specs.Steps.{RepliesWith}
-use Rattle.wasmi_core.specs.Totals.{HoldsTotals, total}
-use Rattle.wasmi_core.specs.World.{Turn, world}
+use Rattle.wasmi_core.specs.Steps.{IsRunOf, Run, RepliesWith}
+use Rattle.wasmi_core.specs.State.{State, live_at, with_memories, HoldsTotals, total, Turn, world}
 use Rattle.wasmi_core.specs.declared.calls.Call.{Call}
 use Rattle.wasmi_core.specs.declared.calls.Reply.{Reply}
 use Rattle.wasmi_c.specs.Machine.Caps.{IsCapped, IsKept, Keeps, MachineValue}
 use Rattle.wasmi_c.specs.Machine.Laws.{QuotasAreKept, CallsAreRuns}
 use Rattle.wasmi_grammar.specs.declared.script.Script.{Script}
-use Rattle.wasmi_grammar.specs.Lines.{WritesScript, calls_of}
-use Rattle.wasmi_grammar.specs.Refusals.{IsFirstBadLine}
+use Rattle.wasmi_grammar.specs.Lines.{WritesScript, calls_of, IsFirstBadLine}
 use Rattle.wasmi_script.specs.Outcomes.{replies_text}
 use Rattle.wasmi_c.specs.Machine.Lines.{MachineRuns, RefusesLines, RunsLines, WritesOut, no_header}
 use Rattle.wasmi_c.specs.declared.machine.reply_struct.ReplyStruct.{ReplyStruct}
@@ -35,13 +31,13 @@ use Rattle.wasmi_c.specs.Machine.Calls.{RepliesToCopy, RepliesToSegment, Replies
 use Rattle.wasmi_c.specs.Machine.Replies.{only, reply_struct, status_of, with_number}
 use Rattle.wasmi_c.specs.Status.{bad_line_status, header_line_status, no_call_status, no_room_status}
 use Rattle.wasmi_c.specs.Types.{reference_type_of}
-use Rattle.wasmi_ops.specs.ScalarAccessOps.{stored_bytes}
+use Rattle.wasmi_ops.specs.ScalarOps.{stored_bytes}
 use Rattle.wasmi_ops.specs.declared.scalar.access.LoadOp.{LoadOp}
 use Rattle.wasmi_ops.specs.declared.scalar.access.StoreOp.{StoreOp}
 use Rattle.wasmi_ops.specs.declared.vector.binary.BinaryOp.{BinaryOp}
 use Rattle.wasmi_raw.specs.declared.raw.RawVal.{RawVal}
 use Rattle.wasmi_core.proofs.MemoryEffectsLemmas.{vector_store_kept}
-use Rattle.wasmi_core.specs.FuelEffects.{get_fuel_reply}
+use Rattle.wasmi_core.specs.ValueEffects.{get_fuel_reply}
 use Rattle.wasmi_core.specs.MemoryEffects.{StoresMemoryAt, load_reply}
 use Rattle.wasmi_c.specs.Instruction.{load_numbered, store_numbered, binary_numbered}
 use Rattle.wasmi_c.specs.Machine.CallStructs.{call_as, call_of, kind_of, binary_as, load_as, store_as}

@@ -5,17 +5,16 @@ use Rattle.std.specs.Option.{option_map, unwrap_or}
 use Rattle.wasmi_meter.specs.declared.fuel.CustomFuelCosts.{CustomFuelCosts}
 use Rattle.wasmi_meter.specs.Limiter.{Rules, Question, Answer, Failure, NoticeAnswer, optional_rules}
 use Rattle.wasmi_meter.specs.Meter.{Meter, meter_after}
-use Rattle.wasmi_store.specs.Growth.{Growth, Grows, metered_value, metered}
+use Rattle.wasmi_store.specs.Growth.{Growth, Grows, metered_value, metered, BulkWrites, bytes_due}
 use Rattle.wasmi_c.specs.Numbers.{meter_of, with_left, KeepsMeter, MeteredRegion, SameRest, limiter_of, quota_numbers_rules, Embedded, embedded}
 use Rattle.wasmi_c.specs.declared.fuel.MeterNumbers.{MeterNumbers}
 use Rattle.wasmi_meter.specs.declared.error.MemoryError.{MemoryError}
 use Rattle.wasmi_meter.specs.declared.error.MemoryError.TheVariants.{OutOfFuel}
 use Rattle.wasmi_meter.specs.Attempt.{covers, Request, AttemptOutcome, Unasked, Denied, Met, Failed, Follows}
-use Rattle.wasmi_store.specs.Bulk.{BulkWrites, bytes_due}
 use Rattle.wasmi_c.specs.MemoryCalls.{WritesBytesAs, of_memory}
 use Rattle.wasmi_c.specs.Placement.{status_of, written_number, Placement, GrowsAs}
 use Rattle.wasmi_meter.specs.declared.quota.Quota.{Quota}
-use Rattle.wasmi_meter.specs.Quota.{quota_rules}
+use Rattle.wasmi_meter.specs.Capped.{quota_rules}
 use Rattle.wasmi_c.specs.declared.quota.QuotaNumbers.{QuotaNumbers}
 
 -- a meter of which nothing is taken

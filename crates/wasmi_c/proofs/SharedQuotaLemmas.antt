@@ -15,20 +15,15 @@ use Rattle.wasmi_meter.specs.declared.limiter.Kind.TheVariants.{Bytes, Elements}
 use Rattle.wasmi_meter.specs.declared.holdings.Holdings.{Holdings}
 use Rattle.wasmi_meter.specs.declared.quota.Quota.{Quota}
 use Rattle.wasmi_meter.specs.Attempt.{Request, AttemptOutcome, Unasked, Denied, Met, Failed, MayEnd, Follows, answer_of, value_after}
-use Rattle.wasmi_meter.specs.Capped.{Asked, Noticed}
+use Rattle.wasmi_meter.specs.Capped.{Asked, Noticed, HoldsTheSame, Reserves, amount_held, with_more, without_last, IsWithinCaps, holdings, capped_quota, quota_rules}
 use Rattle.wasmi_meter.specs.CappedProofs.{asked_reserves}
-use Rattle.wasmi_meter.specs.Holdings.{HoldsTheSame, Reserves, amount_held, with_more, without_last}
 use Rattle.wasmi_meter.specs.Limiter.{Question, Answer, NoticeAnswer, IsDenial, kind_of, optional_rules}
 use Rattle.wasmi_meter.specs.Meter.{Meter}
-use Rattle.wasmi_meter.specs.Quota.{IsWithinCaps, holdings, capped_quota, quota_rules}
-use Rattle.wasmi_meter.proofs.CappedLemmas.{asked_is_within, noticed_is_within}
-use Rattle.wasmi_meter.proofs.QuotaLemmas.{quota_keeps}
+use Rattle.wasmi_meter.proofs.CappedLemmas.{asked_is_within, noticed_is_within, quota_keeps}
 use Rattle.wasmi_store.specs.Buffer.{Lent}
 use Rattle.wasmi_store.specs.Growth.{Growth, Grows, Makes, metered_value}
-use Rattle.wasmi_store.specs.Memory.{MemoryValue, creation_of, new_memory}
-use Rattle.wasmi_store.specs.MemoryType.{MemoryTypeValue, minimum_bytes, page_bytes}
-use Rattle.wasmi_store.specs.Table.{TableValue, new_table, size_of}
-use Rattle.wasmi_store.specs.TableType.{TableTypeValue}
+use Rattle.wasmi_store.specs.Memory.{MemoryValue, creation_of, new_memory, MemoryTypeValue, minimum_bytes, page_bytes}
+use Rattle.wasmi_store.specs.Table.{TableValue, new_table, size_of, TableTypeValue}
 use Rattle.wasmi_region.specs.Memory as memory
 use Rattle.wasmi_region.specs.Table as table
 use Rattle.wasmi_region.specs.Table.{MakesTableIn, creation_in}

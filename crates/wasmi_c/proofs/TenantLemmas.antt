@@ -2,14 +2,13 @@
 use Rattle.std.proofs.Common.{◌≡◌, ◌⊎◌, ◌∷◌, ◌∙◌, [], ℕ, List, ap, inl, inr, refl, subst, sym}
 use Rattle.std.specs.Global.{Global}
 use Rattle.std.specs.Prelude.{◌≢◌, Vec}
-use Rattle.wasmi_core.specs.Runs.{IsRunOf}
-use Rattle.wasmi_core.specs.World.{World}
+use Rattle.wasmi_core.specs.Steps.{IsRunOf}
+use Rattle.wasmi_core.specs.State.{World}
 use Rattle.wasmi_core.specs.declared.calls.Call.{Call}
 use Rattle.wasmi_core.specs.declared.calls.Reply.{Reply}
 use Rattle.wasmi_meter.specs.Limiter.{Rules}
 use Rattle.wasmi_budget.specs.Pool.{PoolValue, RunsTenant}
-use Rattle.wasmi_grammar.specs.Lines.{WritesScript, calls_of}
-use Rattle.wasmi_grammar.specs.Refusals.{IsFirstBadLine}
+use Rattle.wasmi_grammar.specs.Lines.{WritesScript, calls_of, IsFirstBadLine}
 use Rattle.wasmi_grammar.specs.declared.script.Script.{Script}
 use Rattle.wasmi_script.specs.Outcomes.{replies_text}
 use Rattle.wasmi_c.specs.Machine.Lines.{RefusesLines, WritesOut, no_header}

@@ -13,33 +13,23 @@ use Rattle.wasmi_raw.specs.declared.raw.RawVal.{RawVal}
 use Rattle.wasmi_raw.specs.RawVal.{raw_of, raw_of_vector, vector_in, unsigned_in}
 use Rattle.wasmi_c.specs.declared.instruction.result.InstructionResult.{InstructionResult}
 use Rattle.wasmi_types.specs.Access.{overwrite}
-use Rattle.wasmi_types.specs.Bytes.{le_bytes}
+use Rattle.wasmi_types.specs.Numbers.{le_bytes}
 use Rattle.wasmi_types.specs.declared.trap.TrapCode.TheVariants.{MemoryOutOfBounds}
 use Rattle.wasmi_access.specs.LoadStore.{accessed}
-use Rattle.wasmi_ops.specs.RawResults.{as_raw}
-use Rattle.wasmi_ops.specs.ScalarAccessOps.{loaded_raw, stored_bytes}
-use Rattle.wasmi_ops.specs.VectorAccessOps.{loaded_vector, loaded_lane, stored_lane}
+use Rattle.wasmi_ops.specs.ScalarOps.{as_raw, loaded_raw, stored_bytes, unary_raw, binary_raw}
+use Rattle.wasmi_ops.specs.VectorOps.{loaded_vector, loaded_lane, stored_lane, made_vector, unary_vector, tested_raw, binary_vector, shifted_vector, ternary_vector}
 use Rattle.wasmi_c.specs.declared.instruction.numbers.TheConstants.{LOAD_INSTRUCTIONS, STORE_INSTRUCTIONS, UNARY_INSTRUCTIONS, BINARY_INSTRUCTIONS}
 use Rattle.wasmi_c.specs.declared.instruction.load.Load.{Load}
 use Rattle.wasmi_c.specs.declared.instruction.load.Load.TheVariants as load
 use Rattle.wasmi_c.specs.declared.instruction.store.Store.{Store}
 use Rattle.wasmi_c.specs.declared.instruction.store.Store.TheVariants as store
-use Rattle.wasmi_ops.specs.ScalarUnaryOps.{unary_raw}
-use Rattle.wasmi_ops.specs.MakeOps.{made_vector}
-use Rattle.wasmi_ops.specs.UnaryOps.{unary_vector}
-use Rattle.wasmi_ops.specs.TestOps.{tested_raw}
 use Rattle.wasmi_c.specs.declared.instruction.unary.Unary.{Unary}
 use Rattle.wasmi_c.specs.declared.instruction.unary.Unary.TheVariants as one
-use Rattle.wasmi_ops.specs.ScalarBinaryOps.{binary_raw}
-use Rattle.wasmi_ops.specs.BinaryOps.{binary_vector}
-use Rattle.wasmi_ops.specs.ShiftOps.{shifted_vector}
 use Rattle.wasmi_c.specs.declared.instruction.binary.Binary.{Binary}
 use Rattle.wasmi_c.specs.declared.instruction.binary.Binary.TheVariants as two
-use Rattle.wasmi_ops.specs.TernaryOps.{ternary_vector}
 use Rattle.wasmi_ops.specs.declared.vector.ternary.TernaryOp.{TernaryOp}
 use Rattle.wasmi_ops.specs.declared.vector.ternary.TheConstants.{TERNARIES}
-use Rattle.wasmi_ops.specs.LaneKinds.{extract_op, load_lane_op, replace_op, store_lane_op}
-use Rattle.wasmi_ops.specs.LaneOps.{extracted_raw, replaced_vector}
+use Rattle.wasmi_ops.specs.LaneOps.{extract_op, load_lane_op, replace_op, store_lane_op, extracted_raw, replaced_vector}
 use Rattle.wasmi_ops.specs.declared.vector.access.LoadLaneOp.{LoadLaneOp}
 use Rattle.wasmi_ops.specs.declared.vector.access.StoreLaneOp.{StoreLaneOp}
 use Rattle.wasmi_ops.specs.declared.vector.lane.ExtractOp.{ExtractOp}

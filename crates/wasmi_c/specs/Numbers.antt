@@ -6,11 +6,11 @@ use Rattle.wasmi_meter.specs.declared.limiter.Kind.TheVariants.{Bytes, Elements}
 use Rattle.wasmi_meter.specs.declared.quota.Quota.{Quota}
 use Rattle.wasmi_meter.specs.Limiter.{Rules, optional_rules}
 use Rattle.wasmi_meter.specs.Meter.{Meter}
-use Rattle.wasmi_meter.specs.Quota.{quota_rules}
-use Rattle.wasmi_store.specs.MemoryType.{MemoryTypeValue, Settings, IsValid, named_type}
+use Rattle.wasmi_meter.specs.Capped.{quota_rules}
+use Rattle.wasmi_store.specs.Memory.{MemoryTypeValue, Settings, IsValid, named_type}
 use Rattle.wasmi_store.specs.Memory as memory
 use Rattle.wasmi_store.specs.Table as table
-use Rattle.wasmi_store.specs.TableType.{TableTypeValue}
+use Rattle.wasmi_store.specs.Table.{TableTypeValue}
 use Rattle.wasmi_c.specs.Types as types
 use Rattle.wasmi_c.specs.Types.{if_flag}
 use Rattle.wasmi_c.specs.declared.memory.numbers.MemoryNumbers.{MemoryNumbers}

@@ -5,10 +5,8 @@ use Rattle.wasmi_meter.specs.Limiter.{Rules, optional_rules}
 use Rattle.wasmi_meter.specs.Meter.{Meter}
 use Rattle.wasmi_store.specs.Buffer.{Room}
 use Rattle.wasmi_store.specs.Growth.{Growth, Grows, Makes, metered_value}
-use Rattle.wasmi_store.specs.Memory.{MemoryValue, creation_of, new_memory}
-use Rattle.wasmi_store.specs.MemoryType.{MemoryTypeValue}
-use Rattle.wasmi_store.specs.Table.{TableValue, new_table}
-use Rattle.wasmi_store.specs.TableType.{TableTypeValue}
+use Rattle.wasmi_store.specs.Memory.{MemoryValue, creation_of, new_memory, MemoryTypeValue}
+use Rattle.wasmi_store.specs.Table.{TableValue, new_table, TableTypeValue}
 use Rattle.wasmi_region.specs.Table.{creation_in, region_growth}
 use Rattle.wasmi_c.specs.Host.{answer_of, notice_answer_of, fresh, host_rules, memory_growth}
 use Rattle.wasmi_c.specs.declared.host.HostAnswers.{HostAnswers}

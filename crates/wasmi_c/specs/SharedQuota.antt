@@ -1,6 +1,6 @@
 -- One quota over many memories and tables that lie with C.
 use Rattle.std.specs.Prelude.{◌≡◌, ◌⊎◌, ℕ, List, [], ◌∷◌, ◌++◌, All, sum, slice_get, slice_set, nat_eq, if◌then◌else◌, Some}
-use Rattle.wasmi_meter.specs.Quota.{IsWithinCaps, quota_rules}
+use Rattle.wasmi_meter.specs.Capped.{IsWithinCaps, quota_rules}
 use Rattle.wasmi_meter.specs.declared.quota.Quota.{Quota}
 use Rattle.wasmi_c.specs.MemoryCalls.{MakesEmbedded, by_pages, of_memory}
 use Rattle.wasmi_c.specs.Numbers.{Embedded, KeepsQuota, Placed, limiter_of, quota_of}

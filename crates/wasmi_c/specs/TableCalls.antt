@@ -4,10 +4,9 @@ use Rattle.wasmi_meter.specs.declared.error.TableError.{TableError}
 use Rattle.wasmi_meter.specs.declared.error.TableError.TheVariants as error
 use Rattle.wasmi_meter.specs.declared.quota.Quota.{Quota}
 use Rattle.wasmi_meter.specs.Limiter.{optional_rules}
-use Rattle.wasmi_meter.specs.Quota.{quota_rules}
+use Rattle.wasmi_meter.specs.Capped.{quota_rules}
 use Rattle.wasmi_store.specs.Growth.{Growth, metered}
-use Rattle.wasmi_store.specs.Table.{TableValue, TableWrite, SetsTableRaw, WritesTable, growth_of, size_of, copy_of, table_of}
-use Rattle.wasmi_store.specs.TableType.{TableTypeValue, is_indexable}
+use Rattle.wasmi_store.specs.Table.{TableValue, TableWrite, SetsTableRaw, WritesTable, growth_of, size_of, copy_of, table_of, TableTypeValue, is_indexable}
 use Rattle.wasmi_region.specs.Table.{table_in, made_in, region_growth, MakesTableIn}
 use Rattle.wasmi_c.specs.Numbers.{MeteredRegion, Placed, SameRest, table_type_of, IsTable}
 use Rattle.wasmi_c.specs.Placement.{Placement, AsksAs, IsNone, ByType, status_of, MakesAs, WritesAs}

@@ -2,16 +2,15 @@
 use Rattle.std.specs.Prelude.{ℕ, ◌^◌, Bool, true, ◌&&◌, nat_eq, nat_le, nat_lt, if◌then◌else◌, Option, Some, None}
 use Rattle.std.specs.List.{slice_get}
 use Rattle.std.specs.Option.{option_map_or, option_and_then}
-use Rattle.wasmi_types.specs.IndexType.{address_bits}
-use Rattle.wasmi_types.specs.Value.{reference_of}
+use Rattle.wasmi_types.specs.Value.{address_bits, reference_of}
 use Rattle.wasmi_types.specs.declared.index_ty.IndexType.{IndexType}
 use Rattle.wasmi_types.specs.declared.index_ty.IndexType.TheVariants.{I32, I64}
 use Rattle.wasmi_types.specs.declared.value.ValType.{ValType}
 use Rattle.wasmi_types.specs.declared.value.RefType.{RefType}
 use Rattle.wasmi_meter.specs.Meter.{Meter}
 use Rattle.wasmi_meter.specs.declared.fuel.CustomFuelCosts.{CustomFuelCosts}
-use Rattle.wasmi_store.specs.MemoryType.{MemoryTypeValue, Settings, named_type, greatest_pages}
-use Rattle.wasmi_store.specs.TableType.{TableTypeValue}
+use Rattle.wasmi_store.specs.Memory.{MemoryTypeValue, Settings, named_type, greatest_pages}
+use Rattle.wasmi_store.specs.Table.{TableTypeValue}
 use Rattle.wasmi_c.specs.declared.types.TheConstants.{VAL_TYPES}
 
 -- a value that is there where a flag isn't 0

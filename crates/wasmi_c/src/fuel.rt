@@ -1,6 +1,6 @@
 //! A fuel meter that lies with C, and the calls on it.
 ghost use Rattle.std.specs.Prelude.{◌≡◌};
-ghost use Rattle.wasmi_meter.specs.Costs.{copy_cost};
+ghost use Rattle.wasmi_meter.specs.Meter.{copy_cost};
 ghost use Rattle.wasmi_c.specs.FuelCalls.{SetsFuel, TellsFuel, PaysFuel};
 ghost use Rattle.wasmi_c.specs.Numbers.{meter_of, with_left};
 

@@ -1,6 +1,6 @@
 //! The types and meters that plain numbers stand for.
 ghost use Rattle.std.specs.Prelude.{◌≡◌, MatchOption, Some};
-ghost use Rattle.wasmi_store.specs.MemoryType.{IsValid, MemoryTypeValue, named_type};
+ghost use Rattle.wasmi_store.specs.Memory.{IsValid, MemoryTypeValue, named_type};
 ghost use Rattle.wasmi_c.specs.Types.{if_flag, index_type_of, memory_type_of, meter_of, reference_type_of, settings_of, table_type_of, u32_of, val_type_of};
 
 use wasmi_meter::{CustomFuelCosts, Fuel, FuelCostsProvider};

@@ -3,11 +3,11 @@ ghost use Rattle.std.specs.Prelude.{◌≡◌, ◌+◌, ◌/◌, false, Some};
 ghost use Rattle.wasmi_c.specs.MemoryCalls.{AsksEmbedded, CopiesBytesEmbedded, CountsEmbedded, IsNoState, IsNoType, MakesEmbedded, ReadsEmbedded, WritesBytesEmbedded, WritesEmbedded, by_pages, of_memory};
 ghost use Rattle.wasmi_c.specs.Placement.{GrowsBy, SettlesBy};
 ghost use Rattle.wasmi_c.specs.Numbers.{limiter_of, KeepsQuota, embedded, IsState, meter_of};
-ghost use Rattle.wasmi_meter.specs.Quota.{quota_rules};
-ghost use Rattle.wasmi_store.specs.MemoryType.{MemoryTypeValue, in_bounds, page_bytes};
-ghost use Rattle.wasmi_store.specs.Bulk.{filled, copied};
+ghost use Rattle.wasmi_meter.specs.Capped.{quota_rules};
+ghost use Rattle.wasmi_store.specs.Memory.{MemoryTypeValue, in_bounds, page_bytes};
+ghost use Rattle.wasmi_store.specs.Growth.{filled, copied};
 ghost use Rattle.wasmi_c.specs.FuelCalls.{SetsFuel, TellsFuel, PaysFuel};
-ghost use Rattle.wasmi_meter.specs.Costs.{copy_cost};
+ghost use Rattle.wasmi_meter.specs.Meter.{copy_cost};
 
 use wasmi_c::memory::{bulk, bytes, creation, growth};
 use wasmi_c::{HostAnswers, MemoryNumbers, MeterNumbers, Question, QuotaNumbers, Range, fuel};

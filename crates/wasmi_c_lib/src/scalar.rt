@@ -4,8 +4,7 @@
 ghost use Rattle.std.specs.Int.{w8, w16, w32, w64, cast_unsigned, int_wrap};
 ghost use Rattle.std.specs.Prelude.{◌≡◌, ◌*◌, ◌*ℤ◌};
 ghost use Rattle.wasmi_c.specs.Instruction.{Gives};
-ghost use Rattle.wasmi_scalar.specs.Numerics.{iadd, isub, imul, idiv_s, idiv_u, irem_s, irem_u, iand, ior, ixor, ishl, ishr_s, ishr_u, irotl, irotr, iclz, ictz, ipopcnt, ieqz, ieq, ine, ilt_s, ilt_u, igt_s, igt_u, ile_s, ile_u, ige_s, ige_u};
-ghost use Rattle.wasmi_scalar.specs.Wide.{unsigned_of, signed_of, add128, sub128};
+ghost use Rattle.wasmi_scalar.specs.Numerics.{iadd, isub, imul, idiv_s, idiv_u, irem_s, irem_u, iand, ior, ixor, ishl, ishr_s, ishr_u, irotl, irotr, iclz, ictz, ipopcnt, ieqz, ieq, ine, ilt_s, ilt_u, igt_s, igt_u, ile_s, ile_u, ige_s, ige_u, unsigned_of, signed_of, add128, sub128};
 
 use wasmi_c::instruction::result::{leave_item, leave_pair};
 use wasmi_scalar::wasm;

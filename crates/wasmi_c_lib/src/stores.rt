@@ -4,7 +4,7 @@
 ghost use Rattle.std.specs.Int.{w32, w64, cast_unsigned};
 ghost use Rattle.std.specs.Prelude.{◌+◌, ◌%◌, ◌^◌};
 ghost use Rattle.wasmi_c.specs.Instruction.{StoresBytes};
-ghost use Rattle.wasmi_types.specs.Bytes.{le_bytes};
+ghost use Rattle.wasmi_types.specs.Numbers.{le_bytes};
 
 use wasmi_access::wasm;
 use wasmi_c::instruction::result::status_of;

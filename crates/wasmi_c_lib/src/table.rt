@@ -3,9 +3,8 @@ ghost use Rattle.std.specs.Prelude.{◌≡◌, None, ◌+◌, false, Some};
 ghost use Rattle.wasmi_c.specs.Numbers.{limiter_of, table_type_of, KeepsQuota, embedded, IsTable};
 ghost use Rattle.wasmi_c.specs.TableCalls.{AsksTableEmbedded, CopiesEmbedded, CountsElements, GetsElement, IsNoTable, MakesTableEmbedded, SetsElement, WritesTableEmbedded, by_elements, of_table};
 ghost use Rattle.wasmi_c.specs.Placement.{GrowsBy, SettlesBy};
-ghost use Rattle.wasmi_meter.specs.Quota.{quota_rules};
-ghost use Rattle.wasmi_store.specs.TableType.{TableTypeValue, is_indexable};
-ghost use Rattle.wasmi_store.specs.Table.{raw_filling_of, copy_of, initialization_of};
+ghost use Rattle.wasmi_meter.specs.Capped.{quota_rules};
+ghost use Rattle.wasmi_store.specs.Table.{TableTypeValue, is_indexable, raw_filling_of, copy_of, initialization_of};
 ghost use Rattle.wasmi_region.specs.Table.{table_in, items_of};
 
 use wasmi_c::table::{creation, elements, growth, ranges};

@@ -5,10 +5,10 @@ ghost use Rattle.std.specs.Prelude.{◌+◌};
 ghost use Rattle.wasmi_access.specs.LoadStore.{loaded};
 ghost use Rattle.wasmi_c.specs.Instruction.{Gives};
 ghost use Rattle.wasmi_lanes.specs.Vector.{splat_of};
-ghost use Rattle.wasmi_ops.specs.RawResults.{as_raw};
+ghost use Rattle.wasmi_ops.specs.ScalarOps.{as_raw};
 ghost use Rattle.wasmi_raw.specs.RawVal.{raw_of_vector};
 ghost use Rattle.wasmi_simd.specs.WideningTable as vector;
-ghost use Rattle.wasmi_types.specs.Wrapping.{w8, w16, w32, w64};
+ghost use Rattle.wasmi_types.specs.Numbers.{w8, w16, w32, w64};
 
 use wasmi_c::instruction::result::leave_vector;
 use wasmi_raw::RawVal;

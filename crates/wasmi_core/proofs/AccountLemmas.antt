@@ -9,12 +9,10 @@ use Rattle.wasmi_core.proofs.EffectLemmas.{on_live}
 use Rattle.wasmi_core.proofs.StepsLemmas.{change_facts}
 use Rattle.wasmi_core.specs.Account.{Account, Balances, ChangesMeter, PaysCharge, account_after, charged_by, opened}
 use Rattle.wasmi_core.specs.Effects.{ActsAt, reply_of}
-use Rattle.wasmi_core.specs.Runs.{Run}
-use Rattle.wasmi_core.specs.State.{State, live_at}
-use Rattle.wasmi_core.specs.Steps.{Changed, Effect, FuelSet, MemoryGrown, RangeWritten, Step, TableGrown, HasEffect, effect_of}
+use Rattle.wasmi_core.specs.Steps.{Run, Changed, Effect, FuelSet, MemoryGrown, RangeWritten, Step, TableGrown, HasEffect, effect_of}
+use Rattle.wasmi_core.specs.State.{State, live_at, Turn, World}
 use Rattle.wasmi_core.specs.TableEffects.{MeteredTables, WritesRangeAt, WritesTableAt, write_of}
-use Rattle.wasmi_store.specs.Growth.{metered}
-use Rattle.wasmi_core.specs.World.{Turn, World}
+use Rattle.wasmi_store.specs.Growth.{metered, Grows, Growth, metered_value}
 use Rattle.wasmi_core.specs.declared.calls.Call.{Call}
 use Rattle.wasmi_core.specs.declared.calls.Call.TheVariants.{SetFuel}
 use Rattle.wasmi_core.specs.declared.calls.Reply.{Reply}
@@ -25,10 +23,8 @@ use Rattle.wasmi_meter.proofs.AttemptLemmas.{meter_after_nothing}
 use Rattle.wasmi_meter.specs.Meter.{Meter, amount_left, due, meter_after, meter_set}
 use Rattle.wasmi_meter.specs.declared.error.TableError.{TableError}
 use Rattle.wasmi_store.proofs.GrowthLemmas.{on_test}
-use Rattle.wasmi_store.specs.Growth.{Grows, Growth, metered_value}
 use Rattle.wasmi_store.specs.Memory.{GrowsMemoryCharging, MemoryValue, pages_of}
-use Rattle.wasmi_store.specs.Table.{EndsBy, GrowsTableCharging, TableValue, TableWrite, WritesTableCharging, write_due, size_of}
-use Rattle.wasmi_store.specs.TableType.{same_type}
+use Rattle.wasmi_store.specs.Table.{EndsBy, GrowsTableCharging, TableValue, TableWrite, WritesTableCharging, write_due, size_of, same_type}
 use Rattle.wasmi_typed.specs.declared.typed_ref.TypedRawRef.{TypedRawRef}
 use Rattle.wasmi_store.specs.Memory as memory
 use Rattle.wasmi_core.specs.declared.calls.Reply.TheVariants as replied

@@ -2,10 +2,8 @@
 use Rattle.std.proofs.Common.{List, Result, Some, [], ap, inl, inr, ℕ, ◌∷◌}
 use Rattle.wasmi_core.proofs.EffectLemmas.{on_live_too, on_test_too}
 use Rattle.wasmi_core.specs.Effects.{ActsAt, ActsMetered, Asks, Creates, reply_of}
-use Rattle.wasmi_core.specs.Runs.{Run}
-use Rattle.wasmi_core.specs.State.{State, live_at}
-use Rattle.wasmi_core.specs.Steps.{BytesRead, Effect, LentMemoryMade, MemoryGrown, MemoryMade, RangeWritten, TableGrown, TableMade, HasEffect, Told, effect_of}
-use Rattle.wasmi_core.specs.World.{Turn, World}
+use Rattle.wasmi_core.specs.Steps.{Run, BytesRead, Effect, LentMemoryMade, MemoryGrown, MemoryMade, RangeWritten, TableGrown, TableMade, HasEffect, Told, effect_of}
+use Rattle.wasmi_core.specs.State.{State, live_at, Turn, World}
 use Rattle.wasmi_core.specs.declared.calls.Reply.{Reply}
 use Rattle.wasmi_core.specs.declared.slots.Slot.{Slot}
 use Rattle.wasmi_meter.specs.Attempt.{Attempt, Denied, Request, Failed, AttemptOutcome, Follows, Met, MeteredValue, Unasked, alone}
@@ -13,8 +11,7 @@ use Rattle.wasmi_meter.specs.Limiter.{Answer, Failure, NoticeAnswer, Question, R
 use Rattle.wasmi_store.specs.Buffer.{Lent, Owned}
 use Rattle.wasmi_store.specs.Growth.{Grows, Growth, Makes}
 use Rattle.wasmi_store.specs.Memory.{GrowsMemoryCharging, new_memory, pages_of}
-use Rattle.wasmi_store.specs.Table.{GrowsTableCharging, TableValue, new_table, size_of}
-use Rattle.wasmi_store.specs.TableType.{same_type}
+use Rattle.wasmi_store.specs.Table.{GrowsTableCharging, TableValue, new_table, size_of, same_type}
 use Rattle.wasmi_typed.specs.declared.typed_ref.TypedRawRef.{TypedRawRef}
 use Rattle.wasmi_store.specs.Memory as memory
 use Rattle.wasmi_core.specs.declared.calls.Reply.TheVariants as replied

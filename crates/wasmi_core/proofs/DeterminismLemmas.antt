@@ -10,29 +10,24 @@ use Rattle.wasmi_core.proofs.TableEffectsLemmas.{parts_same}
 use Rattle.wasmi_core.specs.Determinism.{IsNotOutOfMemory, AreNotOutOfMemory, IsDeterministic, IsOtherFailure, never_out_of_memory}
 use Rattle.wasmi_core.specs.MemoryEffects.{CreatesLent, spare_after}
 use Rattle.wasmi_core.specs.Effects.{ActsMetered, ActsMeteredUnasked, Asks, Changes, Creates, OnlyReplies, reply_of}
-use Rattle.wasmi_core.specs.Runs.{Run}
-use Rattle.wasmi_core.specs.State.{MemoryPart, State, memory_part}
-use Rattle.wasmi_core.specs.Steps.{BytesRead, Changed, Effect, FuelSet, LentMemoryMade, MemoryGrown, MemoryMade, RangeWritten, TableGrown, TableMade, HasEffect, Told, effect_of}
+use Rattle.wasmi_core.specs.Steps.{Run, BytesRead, Changed, Effect, FuelSet, LentMemoryMade, MemoryGrown, MemoryMade, RangeWritten, TableGrown, TableMade, HasEffect, Told, effect_of}
+use Rattle.wasmi_core.specs.State.{MemoryPart, State, memory_part, Turn, World}
 use Rattle.wasmi_core.specs.TableEffects.{write_of}
-use Rattle.wasmi_core.specs.World.{Turn, World}
 use Rattle.wasmi_core.specs.declared.calls.Call.{Call}
 use Rattle.wasmi_core.specs.declared.calls.Reply.{Reply}
 use Rattle.wasmi_core.specs.declared.slots.Slot.{Slot}
 use Rattle.wasmi_meter.specs.Attempt.{Attempt, Denied, Request, Failed, AttemptOutcome, Follows, IsFirstCause, MayEnd, Met, MeteredValue, Unasked, alone, optional_due, answer_of, covers, outcome_charge, value_after}
-use Rattle.wasmi_meter.specs.Capped.{Capped, capped_rules}
+use Rattle.wasmi_meter.specs.Capped.{Capped, capped_rules, capped_quota, quota_rules}
 use Rattle.wasmi_meter.specs.Limiter.{Answer, AskedIf, NoticedIf, IsDenial, MemoryFailure, Rules, TableFailure, optional_rules, unlimited_rules}
 use Rattle.wasmi_meter.specs.Meter.{Meter, meter_after}
-use Rattle.wasmi_meter.specs.Quota.{capped_quota, quota_rules}
 use Rattle.wasmi_meter.proofs.CappedLemmas.{asked_unique, noticed_unique}
 use Rattle.wasmi_meter.specs.declared.error.MemoryError.{MemoryError}
 use Rattle.wasmi_meter.specs.declared.error.TableError.{TableError}
 use Rattle.wasmi_store.proofs.GrowthLemmas.{on_test}
 use Rattle.wasmi_store.specs.Buffer.{LacksMemory, Lent, Owned, Room}
 use Rattle.wasmi_store.specs.Growth.{Grows, Growth, Makes}
-use Rattle.wasmi_store.specs.Memory.{GrowsMemoryCharging, MakesMemory, MemoryValue, new_memory, pages_of}
-use Rattle.wasmi_store.specs.MemoryType.{MemoryTypeValue}
-use Rattle.wasmi_store.specs.Table.{GrowsTableCharging, MakesTable, TableValue, new_table, size_of}
-use Rattle.wasmi_store.specs.TableType.{same_type}
+use Rattle.wasmi_store.specs.Memory.{GrowsMemoryCharging, MakesMemory, MemoryValue, new_memory, pages_of, MemoryTypeValue}
+use Rattle.wasmi_store.specs.Table.{GrowsTableCharging, MakesTable, TableValue, new_table, size_of, same_type}
 use Rattle.wasmi_typed.specs.declared.typed_ref.TypedRawRef.{TypedRawRef}
 use Rattle.wasmi_store.specs.Memory as memory
 use Rattle.wasmi_core.specs.declared.calls.Reply.TheVariants as replied

@@ -8,10 +8,8 @@ use Rattle.wasmi_core.proofs.TotalLemmas.{set_read, counts_kept}
 use Rattle.wasmi_core.specs.Determinism.{IsNotOutOfMemory}
 use Rattle.wasmi_core.specs.Laws.{IsRefusal}
 use Rattle.wasmi_core.specs.Effects.{ActsAt, AddsEntry, ChangesAt, ChangesFound, ChangesItem, Creates, DropsAt, OnLive, reply_of}
-use Rattle.wasmi_core.specs.State.{live_at, live_value}
+use Rattle.wasmi_core.specs.State.{live_at, live_value, slot_count, IsValidSlot}
 use Rattle.wasmi_core.specs.Steps.{Change}
-use Rattle.wasmi_core.specs.Totals.{slot_count}
-use Rattle.wasmi_core.specs.Validity.{IsValidSlot}
 use Rattle.wasmi_core.specs.declared.calls.Reply.{Reply}
 use Rattle.wasmi_core.specs.declared.slots.Slot.{Slot}
 use Rattle.wasmi_core.specs.declared.slots.Slot.TheVariants.{Gone, Live}

@@ -10,37 +10,31 @@ use Rattle.wasmi_core.proofs.EffectLemmas.{both_live, on_live}
 use Rattle.wasmi_core.proofs.StepsLemmas.{change_facts, source_writes}
 use Rattle.wasmi_core.proofs.TableEffectsLemmas.{part_kept}
 use Rattle.wasmi_core.proofs.TotalLemmas.{count_at, counts_kept, counts_set, each_kind}
-use Rattle.wasmi_core.proofs.TurnLemmas.{each_turn}
+use Rattle.wasmi_core.proofs.StoreLemmas.{each_turn}
 use Rattle.wasmi_core.specs.Determinism.{IsOtherFailure}
 use Rattle.wasmi_core.specs.Exchange.{AsksFor, At, Denial, Exchange, Exchanges, GrowsAsAsked, GrowsBy, New, Nothing, NothingGrows, Notice, Nowhere, Passes, Permission, Place, RepliesTo, charge_at, elements_paid, failed_charge, failed_reply, growth_charge, growth_due, growth_question, place_of, question_in, question_of, table_growth_question, writing_charge}
 use Rattle.wasmi_core.specs.Laws.{RunsGrowAsPermitted}
 use Rattle.wasmi_core.specs.MemoryEffects.{CreatesLent}
 use Rattle.wasmi_core.specs.Effects.{ActsAt, AddsEntry, Creates, IsNoSuch, OnLive, reply_of}
-use Rattle.wasmi_core.specs.State.{MemoryPart, State, live_at, memory_part, with_tables}
+use Rattle.wasmi_core.specs.State.{MemoryPart, State, live_at, memory_part, with_tables, byte_count, sizes, slot_count, IsRefusal, Turn, World}
 use Rattle.wasmi_core.specs.Steps.{Changed, Effect, FuelSet, LentMemoryMade, MemoryGrown, MemoryMade, RangeWritten, Step, TableGrown, TableMade, HasEffect, effect_of}
 use Rattle.wasmi_core.specs.TableEffects.{OfReference, OfSegment, OfTable, Source, WritesRangeAt, WritesTableAt, write_of}
-use Rattle.wasmi_store.specs.Growth.{metered}
-use Rattle.wasmi_core.specs.Totals.{byte_count, sizes, slot_count}
-use Rattle.wasmi_core.specs.World.{IsRefusal, Turn, World}
+use Rattle.wasmi_store.specs.Growth.{metered, Grows, Growth, Makes}
 use Rattle.wasmi_core.specs.declared.calls.Call.{Call}
 use Rattle.wasmi_core.specs.declared.calls.Call.TheVariants.{GrowMemory, GrowTable, NewLentMemory, NewMemory, NewTable}
 use Rattle.wasmi_core.specs.declared.calls.Reply.{Reply}
 use Rattle.wasmi_core.specs.declared.slots.Slot.{Slot}
 use Rattle.wasmi_core.specs.declared.slots.Slot.TheVariants.{Live}
 use Rattle.wasmi_meter.specs.Attempt.{AttemptOutcome, Denied, Failed, Follows, IsFirstCause, MayEnd, Met, MeteredValue, Request, Unasked, answer_of, covers, error_of_answer, error_of_failure, optional_due, outcome_charge, value_after}
-use Rattle.wasmi_meter.specs.Costs.{copy_cost}
+use Rattle.wasmi_meter.specs.Meter.{copy_cost, Meter, due}
 use Rattle.wasmi_meter.specs.Limiter.{Failure, MemoryFailure, NoticeAnswer, Question, Rules, TableFailure, kind_of}
-use Rattle.wasmi_meter.specs.Meter.{Meter, due}
 use Rattle.wasmi_meter.specs.declared.error.MemoryError.{MemoryError}
 use Rattle.wasmi_meter.specs.declared.error.TableError.{TableError}
 use Rattle.wasmi_meter.specs.declared.limiter.Kind.{Kind}
 use Rattle.wasmi_meter.specs.declared.limiter.Kind.TheVariants.{Bytes, Elements}
 use Rattle.wasmi_store.specs.Buffer.{LacksMemory, Lent, Owned, Room, fits_room}
-use Rattle.wasmi_store.specs.Growth.{Grows, Growth, Makes}
-use Rattle.wasmi_store.specs.Memory.{GrowsMemoryCharging, MakesMemory, MemoryValue, new_memory, pages_of}
-use Rattle.wasmi_store.specs.MemoryType.{MemoryTypeValue, minimum_bytes, page_bytes}
-use Rattle.wasmi_store.specs.Table.{EndsBy, GrowsTableCharging, MakesTable, TableValue, TableWrite, new_table, size_of}
-use Rattle.wasmi_store.specs.TableType.{TableTypeValue, is_within_maximum, same_type}
+use Rattle.wasmi_store.specs.Memory.{GrowsMemoryCharging, MakesMemory, MemoryValue, new_memory, pages_of, MemoryTypeValue, minimum_bytes, page_bytes}
+use Rattle.wasmi_store.specs.Table.{EndsBy, GrowsTableCharging, MakesTable, TableValue, TableWrite, new_table, size_of, TableTypeValue, is_within_maximum, same_type}
 use Rattle.wasmi_typed.specs.declared.typed_ref.TypedRawRef.{TypedRawRef}
 use Rattle.wasmi_store.specs.Memory as memory
 use Rattle.wasmi_store.specs.Table as table

@@ -12,11 +12,8 @@ use Rattle.wasmi_core.specs.LentMemory.{FitsRegions, FitsRoom, RunInRegions, own
 use Rattle.wasmi_core.specs.MemoryEffects.{StoresMemoryAt, WritesMemoryAt, bytes_appended, load_reply}
 use Rattle.wasmi_core.specs.RegisterEffects.{StoresVectorAt, lane_loaded, vector_at, vector_loaded}
 use Rattle.wasmi_core.specs.Effects.{ActsAt, AddsEntry, ChangesAt, Creates, DropsAt, OnLive, reply_of}
-use Rattle.wasmi_core.specs.Runs.{Run}
-use Rattle.wasmi_core.specs.State.{State, live_at, live_value}
-use Rattle.wasmi_core.specs.Steps.{BytesRead, BytesStored, BytesWritten, Change, Changed, Effect, FuelSet, LentMemoryMade, MemoryDropped, MemoryGrown, MemoryMade, RangeWritten, RegisterSet, Step, TableGrown, TableMade, HasChange, HasEffect, Told, effect_of}
-use Rattle.wasmi_core.specs.Totals.{byte_count}
-use Rattle.wasmi_core.specs.World.{Turn, World}
+use Rattle.wasmi_core.specs.Steps.{Run, BytesRead, BytesStored, BytesWritten, Change, Changed, Effect, FuelSet, LentMemoryMade, MemoryDropped, MemoryGrown, MemoryMade, RangeWritten, RegisterSet, Step, TableGrown, TableMade, HasChange, HasEffect, Told, effect_of}
+use Rattle.wasmi_core.specs.State.{State, live_at, live_value, byte_count, Turn, World}
 use Rattle.wasmi_core.specs.declared.calls.Call.{Call}
 use Rattle.wasmi_core.specs.declared.calls.Call.TheVariants.{Load, LoadLane, NewLentMemory, NewMemory, VectorLoad}
 use Rattle.wasmi_core.specs.declared.calls.Reply.{Reply}
@@ -27,8 +24,7 @@ use Rattle.wasmi_meter.specs.Limiter.{Answer, IsDenial, Rules}
 use Rattle.wasmi_meter.specs.Meter.{Meter}
 use Rattle.wasmi_meter.specs.declared.error.MemoryError.{MemoryError}
 use Rattle.wasmi_store.specs.Buffer.{LacksMemory, Lent, Owned, Room, fits_room}
-use Rattle.wasmi_store.specs.Memory.{GrowsMemory, GrowsMemoryCharging, MakesMemory, MemoryValue, WritesMemory, new_memory, pages_of}
-use Rattle.wasmi_store.specs.MemoryType.{MemoryTypeValue, in_bounds, minimum_bytes, page_bytes}
+use Rattle.wasmi_store.specs.Memory.{GrowsMemory, GrowsMemoryCharging, MakesMemory, MemoryValue, WritesMemory, new_memory, pages_of, MemoryTypeValue, in_bounds, minimum_bytes, page_bytes}
 use Rattle.wasmi_store.specs.Memory as memory
 use Rattle.wasmi_core.specs.declared.calls.Reply.TheVariants as replied
 

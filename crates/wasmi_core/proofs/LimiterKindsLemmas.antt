@@ -10,18 +10,16 @@ use Rattle.wasmi_meter.specs.AnswerList.{AnswersAhead, answer_list_rules}
 use Rattle.wasmi_meter.specs.AnyLimiter.{any_limiter_rules, quota_of}
 use Rattle.wasmi_meter.specs.Attempt.{Request, Unasked, Denied, Met, Failed}
 use Rattle.wasmi_meter.specs.Limiter.{Question, Answer, Failure, NoticeAnswer, Rules, AskedIf, NoticedIf, optional_rules}
-use Rattle.wasmi_meter.specs.Quota.{quota_rules}
+use Rattle.wasmi_meter.specs.Capped.{quota_rules}
 use Rattle.wasmi_store.specs.Memory as memory
 use Rattle.wasmi_store.specs.Table as table
-use Rattle.wasmi_core.specs.LimiterKinds.{RelatesByKind, RepliesKeepKind, RunsKeepKind, RunsOfCallsKeepKind}
-use Rattle.wasmi_core.specs.Runs.{IsRunOf, Run}
-use Rattle.wasmi_core.specs.State.{State}
-use Rattle.wasmi_core.specs.Steps.{RepliesWith, Step}
-use Rattle.wasmi_core.specs.World.{World, Turn, world}
+use Rattle.wasmi_core.specs.Determinism.{RelatesByKind, RepliesKeepKind, RunsKeepKind, RunsOfCallsKeepKind}
+use Rattle.wasmi_core.specs.Steps.{IsRunOf, Run, RepliesWith, Step}
+use Rattle.wasmi_core.specs.State.{State, World, Turn, world}
 use Rattle.wasmi_core.specs.declared.calls.Reply.{Reply}
 use Rattle.wasmi_core.specs.declared.calls.Reply.TheVariants as replied
 use Rattle.wasmi_core.proofs.CarryingLemmas.{Carries, runs_too}
-use Rattle.wasmi_core.proofs.LimiterLemmas.{run_keeps}
+use Rattle.wasmi_core.proofs.HoldingLemmas.{run_keeps}
 use Rattle.wasmi_core.proofs.RevealingLemmas.{Narrowing, Reveals, run_revealed}
 
 -- a limiter in these states stays in them, and there does what another one, or none, may do in the image of its state

@@ -10,20 +10,18 @@ use Rattle.wasmi_core.specs.Laws.{IsRefusal}
 use Rattle.wasmi_core.specs.MemoryEffects.{CreatesLent, ReadsBytes, ReadsMemoryAt, StoresMemory, StoresMemoryAt, WritesMemoryAt, spare_after}
 use Rattle.wasmi_core.specs.RegisterEffects.{StoresVectorAt}
 use Rattle.wasmi_core.specs.Effects.{ActsAt, Creates, reply_of}
-use Rattle.wasmi_core.specs.State.{MemoryPart, live_at}
-use Rattle.wasmi_core.specs.Totals.{byte_count, slot_count}
+use Rattle.wasmi_core.specs.State.{MemoryPart, live_at, byte_count, slot_count}
 use Rattle.wasmi_core.specs.declared.calls.Reply.{Reply}
 use Rattle.wasmi_core.specs.declared.slots.Slot.{Slot}
 use Rattle.wasmi_meter.specs.Attempt.{MeteredValue, with_value}
 use Rattle.wasmi_meter.specs.Limiter.{Rules}
 use Rattle.wasmi_meter.specs.declared.error.MemoryError.{MemoryError}
 use Rattle.wasmi_store.specs.Buffer.{Lent}
-use Rattle.wasmi_store.specs.Memory.{GrowsMemoryCharging, IsValidMemory, MakesMemory, MemoryValue, WritesMemory, pages_of}
-use Rattle.wasmi_store.specs.MemoryType.{MemoryTypeValue}
+use Rattle.wasmi_store.specs.Memory.{GrowsMemoryCharging, IsValidMemory, MakesMemory, MemoryValue, WritesMemory, pages_of, MemoryTypeValue}
 use Rattle.wasmi_types.specs.Access.{at, overwrite}
 use Rattle.wasmi_types.specs.declared.trap.TrapCode.{TrapCode}
 use Rattle.wasmi_store.specs.Memory as memory
-use Rattle.wasmi_store.specs.MemoryType as memory_type
+use Rattle.wasmi_store.specs.Memory as memory_type
 use Rattle.wasmi_core.specs.declared.calls.Reply.TheVariants as replied
 
 -- a refused write leaves the memory

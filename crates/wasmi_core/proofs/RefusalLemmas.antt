@@ -8,17 +8,15 @@ use Rattle.wasmi_core.proofs.EffectLemmas.{creates_back}
 use Rattle.wasmi_core.proofs.ExchangeLemmas.{IsOutOfMemoryOrFree, growths_are_permitted, out_of_memory_or_free}
 use Rattle.wasmi_core.proofs.StepsLemmas.{change_facts}
 use Rattle.wasmi_core.proofs.TableEffectsLemmas.{part_back, table_growth_back}
-use Rattle.wasmi_core.proofs.TurnLemmas.{each_turn}
+use Rattle.wasmi_core.proofs.StoreLemmas.{each_turn}
 use Rattle.wasmi_core.specs.Account.{ChangesMeter, PaysCharge}
 use Rattle.wasmi_core.specs.Exchange.{AsksFor, At, Denial, Exchange, Exchanges, New, Nothing, Notice, Nowhere, Passes, Permission, Place, RepliesTo, charge_at, elements_paid, failed_charge, failed_reply, growth_charge, growth_due, place_of, question_of, writing_charge}
 use Rattle.wasmi_core.specs.Laws.{Keeps, KeepsMeter, KeepsSpare, RefusalsInRunsKeepContents, SameContents}
 use Rattle.wasmi_core.specs.MemoryEffects.{spare_after}
-use Rattle.wasmi_core.specs.Runs.{Run}
-use Rattle.wasmi_core.specs.State.{State, memory_part, with_memories, with_tables}
-use Rattle.wasmi_core.specs.Steps.{Changed, Effect, FuelSet, LentMemoryMade, MemoryGrown, MemoryMade, RangeWritten, Step, TableGrown, TableMade, HasEffect, effect_of}
+use Rattle.wasmi_core.specs.Steps.{Run, Changed, Effect, FuelSet, LentMemoryMade, MemoryGrown, MemoryMade, RangeWritten, Step, TableGrown, TableMade, HasEffect, effect_of}
+use Rattle.wasmi_core.specs.State.{State, memory_part, with_memories, with_tables, IsRefusal, Turn, World}
 use Rattle.wasmi_core.specs.TableEffects.{write_of}
 use Rattle.wasmi_store.specs.Growth.{metered}
-use Rattle.wasmi_core.specs.World.{IsRefusal, Turn, World}
 use Rattle.wasmi_core.specs.declared.calls.Call.{Call}
 use Rattle.wasmi_core.specs.declared.calls.Call.TheVariants.{NewLentMemory, SetFuel}
 use Rattle.wasmi_core.specs.declared.calls.Reply.{Reply}

@@ -1,15 +1,13 @@
 -- What the replies of a run reveal of its limiter: a run is one by narrower rules, where its replies show it and the
 -- limiter is in states of which this holds.
-use Rattle.std.proofs.Common.{Err, List, Result, Some, [], ap, inl, inr, map, refl, subst, sym, ℕ, ◌∙◌, ◌∷◌, ◌≡◌}
+use Rattle.std.proofs.Common.{Err, List, Result, Some, [], ap, inl, inr, map, refl, subst, sym, ℕ, ◌∙◌, ◌∷◌, ◌≡◌, Ok}
 use Rattle.std.proofs.lemmas.List.Elements.{All-head, All-tail}
 use Rattle.std.specs.Prelude.{All}
 use Rattle.wasmi_core.proofs.EffectLemmas.{Creation, on_live_too, on_test_too}
 use Rattle.wasmi_core.proofs.StoreLemmas.{acts_too, asks_too}
 use Rattle.wasmi_core.specs.Effects.{ActsAt, ActsMetered, AddsEntry, Asks, Creates, reply_of}
-use Rattle.wasmi_core.specs.Runs.{Run}
-use Rattle.wasmi_core.specs.State.{State, live_at}
-use Rattle.wasmi_core.specs.Steps.{Effect, LentMemoryMade, MemoryGrown, MemoryMade, TableGrown, TableMade, HasEffect, effect_of, Step}
-use Rattle.wasmi_core.specs.World.{Turn, World}
+use Rattle.wasmi_core.specs.Steps.{Run, Effect, LentMemoryMade, MemoryGrown, MemoryMade, TableGrown, TableMade, HasEffect, effect_of, Step}
+use Rattle.wasmi_core.specs.State.{State, live_at, Turn, World}
 use Rattle.wasmi_core.specs.declared.calls.Reply.{Reply}
 use Rattle.wasmi_core.specs.declared.slots.Slot.{Slot}
 use Rattle.wasmi_core.specs.declared.slots.Slot.TheVariants.{Live}
@@ -18,12 +16,11 @@ use Rattle.wasmi_meter.specs.Limiter.{Rules}
 use Rattle.wasmi_meter.specs.declared.error.TableError.{TableError}
 use Rattle.wasmi_store.specs.Buffer.{Lent, Owned, Room}
 use Rattle.wasmi_store.specs.Growth.{Grows, Growth, Makes}
-use Rattle.wasmi_store.specs.Memory.{GrowsMemoryCharging, MemoryValue, new_memory, pages_of}
-use Rattle.wasmi_store.specs.MemoryType.{MemoryTypeValue}
-use Rattle.wasmi_store.specs.Table.{GrowsTableCharging, TableValue, new_table, size_of}
-use Rattle.wasmi_store.specs.TableType.{TableTypeValue, same_type}
+use Rattle.wasmi_store.specs.Memory.{GrowsMemoryCharging, MemoryValue, new_memory, pages_of, MemoryTypeValue}
+use Rattle.wasmi_store.specs.Table.{GrowsTableCharging, TableValue, new_table, size_of, TableTypeValue, same_type}
 use Rattle.wasmi_typed.specs.declared.typed_ref.TypedRawRef.{TypedRawRef}
 use Rattle.wasmi_types.specs.declared.value.RefType.{RefType}
+use Rattle.wasmi_core.specs.Determinism.{permitting, TellsNoDenial}
 use Rattle.wasmi_store.specs.Memory as memory
 use Rattle.wasmi_core.specs.declared.calls.Reply.TheVariants as replied
 use Rattle.wasmi_store.specs.Table as table
@@ -212,3 +209,35 @@ module _ {S : Type 0} (n : Narrowing S) where
       run_revealed keeps v turns w' (keeps w turn v within step)
           (All-tail n.shown turn.reply (map Turn.reply turns) shown) ran,
     )
+
+module _ {S : Type 0} (rules : Rules S) where
+  -- the replies that tell of no denial, in any state of the limiter
+  abbrev undenied : Narrowing S
+  undenied =
+      record { rules = rules; narrower = permitting rules; shown = TellsNoDenial; within = λ l. Unit {0} }
+
+  -- the replies to an attempt's errors tell whether it was denied, where those of a denial do
+  denial_revealed : {V E : Type 0} (refusal : E → Reply) (e : Request V E) → (TellsNoDenial (refusal e.denial) → ⊥)
+      → (TellsNoDenial (refusal e.refusal) → ⊥)
+      → Reveals undenied refusal e
+  denial_revealed refusal e denied failed (Unasked c) l l' within shown f = f
+  denial_revealed refusal e denied failed (Denied (Ok permitted)) l l' within shown f = absurd (denied (shown _ refl))
+  denial_revealed refusal e denied failed (Denied (Err error)) l l' within shown f = absurd (failed (shown _ refl))
+  denial_revealed refusal e denied failed Met l l' within shown f = (refl, f)
+  denial_revealed refusal e denied failed (Failed c notice_answer) l l' within shown (permitted, asks, notices) =
+      (permitted, (refl, asks), notices)
+
+  -- a run of whose replies none tells of a denial
+  pub permitted_run : (w : World S) (turns : List Turn) (w' : World S) → All TellsNoDenial (map Turn.reply turns)
+      → Run rules w turns w' → Run (permitting rules) w turns w'
+  permitted_run w turns w' = run_revealed undenied
+      (record {
+        memory_made = λ room ty. denial_revealed replied.Memory (memory.creation_of room ty) (λ told. told)
+            (λ told. told);
+        memory_grown = λ x pages. denial_revealed replied.Memory (memory.growth_of x pages) (λ told. told)
+            (λ told. told);
+        table_made = λ ty init. denial_revealed replied.Table (table.creation_of ty init) (λ told. told) (λ told. told);
+        table_grown = λ x n reference. denial_revealed replied.Table (table.growth_of x n reference) (λ told. told)
+            (λ told. told);
+      })
+      (λ v turn v' within step. tt) w turns w' tt

@@ -7,10 +7,9 @@ use Rattle.std.specs.Prelude.{All, if◌then◌else◌}
 use Rattle.wasmi_meter.specs.Limiter.{Rules}
 use Rattle.wasmi_core.specs.declared.calls.Call.{Call}
 use Rattle.wasmi_core.specs.declared.calls.Call.TheVariants.{SetFuel}
-use Rattle.wasmi_core.specs.World.{World, Turn}
-use Rattle.wasmi_core.specs.Runs.{Run}
-use Rattle.wasmi_core.specs.Account.{Account, opened, charged_by, account_after, SetsNoFuel, charges}
-use Rattle.wasmi_core.specs.Writing.{has_written, charges_for_writing, IsSpent}
+use Rattle.wasmi_core.specs.State.{World, Turn}
+use Rattle.wasmi_core.specs.Steps.{Run}
+use Rattle.wasmi_core.specs.Account.{Account, opened, charged_by, account_after, SetsNoFuel, charges, has_written, charges_for_writing, IsSpent}
 use Rattle.wasmi_core.proofs.AccountLemmas.{fuel_balances}
 use Rattle.wasmi_core.proofs.WritingLemmas.{writing_is_bounded}
 

@@ -11,11 +11,9 @@ use Rattle.wasmi_core.specs.Determinism.{IsNotOutOfMemory}
 use Rattle.wasmi_core.specs.Exchange.{NothingGrows}
 use Rattle.wasmi_core.specs.Laws.{IsRefusal}
 use Rattle.wasmi_core.specs.Effects.{ChangesPart, OnLive}
-use Rattle.wasmi_core.specs.State.{State, with_globals, with_memories, with_registers, with_segments, with_tables}
+use Rattle.wasmi_core.specs.State.{State, with_globals, with_memories, with_registers, with_segments, with_tables, byte_count, sizes, slot_count, IsValid, IsValidSegment}
 use Rattle.wasmi_core.specs.Steps.{BytesStored, BytesWritten, Change, ElementSet, GlobalMade, GlobalSet, ItemsDropped, MemoryDropped, RegisterSet, SegmentMade, TableDropped, HasChange}
 use Rattle.wasmi_core.specs.TableEffects.{OfReference, OfSegment, OfTable, Source, write_of}
-use Rattle.wasmi_core.specs.Totals.{byte_count, sizes, slot_count}
-use Rattle.wasmi_core.specs.Validity.{IsValid, IsValidSegment}
 use Rattle.wasmi_core.specs.declared.calls.Reply.{Reply}
 use Rattle.wasmi_core.specs.declared.slots.Slot.{Slot}
 use Rattle.wasmi_raw.specs.declared.raw.RawVal.{RawVal}

@@ -7,9 +7,8 @@ use Rattle.wasmi_core.proofs.EffectLemmas.{AllValid, HasOneEnding, IsDecided, ac
 use Rattle.wasmi_core.proofs.TotalLemmas.{counts_kept}
 use Rattle.wasmi_core.specs.Laws.{IsRefusal}
 use Rattle.wasmi_core.specs.Effects.{ActsAt, OnLive, reply_of}
-use Rattle.wasmi_core.specs.State.{live_at}
+use Rattle.wasmi_core.specs.State.{live_at, slot_count}
 use Rattle.wasmi_core.specs.TableEffects.{MeteredTables, SetsElementAt, WritesRangeAt, WritesTableAt, WritesTableFrom}
-use Rattle.wasmi_core.specs.Totals.{slot_count}
 use Rattle.wasmi_core.specs.declared.calls.Reply.{Reply}
 use Rattle.wasmi_core.specs.declared.slots.Slot.{Slot}
 use Rattle.wasmi_core.specs.declared.slots.Slot.TheVariants.{Live}
@@ -20,14 +19,13 @@ use Rattle.std.specs.Prelude.{Err, MatchBool}
 use Rattle.wasmi_meter.specs.declared.error.TableError.{TableError}
 use Rattle.wasmi_meter.specs.declared.error.TableError.TheVariants.{ElementTypeMismatch}
 use Rattle.wasmi_store.proofs.GrowthLemmas.{on_test}
-use Rattle.wasmi_store.specs.Table.{WriteEnding, EndsBy, GrowsTableCharging, IsValidTable, MeteredTable, SetsTable, SetsTableRaw, TableValue, TableWrite, WritesTableCharging, size_of}
+use Rattle.wasmi_store.specs.Table.{WriteEnding, EndsBy, GrowsTableCharging, IsValidTable, MeteredTable, SetsTable, SetsTableRaw, TableValue, TableWrite, WritesTableCharging, size_of, same_type}
 use Rattle.wasmi_store.specs.Growth.{metered}
-use Rattle.wasmi_store.specs.TableType.{same_type}
 use Rattle.wasmi_typed.specs.declared.typed_ref.TypedRawRef.{TypedRawRef}
 use Rattle.wasmi_types.specs.Access.{overwrite}
 use Rattle.wasmi_core.specs.declared.calls.Reply.TheVariants as replied
 use Rattle.wasmi_store.specs.Table as table
-use Rattle.wasmi_store.specs.TableType as table_type
+use Rattle.wasmi_store.specs.Table as table_type
 
 module _ (s : MeteredTable) (charge : ℕ) where
   -- a refused write over a part leaves the table

@@ -6,19 +6,17 @@ use Rattle.wasmi_meter.specs.declared.error.MemoryError.{MemoryError}
 use Rattle.wasmi_meter.specs.declared.error.MemoryError.TheVariants as memerr
 use Rattle.wasmi_meter.specs.declared.error.TableError.{TableError}
 use Rattle.wasmi_meter.specs.declared.error.TableError.TheVariants as taberr
-use Rattle.wasmi_meter.specs.Limiter.{Question, Answer, Failure, NoticeAnswer, MemoryFailure, TableFailure, Rules}
-use Rattle.wasmi_meter.specs.Limiter.{AskedIf, NoticedIf, unlimited_rules, optional_rules}
-use Rattle.wasmi_meter.specs.Quota.{quota_rules}
+use Rattle.wasmi_meter.specs.Limiter.{Question, Answer, Failure, NoticeAnswer, MemoryFailure, TableFailure, Rules, AskedIf, NoticedIf, unlimited_rules, optional_rules}
+use Rattle.wasmi_meter.specs.Capped.{quota_rules}
 use Rattle.wasmi_meter.specs.Attempt.{Request, Unasked, Denied, Met, Failed, error_of_failure}
 use Rattle.wasmi_store.specs.Memory as memory
 use Rattle.wasmi_store.specs.Table as table
 use Rattle.wasmi_core.specs.declared.calls.Call.{Call}
 use Rattle.wasmi_core.specs.declared.calls.Reply.{Reply}
 use Rattle.wasmi_core.specs.declared.calls.Reply.TheVariants as replied
-use Rattle.wasmi_core.specs.World.{World, Turn}
+use Rattle.wasmi_core.specs.State.{World, Turn}
 use Rattle.wasmi_core.specs.Exchange.{Exchange, Nothing, Denial, Permission, Notice, Passes}
-use Rattle.wasmi_core.specs.Steps.{Step}
-use Rattle.wasmi_core.specs.Runs.{Run, IsRunOf}
+use Rattle.wasmi_core.specs.Steps.{Step, Run, IsRunOf}
 use Rattle.wasmi_core.specs.Determinism.{AcceptsNotices, StaysAccepting, IsIn, IsOtherFailure, IsDeterministic, never_out_of_memory, IsNotOutOfMemory, AreNotOutOfMemory}
 use Rattle.wasmi_core.proofs.DeterminismLemmas as determinism
 use Rattle.wasmi_core.proofs.ExchangeLemmas.{growths_are_permitted}

@@ -10,12 +10,11 @@ use Rattle.wasmi_store.specs.Table.{TableValue, TableWrite}
 use Rattle.wasmi_core.specs.declared.calls.Reply.{Reply}
 use Rattle.wasmi_core.specs.declared.slots.Slot.{Slot}
 use Rattle.wasmi_core.specs.declared.slots.Slot.TheVariants.{Live, Gone}
-use Rattle.wasmi_core.specs.State.{live_at, live_value}
+use Rattle.wasmi_core.specs.State.{live_at, live_value, slot_count}
 use Rattle.wasmi_core.specs.TableEffects.{MeteredTables, CopiesSlot, WritesTableFrom}
 use Rattle.wasmi_store.specs.Growth.{metered}
 use Rattle.std.proofs.lemmas.List.Sums.{sum_by-set, sum_by_push}
 use Rattle.std.specs.Option.{option_and_then, option_map}
-use Rattle.wasmi_core.specs.Totals.{slot_count}
 use Rattle.wasmi_meter.specs.declared.limiter.Kind.{Kind}
 use Rattle.wasmi_meter.specs.declared.limiter.Kind.TheVariants.{Bytes, Elements}
 

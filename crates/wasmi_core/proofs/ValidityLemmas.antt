@@ -6,13 +6,10 @@ use Rattle.wasmi_core.proofs.EffectLemmas.{AllValid, acts_valid, creates_valid, 
 use Rattle.wasmi_core.proofs.StepsLemmas.{change_facts, source_writes}
 use Rattle.wasmi_core.proofs.TableEffectsLemmas.{part_valid}
 use Rattle.wasmi_core.specs.Effects.{reply_of}
-use Rattle.wasmi_core.specs.Runs.{Run}
-use Rattle.wasmi_core.specs.State.{MemoryPart, State}
-use Rattle.wasmi_core.specs.Steps.{RepliesWith, Changed, Effect, FuelSet, LentMemoryMade, MemoryGrown, MemoryMade, RangeWritten, TableGrown, TableMade, HasEffect, effect_of}
+use Rattle.wasmi_core.specs.Steps.{Run, RepliesWith, Changed, Effect, FuelSet, LentMemoryMade, MemoryGrown, MemoryMade, RangeWritten, TableGrown, TableMade, HasEffect, effect_of}
+use Rattle.wasmi_core.specs.State.{MemoryPart, State, IsValid, IsValidCall, Turn, World}
 use Rattle.wasmi_core.specs.TableEffects.{write_of}
 use Rattle.wasmi_store.specs.Growth.{metered}
-use Rattle.wasmi_core.specs.Validity.{IsValid, IsValidCall}
-use Rattle.wasmi_core.specs.World.{Turn, World}
 use Rattle.wasmi_core.specs.declared.calls.Call.{Call}
 use Rattle.wasmi_core.specs.declared.calls.Call.TheVariants.{NewLentMemory, NewMemory, NewTable}
 use Rattle.wasmi_core.specs.declared.calls.Reply.{Reply}
@@ -22,10 +19,10 @@ use Rattle.wasmi_meter.specs.Meter.{Meter}
 use Rattle.wasmi_store.specs.Buffer.{Lent, Owned}
 use Rattle.wasmi_store.specs.Memory.{GrowsMemoryCharging, IsValidMemory, MakesMemory, MemoryValue}
 use Rattle.wasmi_store.specs.Table.{GrowsTableCharging, IsValidTable, MakesTable, TableValue}
-use Rattle.wasmi_store.specs.MemoryType as memory_type
+use Rattle.wasmi_store.specs.Memory as memory_type
 use Rattle.wasmi_core.specs.declared.calls.Reply.TheVariants as replied
 use Rattle.wasmi_store.proofs.ValidityLemmas as store
-use Rattle.wasmi_store.specs.TableType as table_type
+use Rattle.wasmi_store.specs.Table as table_type
 
 -- the type that an effect names is valid
 abbrev IsValidEffect : Effect → Type 0

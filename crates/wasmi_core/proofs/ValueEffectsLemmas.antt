@@ -6,7 +6,7 @@ use Rattle.wasmi_core.proofs.EffectLemmas.{IsDecided, appended_valid, appends_ba
 use Rattle.wasmi_core.specs.Determinism.{IsNotOutOfMemory}
 use Rattle.wasmi_core.specs.Laws.{IsRefusal}
 use Rattle.wasmi_core.specs.Effects.{AddsEntry, reply_of}
-use Rattle.wasmi_core.specs.Validity.{IsValidSegment}
+use Rattle.wasmi_core.specs.State.{IsValidSegment}
 use Rattle.wasmi_core.specs.ValueEffects.{CreatesGlobal, CreatesSegment, DropsItemsAt, IsSegmentOf, SetsGlobalAt}
 use Rattle.wasmi_core.specs.declared.calls.Reply.{Reply}
 use Rattle.wasmi_store.specs.Segment.{SegmentValue, most_items, IsReading}

@@ -12,32 +12,25 @@ use Rattle.wasmi_core.proofs.EffectLemmas.{both_live, on_live}
 use Rattle.wasmi_core.proofs.StepsLemmas.{change_facts, source_writes}
 use Rattle.wasmi_core.proofs.TableEffectsLemmas.{IsWrite}
 use Rattle.wasmi_core.specs.MemoryEffects.{bytes_appended}
-use Rattle.wasmi_core.specs.Account.{PaysCharge}
+use Rattle.wasmi_core.specs.Account.{PaysCharge, IsBounded, amount_set, amounts_set, bytes_written, charges_for_writing, has_written, is_accepted, writing_turns}
 use Rattle.wasmi_core.specs.Effects.{ActsAt, OnLive, reply_of}
-use Rattle.wasmi_core.specs.Runs.{Run}
-use Rattle.wasmi_core.specs.State.{State, live_at}
-use Rattle.wasmi_core.specs.Steps.{Changed, Effect, FuelSet, MemoryGrown, RangeWritten, TableGrown, HasEffect, effect_of, is_charged}
+use Rattle.wasmi_core.specs.Steps.{Run, Changed, Effect, FuelSet, MemoryGrown, RangeWritten, TableGrown, HasEffect, effect_of, is_charged}
+use Rattle.wasmi_core.specs.State.{State, live_at, Turn, World}
 use Rattle.wasmi_core.specs.TableEffects.{MeteredTables, WritesRangeAt, WritesTableAt, element_bytes, write_of}
-use Rattle.wasmi_store.specs.Growth.{metered}
-use Rattle.wasmi_core.specs.World.{Turn, World}
-use Rattle.wasmi_core.specs.Writing.{IsBounded, amount_set, amounts_set, bytes_written, charges_for_writing, has_written, is_accepted, writing_turns}
+use Rattle.wasmi_store.specs.Growth.{metered, Grows, Growth}
 use Rattle.wasmi_core.specs.declared.calls.Call.{Call}
 use Rattle.wasmi_core.specs.declared.calls.Call.TheVariants.{SetFuel}
 use Rattle.wasmi_core.specs.declared.calls.Reply.{Reply}
 use Rattle.wasmi_core.specs.declared.slots.Slot.{Slot}
 use Rattle.wasmi_meter.specs.Attempt.{Denied, Failed, AttemptOutcome, MayEnd, Met, MeteredValue, Unasked, optional_due, answer_of, outcome_charge}
-use Rattle.wasmi_meter.specs.Costs.{copy_cost, cut_product}
+use Rattle.wasmi_meter.specs.Meter.{copy_cost, cut_product, Meter, due, meter_after, meter_set}
 use Rattle.wasmi_meter.specs.Limiter.{Rules}
-use Rattle.wasmi_meter.specs.Meter.{Meter, due, meter_after, meter_set}
 use Rattle.wasmi_meter.specs.declared.error.MemoryError.{MemoryError}
 use Rattle.wasmi_meter.specs.declared.error.TableError.{TableError}
 use Rattle.wasmi_meter.specs.declared.fuel.CustomFuelCosts.{CustomFuelCosts}
 use Rattle.wasmi_store.proofs.GrowthLemmas.{on_test}
-use Rattle.wasmi_store.specs.Growth.{Grows, Growth}
-use Rattle.wasmi_store.specs.Memory.{GrowsMemoryCharging, MemoryValue, pages_of}
-use Rattle.wasmi_store.specs.MemoryType.{greatest_pages, in_bounds, page_bytes}
-use Rattle.wasmi_store.specs.Table.{EndsBy, GrowsTableCharging, TableValue, TableWrite, WritesTableCharging, write_due, element_price, size_of}
-use Rattle.wasmi_store.specs.TableType.{same_type}
+use Rattle.wasmi_store.specs.Memory.{GrowsMemoryCharging, MemoryValue, pages_of, greatest_pages, in_bounds, page_bytes}
+use Rattle.wasmi_store.specs.Table.{EndsBy, GrowsTableCharging, TableValue, TableWrite, WritesTableCharging, write_due, element_price, size_of, same_type}
 use Rattle.wasmi_typed.specs.declared.typed_ref.TypedRawRef.{TypedRawRef}
 use Rattle.wasmi_store.specs.Memory as memory
 use Rattle.wasmi_core.specs.declared.calls.Reply.TheVariants as replied

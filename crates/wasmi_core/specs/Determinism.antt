@@ -1,12 +1,20 @@
--- Deterministic limiters, and runs in which nothing says out of memory.
-use Rattle.std.specs.Prelude.{◌≡◌, List, [], ◌∷◌, Ok, Option, Some, None}
-use Rattle.wasmi_meter.specs.declared.error.MemoryError.TheVariants as memory
-use Rattle.wasmi_meter.specs.declared.error.TableError.TheVariants as table
-use Rattle.wasmi_meter.specs.Limiter.{Question, Answer, Failure, MemoryFailure, TableFailure, NoticeAnswer, Rules}
-use Rattle.wasmi_store.specs.declared.table.element.SegmentError.TheVariants as segment
+-- Limiters in runs: deterministic ones, permissions, kinds, and runs in which nothing says out of memory.
+use Rattle.std.specs.Prelude.{◌≡◌, List, [], ◌∷◌, Ok, Option, Some, None, true}
+use Rattle.wasmi_meter.specs.Limiter.{Question, Answer, Failure, MemoryFailure, TableFailure, NoticeAnswer, Rules, optional_rules}
 use Rattle.wasmi_core.specs.declared.calls.Reply.{Reply}
 use Rattle.wasmi_core.specs.declared.calls.Reply.TheVariants.{Memory, Table, Segment, NoRoom}
-use Rattle.wasmi_core.specs.World.{Turn}
+use Rattle.wasmi_core.specs.State.{Turn, State, World, world}
+use Rattle.wasmi_meter.specs.declared.any_limiter.AnyLimiter.{AnyLimiter}
+use Rattle.wasmi_meter.specs.declared.quota.Quota.{Quota}
+use Rattle.wasmi_meter.specs.AnswerList.{AnswersAhead, answer_list_rules}
+use Rattle.wasmi_meter.specs.AnyLimiter.{any_limiter_rules}
+use Rattle.wasmi_meter.specs.Capped.{quota_rules}
+use Rattle.wasmi_core.specs.Steps.{Run, IsRunOf, RepliesWith}
+use Rattle.wasmi_core.specs.declared.calls.Call.{Call}
+use Rattle.wasmi_meter.specs.declared.error.MemoryError.TheVariants as memory
+use Rattle.wasmi_meter.specs.declared.error.TableError.TheVariants as table
+use Rattle.wasmi_store.specs.declared.table.element.SegmentError.TheVariants as segment
+use Rattle.wasmi_meter.specs.declared.any_limiter.AnyLimiter.TheVariants as limiter
 
 -- each question and each notice has one answer, and leaves one state
 pub record IsDeterministic {S : Type 0} (rules : Rules S) : Type 0 where
@@ -61,3 +69,50 @@ IsNotOutOfMemory reply = Unit {0}
 abbrev pub AreNotOutOfMemory : List Turn → Type 0
 AreNotOutOfMemory [] = Unit {0}
 AreNotOutOfMemory (turn ∷ turns) = IsNotOutOfMemory turn.reply × AreNotOutOfMemory turns
+
+-- the rules by which each question is permitted
+abbrev pub permitting : {S : Type 0} → Rules S → Rules S
+permitting rules =
+    record {
+      asked = λ l question answer l'. (answer ≡ Ok true)
+          × rules.asked l question answer l';
+      noticed = rules.noticed;
+    }
+
+-- the reply reports no denial, and is no error by which a denial is reported
+abbrev pub TellsNoDenial : Reply → Type 0
+TellsNoDenial (Memory memory.OutOfBoundsGrowth) = ⊥
+TellsNoDenial (Memory memory.ResourceLimiterDeniedAllocation) = ⊥
+TellsNoDenial (Table table.GrowOutOfBounds) = ⊥
+TellsNoDenial (Table table.ResourceLimiterDeniedAllocation) = ⊥
+TellsNoDenial reply = Unit {0}
+
+module _ (Relates : (L : Type 0) → Rules L → World L → World L → Type 0) where
+  -- Two machines, each with a limiter of one kind, are related by the rules of that kind: without a limiter, under its
+  -- quota or under its list of answers.
+  abbrev pub RelatesByKind : State → AnyLimiter → State → AnyLimiter → Type 0
+  RelatesByKind s limiter.Unlimited s' l' = (l' ≡ limiter.Unlimited)
+      × Relates (Option Quota) (optional_rules quota_rules) (world s None) (world s' None)
+  RelatesByKind s (limiter.Quota quota) s' l' = (quota' : Quota) × (l' ≡ limiter.Quota quota')
+      × Relates (Option Quota) (optional_rules quota_rules) (world s (Some quota)) (world s' (Some quota'))
+  RelatesByKind s (limiter.Answers list) s' l' = (list' : AnswersAhead) × (l' ≡ limiter.Answers list')
+      × Relates (Option AnswersAhead) (optional_rules answer_list_rules) (world s (Some list)) (world s' (Some list'))
+
+  -- what the rules of such limiters relate, the rules of its kind do, and the kind stays
+  abbrev pub KindStays : Type 0
+  KindStays = (s : State) (l : AnyLimiter) (s' : State) (l' : AnyLimiter)
+      → Relates (Option AnyLimiter) (optional_rules any_limiter_rules) (world s (Some l)) (world s' (Some l'))
+      → RelatesByKind s l s' l'
+
+-- a run under such a limiter is one by the rules of its kind
+abbrev pub RunsKeepKind : Type 0
+RunsKeepKind = (turns : List Turn) → KindStays (λ L rules w w'. Run rules w turns w')
+
+-- a run of calls with these replies under such a limiter is one by the rules of its kind
+abbrev pub RunsOfCallsKeepKind : Type 0
+RunsOfCallsKeepKind = (calls : List Call) (replies : List Reply)
+    → KindStays (λ L rules w w'. IsRunOf rules calls w replies w')
+
+-- a reply to a call under such a limiter is one by the rules of its kind
+abbrev pub RepliesKeepKind : Type 0
+RepliesKeepKind = (call : Call) (reply : Reply) → KindStays (λ L rules w w'. RepliesWith rules call w reply w')

@@ -7,8 +7,7 @@ use Rattle.wasmi_core.specs.declared.calls.Reply.{Reply}
 use Rattle.wasmi_core.specs.declared.calls.Reply.TheVariants.{Done, Made, NoSuch, NoRoom}
 use Rattle.wasmi_core.specs.declared.slots.Slot.{Slot}
 use Rattle.wasmi_core.specs.declared.slots.Slot.TheVariants.{Live, Gone}
-use Rattle.wasmi_core.specs.State.{State, live_at}
-use Rattle.wasmi_core.specs.World.{World, world, Turn, IsFree}
+use Rattle.wasmi_core.specs.State.{State, live_at, World, world, Turn, IsFree}
 
 -- the reply to a call that returns a value or is refused
 abbrev pub reply_of : {T E : Type 0} → (T → Reply) → (E → Reply) → Result T E → Reply

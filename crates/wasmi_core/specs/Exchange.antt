@@ -6,23 +6,19 @@ use Rattle.wasmi_meter.specs.declared.limiter.Kind.TheVariants.{Bytes, Elements}
 use Rattle.wasmi_meter.specs.declared.error.MemoryError.TheVariants as memory_error
 use Rattle.wasmi_meter.specs.declared.error.TableError.TheVariants as table_error
 use Rattle.wasmi_meter.specs.Limiter.{Question, Answer, IsDenial, Failure, MemoryFailure, TableFailure, kind_of, NoticeAnswer, Rules}
-use Rattle.wasmi_meter.specs.Costs.{copy_cost}
-use Rattle.wasmi_meter.specs.Meter.{Meter, due}
+use Rattle.wasmi_meter.specs.Meter.{copy_cost, Meter, due}
 use Rattle.wasmi_meter.specs.Attempt.{Request, optional_due}
 use Rattle.wasmi_store.specs.Buffer.{Owned, Lent}
 use Rattle.wasmi_typed.specs.declared.typed_ref.TypedRawRef.{TypedRawRef}
 use Rattle.wasmi_store.specs.Memory as memory
 use Rattle.wasmi_store.specs.Table as table
-use Rattle.wasmi_store.specs.Table.{TableValue}
-use Rattle.wasmi_store.specs.TableType.{same_type}
+use Rattle.wasmi_store.specs.Table.{TableValue, same_type}
 use Rattle.wasmi_core.specs.declared.calls.Call.{Call}
 use Rattle.wasmi_core.specs.declared.calls.Call.TheVariants.{NewMemory, NewLentMemory, GrowMemory, NewTable, GrowTable, InitTable, CopyTable, FillTable}
 use Rattle.wasmi_core.specs.declared.calls.Reply.{Reply}
 use Rattle.wasmi_core.specs.declared.calls.Reply.TheVariants.{Done, Memory, Table, NoRoom}
-use Rattle.wasmi_core.specs.State.{State, live_at}
-use Rattle.wasmi_core.specs.World.{World, Turn, IsRefusal}
+use Rattle.wasmi_core.specs.State.{State, live_at, World, Turn, IsRefusal, sizes}
 use Rattle.wasmi_core.specs.Account.{ChangesMeter}
-use Rattle.wasmi_core.specs.Totals.{sizes}
 
 -- nothing; a question and its denial; a permission alone; or a permission and the notice that what it permitted failed,
 -- with the answer to it

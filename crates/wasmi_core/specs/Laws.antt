@@ -5,27 +5,20 @@ use Rattle.wasmi_meter.specs.Limiter.{Question, Rules, Answer, IsDenial, Failure
 use Rattle.wasmi_meter.specs.Attempt.{MeteredValue, optional_due, covers}
 use Rattle.wasmi_meter.specs.declared.error.MemoryError.{MemoryError}
 use Rattle.wasmi_meter.specs.declared.quota.Quota.{Quota}
-use Rattle.wasmi_meter.specs.Quota.{SameCaps, IsWithinCaps, quota_rules}
+use Rattle.wasmi_meter.specs.Capped.{SameCaps, IsWithinCaps, quota_rules}
 use Rattle.wasmi_store.specs.Buffer.{Lent, fits_room}
-use Rattle.wasmi_store.specs.MemoryType.{MemoryTypeValue, page_bytes, minimum_bytes, in_bounds}
-use Rattle.wasmi_store.specs.Memory.{MemoryValue, pages_of, growth_of, GrowsMemory}
+use Rattle.wasmi_store.specs.Memory.{MemoryTypeValue, page_bytes, minimum_bytes, in_bounds, MemoryValue, pages_of, growth_of, GrowsMemory}
 use Rattle.wasmi_core.specs.declared.calls.Call.{Call}
 use Rattle.wasmi_core.specs.declared.calls.Call.TheVariants.{NewMemory, NewLentMemory}
 use Rattle.wasmi_core.specs.declared.calls.Reply.{Reply}
-use Rattle.wasmi_core.specs.State.{State}
-use Rattle.wasmi_core.specs.World.{World, Turn, world}
-pub use Rattle.wasmi_core.specs.World.{IsRefusal}
-use Rattle.wasmi_core.specs.Steps.{Step}
-use Rattle.wasmi_core.specs.Runs.{Sequence, Run, IsRunOf}
-use Rattle.wasmi_core.specs.Account.{opened, account_after, Balances, PaysCharge, SetsNoFuel}
+use Rattle.wasmi_core.specs.State.{State, World, Turn, world, IsValid, IsValidCall, HoldsTotals}
+pub use Rattle.wasmi_core.specs.State.{IsRefusal}
+use Rattle.wasmi_core.specs.Steps.{Step, Sequence, Run, IsRunOf}
+use Rattle.wasmi_core.specs.Account.{opened, account_after, Balances, PaysCharge, SetsNoFuel, IsBounded, IsSpent}
 use Rattle.wasmi_core.specs.Exchange.{Notice, Passes, At, place_of, question_of, failed_reply, growth_due, Exchanges}
 use Rattle.wasmi_core.specs.MemoryEffects.{spare_after}
-use Rattle.wasmi_core.specs.Determinism.{IsDeterministic, AcceptsNotices, IsOtherFailure, never_out_of_memory, IsNotOutOfMemory, AreNotOutOfMemory}
+use Rattle.wasmi_core.specs.Determinism.{IsDeterministic, AcceptsNotices, IsOtherFailure, never_out_of_memory, IsNotOutOfMemory, AreNotOutOfMemory, permitting, TellsNoDenial}
 use Rattle.wasmi_core.specs.LentMemory.{owned_world, unlent_world, RunInRegions}
-use Rattle.wasmi_core.specs.Writing.{IsBounded, IsSpent}
-use Rattle.wasmi_core.specs.Permission.{permitting, TellsNoDenial}
-use Rattle.wasmi_core.specs.Validity.{IsValid, IsValidCall}
-use Rattle.wasmi_core.specs.Totals.{HoldsTotals}
 
 -- all but the meter and the spare region is the same
 pub record SameContents (s s' : State) : Type 0 where

@@ -2,14 +2,12 @@
 use Rattle.std.specs.Prelude.{◌≡◌, ◌⊎◌, ◌+◌, ◌*◌, ℕ, true, false, List, [], ◌∷◌, map, None}
 use Rattle.wasmi_meter.specs.Limiter.{Rules}
 use Rattle.wasmi_store.specs.Buffer.{Owned, fits_room}
-use Rattle.wasmi_store.specs.MemoryType.{page_bytes, in_bounds}
-use Rattle.wasmi_store.specs.Memory.{MemoryValue, pages_of}
+use Rattle.wasmi_store.specs.Memory.{page_bytes, in_bounds, MemoryValue, pages_of}
 use Rattle.wasmi_core.specs.declared.calls.Call.{Call}
 use Rattle.wasmi_core.specs.declared.calls.Call.TheVariants.{NewLentMemory, GrowMemory}
 use Rattle.wasmi_core.specs.declared.slots.Slot.{Slot}
 use Rattle.wasmi_core.specs.declared.slots.Slot.TheVariants.{Live, Gone}
-use Rattle.wasmi_core.specs.State.{State, live_at}
-use Rattle.wasmi_core.specs.World.{World, Turn}
+use Rattle.wasmi_core.specs.State.{State, live_at, World, Turn}
 use Rattle.wasmi_core.specs.Effects.{OnLive}
 use Rattle.wasmi_core.specs.Steps.{Step}
 

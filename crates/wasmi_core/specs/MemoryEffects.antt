@@ -8,13 +8,12 @@ use Rattle.wasmi_meter.specs.declared.error.MemoryError.{MemoryError}
 use Rattle.wasmi_meter.specs.declared.error.MemoryError.TheVariants.{OutOfBoundsAccess}
 use Rattle.wasmi_meter.specs.Limiter.{Rules}
 use Rattle.wasmi_store.specs.Buffer.{Lent}
-use Rattle.wasmi_store.specs.MemoryType.{MemoryTypeValue, page_bytes}
-use Rattle.wasmi_store.specs.Memory.{MemoryValue, MakesMemory, WritesMemory}
+use Rattle.wasmi_store.specs.Memory.{MemoryTypeValue, page_bytes, MemoryValue, MakesMemory, WritesMemory}
 use Rattle.wasmi_core.specs.declared.calls.Reply.{Reply}
 use Rattle.wasmi_core.specs.declared.calls.Reply.TheVariants.{Done, Value, Number, Bytes, Memory, Trap, NoSuch, NoRegion, NoRoom}
 use Rattle.wasmi_core.specs.declared.slots.Slot.{Slot}
 use Rattle.wasmi_ops.specs.declared.scalar.access.LoadOp.{LoadOp}
-use Rattle.wasmi_ops.specs.ScalarAccessOps.{loaded_raw}
+use Rattle.wasmi_ops.specs.ScalarOps.{loaded_raw}
 use Rattle.wasmi_core.specs.State.{MemoryPart, live_at}
 use Rattle.wasmi_core.specs.Effects.{reply_of, OnLive, Creates, ChangesAt}
 

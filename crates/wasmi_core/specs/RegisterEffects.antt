@@ -7,11 +7,11 @@ use Rattle.wasmi_raw.specs.RawVal.{vector_in, raw_of_vector}
 use Rattle.wasmi_store.specs.Memory.{MemoryValue}
 use Rattle.wasmi_ops.specs.declared.vector.access.VectorLoadOp.{VectorLoadOp}
 use Rattle.wasmi_ops.specs.declared.vector.access.LoadLaneOp.{LoadLaneOp}
-use Rattle.wasmi_ops.specs.VectorAccessOps.{loaded_vector, loaded_lane}
+use Rattle.wasmi_ops.specs.VectorOps.{loaded_vector, loaded_lane}
 use Rattle.wasmi_core.specs.declared.calls.Reply.{Reply}
 use Rattle.wasmi_core.specs.declared.calls.Reply.TheVariants.{Done, Value, Trap, NoSuch}
 use Rattle.wasmi_core.specs.declared.slots.Slot.{Slot}
-use Rattle.wasmi_ops.specs.RawResults.{as_raw}
+use Rattle.wasmi_ops.specs.ScalarOps.{as_raw}
 use Rattle.wasmi_core.specs.MemoryEffects.{StoresMemoryAt}
 
 -- the vector in a register, if there is one

@@ -1,7 +1,7 @@
--- One step of the machine: what each call does, and what that changes in a world.
-use Rattle.std.specs.Prelude.{◌≡◌, ◌+◌, ℕ, Bool, true, false, List, Option, Some, Result, Ok, slice_get}
+-- One step of the machine: what each call does, and what that changes in a world; and whole runs.
+use Rattle.std.specs.Prelude.{◌≡◌, ◌+◌, ℕ, Bool, true, false, List, Option, Some, Result, Ok, slice_get, [], ◌∷◌, map}
 use Rattle.std.specs.Option.{option_map, option_and_then}
-use Rattle.wasmi_types.specs.Bytes.{le_bytes}
+use Rattle.wasmi_types.specs.Numbers.{le_bytes}
 use Rattle.wasmi_types.specs.declared.trap.TrapCode.{TrapCode}
 use Rattle.wasmi_types.specs.declared.value.RefType.{RefType}
 use Rattle.wasmi_raw.specs.declared.raw.RawVal.{RawVal}
@@ -9,34 +9,23 @@ use Rattle.wasmi_typed.specs.declared.typed.TypedRawVal.{TypedRawVal}
 use Rattle.wasmi_typed.specs.declared.typed_ref.TypedRawRef.{TypedRawRef}
 use Rattle.wasmi_typed.specs.Global.{GlobalInstance}
 use Rattle.wasmi_lanewise.specs.VectorTable.{shuffle}
-use Rattle.wasmi_ops.specs.VectorAccessOps.{stored_lane}
-use Rattle.wasmi_ops.specs.BinaryOps.{binary_vector}
+use Rattle.wasmi_ops.specs.VectorOps.{stored_lane, binary_vector, made_vector, shifted_vector, ternary_vector, tested_raw, unary_vector}
 use Rattle.wasmi_ops.specs.LaneOps.{extracted_raw, replaced_vector}
-use Rattle.wasmi_ops.specs.MakeOps.{made_vector}
-use Rattle.wasmi_ops.specs.ShiftOps.{shifted_vector}
-use Rattle.wasmi_ops.specs.TernaryOps.{ternary_vector}
-use Rattle.wasmi_ops.specs.TestOps.{tested_raw}
-use Rattle.wasmi_ops.specs.UnaryOps.{unary_vector}
 use Rattle.wasmi_meter.specs.Limiter.{Rules}
 use Rattle.wasmi_store.specs.Buffer.{Owned}
-use Rattle.wasmi_store.specs.MemoryType.{MemoryTypeValue}
-use Rattle.wasmi_store.specs.Memory.{MakesMemory, GrowsMemoryCharging}
-use Rattle.wasmi_store.specs.TableType.{TableTypeValue}
-use Rattle.wasmi_store.specs.Table.{size_of, MakesTable, GrowsTableCharging}
+use Rattle.wasmi_store.specs.Memory.{MemoryTypeValue, MakesMemory, GrowsMemoryCharging}
+use Rattle.wasmi_store.specs.Table.{TableTypeValue, size_of, MakesTable, GrowsTableCharging}
 use Rattle.wasmi_core.specs.declared.calls.Call.{Call}
-use Rattle.wasmi_core.specs.declared.calls.Call.TheVariants as call
 use Rattle.wasmi_core.specs.declared.calls.Reply.{Reply}
-use Rattle.wasmi_core.specs.declared.calls.Reply.TheVariants as reply
-use Rattle.wasmi_core.specs.World.{World, Turn, world}
-use Rattle.wasmi_core.specs.State.{State, live_at, with_memories, memory_part, with_memory_part, with_tables, with_segments, with_globals, with_registers}
+use Rattle.wasmi_core.specs.State.{World, Turn, world, State, live_at, with_memories, memory_part, with_memory_part, with_tables, with_segments, with_globals, with_registers, byte_count}
 use Rattle.wasmi_core.specs.Effects.{reply_of, Creates, DropsAt, ActsAt, ChangesPart, OnlyReplies, Changes, Asks, ActsMetered, ActsMeteredUnasked}
-use Rattle.wasmi_core.specs.Totals.{byte_count}
-use Rattle.wasmi_ops.specs.ScalarAccessOps.{stored_bytes}
-use Rattle.wasmi_core.specs.FuelEffects.{SetsFuel, get_fuel_reply}
+use Rattle.wasmi_ops.specs.ScalarOps.{stored_bytes}
+use Rattle.wasmi_core.specs.ValueEffects.{SetsFuel, get_fuel_reply, CreatesSegment, DropsItemsAt, CreatesGlobal, SetsGlobalAt, global_reply}
 use Rattle.wasmi_core.specs.MemoryEffects.{bytes_appended, CreatesLent, ReadsMemoryAt, WritesMemoryAt, load_reply}
 use Rattle.wasmi_core.specs.TableEffects.{Source, OfReference, OfTable, OfSegment, element_reply, SetsElementAt, write_of, WritesRangeAt, element_bytes}
 use Rattle.wasmi_core.specs.RegisterEffects.{SetsRegister, StoresVectorAt, given_vector, of_one, of_two, of_three, vector_loaded, lane_loaded, raw_reply, vector_at}
-use Rattle.wasmi_core.specs.ValueEffects.{CreatesSegment, DropsItemsAt, CreatesGlobal, SetsGlobalAt, global_reply}
+use Rattle.wasmi_core.specs.declared.calls.Call.TheVariants as call
+use Rattle.wasmi_core.specs.declared.calls.Reply.TheVariants as reply
 
 -- what a call is about
 pub data Subject : Type 0 where
@@ -231,3 +220,22 @@ RepliesWithoutLimiter {S} rules call s reply s' =
     (limiter : S)
     → Step rules (world s limiter) (record { call = call; reply = reply; charge = 0; written = 0 })
     (world s' limiter)
+
+-- turns one after another from one world to another, each of which relates the worlds before and after it
+abbrev pub Sequence : {S : Type 0} → (World S → Turn → World S → Type 0) → World S → List Turn → World S → Type 0
+Sequence Relates w [] w' = w' ≡ w
+Sequence Relates w (turn ∷ turns) w' = (v : World _) × Relates w turn v × Sequence Relates v turns w'
+
+-- a run: each turn is a step
+abbrev pub Run : {S : Type 0} → Rules S → World S → List Turn → World S → Type 0
+Run rules = Sequence (Step rules)
+
+-- turns of these calls with these replies
+pub record AreTurns (calls : List Call) (replies : List Reply) (turns : List Turn) : Type 0 where
+  pub calls_of : map Turn.call turns ≡ calls
+  pub replies_of : map Turn.reply turns ≡ replies
+
+-- the replies are those of a run of the calls, from one world to another
+abbrev pub IsRunOf : {S : Type 0} → Rules S → List Call → World S → List Reply → World S → Type 0
+IsRunOf rules calls w replies w' =
+    (turns : List Turn) × (map Turn.call turns ≡ calls) × (map Turn.reply turns ≡ replies) × Run rules w turns w'

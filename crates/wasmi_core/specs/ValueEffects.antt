@@ -1,5 +1,5 @@
--- The calls on element segments and globals: what each does to the list of them.
-use Rattle.std.specs.Prelude.{◌≡◌, ◌⊎◌, ◌≤◌, ◌<◌, ◌++◌, ℕ, Option, Result, Ok, Err, List, [], ◌∷◌, length, slice_get}
+-- The calls on element segments, globals and the meter.
+use Rattle.std.specs.Prelude.{◌≡◌, ◌⊎◌, ◌≤◌, ◌<◌, ◌++◌, ℕ, Option, Result, Ok, Err, List, [], ◌∷◌, length, slice_get, if◌then◌else◌, is_some}
 use Rattle.std.specs.Option.{option_map_or}
 use Rattle.wasmi_types.specs.declared.value.RefType.{RefType}
 use Rattle.wasmi_typed.specs.declared.typed.TypedRawVal.{TypedRawVal}
@@ -9,8 +9,11 @@ use Rattle.wasmi_store.specs.declared.table.element.SegmentError.{SegmentError}
 use Rattle.wasmi_store.specs.declared.table.element.SegmentError.TheVariants.{TooManyItems, OutOfSystemMemory}
 use Rattle.wasmi_store.specs.Segment.{SegmentValue, most_items, dropped}
 use Rattle.wasmi_core.specs.declared.calls.Reply.{Reply}
-use Rattle.wasmi_core.specs.declared.calls.Reply.TheVariants.{Done, Made, Value, Global, Segment, NoSuch, NoRoom}
+use Rattle.wasmi_core.specs.declared.calls.Reply.TheVariants.{Done, Made, Value, Global, Segment, NoSuch, NoRoom, Number, Fuel}
 use Rattle.wasmi_core.specs.Effects.{reply_of, ChangesItem, AddsEntry}
+use Rattle.wasmi_meter.specs.declared.fuel.FuelError.TheVariants.{FuelMeteringDisabled}
+use Rattle.wasmi_meter.specs.Meter.{Meter, meter_set}
+use Rattle.wasmi_core.specs.State.{State}
 
 -- the segment of these items, unless there are too many, or memory is refused for some
 abbrev pub IsSegmentOf : RefType → List ℕ → Result SegmentValue SegmentError → Type 0
@@ -47,3 +50,13 @@ global_reply global = option_map_or (λ x. Value x.value) global NoSuch
 -- the reply to a call for the value of the global of an index
 abbrev pub GetsGlobalAt : ℕ → List GlobalInstance → Reply → Type 0
 GetsGlobalAt k globals reply = reply ≡ global_reply (slice_get globals k)
+
+-- the fuel that is left is set, where the meter is on
+abbrev pub SetsFuel : ℕ → State → Reply → State → Type 0
+SetsFuel fuel s reply s' =
+    (reply ≡ (if is_some s.meter.left then Done else Fuel FuelMeteringDisabled))
+    × (s' ≡ record s { meter = meter_set s.meter fuel })
+
+-- the fuel that is left is asked for
+abbrev pub get_fuel_reply : Meter → Reply
+get_fuel_reply m = option_map_or (λ left. Number left) m.left (Fuel FuelMeteringDisabled)

@@ -279,7 +279,7 @@ impl Debug for Call {
 
 impl Call {
     ghost use Rattle.wasmi_core.specs.Account.{SetsNoFuel};
-    ghost use Rattle.wasmi_core.specs.Validity.{IsValidCall};
+    ghost use Rattle.wasmi_core.specs.State.{IsValidCall};
 
     // The name of the variant.
     fn name(&self) -> &'static str {

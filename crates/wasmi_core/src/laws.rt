@@ -4,10 +4,9 @@
 //! Own: upstream states no laws.
 ghost use Rattle.wasmi_meter.specs.Limiter.{optional_rules, unlimited_rules};
 ghost use Rattle.wasmi_meter.specs.declared.limiter.NoLimits.{NoLimits};
-ghost use Rattle.wasmi_meter.specs.Quota.{quota_rules};
-ghost use Rattle.wasmi_core.specs.Determinism.{IsDeterministic, AcceptsNotices};
-ghost use Rattle.wasmi_core.specs.LimiterKinds.{RepliesKeepKind, RunsKeepKind, RunsOfCallsKeepKind};
-ghost use Rattle.wasmi_core.specs.Validity.{IsValid};
+ghost use Rattle.wasmi_meter.specs.Capped.{quota_rules};
+ghost use Rattle.wasmi_core.specs.Determinism.{IsDeterministic, AcceptsNotices, RepliesKeepKind, RunsKeepKind, RunsOfCallsKeepKind};
+ghost use Rattle.wasmi_core.specs.State.{IsValid};
 ghost use Rattle.wasmi_core.specs.Laws.{RunsJoin, RunsOfCallsJoin, RefusalsKeepContents, RefusalsInRunsKeepContents, RefusedRunsKeepContents, GrowsAsPermitted, RunsGrowAsPermitted, RepliesPermit, RunsKeepValidity, ChargesAreSpent, QuotasStayWithin, FuelBalances, FuelBoundsWriting, HoldsTotalsAlways, LentRunsAreOwned, LentCreationsAreOwned, LentGrowthsSucceed, RunsAreOne, RepliesTell, RepliesAreOne};
 
 use crate::machine::Machine;
@@ -85,13 +84,13 @@ pub fn runs_keep_validity<L: ResourceLimiter>()
 
 /// If no reply of a run reports a denial, the limiter permitted each question. A growth out of
 /// bounds counts as a denial here, since both have the same error.
-#[tactic(auto, using(crate::proofs::PermissionLemmas::permitted_run))]
+#[tactic(auto, using(crate::proofs::RevealingLemmas::permitted_run))]
 pub fn replies_permit<L: ResourceLimiter>()
     ensures { RepliesPermit (optional_rules L.rules) }
 {}
 
 /// A quota that holds at most its caps before a run does so after it, and has the same caps.
-#[tactic(auto, using(crate::proofs::LimiterLemmas::quota_stays_within))]
+#[tactic(auto, using(crate::proofs::HoldingLemmas::quota_stays_within))]
 pub fn quotas_stay_within()
     ensures { QuotasStayWithin }
 {}

@@ -26,8 +26,7 @@ pub struct Machine<'r> {
 }
 
 impl<'r> Model for Machine<'r> {
-    ghost use Rattle.wasmi_core.specs.State.{State};
-    ghost use Rattle.wasmi_core.specs.Validity.{IsValid};
+    ghost use Rattle.wasmi_core.specs.State.{State, IsValid};
 
     ghost Value = { State };
 
@@ -38,12 +37,10 @@ impl<'r> Model for Machine<'r> {
 
 impl<'r> Machine<'r> {
     ghost use Rattle.wasmi_core.specs.MemoryEffects.{StoresMemoryAt};
-    ghost use Rattle.wasmi_core.specs.State.{new_state, with_memories, with_spare, live_at};
-    ghost use Rattle.wasmi_core.specs.Validity.{IsValid};
-    ghost use Rattle.wasmi_core.specs.Totals.{total};
+    ghost use Rattle.wasmi_core.specs.State.{new_state, with_memories, with_spare, live_at, IsValid, total};
     ghost use Rattle.wasmi_meter.specs.declared.limiter.Kind.TheVariants.{Bytes, Elements};
     ghost use Rattle.wasmi_meter.specs.Meter.{ConsumesFuel, amount_left, meter_after};
-    ghost use Rattle.wasmi_ops.specs.ScalarAccessOps.{stored_bytes};
+    ghost use Rattle.wasmi_ops.specs.ScalarOps.{stored_bytes};
 
     /// A machine with this meter, on which nothing was made yet. It takes no memory.
     pub fn new(alloc: Allocator, fuel: Fuel) -> Machine<'r>

@@ -1,13 +1,12 @@
 //! The memories of a machine, by their indices.
 ghost use Rattle.std.specs.Prelude.{◌≡◌, ◌+◌, Some};
-ghost use Rattle.wasmi_types.specs.Bytes.{le_bytes};
-ghost use Rattle.wasmi_meter.specs.Limiter.{optional_rules};
-ghost use Rattle.wasmi_meter.specs.LimiterRef.{lent_limiter, KeepsLoan};
+ghost use Rattle.wasmi_types.specs.Numbers.{le_bytes};
+ghost use Rattle.wasmi_meter.specs.Limiter.{optional_rules, lent_limiter, KeepsLoan};
 ghost use Rattle.wasmi_store.specs.Buffer.{Owned};
 ghost use Rattle.wasmi_store.specs.Growth.{metered_value, WithCharge};
 ghost use Rattle.wasmi_store.specs.Memory.{MakesMemory, GrowsMemoryCharging};
-ghost use Rattle.wasmi_ops.specs.VectorAccessOps.{stored_lane};
-ghost use Rattle.wasmi_ops.specs.ScalarAccessOps.{stored_bytes};
+ghost use Rattle.wasmi_ops.specs.VectorOps.{stored_lane};
+ghost use Rattle.wasmi_ops.specs.ScalarOps.{stored_bytes};
 ghost use Rattle.wasmi_core.specs.Effects.{reply_of, ActsAt, Creates};
 ghost use Rattle.std.specs.Option.{option_copied_mut, option_map};
 ghost use Rattle.wasmi_core.specs.RegisterEffects.{StoresVectorAt};

@@ -3,14 +3,9 @@ ghost use Rattle.std.specs.Prelude.{◌≡◌, ◌+◌, Some, Ok, slice_get, len
 ghost use Rattle.std.specs.Option.{option_copied, option_map, option_and_then};
 ghost use Rattle.wasmi_raw.specs.RawVal.{raw_of_vector};
 ghost use Rattle.wasmi_lanewise.specs.VectorTable.{shuffle};
-ghost use Rattle.wasmi_ops.specs.BinaryOps.{binary_vector};
+ghost use Rattle.wasmi_ops.specs.VectorOps.{binary_vector, made_vector, shifted_vector, ternary_vector, tested_raw, unary_vector};
 ghost use Rattle.wasmi_ops.specs.LaneOps.{extracted_raw, replaced_vector};
-ghost use Rattle.wasmi_ops.specs.MakeOps.{made_vector};
-ghost use Rattle.wasmi_ops.specs.ShiftOps.{shifted_vector};
-ghost use Rattle.wasmi_ops.specs.TernaryOps.{ternary_vector};
-ghost use Rattle.wasmi_ops.specs.TestOps.{tested_raw};
-ghost use Rattle.wasmi_ops.specs.UnaryOps.{unary_vector};
-ghost use Rattle.wasmi_ops.specs.RawResults.{as_raw};
+ghost use Rattle.wasmi_ops.specs.ScalarOps.{as_raw};
 ghost use Rattle.wasmi_core.specs.RegisterEffects.{SetsRegister, given_vector, of_one, of_two, of_three, raw_reply, vector_at, vector_loaded, lane_loaded};
 
 use crate::calls::Reply;

@@ -1,12 +1,8 @@
 //! One call, and runs of calls. They are our own: upstream leaves running to the interpreter.
 ghost use Rattle.std.specs.Prelude.{◌≡◌, Some, IfOk, OnErr};
-ghost use Rattle.wasmi_meter.specs.Limiter.{optional_rules};
-ghost use Rattle.wasmi_meter.specs.LimiterRef.{lent_limiter, KeepsLoan};
-ghost use Rattle.wasmi_core.specs.Validity.{IsValid};
-ghost use Rattle.wasmi_core.specs.World.{world};
-ghost use Rattle.wasmi_core.specs.Runs.{IsRunOf};
-ghost use Rattle.wasmi_core.specs.Steps.{RepliesWith};
-ghost use Rattle.wasmi_core.specs.Totals.{HoldsTotals};
+ghost use Rattle.wasmi_meter.specs.Limiter.{optional_rules, lent_limiter, KeepsLoan};
+ghost use Rattle.wasmi_core.specs.State.{IsValid, world, HoldsTotals};
+ghost use Rattle.wasmi_core.specs.Steps.{IsRunOf, RepliesWith};
 ghost use Rattle.wasmi_core.specs.declared.calls.Call.TheVariants.{GrowMemory};
 
 use crate::calls::{Call, Reply};

@@ -5,8 +5,7 @@ ghost use Rattle.std.specs.Option.{option_copied, option_copied_mut};
 ghost use Rattle.std.specs.Vec.{vec_capacity};
 ghost use Rattle.wasmi_store.specs.Table.{size_of};
 ghost use Rattle.wasmi_core.specs.Effects.{DropsAt};
-ghost use Rattle.wasmi_core.specs.State.{live_value, live_at, with_live};
-ghost use Rattle.wasmi_core.specs.Totals.{slot_count};
+ghost use Rattle.wasmi_core.specs.State.{live_value, live_at, with_live, slot_count};
 ghost use Rattle.wasmi_core.specs.declared.slots.Slot.TheVariants.{Live};
 
 use crate::calls::Reply;

@@ -1,8 +1,7 @@
 //! The store of a machine: what was made, the registers and the meter, and what each call does to
 //! them.
 ghost use Rattle.std.specs.Prelude.{◌≡◌};
-ghost use Rattle.wasmi_meter.specs.Limiter.{optional_rules};
-ghost use Rattle.wasmi_meter.specs.LimiterRef.{lent_limiter, KeepsLoan};
+ghost use Rattle.wasmi_meter.specs.Limiter.{optional_rules, lent_limiter, KeepsLoan};
 
 use crate::calls::{Call, Reply};
 use crate::registers::Registers;
@@ -48,9 +47,9 @@ impl<'r> Model for MachineStore<'r> {
 }
 
 impl<'r> MachineStore<'r> {
-    ghost use Rattle.wasmi_core.specs.FuelEffects.{SetsFuel, get_fuel_reply};
+    ghost use Rattle.wasmi_core.specs.ValueEffects.{SetsFuel, get_fuel_reply};
     ghost use Rattle.wasmi_core.specs.Steps.{RepliesWith, RepliesWithoutLimiter, subject_of, Memories, Tables, RegisterFile, VectorAccesses};
-    ghost use Rattle.wasmi_core.specs.World.{world};
+    ghost use Rattle.wasmi_core.specs.State.{world};
     ghost use Rattle.wasmi_core.specs.declared.calls.Call.TheVariants.{GrowMemory};
 
     fn set_fuel(&mut self, fuel: u64) -> Reply

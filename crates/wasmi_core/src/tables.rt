@@ -1,7 +1,6 @@
 //! The tables of a machine, by their indices.
 ghost use Rattle.std.specs.Prelude.{◌≡◌, ◌≢◌, ◌<◌, length, Some};
-ghost use Rattle.wasmi_meter.specs.Limiter.{optional_rules};
-ghost use Rattle.wasmi_meter.specs.LimiterRef.{lent_limiter, KeepsLoan};
+ghost use Rattle.wasmi_meter.specs.Limiter.{optional_rules, lent_limiter, KeepsLoan};
 ghost use Rattle.wasmi_store.specs.Growth.{metered_value, metered, WithCharge};
 ghost use Rattle.wasmi_store.specs.Segment.{segment_of};
 ghost use Rattle.wasmi_store.specs.Table.{MakesTable, GrowsTableCharging, filling_of, copy_of, initialization_of};

@@ -3,12 +3,10 @@ use Rattle.std.proofs.Common.{ℕ, ◌≡◌, ◌≤◌, Some, List, sym, subst,
 use Rattle.std.proofs.lemmas.Option.{same_Some}
 use Rattle.wasmi_meter.specs.declared.limiter.Kind.TheVariants.{Bytes, Elements}
 use Rattle.wasmi_meter.specs.Meter.{Meter, amount_left}
-use Rattle.wasmi_meter.specs.Quota.{holdings, IsWithinCaps, SameCaps}
+use Rattle.wasmi_meter.specs.Capped.{holdings, IsWithinCaps, SameCaps}
 use Rattle.wasmi_core.specs.declared.calls.Call.{Call}
 use Rattle.wasmi_core.specs.declared.calls.Reply.{Reply}
-use Rattle.wasmi_core.specs.State.{State, new_state}
-use Rattle.wasmi_core.specs.World.{world, World}
-use Rattle.wasmi_core.specs.Totals.{total, HoldsTotals}
+use Rattle.wasmi_core.specs.State.{State, new_state, world, World, total, HoldsTotals}
 use Rattle.wasmi_core.specs.Laws.{QuotasStayWithin, ChargesAreSpent}
 use Rattle.wasmi_example_callers.specs.Host.{RunsUnderQuota, at_most_rules, Accounts, IsBill}
 use Rattle.std.proofs.lemmas.Bool.{leb-true}
@@ -16,12 +14,11 @@ use Rattle.std.proofs.lemmas.List.{length-replicate}
 use Rattle.wasmi_meter.specs.declared.error.MemoryError.{MemoryError}
 use Rattle.wasmi_meter.specs.Attempt.{MeteredValue, Request, AttemptOutcome, Unasked, Denied, Met, Failed, Follows, value_after}
 use Rattle.wasmi_meter.specs.Limiter.{optional_rules, Rules}
-use Rattle.wasmi_store.specs.Memory.{MemoryValue, GrowsMemoryCharging, growth_of}
-use Rattle.wasmi_store.specs.MemoryType.{page_bytes}
+use Rattle.wasmi_store.specs.Memory.{MemoryValue, GrowsMemoryCharging, growth_of, page_bytes}
 use Rattle.wasmi_example_callers.specs.declared.limiter.AtMost.{AtMost}
 use Rattle.std.specs.Prelude.{All}
 use Rattle.wasmi_core.specs.Account.{SetsNoFuel}
-use Rattle.wasmi_core.specs.Runs.{IsRunOf}
+use Rattle.wasmi_core.specs.Steps.{IsRunOf}
 
 -- a machine has no more of either kind
 pub record IsCapped (most_bytes most_elements : ℕ) (s : State) : Type 0 where

@@ -23,12 +23,9 @@ use Rattle.wasmi_core.specs.declared.calls.Call.TheVariants.{SetFuel, GrowMemory
 use Rattle.wasmi_core.specs.declared.calls.Call.TheVariants as call
 use Rattle.wasmi_core.specs.declared.calls.Reply.{Reply}
 use Rattle.wasmi_core.specs.declared.calls.Reply.TheVariants.{Done, Fuel, Number, Memory}
-use Rattle.wasmi_core.specs.Account.{SetsNoFuel, charges}
-use Rattle.wasmi_core.specs.State.{State, live_at}
-use Rattle.wasmi_core.specs.World.{World, Turn, world}
-use Rattle.wasmi_core.specs.Steps.{Step, RepliesWith}
-use Rattle.wasmi_core.specs.Runs.{Run, AreTurns}
-use Rattle.wasmi_core.specs.Writing.{has_written, bytes_written, writing_turns, charges_for_writing}
+use Rattle.wasmi_core.specs.Account.{SetsNoFuel, charges, has_written, bytes_written, writing_turns, charges_for_writing}
+use Rattle.wasmi_core.specs.State.{State, live_at, World, Turn, world}
+use Rattle.wasmi_core.specs.Steps.{Step, RepliesWith, Run, AreTurns}
 use Rattle.wasmi_core.specs.Laws.{RunsJoin, ChargesAreSpent, FuelBoundsWriting}
 use Rattle.wasmi_example_callers.specs.declared.interpreter.Instruction.{Instruction}
 use Rattle.wasmi_example_callers.specs.declared.interpreter.Instruction.TheVariants.{Constant, Copy, Add, Multiply, AddBytes, Load, Store, Grow, Size, Branch, BranchIf, Return}

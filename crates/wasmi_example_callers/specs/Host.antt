@@ -4,12 +4,11 @@ use Rattle.wasmi_meter.specs.declared.limiter.Kind.TheVariants.{Bytes, Elements}
 use Rattle.wasmi_meter.specs.declared.quota.Quota.{Quota}
 use Rattle.wasmi_meter.specs.Limiter.{optional_rules, Rules}
 use Rattle.wasmi_meter.specs.Meter.{Meter, amount_left}
-use Rattle.wasmi_meter.specs.Quota.{cap_of, quota_rules}
+use Rattle.wasmi_meter.specs.Capped.{cap_of, quota_rules}
 use Rattle.wasmi_core.specs.declared.calls.Call.{Call}
 use Rattle.wasmi_core.specs.declared.calls.Reply.{Reply}
-use Rattle.wasmi_core.specs.State.{State, new_state}
-use Rattle.wasmi_core.specs.World.{world, World, Turn}
-use Rattle.wasmi_core.specs.Runs.{IsRunOf, Run}
+use Rattle.wasmi_core.specs.State.{State, new_state, world, World, Turn}
+use Rattle.wasmi_core.specs.Steps.{IsRunOf, Run}
 use Rattle.wasmi_meter.specs.declared.limiter.Kind.{Kind}
 use Rattle.wasmi_example_callers.specs.declared.limiter.AtMost.{AtMost}
 use Rattle.wasmi_core.specs.Account.{charges}

@@ -15,10 +15,9 @@ use Rattle.wasmi_core.specs.declared.calls.Call.TheVariants as call
 use Rattle.wasmi_core.specs.declared.calls.Reply.{Reply}
 use Rattle.wasmi_core.specs.declared.calls.Reply.TheVariants.{Done, Number, Memory}
 use Rattle.wasmi_ops.specs.declared.scalar.access.StoreOp.TheVariants.{Store64}
-use Rattle.wasmi_core.specs.State.{State, live_at}
-use Rattle.wasmi_core.specs.World.{World, Turn, world}
-use Rattle.wasmi_core.specs.Runs.{Run, IsRunOf, AreTurns}
-use Rattle.wasmi_core.specs.Writing.{IsSpent}
+use Rattle.wasmi_core.specs.State.{State, live_at, World, Turn, world}
+use Rattle.wasmi_core.specs.Steps.{Run, IsRunOf, AreTurns}
+use Rattle.wasmi_core.specs.Account.{IsSpent}
 use Rattle.wasmi_example_callers.specs.declared.interpreter.Instruction.{Instruction}
 use Rattle.wasmi_example_callers.specs.declared.interpreter.Instruction.TheVariants.{Constant, Copy, Add, Multiply, AddBytes, Load, Store, Grow, Size, Branch, BranchIf, Return}
 use Rattle.wasmi_example_callers.specs.declared.interpreter.Action.{Action}

@@ -3,7 +3,7 @@ ghost use Rattle.std.specs.Prelude.{◌≡◌, ◌↔◌, None, Some, IsTrue, If
 ghost use Rattle.wasmi_meter.specs.Limiter.{optional_rules};
 ghost use Rattle.wasmi_meter.specs.Meter.{amount_left};
 ghost use Rattle.wasmi_core.specs.Account.{SetsNoFuel};
-ghost use Rattle.wasmi_core.specs.World.{world};
+ghost use Rattle.wasmi_core.specs.State.{world};
 ghost use Rattle.wasmi_example_callers.specs.Host.{IsBill};
 
 use std::alloc::AllocError;

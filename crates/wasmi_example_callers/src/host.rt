@@ -1,9 +1,9 @@
 //! A host of plug-ins: a run of a new machine under a quota, and two tenants of a pool.
 ghost use Rattle.std.specs.Prelude.{◌≡◌, ◌≤◌, ◌<◌, [], ◌∷◌, length, IfOk, IsErr, IsErrOf};
 ghost use Rattle.wasmi_meter.specs.declared.limiter.Kind.TheVariants.{Bytes, Elements};
-ghost use Rattle.wasmi_core.specs.Totals.{total};
+ghost use Rattle.wasmi_core.specs.State.{total};
 ghost use Rattle.wasmi_budget.specs.Pool.{IsWithinCaps};
-ghost use Rattle.wasmi_budget.specs.Runs.{Ran, PoolRun};
+ghost use Rattle.wasmi_budget.specs.Laws.{Ran, PoolRun};
 ghost use Rattle.wasmi_example_callers.specs.Host.{RunsUnderQuota};
 
 use std::alloc::{AllocError, Global};

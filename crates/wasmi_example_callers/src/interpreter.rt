@@ -2,8 +2,8 @@
 //! functions and the validation of types are left out.
 ghost use Rattle.std.specs.Prelude.{◌≡◌, ◌<◌, Some, List, length, true, false, IsSome, MatchBool};
 ghost use Rattle.wasmi_meter.specs.Limiter.{optional_rules};
-ghost use Rattle.wasmi_core.specs.World.{Turn, world};
-ghost use Rattle.wasmi_core.specs.Runs.{Run};
+ghost use Rattle.wasmi_core.specs.State.{Turn, world};
+ghost use Rattle.wasmi_core.specs.Steps.{Run};
 ghost use Rattle.wasmi_example_callers.specs.Interpreter.{action_of, action_at, place_after, IsGrowth, CarriesOut, is_out_of_fuel, fuel_taken, StepsAt, ExecutesProgram, PaysProgramFuel, IsWithinSteps, HasRun};
 
 use wasmi_core::{

@@ -9,9 +9,9 @@ use Rattle.wasmi_operands.proofs.LineWordsLemmas.{limit_named, limit_is}
 use Rattle.wasmi_grammar.specs.Commands.{Limits, WritesLimits, HasSettings, NamesType, memory_limits, HasLimits, NamesTableType, table_limits}
 use Rattle.wasmi_store.specs.declared.memory.ty.PageSize.{PageSize}
 use Rattle.wasmi_store.specs.declared.memory.ty.PageSize.TheVariants.{Byte, Wasm}
-use Rattle.wasmi_store.specs.MemoryType.{MemoryTypeValue, page_log2, page_of_log2}
+use Rattle.wasmi_store.specs.Memory.{MemoryTypeValue, page_log2, page_of_log2}
 use Rattle.wasmi_types.specs.declared.value.RefType.{RefType}
-use Rattle.wasmi_store.specs.TableType.{TableTypeValue}
+use Rattle.wasmi_store.specs.Table.{TableTypeValue}
 use Rattle.wasmi_types.specs.contracts.index_ty.IndexType as index
 use Rattle.wasmi_types.specs.contracts.value.RefType as reference_type
 

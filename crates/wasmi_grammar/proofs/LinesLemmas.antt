@@ -9,7 +9,7 @@ use Rattle.wasmi_operands.specs.declared.error.LineError.{LineError}
 use Rattle.wasmi_operands.specs.declared.error.LineError.TheVariants.{BadCommand}
 use Rattle.wasmi_operands.specs.LineWords.{LineWords, word_at}
 use Rattle.wasmi_grammar.specs.Headers.{WritesRegion}
-use Rattle.wasmi_grammar.specs.Lines.{NamesLine, AddsLine, AddsWords, AcceptsLine, AcceptsLines, AreTaken, calls_of, lines_in}
+use Rattle.wasmi_grammar.specs.Lines.{NamesLine, AddsLine, AddsWords, AcceptsLine, AcceptsLines, AreTaken, calls_of, lines_in, IsBadLine, IsFirstBadLine}
 use Rattle.wasmi_grammar.specs.Parts.{TenantRun, PartsValue, parts_in, calls_in, part_at, Follow, AreCut}
 use Rattle.wasmi_operands.proofs.LineWordsLemmas.{on_refusal}
 use Rattle.std.specs.List.{slice_get, enumerate_from}
@@ -19,7 +19,6 @@ use Rattle.std.proofs.lemmas.List.Concat.{flat_map-append}
 use Rattle.wasmi_core.specs.declared.calls.Call.{Call}
 use Rattle.wasmi_grammar.specs.declared.script.Span.{Span}
 use Rattle.std.proofs.lemmas.List.FromFn.{length-enumerate_from, get_or-enumerate_from}
-use Rattle.wasmi_grammar.specs.Refusals.{IsBadLine, IsFirstBadLine}
 
 -- the first word of a line, or no text at all
 first_word : (words : LineWords) (none : Bor (List ℕ)) → none.now ≡ [] → (get_or words 0 none).now ≡ word_at words 0

@@ -10,9 +10,8 @@ use Rattle.wasmi_grammar.specs.declared.header.LimiterLine.TheVariants.{Quota, A
 use Rattle.wasmi_grammar.specs.declared.header.RegionLine.{RegionLine}
 use Rattle.wasmi_operands.specs.LineWords.{LineWords, word_at}
 use Rattle.wasmi_grammar.specs.Headers.{AreApart, tenants_of}
-use Rattle.wasmi_grammar.specs.Lines.{HasNoCommands, NamesLine, AddsLine, AddsWords, AcceptsLine, AcceptsLines, IsNewScript, lines_in}
+use Rattle.wasmi_grammar.specs.Lines.{HasNoCommands, NamesLine, AddsLine, AddsWords, AcceptsLine, AcceptsLines, IsNewScript, lines_in, IsBadLine, IsFirstBadLine}
 use Rattle.wasmi_grammar.specs.Parts.{TenantRun, parts_in}
-use Rattle.wasmi_grammar.specs.Refusals.{IsBadLine, IsFirstBadLine}
 use Rattle.wasmi_grammar.specs.Meanings.{call_meaning, limiter_meaning, LimiterMeaning, OtherLimiter, part_meaning, ScriptMeaning, script_meaning, TextsWriteOneScript, FirstBadLinesAreOne, WrittenTextsHaveNoBadLine}
 use Rattle.wasmi_grammar.proofs.MeaningLemmas.{line_meaning, line_is, LinesMeaning, meaning_of, lines_meaning, LinesHaveSameMeaning, meaning_after, added}
 use Rattle.wasmi_grammar.proofs.TextsLemmas.{retell}

@@ -3,21 +3,15 @@ use Rattle.std.specs.Prelude.{◌≡◌, ℕ, List, Option, ◌≤◌, length, c
 use Rattle.wasmi_types.specs.declared.index_ty.IndexType.{IndexType}
 use Rattle.wasmi_operands.specs.LineWords.{WritesNumber, WritesLimit, LineWords, WritesEach, word_at}
 use Rattle.wasmi_operands.specs.Names.{width_word, reference_word, value_word, mutability_word, WritesReference, IsName, NamesExtract, NamesReplace, NamesLoadLane, NamesStoreLane, WritesLanes}
-use Rattle.wasmi_store.specs.MemoryType.{MemoryTypeValue, page_log2}
+use Rattle.wasmi_store.specs.Memory.{MemoryTypeValue, page_log2}
 use Rattle.wasmi_types.specs.declared.value.RefType.{RefType}
-use Rattle.wasmi_store.specs.TableType.{TableTypeValue}
+use Rattle.wasmi_store.specs.Table.{TableTypeValue}
 use Rattle.wasmi_raw.specs.RawVal.{raw_of}
-use Rattle.wasmi_ops.specs.ScalarAccessOps.{load_name, store_name}
-use Rattle.wasmi_ops.specs.MakeOps.{make_name}
-use Rattle.wasmi_ops.specs.UnaryOps.{unary_name}
-use Rattle.wasmi_ops.specs.BinaryOps.{binary_name}
-use Rattle.wasmi_ops.specs.TernaryOps.{ternary_name}
-use Rattle.wasmi_ops.specs.ShiftOps.{shift_name}
-use Rattle.wasmi_ops.specs.TestOps.{test_name}
-use Rattle.wasmi_ops.specs.VectorAccessOps.{vector_load_name}
+use Rattle.wasmi_ops.specs.ScalarOps.{load_name, store_name}
+use Rattle.wasmi_ops.specs.VectorOps.{make_name, unary_name, binary_name, ternary_name, shift_name, test_name, vector_load_name}
 use Rattle.wasmi_core.specs.declared.calls.Call.{Call}
-use Rattle.wasmi_store.specs.MemoryType as memory_type
-use Rattle.wasmi_store.specs.TableType as table_type
+use Rattle.wasmi_store.specs.Memory as memory_type
+use Rattle.wasmi_store.specs.Table as table_type
 use Rattle.wasmi_core.specs.declared.calls.Call.TheVariants as call
 
 -- the limits of a memory or of a table: the type of its indices, its minimum and its maximum, if it has one

@@ -1,8 +1,7 @@
 -- What the words of a header line mean, and what the header lines ask for.
 use Rattle.std.specs.Prelude.{◌≡◌, ◌≤◌, ℕ, Option, List, Some, None, length, codes, replicate}
 use Rattle.std.specs.Option.{option_map, option_map_or}
-use Rattle.wasmi_meter.specs.Costs.{default_costs}
-use Rattle.wasmi_meter.specs.Meter.{Meter}
+use Rattle.wasmi_meter.specs.Meter.{default_costs, Meter}
 use Rattle.wasmi_core.specs.State.{State, new_state}
 use Rattle.wasmi_grammar.specs.declared.header.Header.{Header}
 use Rattle.wasmi_grammar.specs.declared.header.MeterLine.{MeterLine}

@@ -2,5 +2,4 @@ pub mod Parts
 pub mod Commands
 pub mod Headers
 pub mod Lines
-pub mod Refusals
 pub mod Meanings

@@ -1,5 +1,5 @@
--- What the lines of a script add to it.
-use Rattle.std.specs.Prelude.{◌≡◌, ◌<◌, ℕ, ◌⊎◌, List, [], ◌∷◌, ◌++◌, Some, None, ◌==◌, codes, drop, map}
+-- What the lines of a script add to it, its calls by parts, and why a text is not parsed.
+use Rattle.std.specs.Prelude.{◌≡◌, ◌<◌, ℕ, ◌⊎◌, List, [], ◌∷◌, ◌++◌, Some, None, ◌==◌, codes, drop, map, ◌+◌, ⊤, length}
 use Rattle.std.specs.List.{slice_split}
 use Rattle.std.specs.Str.{IsUtf8}
 use Rattle.wasmi_core.specs.declared.calls.Call.{Call}
@@ -13,6 +13,8 @@ use Rattle.wasmi_operands.specs.LineWords.{LineWords, word_at, words_in}
 use Rattle.wasmi_grammar.specs.Parts.{parts_in, calls_in}
 use Rattle.wasmi_grammar.specs.Commands.{NamesAfter}
 use Rattle.wasmi_grammar.specs.Headers.{WritesMeter, NamesLimiterAfter, WritesRegion, WritesTenant, AreApart, tenants_of}
+use Rattle.wasmi_grammar.specs.declared.error.ParseError.{ParseError}
+use Rattle.wasmi_grammar.specs.declared.error.ParseError.TheVariants.{BadCommand, OutOfMemory}
 
 -- the first word of a line and the words after it say this
 abbrev pub NamesLine : List ℕ → LineWords → Line → Type 0
@@ -107,3 +109,23 @@ WritesScript text script = AreTaken (lines_in text) script
 -- all calls of a script, in order
 abbrev pub calls_of : Script → List Call
 calls_of script = calls_in (parts_in script.parts)
+
+-- a line that can't be taken after those before: it is no text, or its words, however they are held, add nothing
+abbrev pub IsBadLine : Script → List ℕ → Type 0
+IsBadLine script line = (new : Script) → ¬ (AcceptsLine script line new)
+
+-- the lines before this one, counted from 1, are taken, and this one adds nothing to them
+pub record IsFirstBadLine (text : List ℕ) (number : ℕ) : Type 0 where
+  pub before : List (List ℕ)
+  pub bad : List ℕ
+  pub after : List (List ℕ)
+  pub lines : lines_in text ≡ before ++ bad ∷ after
+  pub counted : number ≡ length before + 1
+  pub script : Script
+  pub taken : AreTaken before script
+  pub is_bad : IsBadLine script bad
+
+-- why a text isn't parsed
+abbrev pub IsParseError : List ℕ → ParseError → Type 0
+IsParseError text (BadCommand number) = IsFirstBadLine text number
+IsParseError text OutOfMemory = ⊤

@@ -10,9 +10,8 @@ use Rattle.wasmi_grammar.specs.declared.header.RegionLine.{RegionLine}
 use Rattle.wasmi_grammar.specs.declared.header.LimiterLine.{LimiterLine}
 use Rattle.wasmi_grammar.specs.declared.header.LimiterLine.TheVariants.{Answers}
 use Rattle.wasmi_meter.specs.declared.answer_list.LimiterAnswer.{LimiterAnswer}
-use Rattle.wasmi_grammar.specs.Lines.{WritesScript}
+use Rattle.wasmi_grammar.specs.Lines.{WritesScript, IsFirstBadLine}
 use Rattle.wasmi_grammar.specs.Parts.{TenantRun, parts_in}
-use Rattle.wasmi_grammar.specs.Refusals.{IsFirstBadLine}
 
 -- a call, with its bytes or its items as a list
 pub data CallMeaning : Type 0 where

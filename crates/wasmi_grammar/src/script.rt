@@ -3,8 +3,7 @@ ghost use Rattle.std.specs.Prelude.{◌≡◌, [], ℕ, ◌+◌, ◌-◌, ◌<�
 ghost use Rattle.wasmi_operands.specs.LineWords.{Accepts, AcceptsWithMemory};
 ghost use Rattle.wasmi_grammar.specs.Commands.{NamesAfter};
 ghost use Rattle.wasmi_grammar.specs.Headers.{WritesTenant};
-ghost use Rattle.wasmi_grammar.specs.Lines.{WritesScript, NamesLine, calls_of};
-ghost use Rattle.wasmi_grammar.specs.Refusals.{IsParseError};
+ghost use Rattle.wasmi_grammar.specs.Lines.{WritesScript, NamesLine, calls_of, IsParseError};
 
 use crate::command::{access, memory, table, values, vector};
 use crate::error::ParseError;

@@ -6,8 +6,8 @@ use lib.Lanes.{top}
 use mir.Val.{hbits}
 use Rattle.std.proofs.Math.Nat.{mod-one, mul-add, mul-one, mod-eq_of_lt}
 use Rattle.std.proofs.lemmas.Nat.{mod-pow-add, div-mul-add, mod-mul-add, shr-shr, pow-add, mul-le}
-use Rattle.wasmi_types.specs.Wrapping.{Width, w8, w16, w32, w64, bits}
-use Rattle.wasmi_lanes.specs.Lane.{lane}
+use Rattle.wasmi_types.specs.Numbers.{Width, w8, w16, w32, w64, bits}
+use Rattle.wasmi_lanes.specs.Vector.{lane}
 
 module _ (w : Width) (n : ℕ) (a b chosen other : List ℕ) (long_a : length a ≡ n) (long_b : length b ≡ n)
     (long_chosen : length chosen ≡ n) (long_other : length other ≡ n) where

@@ -7,9 +7,8 @@ use Rattle.std.proofs.lemmas.List.{get_or-map}
 use Rattle.std.proofs.lemmas.Simd.{swz_l, SwzOk, SwzOk-from_below, Each1-from_get_or, length-zip2, get_or-zip2, get_or-replicate, length-replicate, get_or-swz_l_below, get_or-sel_l, tops_compared}
 use Rattle.std.proofs.lemmas.List.FromFn.{get_or-range_with_len, length-range_with_len, get_or-map-range_with_len}
 use Rattle.std.specs.List.{range_with_len}
-use Rattle.wasmi_types.specs.Wrapping.{Width, w8, bits}
-use Rattle.wasmi_lanes.specs.Lane.{lane}
-use Rattle.wasmi_lanes.specs.Vector.{with_lane}
+use Rattle.wasmi_types.specs.Numbers.{Width, w8, bits}
+use Rattle.wasmi_lanes.specs.Vector.{lane, with_lane}
 use Rattle.wasmi_lanes.proofs.VectorLemmas.{lanes_make_vector, lane_below}
 use mir.Val.{hbits}
 use lib.Lanes.{top}

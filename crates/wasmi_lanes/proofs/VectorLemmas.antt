@@ -3,9 +3,8 @@ use Rattle.std.proofs.Common.{ℕ, zero, suc, ◌+◌, ◌-◌, ◌*◌, ◌/◌
 use Rattle.std.proofs.lemmas.Nat.{pow_pos, mod-pow-add, pow-add, div-mul-add, mod-mul-add, mul-le}
 use Rattle.std.proofs.Math.Nat.{mod-eq_of_lt, mod-lt, mod-one, mul-suc, mod-mod}
 use Rattle.wasmi_lanes.specs.declared.item.LaneInteger.{Ghosts}
-use Rattle.wasmi_lanes.specs.Lane.{lane, lane_count}
-use Rattle.wasmi_lanes.specs.Vector.{first_lanes, from_lanes, unary_of_lanes, binary_of_lanes, comparison_of_lanes, splat_of, with_lane}
-use Rattle.wasmi_types.specs.Wrapping.{Width, w8, w16, w32, w64, bits}
+use Rattle.wasmi_lanes.specs.Vector.{lane, lane_count, first_lanes, from_lanes, unary_of_lanes, binary_of_lanes, comparison_of_lanes, splat_of, with_lane}
+use Rattle.wasmi_types.specs.Numbers.{Width, w8, w16, w32, w64, bits}
 use mir.Syntax.{w128}
 use Rattle.std.proofs.lemmas.Bool.{cases_eq}
 use Rattle.std.specs.Prelude.{◌==◌}

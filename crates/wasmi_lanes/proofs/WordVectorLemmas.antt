@@ -6,10 +6,9 @@ use Rattle.std.proofs.Math.Nat.{zero-mod, mod_self}
 use Rattle.std.proofs.Math.Pow.{mod-mod-pow}
 use Rattle.std.proofs.lemmas.Nat.Bits.{bit_at-pow_same}
 use Rattle.std.specs.Int.{bit_at}
-use Rattle.wasmi_raw.specs.Vector.{vector_of}
-use Rattle.wasmi_types.specs.Wrapping.{Width, w8, w16, w32, w64, bits}
-use Rattle.wasmi_lanes.specs.Lane.{lane}
-use Rattle.wasmi_lanes.specs.Vector.{from_lanes}
+use Rattle.wasmi_raw.specs.RawVal.{vector_of}
+use Rattle.wasmi_types.specs.Numbers.{Width, w8, w16, w32, w64, bits}
+use Rattle.wasmi_lanes.specs.Vector.{lane, from_lanes}
 use Rattle.wasmi_lanes.specs.Words.{field, IsLane, IsLastLane, lanes_in_word, in_each_lane}
 use Rattle.wasmi_lanes.proofs.FieldLemmas.{field_mod, top_of_lane, repeated_lane}
 use Rattle.wasmi_lanes.proofs.VectorLemmas.{lanes_make_vector}

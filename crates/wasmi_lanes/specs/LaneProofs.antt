@@ -3,8 +3,8 @@ use Rattle.std.specs.Prelude.{ℕ, pos, negsuc, ◌-◌, ◌*◌, ◌%◌, ◌^�
 use Rattle.std.specs.Int.{cast_unsigned}
 use Rattle.std.proofs.lemmas.Int.{of_z-to_z}
 use mir.Syntax.{w128}
-use Rattle.wasmi_types.specs.Wrapping.{Width, w8, w16, w32, w64, bits, signed}
-use Rattle.wasmi_lanes.specs.Lane.{ReadsLanes, unsigned, signed_fits}
+use Rattle.wasmi_types.specs.Numbers.{Width, w8, w16, w32, w64, bits, signed}
+use Rattle.wasmi_lanes.specs.Vector.{ReadsLanes, unsigned, signed_fits}
 use Rattle.wasmi_lanes.specs.Words.{IsWordLane, lanes_in_word, in_each_lane}
 
 -- the unsigned integers of a width

@@ -1,4 +1,3 @@
-pub mod Lane
 pub mod LaneProofs
 pub mod Vector
 pub mod Words

@@ -4,7 +4,7 @@
 use Rattle.std.specs.Prelude.{ℕ, ◌≡◌, ◌+◌, ◌-◌, ◌*◌, ◌/◌, ◌%◌, ◌^◌, ◌<◌, ◌≤◌, ◌⊎◌, List, [], ◌∷◌, replicate, ◌==◌, if◌then◌else◌}
 use Rattle.std.specs.Int.{bit_at}
 use Rattle.std.specs.Simd.Lanes.{number_l}
-use Rattle.wasmi_types.specs.Wrapping.{Width, bits}
+use Rattle.wasmi_types.specs.Numbers.{Width, bits}
 
 -- the number in the bits of v from start to start + width - 1
 unfoldable pub field : ℕ → ℕ → ℕ → ℕ

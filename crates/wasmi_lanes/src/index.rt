@@ -3,8 +3,8 @@
 ghost use Rattle.std.specs.Prelude.{◌≡◌, ◌<◌, ◌≤◌, ◌*◌, ℕ, Ok, Err, refl};
 ghost use Rattle.std.specs.Result.{OkIff};
 ghost use Rattle.std.proofs.Common.{rules, inl, inr};
-ghost use Rattle.wasmi_types.specs.Wrapping.{bits};
-ghost use Rattle.wasmi_lanes.specs.Lane.{IsLaneCount};
+ghost use Rattle.wasmi_types.specs.Numbers.{bits};
+ghost use Rattle.wasmi_lanes.specs.Vector.{IsLaneCount};
 
 use crate::item::LaneInteger;
 use std::marker::Model;

@@ -1,9 +1,9 @@
 //! The integers that are lanes.
 
 ghost use Rattle.std.specs.Prelude.{FitsSigned, refl, pos, negsuc, ◌≡◌, ℕ, ◌*◌, ◌^◌, ◌<◌, slice_index_or};
-ghost use Rattle.wasmi_types.specs.Wrapping.{Width, bits, w8, w16, w32, w64, signed};
+ghost use Rattle.wasmi_types.specs.Numbers.{Width, bits, w8, w16, w32, w64, signed};
 ghost use Rattle.std.specs.Int.{cast_unsigned};
-ghost use Rattle.wasmi_lanes.specs.Lane.{lane, unsigned, ReadsLanes};
+ghost use Rattle.wasmi_lanes.specs.Vector.{lane, unsigned, ReadsLanes};
 ghost use Rattle.wasmi_lanes.specs.LaneProofs.{unsigned_lanes, signed_lanes};
 
 use crate::simd_lane::{bytes_to_take_out, from_bytes};

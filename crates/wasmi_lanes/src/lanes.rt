@@ -1,8 +1,8 @@
 //! Vectors as lanes of one item, and the lane types.
 
 ghost use Rattle.std.specs.Prelude.{◌≡◌, refl, ℕ, ◌*◌, ◌^◌, ◌<◌, slice_index_or, if◌then◌else◌, ◌==◌, Bool};
-ghost use Rattle.wasmi_types.specs.Wrapping.{bits};
-ghost use Rattle.wasmi_lanes.specs.Lane.{lane, AreWholeLanes, ReducesTo};
+ghost use Rattle.wasmi_types.specs.Numbers.{bits};
+ghost use Rattle.wasmi_lanes.specs.Vector.{lane, AreWholeLanes, ReducesTo};
 ghost use Rattle.std.proofs.Common.{ap, ◌∙◌};
 
 use crate::index::{

@@ -1,9 +1,8 @@
 //! Laws on lanes.
 
 ghost use Rattle.std.specs.Prelude.{◌≡◌, ℕ, ◌+◌, ◌-◌, ◌/◌, ◌%◌, ◌^◌, ◌<◌, ◌==◌, Bool, if◌then◌else◌, List, sum};
-ghost use Rattle.wasmi_types.specs.Wrapping.{Width, bits};
-ghost use Rattle.wasmi_lanes.specs.Lane.{lane};
-ghost use Rattle.wasmi_lanes.specs.Vector.{from_lanes, unary_of_lanes, binary_of_lanes, comparison_of_lanes, splat_of, with_lane};
+ghost use Rattle.wasmi_types.specs.Numbers.{Width, bits};
+ghost use Rattle.wasmi_lanes.specs.Vector.{lane, from_lanes, unary_of_lanes, binary_of_lanes, comparison_of_lanes, splat_of, with_lane};
 ghost use Rattle.wasmi_lanes.specs.Words.{field, AreLanes, word_of_lanes};
 
 use crate::lanes::Lanes;

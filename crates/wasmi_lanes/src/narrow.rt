@@ -1,7 +1,7 @@
 //! Lanes made of narrower lanes, and of wider ones; numbers clamped to half of their width.
 
 ghost use Rattle.std.specs.Prelude.{◌≡◌, refl, ℕ, ◌+◌, ◌*◌, ◌<◌, [], ◌∷◌};
-ghost use Rattle.wasmi_types.specs.Wrapping.{w8, w16, clamp_signed};
+ghost use Rattle.wasmi_types.specs.Numbers.{w8, w16, clamp_signed};
 
 use crate::index::{CountsLanes, ImmLaneIdx};
 use crate::item::LaneItem;

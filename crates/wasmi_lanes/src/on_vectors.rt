@@ -2,9 +2,8 @@
 //! computes.
 
 ghost use Rattle.std.specs.Prelude.{◌≡◌, ℕ, ◌<◌, ◌-◌, ◌^◌, Bool, if◌then◌else◌};
-ghost use Rattle.wasmi_types.specs.Wrapping.{bits};
-ghost use Rattle.wasmi_lanes.specs.Lane.{lane};
-ghost use Rattle.wasmi_lanes.specs.Vector.{unary_of_lanes, binary_of_lanes, comparison_of_lanes, splat_of, ComputesLane, ComputesLaneOfTwo, DecidesTest};
+ghost use Rattle.wasmi_types.specs.Numbers.{bits};
+ghost use Rattle.wasmi_lanes.specs.Vector.{lane, unary_of_lanes, binary_of_lanes, comparison_of_lanes, splat_of, ComputesLane, ComputesLaneOfTwo, DecidesTest};
 
 use crate::lanes::Lanes;
 use wasmi_raw::V128;

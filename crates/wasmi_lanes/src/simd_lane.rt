@@ -1,10 +1,10 @@
 //! The lanes of a vector as a vector of `std::simd`.
 
 ghost use Rattle.std.specs.Prelude.{◌≡◌, ℕ, ◌+◌, ◌-◌, ◌%◌, ◌^◌, ◌<◌, nat_lt, slice_index, if◌then◌else◌, ◌/◌, [], ◌∷◌, slice_index_or};
-ghost use Rattle.wasmi_types.specs.Wrapping.{bits, w8};
-ghost use Rattle.wasmi_lanes.specs.Lane.{lane, lane_count};
+ghost use Rattle.wasmi_types.specs.Numbers.{bits, w8};
+ghost use Rattle.wasmi_lanes.specs.Vector.{lane, lane_count};
 ghost use Rattle.std.specs.Simd.Lanes.{number_l};
-ghost use Rattle.wasmi_raw.specs.Vector.{vector_of};
+ghost use Rattle.wasmi_raw.specs.RawVal.{vector_of};
 
 use crate::item::{LaneInteger, LaneItem};
 use std::simd::prelude::*;

@@ -6,7 +6,7 @@
 //! register.
 
 ghost use Rattle.std.specs.Prelude.{◌≡◌, ℕ, ◌+◌, ◌*◌, ◌<◌, slice_index, replicate};
-ghost use Rattle.wasmi_lanes.specs.Lane.{lane};
+ghost use Rattle.wasmi_lanes.specs.Vector.{lane};
 ghost use Rattle.wasmi_lanes.specs.Vector as vectors;
 
 use crate::index::{ImmLaneIdx2, ImmLaneIdx4, ImmLaneIdx8, ImmLaneIdx16, IntoLaneIdx};

@@ -8,7 +8,7 @@ use Rattle.std.proofs.Math.Pow.{mod-mod-pow}
 use Rattle.std.specs.Int.Bits.{and_zero_r, or_add_and, xor_self, xor_zero_l}
 use Rattle.std.specs.Int.{bit_at}
 use Rattle.wasmi_lanes.specs.Words.{field, IsLane, AreMarks}
-use Rattle.wasmi_types.specs.Wrapping.{Width, bits}
+use Rattle.wasmi_types.specs.Numbers.{Width, bits}
 use Rattle.wasmi_lanes.proofs.FieldLemmas.{field_and, field_or, field_sub, field_xor, field_of_zero, same_words, top_of_lane}
 use Rattle.wasmi_lanes.proofs.WordVectorLemmas.{EachLane}
 

@@ -5,9 +5,8 @@ use Rattle.std.specs.Int.{int_min, int_max, int_rem_euclid}
 use Rattle.std.specs.Int.RustNames.{int_lt, int_le}
 use Rattle.std.proofs.Math.Nat.{mod-eq_of_lt, add-mod_right}
 use Rattle.std.proofs.lemmas.Bool.{cases_lt, lt-ltb, le-ltb, le-leb, lt-leb, ltb-true, ltb-false}
-use Rattle.wasmi_types.specs.Wrapping.{Width, w8, w16, w32, w64, bits, signed, wrap}
-use Rattle.wasmi_lanes.specs.Lane.{lane, lane_count}
-use Rattle.wasmi_lanes.specs.Vector.{from_lanes, binary_of_lanes, comparison_of_lanes}
+use Rattle.wasmi_types.specs.Numbers.{Width, w8, w16, w32, w64, bits, signed, wrap}
+use Rattle.wasmi_lanes.specs.Vector.{lane, lane_count, from_lanes, binary_of_lanes, comparison_of_lanes}
 use Rattle.wasmi_lanes.proofs.VectorLemmas.{lanes_make_vector, lane_below, lane_count_fills}
 use Rattle.wasmi_lanewise.specs.VectorTable.{lt_u, le_u, lt_s, le_s, min_u, max_u, min_s, max_s}
 use mir.Syntax.{w128}

@@ -6,9 +6,8 @@ use Rattle.std.proofs.lemmas.Bool.{ltb-true, ltb-false, cases_lt, lt-ltb, le-ltb
 use Rattle.std.proofs.lemmas.Int.{ints, fits_signed_from_abs, unsigned_abs-mul, of_z-to_z, wrapping_mul_is, int_wrap_fits}
 use Rattle.std.proofs.lemmas.List.{length-map, get_or-map}
 use Rattle.std.proofs.lemmas.Simd.{length-zip2, get_or-zip2, length-sel_l, Each1-get_or, Each1-from_get_or, below_from_Fits, get_or-replicate}
-use Rattle.wasmi_types.specs.Wrapping.{Width, bits, clamp_unsigned, w16, w32, signed, wrap, clamp_signed}
-use Rattle.wasmi_lanes.specs.Lane.{lane, lane_count, signed_fits}
-use Rattle.wasmi_lanes.specs.Vector.{binary_of_lanes}
+use Rattle.wasmi_types.specs.Numbers.{Width, bits, clamp_unsigned, w16, w32, signed, wrap, clamp_signed}
+use Rattle.wasmi_lanes.specs.Vector.{lane, lane_count, signed_fits, binary_of_lanes}
 use Rattle.wasmi_lanes.proofs.SimdLaneLemmas.{chosen_where_less}
 use Rattle.wasmi_lanewise.specs.VectorTable.{add_sat_u, sub_sat_u, q15mulr}
 use Rattle.wasmi_lanewise.proofs.OrderLemmas.{rows_make_vector}

@@ -8,10 +8,9 @@ use Rattle.wasmi_lanes.specs.Words.{field, IsLane}
 use Rattle.wasmi_lanes.proofs.FieldLemmas.{field_lt, field_not, field_of_zero, same_words, field_or, field_xor, field_sub, lane_shr}
 use Rattle.wasmi_lanes.proofs.WordVectorLemmas.{AreWords, InnerLane, tops_each, u64x2_of}
 use Rattle.wasmi_lanewise.specs.VectorTable.{v128_not}
-use Rattle.wasmi_raw.specs.Vector.{vector_of}
-use Rattle.wasmi_types.specs.Wrapping.{w64}
-use Rattle.wasmi_lanes.specs.Lane.{lane, unsigned}
-use Rattle.wasmi_lanes.specs.Vector.{first_lanes, binary_of_lanes}
+use Rattle.wasmi_raw.specs.RawVal.{vector_of}
+use Rattle.wasmi_types.specs.Numbers.{w64}
+use Rattle.wasmi_lanes.specs.Vector.{lane, unsigned, first_lanes, binary_of_lanes}
 use Rattle.std.specs.Int.Bits.{or_add_and, xor_add_and}
 use Rattle.std.proofs.lemmas.Nat.Bits.{bit_at_and, bit_at_not}
 use Rattle.std.specs.Int.{bit_at}

@@ -5,9 +5,8 @@
 use Rattle.std.specs.Prelude.{ℕ, ◌+◌, ◌-◌, ◌*◌, ◌/◌, ◌%◌, ◌^◌, min, max, nat_eq, nat_lt, nat_le, not, ℤ, pos, ◌+ℤ◌, ◌-ℤ◌, ◌*ℤ◌, unsigned_abs, bit_and, bit_or, bit_xor, count_ones, List, slice_index, if◌then◌else◌}
 use Rattle.std.specs.Int.{int_min, int_max, int_shr}
 use Rattle.std.specs.Int.RustNames.{int_lt, int_le}
-use Rattle.wasmi_types.specs.Wrapping.{Width, w8, w16, bits, signed, wrap, clamp_signed, clamp_unsigned}
-use Rattle.wasmi_lanes.specs.Lane.{lane, unsigned}
-use Rattle.wasmi_lanes.specs.Vector.{from_lanes, unary_of_lanes, binary_of_lanes, comparison_of_lanes, splat_of, with_lane}
+use Rattle.wasmi_types.specs.Numbers.{Width, w8, w16, bits, signed, wrap, clamp_signed, clamp_unsigned}
+use Rattle.wasmi_lanes.specs.Vector.{lane, unsigned, from_lanes, unary_of_lanes, binary_of_lanes, comparison_of_lanes, splat_of, with_lane}
 
 -- ---- making and taking lanes
 

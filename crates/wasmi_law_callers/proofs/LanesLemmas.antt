@@ -2,7 +2,7 @@
 use Rattle.std.proofs.Common.{◌≡◌, ℕ, ℤ, ◌<◌, ◌^◌, Bool, true, false, if◌then◌else◌, refl, sym, ap, ap₂, ◌∙◌, arith, inl, inr, lit<, lit≤, List, ◌∷◌, [], ◌+◌, zero, suc, Some, slice_get, subst}
 use Rattle.std.proofs.lemmas.List.Elements.{All-head, All-tail}
 use Rattle.std.proofs.lemmas.Nat.Bits.{bit_at_ones, same_from_bits_below}
-use Rattle.wasmi_types.specs.Wrapping.{Width, signed, wrap}
+use Rattle.wasmi_types.specs.Numbers.{Width, signed, wrap}
 use Rattle.std.specs.Prelude.{◌↔◌, FitsSigned, IsTrue, All, map}
 use Rattle.std.specs.Int.{bit_at}
 use Rattle.wasmi_lanes.specs.Words.{field, AreLanes}

@@ -9,13 +9,11 @@ use Rattle.wasmi_meter.specs.declared.quota.Quota.{Quota}
 use Rattle.wasmi_meter.specs.Attempt.{MeteredValue, AttemptOutcome, Unasked, Denied, Met, Failed, answer_of, value_after}
 use Rattle.wasmi_meter.specs.Limiter.{Rules, optional_rules, Question, kind_of}
 use Rattle.wasmi_meter.specs.Meter.{Meter}
-use Rattle.wasmi_meter.specs.Quota.{quota_rules, IsWithinCaps}
+use Rattle.wasmi_meter.specs.Capped.{quota_rules, IsWithinCaps}
 use Rattle.wasmi_store.specs.Buffer.{Room}
 use Rattle.wasmi_store.specs.Growth.{Growth, metered_value}
-use Rattle.wasmi_store.specs.Memory.{MemoryValue, MakesMemory, GrowsMemoryCharging, new_memory, pages_of, growth_of}
-use Rattle.wasmi_store.specs.MemoryType.{MemoryTypeValue, minimum_bytes, page_bytes}
-use Rattle.wasmi_store.specs.Table.{TableValue, MakesTable, GrowsTableCharging, GrowsTableRawCharging, new_table, size_of}
-use Rattle.wasmi_store.specs.TableType.{TableTypeValue, same_type}
+use Rattle.wasmi_store.specs.Memory.{MemoryValue, MakesMemory, GrowsMemoryCharging, new_memory, pages_of, growth_of, MemoryTypeValue, minimum_bytes, page_bytes}
+use Rattle.wasmi_store.specs.Table.{TableValue, MakesTable, GrowsTableCharging, GrowsTableRawCharging, new_table, size_of, TableTypeValue, same_type}
 use Rattle.wasmi_store.proofs.GrowthLemmas.{on_test}
 use Rattle.wasmi_c.proofs.SharedQuotaLemmas.{creation_counts, growth_counts, length_grown, length_made, nothing_counts}
 use Rattle.wasmi_law_callers.specs.Limiters.{Counts, bytes_made, elements_made, event_of, recorder_rules, OneGrows, LeavesTrace}
@@ -23,16 +21,14 @@ use Rattle.wasmi_core.specs.declared.calls.Reply.{Reply}
 use Rattle.wasmi_core.specs.declared.calls.Reply.TheVariants.{Number, Memory}
 use Rattle.wasmi_core.specs.Effects.{ActsAt, reply_of}
 use Rattle.wasmi_core.specs.Laws.{IsRefusal, LentGrowthsSucceed}
-use Rattle.wasmi_core.specs.Runs.{Run, Sequence}
-use Rattle.wasmi_core.specs.State.{live_at, with_memories}
-use Rattle.wasmi_core.specs.Steps.{MemoryGrown, HasEffect, effect_of, Step}
-use Rattle.wasmi_core.specs.World.{World, Turn, world}
-use Rattle.wasmi_core.proofs.TurnLemmas.{each_turn}
+use Rattle.wasmi_core.specs.Steps.{Run, Sequence, MemoryGrown, HasEffect, effect_of, Step}
+use Rattle.wasmi_core.specs.State.{live_at, with_memories, World, Turn, world}
+use Rattle.wasmi_core.proofs.StoreLemmas.{each_turn}
 use Rattle.wasmi_law_callers.specs.Runs.{CanGrowInRegion, IsDenied, IsGrownOrDenied, GrowsInRegion}
 use Rattle.std.proofs.lemmas.Option.{same_Some}
 use Rattle.wasmi_core.specs.Exchange.{Exchange, Nothing, Denial, Permission, Notice, Place, Nowhere, New, At, Passes, GrowsAsAsked, GrowsBy}
 use Rattle.wasmi_law_callers.specs.declared.recorder.Recorder.{Recorder}
-use Rattle.wasmi_meter.proofs.QuotaLemmas.{nothing_within}
+use Rattle.wasmi_meter.proofs.CappedLemmas.{nothing_within}
 use Rattle.wasmi_c.specs.Numbers.{quota_of}
 use Rattle.wasmi_c.specs.SharedQuota.{HoldsSums, sizes_made}
 use Rattle.wasmi_c.specs.declared.quota.QuotaNumbers.{QuotaNumbers}

@@ -3,34 +3,27 @@ use Rattle.std.proofs.Common.{◌≡◌, Option, Some, OnErr, Result, Ok, Err, L
 use Rattle.std.proofs.lemmas.List.Elements.{All-cons, All-head, All-nil, All-tail}
 use Rattle.std.proofs.lemmas.Option.{same_Some}
 use Rattle.std.specs.Prelude.{All, slice_get, ◌≢◌, nat_eq, slice_set, MatchOption}
-use Rattle.wasmi_store.specs.MemoryType.{MemoryTypeValue}
+use Rattle.wasmi_store.specs.Memory.{MemoryTypeValue}
 use Rattle.wasmi_meter.specs.Limiter.{Rules, optional_rules}
 use Rattle.wasmi_core.specs.declared.calls.Call.{Call}
 use Rattle.wasmi_core.specs.declared.calls.Call.TheVariants.{NewMemory, NewLentMemory}
 use Rattle.wasmi_core.specs.declared.calls.Reply.{Reply}
-use Rattle.wasmi_core.specs.World.{World, Turn, world}
-use Rattle.wasmi_core.specs.Steps.{Step, RepliesWith}
-use Rattle.wasmi_core.specs.Runs.{Run, Sequence, IsRunOf}
-use Rattle.wasmi_core.specs.Validity.{IsValid, IsValidCall}
-use Rattle.wasmi_core.specs.State.{State}
+use Rattle.wasmi_core.specs.State.{World, Turn, world, IsValid, IsValidCall, State, HoldsTotals}
+use Rattle.wasmi_core.specs.Steps.{Step, RepliesWith, Run, Sequence, IsRunOf}
 use Rattle.wasmi_core.specs.LentMemory.{RunInRegions, owned_world, unlent_world}
-use Rattle.wasmi_core.specs.Determinism.{IsNotOutOfMemory, AreNotOutOfMemory, IsDeterministic, AcceptsNotices}
+use Rattle.wasmi_core.specs.Determinism.{IsNotOutOfMemory, AreNotOutOfMemory, IsDeterministic, AcceptsNotices, permitting}
 use Rattle.wasmi_laws.specs.Runs.{IsWithinCapsOf, RunsOfCallsAreCut}
 use Rattle.wasmi_laws.proofs.RunsLemmas.{held_within}
 use Rattle.wasmi_law_callers.specs.Runs.{FitsAnyRegions, HasRegionFor, IsRunInParts, RunsAlone, RunsBeside, KeepsCaps, KeepsTenant, RunsBoth}
 use Rattle.wasmi_core.specs.Laws.{LentRunsAreOwned, LentCreationsAreOwned, HoldsTotalsAlways, QuotasStayWithin, RunsKeepValidity, RepliesAreOne}
 use Rattle.wasmi_meter.specs.declared.quota.Quota.{Quota}
-use Rattle.wasmi_meter.specs.Quota.{holdings, cap_of, IsWithinCaps, SameCaps, quota_rules}
-use Rattle.wasmi_core.specs.Totals.{HoldsTotals}
+use Rattle.wasmi_meter.specs.Capped.{holdings, cap_of, IsWithinCaps, SameCaps, quota_rules}
 use Rattle.wasmi_laws.specs.Places.{IsIndependent, LeavesAlone, MemoryAt, NumberStore, store_call}
 use Rattle.std.proofs.lemmas.Bool.Decides.{nat_tests}
 use Rattle.wasmi_meter.specs.declared.amounts.Amounts.{Amounts}
-use Rattle.wasmi_core.specs.Permission.{permitting}
 use Rattle.wasmi_budget.specs.declared.tenant.Tenant.{Tenant}
-use Rattle.wasmi_budget.specs.Tenant.{tenant_rules}
-use Rattle.wasmi_budget.specs.Laws.{CapsHold, OthersDontShow, RunsAsAlone}
-use Rattle.wasmi_budget.specs.Pool.{PoolValue, tenant_at, IsWithinCaps as IsPoolWithinCaps, RunsTenantBy, RunsTenant}
-use Rattle.wasmi_budget.specs.Runs.{Ran}
+use Rattle.wasmi_budget.specs.Pool.{tenant_rules, PoolValue, tenant_at, IsWithinCaps as IsPoolWithinCaps, RunsTenantBy, RunsTenant}
+use Rattle.wasmi_budget.specs.Laws.{CapsHold, OthersDontShow, RunsAsAlone, Ran}
 use Rattle.wasmi_laws.proofs.ListLemmas.{set_other}
 use Rattle.wasmi_c.specs.Machine.CallStructs.{call_of}
 use Rattle.wasmi_c.specs.Machine.Calls.{ActsOnHeld, RepliesInStruct, RepliesToStruct}

@@ -4,8 +4,7 @@ use Rattle.wasmi_meter.specs.declared.limiter.Kind.{Kind}
 use Rattle.wasmi_meter.specs.declared.quota.Quota.{Quota}
 use Rattle.wasmi_meter.specs.declared.error.MemoryError.{MemoryError}
 use Rattle.wasmi_meter.specs.declared.error.TableError.{TableError}
-use Rattle.wasmi_meter.specs.Holdings.{amount_held}
-use Rattle.wasmi_meter.specs.Quota.{holdings, IsWithinCaps}
+use Rattle.wasmi_meter.specs.Capped.{amount_held, holdings, IsWithinCaps}
 use Rattle.wasmi_store.specs.Memory.{MemoryValue}
 use Rattle.wasmi_store.specs.Table.{TableValue, size_of}
 use Rattle.std.specs.Vec.{vec_capacity}

@@ -4,33 +4,27 @@ use Rattle.wasmi_meter.specs.Attempt.{Request, optional_due, covers}
 use Rattle.wasmi_meter.specs.Limiter.{Rules, Question, Answer, IsDenial, optional_rules}
 use Rattle.wasmi_meter.specs.Meter.{Meter}
 use Rattle.wasmi_store.specs.Buffer.{Lent, fits_room}
-use Rattle.wasmi_store.specs.Memory.{MemoryValue, pages_of, growth_of}
-use Rattle.wasmi_store.specs.MemoryType.{MemoryTypeValue, minimum_bytes, page_bytes, in_bounds}
+use Rattle.wasmi_store.specs.Memory.{MemoryValue, pages_of, growth_of, MemoryTypeValue, minimum_bytes, page_bytes, in_bounds}
 use Rattle.wasmi_core.specs.declared.calls.Call.{Call}
 use Rattle.wasmi_core.specs.declared.calls.Call.TheVariants.{GrowMemory}
 use Rattle.wasmi_core.specs.declared.calls.Reply.{Reply}
 use Rattle.wasmi_core.specs.declared.calls.Reply.TheVariants.{Number}
-use Rattle.wasmi_core.specs.World.{World, Turn, world}
+use Rattle.wasmi_core.specs.State.{World, Turn, world, State, live_at, IsValid}
 use Rattle.wasmi_core.specs.Exchange.{Exchanges}
-use Rattle.wasmi_core.specs.Steps.{Step}
-use Rattle.wasmi_core.specs.Runs.{Sequence, Run, AreTurns, IsRunOf}
+use Rattle.wasmi_core.specs.Steps.{Step, Sequence, Run, AreTurns, IsRunOf}
 use Rattle.wasmi_core.specs.declared.slots.Slot.TheVariants.{Live}
-use Rattle.wasmi_core.specs.State.{State, live_at}
-use Rattle.wasmi_core.specs.Account.{opened, account_after, Balances}
+use Rattle.wasmi_core.specs.Account.{opened, account_after, Balances, IsBounded, IsSpent}
 use Rattle.wasmi_core.specs.Determinism.{IsNotOutOfMemory}
 use Rattle.wasmi_core.specs.Laws.{IsRefusal, Keeps, KeepsMeter}
 use Rattle.wasmi_core.specs.LentMemory.{FitsRegions}
-use Rattle.wasmi_core.specs.Validity.{IsValid}
-use Rattle.wasmi_core.specs.Writing.{IsBounded, IsSpent}
 use Rattle.wasmi_meter.specs.declared.quota.Quota.{Quota}
 use Rattle.wasmi_laws.specs.Runs.{IsRunInTwo, IsWithinCapsOf, world_with_more}
 use Rattle.wasmi_access.specs.LoadStore.{IsSameOutside}
 use Rattle.wasmi_laws.specs.Places.{NumberStore, stored_size}
 use Rattle.wasmi_meter.specs.declared.amounts.Amounts.{Amounts}
 use Rattle.wasmi_budget.specs.declared.tenant.Tenant.{Tenant}
-use Rattle.wasmi_budget.specs.Tenant.{tenant_rules, without_others}
-use Rattle.wasmi_budget.specs.Pool.{PoolValue, IsWithinCaps, tenant_at}
-use Rattle.wasmi_budget.specs.Runs.{PoolTurn, Ran, PoolRun}
+use Rattle.wasmi_budget.specs.Pool.{tenant_rules, without_others, PoolValue, IsWithinCaps, tenant_at}
+use Rattle.wasmi_budget.specs.Laws.{PoolTurn, Ran, PoolRun}
 use Rattle.wasmi_c.specs.Machine.Caps.{MachineValue}
 use Rattle.wasmi_c.specs.Machine.Lines.{MachineRuns}
 use Rattle.wasmi_c.specs.Machine.Replies.{reply_struct}

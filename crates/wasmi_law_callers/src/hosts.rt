@@ -6,7 +6,7 @@ ghost use Rattle.wasmi_c.specs.Machine.CallStructs.{call_of};
 ghost use Rattle.wasmi_c.specs.Machine.Caps.{MachineValue};
 ghost use Rattle.wasmi_budget.specs.Pool.{PoolValue};
 ghost use Rattle.wasmi_law_callers.specs.Runs.{KeepsTenant, RunsBoth};
-ghost use Rattle.wasmi_meter.specs.Quota.{IsWithinCaps};
+ghost use Rattle.wasmi_meter.specs.Capped.{IsWithinCaps};
 ghost use Rattle.wasmi_c.specs.Numbers.{quota_of, IsState, IsTable, embedded};
 ghost use Rattle.wasmi_meter.specs.Limiter.{optional_rules};
 ghost use Rattle.wasmi_store.specs.Buffer.{Lent};

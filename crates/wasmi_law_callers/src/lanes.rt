@@ -2,10 +2,10 @@
 //! lanes, and the lanes of words.
 ghost use Rattle.std.specs.Prelude.{◌≡◌, ◌↔◌, ℕ, ℤ, FitsSigned, All, List, map, ◌+◌, ◌-◌, ◌*◌, ◌%◌, ◌^◌, ◌<◌, ◌≤◌, ◌*ℤ◌, ◌+ℤ◌, ◌==◌, nat_lt, nat_le, nat_eq, not, Bool, IsTrue, slice_index, if◌then◌else◌, ◌∷◌, []};
 ghost use Rattle.std.specs.Int.{bit_at};
-ghost use Rattle.wasmi_types.specs.Wrapping.{Width, w8, w16, w32, signed, wrap, clamp_unsigned};
-ghost use Rattle.wasmi_lanes.specs.Lane.{lane};
+ghost use Rattle.wasmi_types.specs.Numbers.{Width, w8, w16, w32, signed, wrap, clamp_unsigned};
+ghost use Rattle.wasmi_lanes.specs.Vector.{lane};
 ghost use Rattle.wasmi_lanes.specs.Words.{field, word_of_lanes};
-ghost use Rattle.wasmi_simd.specs.Widening.{first_bits, holds_below};
+ghost use Rattle.wasmi_simd.specs.WideningTable.{first_bits, holds_below};
 
 use wasmi_lanes::{ImmLaneIdx16, ImmLaneIdx32, Lanes, U8x16, laws as lane_laws, on_vectors};
 use wasmi_lanewise::simd::{i8x16_add, i8x16_gt_u, i8x16_replace_lane, i8x16_shuffle, i8x16_splat};

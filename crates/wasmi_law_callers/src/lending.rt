@@ -3,12 +3,11 @@
 ghost use Rattle.std.specs.Prelude.{◌≡◌, ◌<◌, ◌≤◌, ◌*◌, ◌^◌, true, length, IfOk, ◌%◌, IsSome, IsNone};
 ghost use Rattle.wasmi_types.specs.declared.index_ty.IndexType.TheVariants.{I32};
 ghost use Rattle.wasmi_meter.specs.declared.limiter.Kind.TheVariants.{Bytes, Elements};
-ghost use Rattle.wasmi_meter.specs.Quota.{holdings, IsWithinCaps};
-ghost use Rattle.wasmi_store.specs.MemoryType as memory_type;
-ghost use Rattle.wasmi_store.specs.MemoryType.{page_bytes, in_bounds};
-ghost use Rattle.wasmi_store.specs.Table.{IsSized, size_of};
-ghost use Rattle.wasmi_store.specs.TableType as table_type;
-ghost use Rattle.wasmi_store.specs.TableType.{is_within_maximum};
+ghost use Rattle.wasmi_meter.specs.Capped.{holdings, IsWithinCaps};
+ghost use Rattle.wasmi_store.specs.Memory as memory_type;
+ghost use Rattle.wasmi_store.specs.Memory.{page_bytes, in_bounds};
+ghost use Rattle.wasmi_store.specs.Table.{IsSized, size_of, is_within_maximum};
+ghost use Rattle.wasmi_store.specs.Table as table_type;
 ghost use Rattle.wasmi_law_callers.specs.Limiters.{Counts, bytes_made, elements_made};
 
 use std::alloc::Global;

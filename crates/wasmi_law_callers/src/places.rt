@@ -2,8 +2,8 @@
 ghost use Rattle.std.specs.Prelude.{◌≡◌, ◌≢◌, [], ◌∷◌, Some, IfOk, All};
 ghost use Rattle.wasmi_meter.specs.Limiter.{optional_rules};
 ghost use Rattle.wasmi_core.specs.declared.calls.Reply.TheVariants.{Done, Value};
-ghost use Rattle.wasmi_core.specs.Runs.{IsRunOf};
-ghost use Rattle.wasmi_core.specs.World.{world};
+ghost use Rattle.wasmi_core.specs.Steps.{IsRunOf};
+ghost use Rattle.wasmi_core.specs.State.{world};
 ghost use Rattle.wasmi_law_callers.specs.Runs.{KeepsOtherBytes};
 ghost use Rattle.wasmi_laws.specs.Places.{Content, DropsNot, HasAt, IsIndependent, IsLater, IsLive, IsLocal, LeavesAlone, Location, MemoryAt, NumberStore, StaysAt, content_at, load_call, store_call, stored_part};
 

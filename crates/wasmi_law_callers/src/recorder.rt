@@ -1,6 +1,6 @@
 //! A limiter that keeps a trace of what it is asked and told.
 ghost use Rattle.std.specs.Prelude.{◌≡◌, IfOk, length};
-ghost use Rattle.wasmi_core.specs.Totals.{sizes};
+ghost use Rattle.wasmi_core.specs.State.{sizes};
 ghost use Rattle.wasmi_law_callers.specs.Limiters.{recorder_rules, LeavesTrace};
 
 use std::alloc::{AllocError, Global};

@@ -2,18 +2,16 @@
 //! at an index, and tables that nothing refuses, on regions that are long enough, without a
 //! limiter.
 ghost use Rattle.std.specs.Prelude.{◌≡◌, ◌≤◌, ℕ, Option, Some, length, None, Ok};
-ghost use Rattle.wasmi_meter.specs.Limiter.{optional_rules};
-ghost use Rattle.wasmi_meter.specs.LimiterRef.{lent_limiter};
+ghost use Rattle.wasmi_meter.specs.Limiter.{optional_rules, lent_limiter};
 ghost use Rattle.wasmi_store.specs.Memory.{IsSized};
 ghost use Rattle.wasmi_region.specs.Memory.{memory_in};
 ghost use Rattle.wasmi_core.specs.declared.calls.Call.TheVariants.{GrowMemory};
 ghost use Rattle.wasmi_core.specs.declared.calls.Reply.TheVariants.{Number, Memory};
 ghost use Rattle.wasmi_core.specs.Effects.{reply_of};
-ghost use Rattle.wasmi_core.specs.State.{live_at};
+ghost use Rattle.wasmi_core.specs.State.{live_at, World, world};
 ghost use Rattle.wasmi_core.specs.Steps.{RepliesWith};
-ghost use Rattle.wasmi_core.specs.World.{World, world};
 ghost use Rattle.wasmi_laws.specs.Places.{with_memory_at, with_meter};
-ghost use Rattle.wasmi_meter.specs.Quota.{quota_rules};
+ghost use Rattle.wasmi_meter.specs.Capped.{quota_rules};
 ghost use Rattle.wasmi_store.specs.Growth.{metered_value};
 ghost use Rattle.wasmi_store.specs.Table as tables;
 ghost use Rattle.wasmi_store.specs.Table.{MakesTable, GrowsTableRaw};

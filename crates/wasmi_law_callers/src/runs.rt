@@ -1,19 +1,17 @@
 //! Callers of the laws over turns and runs, of the meter over runs, and of those over pools.
 ghost use Rattle.std.specs.Prelude.{◌≡◌, ◌++◌, ◌≤◌, [], ◌∷◌, ℕ, Some, IfOk, All, is_some, slice_get};
-ghost use Rattle.wasmi_store.specs.MemoryType.{MemoryTypeValue};
+ghost use Rattle.wasmi_store.specs.Memory.{MemoryTypeValue};
 ghost use Rattle.wasmi_meter.specs.Limiter.{optional_rules};
 ghost use Rattle.wasmi_meter.specs.Meter.{amount_left};
 ghost use Rattle.wasmi_meter.specs.declared.limiter.Kind.{Kind};
-ghost use Rattle.wasmi_meter.specs.Quota.{holdings, IsWithinCaps, quota_rules};
+ghost use Rattle.wasmi_meter.specs.Capped.{holdings, IsWithinCaps, quota_rules};
 ghost use Rattle.wasmi_core.specs.Account.{SetsNoFuel};
 ghost use Rattle.wasmi_core.specs.Exchange.{Nowhere, place_of};
 ghost use Rattle.wasmi_core.specs.LentMemory.{owned_world, unlent_world};
 ghost use Rattle.wasmi_core.specs.Laws.{IsRefusal, SameContents, KeepsSpare};
-ghost use Rattle.wasmi_core.specs.Permission.{permitting, TellsNoDenial};
-ghost use Rattle.wasmi_core.specs.Runs.{IsRunOf};
-ghost use Rattle.wasmi_core.specs.Totals.{sizes, total, HoldsTotals};
-ghost use Rattle.wasmi_core.specs.Validity.{IsValid, IsValidCall};
-ghost use Rattle.wasmi_core.specs.World.{world};
+ghost use Rattle.wasmi_core.specs.Determinism.{permitting, TellsNoDenial};
+ghost use Rattle.wasmi_core.specs.Steps.{IsRunOf};
+ghost use Rattle.wasmi_core.specs.State.{sizes, total, HoldsTotals, IsValid, IsValidCall, world};
 ghost use Rattle.wasmi_laws.specs.Runs.{HasFuel, IsPlainRefusal, IsWithinCapsOf, NamesNoFuel};
 ghost use Rattle.wasmi_budget.specs.Pool as pools;
 ghost use Rattle.wasmi_law_callers.specs.Runs.{KeepsCaps, RunsAlone, RunsBeside, IsBilled, IsBoundedBy, IsSpentBy, IsExchanged, KeepsWhereRefused, IsMeterKept, StaysValid, IsRunOfBoth, FitsAnyRegions, NeitherIsOutOfMemory, AreSameTurns, HasRegionFor, GrowsInRegions, IsRunInParts, RunsWithMore, StaysWithin};

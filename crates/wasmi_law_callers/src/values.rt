@@ -1,8 +1,8 @@
 //! Callers of the laws on raw values, on the bytes of numbers, and on memory types and table types.
 ghost use Rattle.std.specs.Prelude.{◌≡◌, IfOk, MatchResult, ◌↔◌, IsTrue, length};
 ghost use Rattle.wasmi_access.specs.LoadStore.{IsSameOutside};
-ghost use Rattle.wasmi_store.specs.MemoryType.{IsSubtype};
-ghost use Rattle.wasmi_store.specs.TableType as table;
+ghost use Rattle.wasmi_store.specs.Memory.{IsSubtype};
+ghost use Rattle.wasmi_store.specs.Table as table;
 ghost use Rattle.wasmi_law_callers.specs.Runs.{RelatesForward};
 
 use wasmi_access::access::{LittleEndianConvert, load_at, store_at};

@@ -6,13 +6,10 @@ use Rattle.std.specs.Prelude.{All, slice_get, slice_set}
 use Rattle.wasmi_core.specs.Effects.{ChangesAt, ChangesItem, ChangesPart, DropsAt, OnLive, reply_of}
 use Rattle.wasmi_core.specs.MemoryEffects.{ReadsBytes, StoresMemory, WritesMemoryAt, load_reply}
 use Rattle.wasmi_core.specs.RegisterEffects.{StoresVectorAt, SetsAt, SetsRegister, given_vector, lane_loaded, of_one, of_three, of_two, raw_reply, vector_at, vector_loaded}
-use Rattle.wasmi_core.specs.Runs.{Run}
-use Rattle.wasmi_core.specs.State.{State, live_at, live_value, with_globals, with_memories, with_registers, with_segments, with_tables}
-use Rattle.wasmi_core.specs.Steps.{BytesRead, BytesStored, BytesWritten, Change, Changed, Effect, ElementSet, GlobalMade, GlobalSet, ItemsDropped, MemoryDropped, RegisterSet, SegmentMade, Step, TableDropped, HasChange, HasEffect, Told, effect_of}
+use Rattle.wasmi_core.specs.Steps.{Run, BytesRead, BytesStored, BytesWritten, Change, Changed, Effect, ElementSet, GlobalMade, GlobalSet, ItemsDropped, MemoryDropped, RegisterSet, SegmentMade, Step, TableDropped, HasChange, HasEffect, Told, effect_of}
+use Rattle.wasmi_core.specs.State.{State, live_at, live_value, with_globals, with_memories, with_registers, with_segments, with_tables, byte_count, Turn, World}
 use Rattle.wasmi_core.specs.TableEffects.{SetsElementAt, element_reply}
-use Rattle.wasmi_core.specs.Totals.{byte_count}
 use Rattle.wasmi_core.specs.ValueEffects.{DropsItemsAt, SetsGlobalAt, global_reply}
-use Rattle.wasmi_core.specs.World.{Turn, World}
 use Rattle.wasmi_core.specs.declared.calls.Call.{Call}
 use Rattle.wasmi_core.specs.declared.calls.Call.TheVariants as call
 use Rattle.wasmi_core.specs.declared.calls.Reply.{Reply}
@@ -24,14 +21,8 @@ use Rattle.wasmi_laws.proofs.LocationLemmas.{changed_by, changed_in, changed_is}
 use Rattle.wasmi_laws.specs.Places.{Content, GlobalAt, IndependentTurnsSwap, IsIndependent, IsLocal, Location, MemoryAt, RegisterAt, SegmentAt, TableAt, changed_location, content_at, read_locations}
 use Rattle.wasmi_meter.specs.Limiter.{Rules}
 use Rattle.wasmi_lanewise.specs.VectorTable.{shuffle}
-use Rattle.wasmi_ops.specs.BinaryOps.{binary_vector}
+use Rattle.wasmi_ops.specs.VectorOps.{binary_vector, made_vector, shifted_vector, ternary_vector, tested_raw, unary_vector, stored_lane}
 use Rattle.wasmi_ops.specs.LaneOps.{extracted_raw, replaced_vector}
-use Rattle.wasmi_ops.specs.MakeOps.{made_vector}
-use Rattle.wasmi_ops.specs.ShiftOps.{shifted_vector}
-use Rattle.wasmi_ops.specs.TernaryOps.{ternary_vector}
-use Rattle.wasmi_ops.specs.TestOps.{tested_raw}
-use Rattle.wasmi_ops.specs.UnaryOps.{unary_vector}
-use Rattle.wasmi_ops.specs.VectorAccessOps.{stored_lane}
 use Rattle.wasmi_raw.specs.RawVal.{vector_in}
 use Rattle.wasmi_raw.specs.declared.raw.RawVal.{RawVal}
 use Rattle.wasmi_store.specs.Memory.{MemoryValue}
@@ -39,7 +30,7 @@ use Rattle.wasmi_store.specs.Segment.{SegmentValue}
 use Rattle.wasmi_store.specs.Table.{TableValue, size_of}
 use Rattle.wasmi_typed.specs.Global.{GlobalInstance}
 use Rattle.wasmi_types.specs.Access.{at}
-use Rattle.wasmi_types.specs.Bytes.{le_bytes}
+use Rattle.wasmi_types.specs.Numbers.{le_bytes}
 use Rattle.wasmi_types.specs.declared.trap.TrapCode.{TrapCode}
 
 -- what a call does to a state: nothing, or it puts something at an index

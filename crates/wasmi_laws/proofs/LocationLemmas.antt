@@ -6,12 +6,10 @@ use Rattle.wasmi_core.proofs.EffectLemmas.{on_live}
 use Rattle.wasmi_core.specs.Effects.{reply_of}
 use Rattle.wasmi_core.specs.MemoryEffects.{CreatesLent}
 use Rattle.wasmi_core.specs.RegisterEffects.{StoresVectorAt, SetsAt}
-use Rattle.wasmi_core.specs.State.{MemoryPart, State, memory_part, with_globals, with_registers, with_segments}
+use Rattle.wasmi_core.specs.State.{MemoryPart, State, memory_part, with_globals, with_registers, with_segments, byte_count, Turn, World}
 use Rattle.wasmi_core.specs.Steps.{BytesRead, BytesStored, BytesWritten, Change, Changed, Effect, ElementSet, FuelSet, GlobalMade, GlobalSet, ItemsDropped, LentMemoryMade, MemoryDropped, MemoryGrown, MemoryMade, RangeWritten, RegisterSet, SegmentMade, Step, TableDropped, TableGrown, TableMade, HasChange, HasEffect, Told, effect_of}
 use Rattle.wasmi_core.specs.TableEffects.{MeteredTables, WritesRangeAt, write_of}
-use Rattle.wasmi_core.specs.Totals.{byte_count}
 use Rattle.wasmi_core.specs.ValueEffects.{CreatesGlobal, CreatesSegment}
-use Rattle.wasmi_core.specs.World.{Turn, World}
 use Rattle.wasmi_core.specs.declared.calls.Call.{Call}
 use Rattle.wasmi_core.specs.declared.calls.Call.TheVariants.{SetFuel}
 use Rattle.wasmi_core.specs.declared.calls.Reply.{Reply}
@@ -28,11 +26,9 @@ use Rattle.wasmi_raw.specs.declared.raw.RawVal.{RawVal}
 use Rattle.wasmi_store.proofs.GrowthLemmas.{on_test}
 use Rattle.wasmi_store.specs.Buffer.{Lent, Owned}
 use Rattle.wasmi_store.specs.Growth.{Grows, Growth, metered}
-use Rattle.wasmi_store.specs.Memory.{GrowsMemoryCharging, MakesMemory, MemoryValue, WritesMemory, pages_of}
-use Rattle.wasmi_store.specs.MemoryType.{MemoryTypeValue}
+use Rattle.wasmi_store.specs.Memory.{GrowsMemoryCharging, MakesMemory, MemoryValue, WritesMemory, pages_of, MemoryTypeValue}
 use Rattle.wasmi_store.specs.Segment.{SegmentValue}
-use Rattle.wasmi_store.specs.Table.{EndsBy, GrowsTableCharging, MakesTable, MeteredTable, SetsTable, TableValue, TableWrite, WritesTableCharging, size_of}
-use Rattle.wasmi_store.specs.TableType.{same_type}
+use Rattle.wasmi_store.specs.Table.{EndsBy, GrowsTableCharging, MakesTable, MeteredTable, SetsTable, TableValue, TableWrite, WritesTableCharging, size_of, same_type}
 use Rattle.wasmi_typed.specs.Global.{GlobalInstance, SetsGlobal}
 use Rattle.wasmi_typed.specs.declared.global.GlobalError.{GlobalError}
 use Rattle.wasmi_typed.specs.declared.global.GlobalError.TheVariants.{ImmutableWrite, TypeMismatch}

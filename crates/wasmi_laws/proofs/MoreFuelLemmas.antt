@@ -15,8 +15,7 @@ use Rattle.wasmi_store.specs.Growth.{Grows, Growth, metered, metered_value}
 use Rattle.wasmi_store.specs.Memory as memory
 use Rattle.wasmi_store.specs.Memory.{GrowsMemoryCharging, pages_of}
 use Rattle.wasmi_store.specs.Table as table
-use Rattle.wasmi_store.specs.Table.{EndsBy, GrowsTableCharging, TableValue, TableWrite, WriteEnding, WritesTableCharging, element_price, size_of, write_due}
-use Rattle.wasmi_store.specs.TableType.{same_type}
+use Rattle.wasmi_store.specs.Table.{EndsBy, GrowsTableCharging, TableValue, TableWrite, WriteEnding, WritesTableCharging, element_price, size_of, write_due, same_type}
 use Rattle.wasmi_core.specs.declared.calls.Call.{Call}
 use Rattle.wasmi_core.specs.declared.calls.Call.TheVariants.{SetFuel, GetFuel}
 use Rattle.wasmi_core.specs.declared.calls.Reply.{Reply}
@@ -24,11 +23,9 @@ use Rattle.wasmi_core.specs.declared.calls.Reply.TheVariants as replied
 use Rattle.wasmi_core.specs.declared.slots.Slot.{Slot}
 use Rattle.wasmi_core.specs.Determinism.{AcceptsNotices}
 use Rattle.wasmi_core.specs.Effects.{ActsAt, reply_of}
-use Rattle.wasmi_core.specs.Runs.{Run}
-use Rattle.wasmi_core.specs.State.{State, live_at}
-use Rattle.wasmi_core.specs.Steps.{BytesRead, BytesWritten, Change, Changed, Effect, FuelSet, LentMemoryMade, MemoryGrown, MemoryMade, RangeWritten, Step, TableGrown, TableMade, HasChange, HasEffect, Told, effect_of}
+use Rattle.wasmi_core.specs.Steps.{Run, BytesRead, BytesWritten, Change, Changed, Effect, FuelSet, LentMemoryMade, MemoryGrown, MemoryMade, RangeWritten, Step, TableGrown, TableMade, HasChange, HasEffect, Told, effect_of}
+use Rattle.wasmi_core.specs.State.{State, live_at, Turn, World}
 use Rattle.wasmi_core.specs.TableEffects.{WritesRangeAt, write_of}
-use Rattle.wasmi_core.specs.World.{Turn, World}
 use Rattle.wasmi_core.proofs.AccountLemmas.{Growing, after, before, growing, grows_takes, write_takes}
 use Rattle.wasmi_core.proofs.EffectLemmas.{on_live_too, on_test_too}
 use Rattle.wasmi_laws.specs.Runs.{HasFuel, MoreFuelChangesNothing, NamesNoFuel, meter_with_more, world_with_more}

@@ -11,9 +11,8 @@ use Rattle.wasmi_core.proofs.EffectLemmas.{on_live}
 use Rattle.wasmi_core.proofs.MemoryEffectsLemmas.{stored_count}
 use Rattle.wasmi_core.specs.Effects.{reply_of}
 use Rattle.wasmi_core.specs.MemoryEffects.{StoresMemory, load_reply, bytes_appended}
-use Rattle.wasmi_core.specs.State.{State, live_at, live_value}
+use Rattle.wasmi_core.specs.State.{State, live_at, live_value, World}
 use Rattle.wasmi_core.specs.Steps.{RepliesWith}
-use Rattle.wasmi_core.specs.World.{World}
 use Rattle.wasmi_core.specs.declared.calls.Call.TheVariants.{Read}
 use Rattle.wasmi_core.specs.declared.calls.Reply.TheVariants.{Done, NoSuch, Trap, Value, Bytes, Memory, Number, Table}
 use Rattle.wasmi_core.specs.declared.slots.Slot.TheVariants.{Live}
@@ -21,13 +20,12 @@ use Rattle.wasmi_laws.proofs.ListLemmas.{live_slot, set_same}
 use Rattle.wasmi_laws.proofs.LocationLemmas.{others_stay_in_runs}
 use Rattle.wasmi_laws.specs.Places.{MemoryAt, NumberStore, StoresAreReadBack, StoresKeepOtherBytes, load_of, store_call, stored_part, stored_size, MemoriesGrowAlike, TablesGrowAlike, MemoriesReadAlike, MemoriesWriteAlike}
 use Rattle.wasmi_meter.specs.Limiter.{Rules}
-use Rattle.wasmi_ops.specs.RawResults.{as_raw, signed_raw}
-use Rattle.wasmi_ops.specs.ScalarAccessOps.{loaded_raw, stored_bytes}
+use Rattle.wasmi_ops.specs.ScalarOps.{as_raw, signed_raw, loaded_raw, stored_bytes}
 use Rattle.wasmi_ops.specs.declared.scalar.access.StoreOp.{StoreOp}
 use Rattle.wasmi_raw.specs.RawVal.{raw_of}
 use Rattle.wasmi_raw.specs.declared.raw.RawVal.{RawVal}
 use Rattle.wasmi_store.specs.Memory.{MemoryValue}
-use Rattle.wasmi_types.specs.Bytes.{le_bytes}
+use Rattle.wasmi_types.specs.Numbers.{le_bytes}
 use Rattle.wasmi_types.specs.declared.trap.TrapCode.{TrapCode}
 use Rattle.wasmi_types.specs.Access.{at}
 use Rattle.wasmi_meter.specs.declared.error.MemoryError.TheVariants.{OutOfBoundsAccess}

@@ -15,11 +15,9 @@ use Rattle.wasmi_meter.specs.Meter.{Meter}
 use Rattle.wasmi_store.specs.Buffer.{LacksMemory, Lent, Owned, Room}
 use Rattle.wasmi_store.specs.Growth.{Grows, Growth, Makes}
 use Rattle.wasmi_store.specs.Memory as memory
-use Rattle.wasmi_store.specs.Memory.{GrowsMemoryCharging, MakesMemory, MemoryValue, new_memory, pages_of}
-use Rattle.wasmi_store.specs.MemoryType.{MemoryTypeValue}
+use Rattle.wasmi_store.specs.Memory.{GrowsMemoryCharging, MakesMemory, MemoryValue, new_memory, pages_of, MemoryTypeValue}
 use Rattle.wasmi_store.specs.Table as table
-use Rattle.wasmi_store.specs.Table.{GrowsTableCharging, TableValue, new_table, size_of}
-use Rattle.wasmi_store.specs.TableType.{TableTypeValue, same_type}
+use Rattle.wasmi_store.specs.Table.{GrowsTableCharging, TableValue, new_table, size_of, TableTypeValue, same_type}
 use Rattle.wasmi_store.proofs.GrowthLemmas.{on_test}
 use Rattle.wasmi_core.specs.declared.calls.Call.{Call}
 use Rattle.wasmi_core.specs.declared.calls.Call.TheVariants.{NewMemory, NewLentMemory, GrowMemory, NewTable, GrowTable}
@@ -32,9 +30,8 @@ use Rattle.wasmi_core.specs.Effects.{ActsAt, AddsEntry, Creates, reply_of}
 use Rattle.wasmi_core.specs.Exchange.{AsksFor, At, Denial, Exchange, New, Nothing, Notice, Nowhere, Passes, Permission, failed_reply, place_of, question_of}
 use Rattle.wasmi_core.specs.Laws.{Keeps, KeepsMeter, KeepsSpare}
 use Rattle.wasmi_core.specs.MemoryEffects.{CreatesLent, spare_after}
-use Rattle.wasmi_core.specs.State.{MemoryPart, State, live_at, memory_part}
+use Rattle.wasmi_core.specs.State.{MemoryPart, State, live_at, memory_part, IsRefusal, Turn, World}
 use Rattle.wasmi_core.specs.Steps.{Effect, LentMemoryMade, MemoryGrown, MemoryMade, Step, TableGrown, TableMade, HasEffect, effect_of}
-use Rattle.wasmi_core.specs.World.{IsRefusal, Turn, World}
 use Rattle.wasmi_core.proofs.EffectLemmas.{Creation, on_live}
 use Rattle.wasmi_core.proofs.ExchangeLemmas.{growths_are_permitted}
 use Rattle.wasmi_core.proofs.RefusalLemmas.{refusals_keep_contents}

@@ -8,16 +8,13 @@ use Rattle.wasmi_meter.specs.declared.limiter.Kind.{Kind}
 use Rattle.wasmi_meter.specs.declared.limiter.Kind.TheVariants.{Bytes, Elements}
 use Rattle.wasmi_meter.specs.Limiter.{Question, Rules, optional_rules}
 use Rattle.wasmi_meter.specs.declared.quota.Quota.{Quota}
-use Rattle.wasmi_meter.specs.Quota.{IsWithinCaps, SameCaps, holdings, quota_rules}
-use Rattle.wasmi_core.specs.State.{State}
-use Rattle.wasmi_core.specs.World.{World, Turn, world}
-use Rattle.wasmi_core.specs.Steps.{Step}
-use Rattle.wasmi_core.specs.Runs.{Sequence, Run}
-use Rattle.wasmi_core.specs.Totals.{sizes, HoldsTotals}
+use Rattle.wasmi_meter.specs.Capped.{IsWithinCaps, SameCaps, holdings, quota_rules}
+use Rattle.wasmi_core.specs.State.{State, World, Turn, world, sizes, HoldsTotals}
+use Rattle.wasmi_core.specs.Steps.{Step, Sequence, Run}
 use Rattle.wasmi_core.specs.Laws.{HoldsTotalsAlways, QuotasStayWithin}
 use Rattle.wasmi_core.specs.Exchange.{Exchange, Nothing, Denial, Permission, Notice, Place, Nowhere, New, At, place_of, GrowsAsAsked, GrowsBy}
 use Rattle.wasmi_core.proofs.ExchangeLemmas.{growths_are_permitted}
-use Rattle.wasmi_core.proofs.TurnLemmas.{Run-push}
+use Rattle.wasmi_core.proofs.StoreLemmas.{Run-push}
 use Rattle.wasmi_laws.specs.Runs.{CapsHoldInRuns, IsWithinCapsOf, RunsOfCallsAreCut, SizesNeverShrink, TotalsNeverShrink, CostsAreKept, FuelNeverRises, SwitchIsKept}
 use Rattle.std.proofs.lemmas.List.Elements.{All-head, All-tail}
 use Rattle.std.specs.Option.{option_map, unwrap_or}

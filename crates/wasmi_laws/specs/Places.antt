@@ -17,10 +17,8 @@ use Rattle.wasmi_core.specs.declared.slots.Slot.{Slot}
 use Rattle.wasmi_core.specs.declared.slots.Slot.TheVariants.{Live, Gone}
 use Rattle.wasmi_core.specs.declared.calls.Reply.{Reply}
 use Rattle.wasmi_core.specs.declared.calls.Reply.TheVariants.{Done, Value, Bytes, Memory, Number, Table}
-use Rattle.wasmi_core.specs.State.{State, live_at, with_memories, with_tables}
-use Rattle.wasmi_core.specs.World.{World, Turn, world}
-use Rattle.wasmi_core.specs.Steps.{Step, RepliesWith}
-use Rattle.wasmi_core.specs.Runs.{Run}
+use Rattle.wasmi_core.specs.State.{State, live_at, with_memories, with_tables, World, Turn, world}
+use Rattle.wasmi_core.specs.Steps.{Step, RepliesWith, Run}
 use Rattle.wasmi_types.specs.Access.{at}
 use Rattle.wasmi_typed.specs.declared.typed_ref.TypedRawRef.{TypedRawRef}
 use Rattle.wasmi_meter.specs.Meter.{Meter}

@@ -3,15 +3,12 @@ use Rattle.std.specs.Prelude.{◌≡◌, ◌≤◌, ◌++◌, ℕ, List, length,
 use Rattle.wasmi_meter.specs.declared.limiter.Kind.{Kind}
 use Rattle.wasmi_meter.specs.Limiter.{Rules, optional_rules}
 use Rattle.wasmi_meter.specs.declared.quota.Quota.{Quota}
-use Rattle.wasmi_meter.specs.Quota.{IsWithinCaps, cap_of, holdings, quota_rules}
+use Rattle.wasmi_meter.specs.Capped.{IsWithinCaps, cap_of, holdings, quota_rules}
 use Rattle.wasmi_core.specs.declared.calls.Call.{Call}
 use Rattle.wasmi_core.specs.declared.calls.Reply.{Reply}
-use Rattle.wasmi_core.specs.State.{State}
-use Rattle.wasmi_core.specs.World.{World, Turn, world, IsRefusal}
-use Rattle.wasmi_core.specs.Steps.{Step}
+use Rattle.wasmi_core.specs.State.{State, World, Turn, world, IsRefusal, sizes, total, HoldsTotals}
+use Rattle.wasmi_core.specs.Steps.{Step, Sequence, Run, IsRunOf}
 use Rattle.wasmi_core.specs.Exchange.{Nowhere, place_of}
-use Rattle.wasmi_core.specs.Runs.{Sequence, Run, IsRunOf}
-use Rattle.wasmi_core.specs.Totals.{sizes, total, HoldsTotals}
 use Rattle.std.specs.Option.{option_map}
 use Rattle.wasmi_meter.specs.Meter.{Meter, amount_left}
 use Rattle.wasmi_core.specs.declared.calls.Call.TheVariants.{SetFuel, GetFuel}

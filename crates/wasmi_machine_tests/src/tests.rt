@@ -1,7 +1,7 @@
 //! What the tests share: comparisons, machines, types of memories, and runs.
 ghost use Rattle.std.specs.Prelude.{None};
-ghost use Rattle.wasmi_meter.specs.Amounts.{nothing};
-ghost use Rattle.wasmi_core.specs.Totals.{HoldsTotals};
+ghost use Rattle.wasmi_meter.specs.Capped.{nothing};
+ghost use Rattle.wasmi_core.specs.State.{HoldsTotals};
 
 mod limiters;
 mod regions;

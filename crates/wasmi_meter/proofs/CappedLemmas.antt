@@ -1,12 +1,12 @@
--- Limiters with caps leave no choice, and stay within their caps.
-use Rattle.std.proofs.Common.{◌≡◌, ℕ, ◌+◌, ◌-◌, ◌≤◌, Bool, Option, Some, None, Ok, inl, inr, sym, ap, ◌∙◌, arith}
+-- Limiters with caps leave no choice, and stay within their caps; so do quotas.
+use Rattle.std.proofs.Common.{◌≡◌, ℕ, ◌+◌, ◌-◌, ◌≤◌, Bool, Option, Some, None, Ok, inl, inr, sym, ap, ◌∙◌, arith, refl}
 use Rattle.std.proofs.lemmas.Bool.{cases_lt}
 use Rattle.wasmi_meter.specs.declared.holdings.Holdings.{Holdings}
 use Rattle.wasmi_meter.specs.declared.limiter.Kind.{Kind}
 use Rattle.wasmi_meter.specs.declared.limiter.Kind.TheVariants.{Bytes, Elements}
-use Rattle.wasmi_meter.specs.Capped.{Capped, held_together, IsWithin, Asked, Noticed}
-use Rattle.wasmi_meter.specs.Holdings.{amount_held, with_more, without_last_of, Takes}
+use Rattle.wasmi_meter.specs.Capped.{Capped, held_together, IsWithin, Asked, Noticed, amount_held, with_more, without_last_of, Takes, capped_quota, IsWithinCaps}
 use Rattle.wasmi_meter.specs.Limiter.{Question, Answer, Failure, NoticeAnswer, kind_of}
+use Rattle.wasmi_meter.specs.declared.amounts.Amounts.{Amounts}
 
 -- what is to be taken leaves no choice of whether it is, nor of what is held after it
 takes_unique : (others cap : ℕ) (h : Holdings) (kind : Kind) (n : ℕ) (taken taken' : Bool) (a b : Holdings)
@@ -103,3 +103,13 @@ module _ {L : Type 0} (c : Capped L) where
         let less = less_held (kind_of failure) (c.holdings l) (c.holdings l).last kind in
         let bound = within kind in
         omega (arith, is, less, bound))
+
+-- the caps are the same with other holdings
+pub quota_keeps : KeepsCaps capped_quota
+quota_keeps = record { cap = λ quota h kind. refl; others = λ quota h kind. refl }
+
+-- nothing is within any caps
+pub nothing_within : (caps held : Amounts) → (held.bytes ≡ 0) × (held.elements ≡ 0)
+    → IsWithinCaps (record { caps = caps; holdings = record { held = held; last = None } })
+nothing_within caps held none Bytes = omega (arith, none.0)
+nothing_within caps held none Elements = omega (arith, none.1)

@@ -1,3 +1,2 @@
 pub mod AttemptLemmas
 pub mod CappedLemmas
-pub mod QuotaLemmas

@@ -5,10 +5,9 @@ use Rattle.wasmi_meter.specs.declared.amounts.Amounts.{Amounts}
 use Rattle.wasmi_meter.specs.declared.any_limiter.AnyLimiter.{AnyLimiter}
 use Rattle.wasmi_meter.specs.declared.any_limiter.AnyLimiter.TheVariants as limiter
 use Rattle.wasmi_meter.specs.declared.quota.Quota.{Quota}
-use Rattle.wasmi_meter.specs.Amounts.{amounts_of}
+use Rattle.wasmi_meter.specs.Capped.{amounts_of, cap_of, quota_rules}
 use Rattle.wasmi_meter.specs.AnswerList.{AnswersAhead, answer_list_rules}
 use Rattle.wasmi_meter.specs.Limiter.{Question, Answer, Failure, NoticeAnswer, Rules}
-use Rattle.wasmi_meter.specs.Quota.{cap_of, quota_rules}
 
 -- A question is answered as a limiter of its kind answers it, and the kind stays.
 abbrev pub AskedByKind : AnyLimiter → Question → Answer → AnyLimiter → Type 0

@@ -1,9 +1,71 @@
--- The rules of limiters with caps, over what each of them holds and may hold.
-use Rattle.std.specs.Prelude.{◌≡◌, ℕ, ◌+◌, ◌-◌, ◌≤◌, Bool, Ok}
-use Rattle.wasmi_meter.specs.declared.holdings.Holdings.{Holdings}
+-- What limiters with caps hold and may hold, their rules, and those of a quota.
+use Rattle.std.specs.Prelude.{ℕ, ◌≡◌, ◌+◌, ◌-◌, ◌≤◌, ◌<◌, Option, Some, None, Ok, Err, Bool, true, false}
+use Rattle.wasmi_meter.specs.declared.amounts.Amounts.{Amounts}
 use Rattle.wasmi_meter.specs.declared.limiter.Kind.{Kind}
+use Rattle.wasmi_meter.specs.declared.limiter.Kind.TheVariants.{Bytes, Elements}
+use Rattle.wasmi_meter.specs.declared.holdings.Holdings.{Holdings}
 use Rattle.wasmi_meter.specs.Limiter.{Question, Answer, Failure, NoticeAnswer, kind_of, Rules}
-use Rattle.wasmi_meter.specs.Holdings.{amount_held, without_last, Takes}
+use Rattle.wasmi_meter.specs.declared.quota.Quota.{Quota}
+
+-- the amount of a kind
+abbrev pub amount_of : Amounts → Kind → ℕ
+amount_of amounts Bytes = amounts.bytes
+amount_of amounts Elements = amounts.elements
+
+-- the amounts with another one of a kind
+abbrev pub with_amount : Amounts → Kind → ℕ → Amounts
+with_amount amounts Bytes n = record amounts { bytes = n }
+with_amount amounts Elements n = record amounts { elements = n }
+
+-- nothing of either kind
+abbrev pub nothing : Amounts
+nothing = record { bytes = 0; elements = 0 }
+
+-- the amounts by kind
+abbrev pub amounts_of : (Kind → ℕ) → Amounts
+amounts_of amount = record { bytes = amount Bytes; elements = amount Elements }
+
+-- what is held of a kind
+abbrev pub amount_held : Holdings → Kind → ℕ
+amount_held h kind = amount_of h.held kind
+
+-- n more of a kind
+abbrev pub with_more : Holdings → Kind → ℕ → Holdings
+with_more h kind n = record { held = with_amount h.held kind (amount_held h kind + n); last = Some (kind, n) }
+
+-- a notice of a kind takes back the last difference of that kind, once; with nothing of that kind to take back, all
+-- stays
+abbrev pub without_last_of : Kind → Holdings → Option (Kind × ℕ) → Holdings
+without_last_of Bytes h (Some (Bytes, n)) =
+    record { held = with_amount h.held Bytes (h.held.bytes - n); last = None }
+without_last_of Elements h (Some (Elements, n)) =
+    record { held = with_amount h.held Elements (h.held.elements - n); last = None }
+without_last_of kind h last = h
+
+-- what is held after a notice of a kind
+abbrev pub without_last : Kind → Holdings → Holdings
+without_last kind h = without_last_of kind h h.last
+
+-- so many more of a kind are taken exactly where they stay, with what is held and what others hold, within the cap, and
+-- nothing changes otherwise
+pub record Takes (others cap : ℕ) (h : Holdings) (kind : Kind) (n : ℕ) (taken : Bool) (h' : Holdings) : Type 0 where
+  pub within : others + amount_held h kind + n ≤ cap → (taken ≡ true) × (h' ≡ with_more h kind n)
+  pub above : cap < others + amount_held h kind + n → (taken ≡ false) × (h' ≡ h)
+
+-- as much is held of each kind
+pub record HoldsTheSame (h h' : Holdings) : Type 0 where
+  pub bytes : h'.held.bytes ≡ h.held.bytes
+  pub elements : h'.held.elements ≡ h.held.elements
+
+-- a permission adds the difference that was asked for, and another answer keeps what is held
+abbrev pub Reserves : Question → Answer → Holdings → Holdings → Type 0
+Reserves q (Ok true) h h' = h' ≡ with_more h q.kind (q.desired - q.current)
+Reserves q (Ok false) h h' = HoldsTheSame h h'
+Reserves q (Err error) h h' = HoldsTheSame h h'
+
+-- a notice takes back the last difference of its kind, once, and changes nothing that is held otherwise
+abbrev pub GivesBack : Kind → Holdings → Holdings → Type 0
+GivesBack kind h h' = h' ≡ without_last kind h
 
 -- limiters with caps: what one holds, the same one with other holdings, what others hold of a kind beside it, and the
 -- most that all of them together may hold of a kind
@@ -40,3 +102,32 @@ module _ {L : Type 0} (c : Capped L) where
   -- the rules of such limiters
   abbrev pub capped_rules : Rules L
   capped_rules = record { asked = Asked; noticed = Noticed }
+
+-- what a quota holds
+abbrev pub holdings : Quota → Holdings
+holdings quota = quota.holdings
+
+-- the most that it may hold of a kind
+abbrev pub cap_of : Quota → Kind → ℕ
+cap_of quota kind = amount_of quota.caps kind
+
+-- quotas as limiters with caps
+abbrev pub capped_quota : Capped Quota
+capped_quota = record {
+  holdings = holdings;
+  with_holdings = λ quota h. record quota { holdings = h };
+  others = λ quota kind. 0;
+  cap = cap_of;
+}
+
+-- no more of a kind is held than its cap
+abbrev pub IsWithinCaps : Quota → Type 0
+IsWithinCaps = IsWithin capped_quota
+
+-- the caps stay
+abbrev pub SameCaps : Quota → Quota → Type 0
+SameCaps quota quota' = (kind : Kind) → cap_of quota' kind ≡ cap_of quota kind
+
+-- the rules of a quota
+abbrev pub quota_rules : Rules Quota
+quota_rules = capped_rules capped_quota

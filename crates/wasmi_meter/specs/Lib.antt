@@ -1,13 +1,8 @@
 pub mod Limiter
-pub mod LimiterRef
-pub mod Costs
 pub mod Meter
 pub mod Attempt
-pub mod Amounts
-pub mod Holdings
 pub mod Capped
 pub mod CappedProofs
-pub mod Quota
 pub mod AnswerList
 pub mod AnyLimiter
 pub mod Texts

@@ -13,7 +13,7 @@ pub struct Amounts {
 }
 
 impl Amounts {
-    ghost use Rattle.wasmi_meter.specs.Amounts.{amount_of};
+    ghost use Rattle.wasmi_meter.specs.Capped.{amount_of};
 
     /// The amount of one kind.
     pub fn of(&self, kind: Kind) -> u64

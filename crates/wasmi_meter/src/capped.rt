@@ -1,9 +1,8 @@
 //! Limiters that count what they permitted, and those with caps, whose answers that count decides.
 ghost use Rattle.std.specs.Prelude.{◌≡◌};
-ghost use Rattle.wasmi_meter.specs.Capped.{Capped, HoldsMore, capped_rules};
+ghost use Rattle.wasmi_meter.specs.Capped.{Capped, HoldsMore, capped_rules, without_last, Reserves, GivesBack};
 ghost use Rattle.wasmi_meter.specs.CappedProofs.{asked_reserves, noticed_gives_back};
 ghost use Rattle.wasmi_meter.specs.declared.holdings.Holdings.{Holdings};
-ghost use Rattle.wasmi_meter.specs.Holdings.{without_last, Reserves, GivesBack};
 ghost use Rattle.wasmi_meter.specs.Limiter.{Question, Answer, Failure, NoticeAnswer, kind_of};
 
 use crate::error::LimiterError;

@@ -95,7 +95,7 @@ pub struct FuelCostsProvider {
 }
 
 impl FuelCostsProvider {
-    ghost use Rattle.wasmi_meter.specs.Costs.{costs_of, cut_product, copy_cost};
+    ghost use Rattle.wasmi_meter.specs.Meter.{costs_of, cut_product, copy_cost};
 
     /// The costs that a host chose.
     pub fn custom(custom: CustomFuelCosts) -> Self
@@ -196,8 +196,7 @@ pub struct Fuel {
 
 impl Model for Fuel {
     ghost use Rattle.std.specs.Prelude.{◌≡◌, false, Some, None, if◌then◌else◌};
-    ghost use Rattle.wasmi_meter.specs.Meter.{Meter};
-    ghost use Rattle.wasmi_meter.specs.Costs.{costs_of};
+    ghost use Rattle.wasmi_meter.specs.Meter.{Meter, costs_of};
 
     ghost Value = { Meter };
 
@@ -208,8 +207,7 @@ impl Model for Fuel {
 }
 
 impl Fuel {
-    ghost use Rattle.wasmi_meter.specs.Meter.{Meter, amount_left, meter_set, ConsumesFuel};
-    ghost use Rattle.wasmi_meter.specs.Costs.{costs_of, default_costs, Computes};
+    ghost use Rattle.wasmi_meter.specs.Meter.{Meter, amount_left, meter_set, ConsumesFuel, costs_of, default_costs, Computes};
 
     /// A meter that has no fuel yet.
     pub fn new(enabled: bool, costs: FuelCostsProvider) -> Self

@@ -4,10 +4,8 @@
 //! Own: upstream writes these steps in each function that grows something.
 ghost use Rattle.std.specs.Prelude.{◌≡◌};
 ghost use Rattle.wasmi_meter.specs.Attempt.{Permits, error_of_failure};
-ghost use Rattle.wasmi_meter.specs.Costs.{copy_cost};
-ghost use Rattle.wasmi_meter.specs.Limiter.{Failure, MemoryFailure, TableFailure, NoticeAnswer, optional_rules};
-ghost use Rattle.wasmi_meter.specs.LimiterRef.{lent_limiter, KeepsLoan};
-ghost use Rattle.wasmi_meter.specs.Meter.{Charges, due};
+ghost use Rattle.wasmi_meter.specs.Meter.{copy_cost, Charges, due};
+ghost use Rattle.wasmi_meter.specs.Limiter.{Failure, MemoryFailure, TableFailure, NoticeAnswer, optional_rules, lent_limiter, KeepsLoan};
 
 use crate::error::{LimiterError, MemoryError, TableError};
 use crate::fuel::{Fuel, FuelError, ValueSize};

@@ -13,7 +13,7 @@ pub struct Holdings {
 }
 
 impl Holdings {
-    ghost use Rattle.wasmi_meter.specs.Holdings.{Takes, without_last};
+    ghost use Rattle.wasmi_meter.specs.Capped.{Takes, without_last};
 
     /// Holdings of these amounts, of which nothing can be given back.
     pub fn new(held: Amounts) -> Self

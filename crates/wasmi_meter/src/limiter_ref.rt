@@ -3,8 +3,7 @@ ghost use Rattle.std.specs.Prelude.{◌≡◌, ◌≤◌, ℕ, Option, IsSome, S
 ghost use Rattle.std.specs.Option.{option_copied_mut};
 ghost use Rattle.std.specs.Borrow.{sem, Lends};
 ghost use denote.Ref.{at_last};
-ghost use Rattle.wasmi_meter.specs.Limiter.{MemoryFailure, TableFailure, optional_rules};
-ghost use Rattle.wasmi_meter.specs.LimiterRef.{loan, lent_limiter, KeepsLoan, shown_of, LendsLimiter};
+ghost use Rattle.wasmi_meter.specs.Limiter.{MemoryFailure, TableFailure, optional_rules, loan, lent_limiter, KeepsLoan, shown_of, LendsLimiter};
 ghost use Rattle.wasmi_meter.specs.declared.limiter.Kind.TheVariants.{Bytes, Elements};
 
 use crate::error::{LimiterError, MemoryError, TableError};

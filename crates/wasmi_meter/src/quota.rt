@@ -1,7 +1,6 @@
 //! A limiter with a cap on the bytes of memories and one on the elements of tables.
 ghost use Rattle.std.specs.Prelude.{◌≡◌, None};
-ghost use Rattle.wasmi_meter.specs.Amounts.{nothing};
-ghost use Rattle.wasmi_meter.specs.Quota.{holdings, cap_of, capped_quota, IsWithinCaps};
+ghost use Rattle.wasmi_meter.specs.Capped.{nothing, holdings, cap_of, capped_quota, IsWithinCaps};
 ghost use Rattle.wasmi_meter.specs.declared.limiter.Kind.TheVariants.{Bytes, Elements};
 
 use crate::amounts::Amounts;
@@ -20,7 +19,7 @@ pub struct Quota {
 
 impl Quota {
     /// A quota with these caps, in bytes and in elements, which holds nothing yet.
-    #[tactic(auto, using(crate::proofs::QuotaLemmas::nothing_within))]
+    #[tactic(auto, using(crate::proofs::CappedLemmas::nothing_within))]
     pub fn new(bytes: u64, elements: u64) -> Self
         ensures bytes { cap_of result Bytes ≡ bytes }
         ensures elements { cap_of result Elements ≡ elements }

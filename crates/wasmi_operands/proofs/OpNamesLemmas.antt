@@ -11,17 +11,9 @@ use Rattle.wasmi_ops.specs.declared.vector.shift.TheConstants.{SHIFTS}
 use Rattle.wasmi_ops.specs.declared.vector.test.TheConstants.{TESTS}
 use Rattle.wasmi_ops.specs.declared.vector.lane_kind.TheConstants.{EXTRACTIONS, REPLACEMENTS, LANE_LOADS, LANE_STORES}
 use Rattle.wasmi_ops.specs.declared.vector.access.TheConstants.{VECTOR_LOADS}
-use Rattle.wasmi_ops.specs.ScalarAccessOps.{load_name, store_name}
-use Rattle.wasmi_ops.specs.ScalarUnaryOps.{scalar_unary_name}
-use Rattle.wasmi_ops.specs.ScalarBinaryOps.{scalar_binary_name}
-use Rattle.wasmi_ops.specs.MakeOps.{make_name}
-use Rattle.wasmi_ops.specs.UnaryOps.{unary_name}
-use Rattle.wasmi_ops.specs.BinaryOps.{binary_name}
-use Rattle.wasmi_ops.specs.TernaryOps.{ternary_name}
-use Rattle.wasmi_ops.specs.ShiftOps.{shift_name}
-use Rattle.wasmi_ops.specs.TestOps.{test_name}
-use Rattle.wasmi_ops.specs.LaneKinds.{extract_name, extract_op, replace_name, replace_op, load_lane_name, load_lane_op, store_lane_name, store_lane_op}
-use Rattle.wasmi_ops.specs.VectorAccessOps.{vector_load_name}
+use Rattle.wasmi_ops.specs.ScalarOps.{load_name, store_name, scalar_unary_name, scalar_binary_name}
+use Rattle.wasmi_ops.specs.VectorOps.{make_name, unary_name, binary_name, ternary_name, shift_name, test_name, vector_load_name}
+use Rattle.wasmi_ops.specs.LaneOps.{extract_name, extract_op, replace_name, replace_op, load_lane_name, load_lane_op, store_lane_name, store_lane_op}
 use Rattle.wasmi_ops.specs.contracts.scalar.access.LoadOp as load
 use Rattle.wasmi_ops.specs.contracts.scalar.access.StoreOp as store
 use Rattle.wasmi_ops.specs.contracts.scalar.unary.ScalarUnaryOp as scalar_unary

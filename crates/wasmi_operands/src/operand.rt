@@ -4,17 +4,9 @@
 ghost use Rattle.std.specs.Prelude.{◌≡◌, ℕ, List, length};
 ghost use Rattle.wasmi_operands.specs.Names.{WritesAnswer, IsName, WritesReference, mutability_word, reference_word, value_word, width_word};
 ghost use Rattle.wasmi_operands.specs.LineWords.{Accepts, AcceptsWithMemory, WritesNumber, WritesEach, word_at};
-ghost use Rattle.wasmi_ops.specs.ScalarAccessOps.{load_name, store_name};
-ghost use Rattle.wasmi_ops.specs.ScalarBinaryOps.{scalar_binary_name};
-ghost use Rattle.wasmi_ops.specs.ScalarUnaryOps.{scalar_unary_name};
-ghost use Rattle.wasmi_ops.specs.VectorAccessOps.{vector_load_name};
-ghost use Rattle.wasmi_ops.specs.BinaryOps.{binary_name};
-ghost use Rattle.wasmi_ops.specs.LaneKinds.{extract_name, load_lane_name, replace_name, store_lane_name};
-ghost use Rattle.wasmi_ops.specs.MakeOps.{make_name};
-ghost use Rattle.wasmi_ops.specs.ShiftOps.{shift_name};
-ghost use Rattle.wasmi_ops.specs.TernaryOps.{ternary_name};
-ghost use Rattle.wasmi_ops.specs.TestOps.{test_name};
-ghost use Rattle.wasmi_ops.specs.UnaryOps.{unary_name};
+ghost use Rattle.wasmi_ops.specs.ScalarOps.{load_name, store_name, scalar_binary_name, scalar_unary_name};
+ghost use Rattle.wasmi_ops.specs.VectorOps.{vector_load_name, binary_name, make_name, shift_name, ternary_name, test_name, unary_name};
+ghost use Rattle.wasmi_ops.specs.LaneOps.{extract_name, load_lane_name, replace_name, store_lane_name};
 
 use crate::decimal::number;
 use crate::error::LineError;

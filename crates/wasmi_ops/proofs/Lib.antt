@@ -1,2 +1,1 @@
-pub mod WideLemmas
-pub mod ScalarAccessLemmas
+pub mod ScalarOpsLemmas

@@ -1,13 +1,3 @@
-pub mod BinaryOps
-pub mod LaneKinds
 pub mod LaneOps
-pub mod MakeOps
-pub mod RawResults
-pub mod ScalarAccessOps
-pub mod ScalarBinaryOps
-pub mod ScalarUnaryOps
-pub mod ShiftOps
-pub mod TernaryOps
-pub mod TestOps
-pub mod UnaryOps
-pub mod VectorAccessOps
+pub mod ScalarOps
+pub mod VectorOps

@@ -1,4 +1,3 @@
 pub mod Number
 pub mod NumberProofs
 pub mod RawVal
-pub mod Vector

@@ -1,9 +1,12 @@
--- What the two words of a raw value mean, by type.
-use Rattle.std.specs.Prelude.{ℕ, ◌%◌, ◌/◌, ◌^◌, ◌==◌, Bool, not, ℤ}
+-- What the two words of a raw value and of a vector mean, by type.
+use Rattle.std.specs.Prelude.{ℕ, ◌+◌, ◌*◌, ◌^◌, ◌%◌, ◌/◌, ◌==◌, Bool, not, ℤ}
 use Rattle.std.specs.Int.{Width, cast_signed}
 use mir.Val.{bits}
-use Rattle.wasmi_raw.specs.Vector.{vector_of}
 use Rattle.wasmi_raw.specs.declared.raw.RawVal.{RawVal}
+
+-- the vector whose words are low and high
+abbrev pub vector_of : ℕ → ℕ → ℕ
+vector_of low high = high * 2 ^ 64 + low
 
 -- the low word cut to a width: the unsigned integer, and the signed one
 abbrev pub unsigned_in : Width → RawVal → ℕ

@@ -1,7 +1,7 @@
 //! The 128-bit value that vector instructions work on.
 
 ghost use Rattle.std.specs.Prelude.{◌≡◌, ℕ, ◌/◌, ◌%◌, ◌^◌, ◌<◌};
-ghost use Rattle.wasmi_raw.specs.Vector.{vector_of};
+ghost use Rattle.wasmi_raw.specs.RawVal.{vector_of};
 
 use std::marker::Model;
 

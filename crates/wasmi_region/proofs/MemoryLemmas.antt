@@ -5,8 +5,7 @@ use Rattle.std.proofs.lemmas.Bool.Decides.{nat_tests}
 use Rattle.std.proofs.lemmas.List.{take_at, drop_at, drop-drop, length-append, length-replicate, length-take-le, length-drop}
 use Rattle.wasmi_store.specs.Buffer.{with_zeros, fits_room}
 use Rattle.wasmi_store.specs.Growth.{IsAsked}
-use Rattle.wasmi_store.specs.Memory.{MemoryValue, memory_of, buffer_of, pages_of, growth_of, size_question}
-use Rattle.wasmi_store.specs.MemoryType.{MemoryTypeValue, page_bytes, in_bounds, maximum_bytes}
+use Rattle.wasmi_store.specs.Memory.{MemoryValue, memory_of, buffer_of, pages_of, growth_of, size_question, MemoryTypeValue, page_bytes, in_bounds, maximum_bytes}
 use Rattle.wasmi_region.specs.Memory.{memory_in}
 use Rattle.wasmi_store.proofs.MemoryLemmas.{growth_asked}
 

@@ -10,8 +10,7 @@ use Rattle.wasmi_meter.specs.declared.error.TableError.TheVariants.{GrowOutOfBou
 use Rattle.wasmi_meter.specs.declared.limiter.Kind.TheVariants.{Elements}
 use Rattle.wasmi_meter.proofs.AttemptLemmas.{IsPermitted, ReachesCharge}
 use Rattle.wasmi_store.specs.Growth.{IsAsked}
-use Rattle.wasmi_store.specs.Table.{TableValue, table_of, size_of, element_price, with_added}
-use Rattle.wasmi_store.specs.TableType.{TableTypeValue, is_indexable, is_within_maximum}
+use Rattle.wasmi_store.specs.Table.{TableValue, table_of, size_of, element_price, with_added, TableTypeValue, is_indexable, is_within_maximum}
 use Rattle.wasmi_region.specs.Table.{table_in, typed_as, creation_in, growth_in, region_growth}
 use Rattle.wasmi_store.proofs.GrowthLemmas as any
 use Rattle.wasmi_store.proofs.GrowthLemmas.{no_cause, a_cause, permitted_by, TellsOf, GrowthAttempt, EndsIn}

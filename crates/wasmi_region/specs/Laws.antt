@@ -4,8 +4,7 @@ use Rattle.wasmi_meter.specs.Attempt.{MeteredValue, optional_due, covers}
 use Rattle.wasmi_meter.specs.Limiter.{Question, Answer, IsDenial, Rules}
 use Rattle.wasmi_meter.specs.Meter.{Meter}
 use Rattle.wasmi_meter.specs.declared.error.TableError.{TableError}
-use Rattle.wasmi_store.specs.Table.{TableValue, MakesTable, GrowsTableRaw, new_table, size_of}
-use Rattle.wasmi_store.specs.TableType.{TableTypeValue, is_indexable, is_within_maximum}
+use Rattle.wasmi_store.specs.Table.{TableValue, MakesTable, GrowsTableRaw, new_table, size_of, TableTypeValue, is_indexable, is_within_maximum}
 use Rattle.wasmi_region.specs.Table.{MakesTableIn, GrowsTableIn, creation_in, growth_in, typed_as}
 
 -- a limiter was asked a question, and denied it

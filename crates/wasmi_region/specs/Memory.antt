@@ -2,8 +2,7 @@
 use Rattle.std.specs.Prelude.{ℕ, List, take, drop, Result, Ok, Err}
 use Rattle.wasmi_meter.specs.declared.error.MemoryError.{MemoryError}
 use Rattle.wasmi_store.specs.Buffer.{Lent}
-use Rattle.wasmi_store.specs.Memory.{MemoryValue}
-use Rattle.wasmi_store.specs.MemoryType.{MemoryTypeValue}
+use Rattle.wasmi_store.specs.Memory.{MemoryValue, MemoryTypeValue}
 
 -- the memory of a type that has so many bytes at the front of a region, and the rest of it as room
 abbrev pub memory_in : MemoryTypeValue → List ℕ → ℕ → MemoryValue

@@ -7,8 +7,7 @@ use Rattle.wasmi_meter.specs.declared.error.TableError.{TableError}
 use Rattle.wasmi_meter.specs.declared.error.TableError.TheVariants.{OutOfSystemMemory}
 use Rattle.wasmi_store.specs.Growth.{WithCharge, Makes, Growth, Grows}
 use Rattle.wasmi_store.specs.Segment.{SegmentValue}
-use Rattle.wasmi_store.specs.Table.{TableValue, table_of, size_of, new_table, creation_of, growth_of}
-use Rattle.wasmi_store.specs.TableType.{TableTypeValue}
+use Rattle.wasmi_store.specs.Table.{TableValue, table_of, size_of, new_table, creation_of, growth_of, TableTypeValue}
 
 -- the table of a type that has so many elements at the front of a region
 abbrev pub table_in : TableTypeValue → List ℕ → ℕ → TableValue

@@ -5,13 +5,10 @@
 //! Own: upstream's memory borrows its static buffer for as long as it lives.
 ghost use Rattle.std.specs.Prelude.{◌≡◌, ◌≤◌, ◌+◌, ◌-◌, ◌*◌, ◌/◌, ℕ, length, take, drop, nat_le, OnOk, OnErr, IfOk, IfErr, Some, None, MatchOption, true, false};
 ghost use Rattle.wasmi_types.specs.Access.{overwrite};
-ghost use Rattle.wasmi_meter.specs.Limiter.{optional_rules};
-ghost use Rattle.wasmi_meter.specs.LimiterRef.{lent_limiter, KeepsLoan};
+ghost use Rattle.wasmi_meter.specs.Limiter.{optional_rules, lent_limiter, KeepsLoan};
 ghost use Rattle.wasmi_store.specs.Buffer.{Lent};
-ghost use Rattle.wasmi_store.specs.Bulk.{filled, copied, BulkWrites};
-ghost use Rattle.wasmi_store.specs.Growth.{metered_value, metered};
-ghost use Rattle.wasmi_store.specs.Memory.{IsSized, MakesMemory, GrowsMemory};
-ghost use Rattle.wasmi_store.specs.MemoryType.{page_bytes, in_bounds, maximum_bytes};
+ghost use Rattle.wasmi_store.specs.Growth.{filled, copied, BulkWrites, metered_value, metered};
+ghost use Rattle.wasmi_store.specs.Memory.{IsSized, MakesMemory, GrowsMemory, page_bytes, in_bounds, maximum_bytes};
 ghost use Rattle.wasmi_region.specs.Memory.{memory_in, made_in};
 
 use wasmi_meter::growth::tell;

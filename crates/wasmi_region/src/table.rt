@@ -4,11 +4,9 @@
 //!
 //! Own: upstream's table owns its elements.
 ghost use Rattle.std.specs.Prelude.{◌≡◌, ◌≤◌, ◌<◌, ◌+◌, ◌-◌, ℕ, length, drop, OnErr, IfOk, Some, MatchOption, true, false};
-ghost use Rattle.wasmi_meter.specs.Limiter.{optional_rules};
-ghost use Rattle.wasmi_meter.specs.LimiterRef.{lent_limiter, KeepsLoan};
+ghost use Rattle.wasmi_meter.specs.Limiter.{optional_rules, lent_limiter, KeepsLoan};
 ghost use Rattle.wasmi_store.specs.Growth.{metered_value, metered};
-ghost use Rattle.wasmi_store.specs.Table.{table_of, IsSized, SetsTableRaw, WritesTable, raw_filling_of, copy_of, initialization_of};
-ghost use Rattle.wasmi_store.specs.TableType.{is_indexable};
+ghost use Rattle.wasmi_store.specs.Table.{table_of, IsSized, SetsTableRaw, WritesTable, raw_filling_of, copy_of, initialization_of, is_indexable};
 ghost use Rattle.wasmi_region.specs.Table.{table_in, made_in, items_of, MakesTableIn, GrowsTableIn};
 
 use wasmi_meter::growth::{charge, permission, tell};

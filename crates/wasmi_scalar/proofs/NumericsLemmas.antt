@@ -2,10 +2,9 @@
 use Rattle.std.proofs.Common.{◌≡◌, sym, arith, ℕ, zero, suc, ◌+◌, ◌-◌, ◌*◌, ◌/◌, ◌%◌, ◌^◌, ◌<◌, ◌≤◌, ◌∙◌, refl, ap, add-mul, mul_comm, mul-one, add-zero, zero-add, div-one, mod-eq_of_lt, subst}
 use Rattle.std.specs.Prelude.{Result, Ok, Err, ℤ, pos, negsuc, ◌+ℤ◌, ◌*ℤ◌, neg_ℤ, bit_or}
 use Rattle.wasmi_types.specs.declared.trap.TrapCode.{TrapCode}
-use Rattle.wasmi_scalar.specs.Numerics.{GivesNumber, amount_modulo, ishl, rotated_left, irotl, irotr}
+use Rattle.wasmi_scalar.specs.Numerics.{GivesNumber, amount_modulo, ishl, rotated_left, irotl, irotr, unsigned_of, signed_of}
 use Rattle.std.specs.Int.{w64, w128, cast_unsigned, Width, cast_signed, int_wrap, int_shl, int_rem_euclid, rotate_left, rotate_right}
 use Rattle.std.proofs.lemmas.Int.{ints, to_z-of_z, int_rem_euclid_is, wrapping_add_is, wrapping_sub_is}
-use Rattle.wasmi_scalar.specs.Wide.{unsigned_of, signed_of}
 use mir.Val.{SFits, bits, hbits}
 use Rattle.std.specs.Int.RustNames.{unsigned_abs}
 use Rattle.std.proofs.lemmas.Nat.{mod_below, or_shifted, or_comm, mod-pow-add, shl-shr, shr_below, pow_pos}

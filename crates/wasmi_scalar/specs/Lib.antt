@@ -1,2 +1,1 @@
 pub mod Numerics
-pub mod Wide

@@ -4,7 +4,7 @@
 -- of 2 to the power `bits w` (the standard's `wrap` and `extend_s`), `cast_unsigned w z` the unsigned number with the
 -- bits of z, `cast_signed w n` the signed number with the bits of n.
 use Rattle.std.specs.Prelude.{ℕ, ◌+◌, ◌-◌, ◌*◌, ◌/◌, ◌%◌, ◌^◌, ℤ, pos, ◌+ℤ◌, ◌-ℤ◌, ◌*ℤ◌, int_div, int_rem, int_lt, int_le, nat_lt, nat_le, ◌==◌, not, Bool, bit_and, bit_or, bit_xor, count_ones, Result, Ok, Err, if◌then◌else◌}
-use Rattle.std.specs.Int.{Width, cast_signed, cast_unsigned, int_wrap, int_shr, leading_zeros, trailing_zeros}
+use Rattle.std.specs.Int.{Width, cast_signed, cast_unsigned, int_wrap, int_shr, leading_zeros, trailing_zeros, w64}
 use Rattle.std.specs.Ordering.{int_eq}
 use mir.Val.{bits}
 use Rattle.wasmi_types.specs.declared.trap.TrapCode.{TrapCode}
@@ -149,3 +149,19 @@ ige_s x y = ile_s y x
 -- whether the first is at least the second, both read unsigned
 abbrev pub ige_u : ℕ → ℕ → Bool
 ige_u m n = ile_u n m
+
+-- the number of a low and a high word, read unsigned
+abbrev pub unsigned_of : ℤ → ℤ → ℕ
+unsigned_of lo hi = cast_unsigned w64 hi * 2 ^ 64 + cast_unsigned w64 lo
+
+-- the number of two words of 64 bits, of which the high one is read signed
+abbrev pub signed_of : ℤ → ℤ → ℤ
+signed_of lo hi = (hi *ℤ pos (2 ^ 64)) +ℤ pos (cast_unsigned w64 lo)
+
+-- the sum modulo 2 to the power 128
+abbrev pub add128 : ℕ → ℕ → ℕ
+add128 m n = (m + n) % 2 ^ 128
+
+-- the difference modulo 2 to the power 128
+abbrev pub sub128 : ℕ → ℕ → ℕ
+sub128 m n = (m + 2 ^ 128 - n) % 2 ^ 128

@@ -5,10 +5,8 @@ use Rattle.wasmi_meter.specs.declared.limiter.NoLimits.{NoLimits}
 use Rattle.wasmi_meter.specs.Limiter.{optional_rules, unlimited_rules}
 use Rattle.wasmi_core.specs.declared.calls.Call.{Call}
 use Rattle.wasmi_core.specs.declared.calls.Reply.{Reply}
-use Rattle.wasmi_core.specs.State.{State, new_state}
-use Rattle.wasmi_core.specs.Totals.{HoldsTotals}
-use Rattle.wasmi_core.specs.World.{World, world}
-use Rattle.wasmi_core.specs.Runs.{IsRunOf}
+use Rattle.wasmi_core.specs.State.{State, new_state, HoldsTotals, World, world}
+use Rattle.wasmi_core.specs.Steps.{IsRunOf}
 use Rattle.wasmi_grammar.specs.declared.header.Header.{Header}
 use Rattle.wasmi_grammar.specs.Headers.{meter_of, region_bytes, start_of}
 use Rattle.wasmi_script.specs.ScriptRuns.{nothing_held, AnswersParts}

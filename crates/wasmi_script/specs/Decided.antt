@@ -11,9 +11,8 @@ use Rattle.wasmi_script.specs.Status.{status_after}
 use Rattle.wasmi_meter.specs.Limiter.{optional_rules}
 use Rattle.wasmi_core.specs.declared.calls.Call.{Call}
 use Rattle.wasmi_core.specs.declared.calls.Reply.{Reply}
-use Rattle.wasmi_core.specs.State.{State}
-use Rattle.wasmi_core.specs.World.{World, world}
-use Rattle.wasmi_core.specs.Runs.{IsRunOf}
+use Rattle.wasmi_core.specs.State.{State, World, world}
+use Rattle.wasmi_core.specs.Steps.{IsRunOf}
 
 -- no word of an `answers` line is `complain`: each notice is accepted
 abbrev pub HasNoComplain : Option LimiterLine → Type 0

@@ -9,15 +9,13 @@ use Rattle.std.specs.List.{zip, enumerate_from}
 use Rattle.wasmi_meter.specs.declared.limiter.Kind.TheVariants.{Bytes, Elements}
 use Rattle.wasmi_core.specs.declared.calls.Call.{Call}
 use Rattle.wasmi_core.specs.declared.calls.Reply.{Reply}
-use Rattle.wasmi_core.specs.State.{State}
-use Rattle.wasmi_core.specs.Totals.{total}
+use Rattle.wasmi_core.specs.State.{State, total}
 use Rattle.wasmi_script.specs.declared.running.Held.{Held}
 use Rattle.wasmi_script.specs.declared.running.Held.TheVariants.{Nothing, Quota, Tenants}
 use Rattle.wasmi_script.specs.declared.printing.Replayed.{Replayed}
 use Rattle.wasmi_script.specs.declared.replaying.Status.{Status}
 use Rattle.wasmi_script.specs.declared.replaying.Status.TheVariants.{Fault}
-use Rattle.wasmi_grammar.specs.Lines.{WritesScript, calls_of}
-use Rattle.wasmi_grammar.specs.Refusals.{IsFirstBadLine}
+use Rattle.wasmi_grammar.specs.Lines.{WritesScript, calls_of, IsFirstBadLine}
 use Rattle.wasmi_script.specs.Printing.{AppendsFront, line}
 use Rattle.wasmi_script.specs.ScriptRuns.{IsReplayOf}
 use Rattle.wasmi_script.specs.Status.{status_after}

@@ -7,15 +7,15 @@ use Rattle.std.proofs.lemmas.Simd.{get_or-zip2, get_or-replicate, length-replica
 use Rattle.std.specs.Int.{cast_unsigned, cast_signed}
 use Rattle.std.specs.Int.Signed.{shr_z}
 use Rattle.std.specs.Simd.Lanes.{digits_l, number_l, zip2}
-use Rattle.wasmi_types.specs.Wrapping.{Width, bits, signed, wrap}
-use Rattle.wasmi_lanes.specs.Lane.{lane, unsigned}
+use Rattle.wasmi_types.specs.Numbers.{Width, bits, signed, wrap}
+use Rattle.wasmi_lanes.specs.Vector.{lane, unsigned}
 use Rattle.wasmi_lanes.proofs.VectorLemmas.{lane_below, lanes_make_vector}
 use Rattle.wasmi_simd.specs.WideningProofs.{IsWidening}
 use Rattle.wasmi_simd.proofs.HalfLemmas.{AreSignedLanes, bits_at, reread}
 use Rattle.wasmi_simd.proofs.WideningLemmas.{extended_fits, product_fits, sum_below, sum_of_bits, dot_of_bits}
 use mir.Val.{hbits, sel}
 use Rattle.std.proofs.Math.Nat.{mod-eq_of_lt}
-use Rattle.wasmi_simd.specs.Widening.{pairwise_unary, pairwise_binary}
+use Rattle.wasmi_simd.specs.WideningTable.{pairwise_unary, pairwise_binary}
 
 -- ---- lanes and one number
 

@@ -7,7 +7,7 @@ use Rattle.std.proofs.lemmas.Bool.{cases_lt, le-leb, lt-leb}
 use Rattle.std.specs.Simd.Lanes.{number_l}
 use Rattle.wasmi_lanes.specs.Words.{field}
 use Rattle.wasmi_lanes.proofs.FieldLemmas.{field_and, field_lt, first_lane, next_lane, repeated_lane}
-use Rattle.wasmi_simd.specs.Widening.{first_bits}
+use Rattle.wasmi_simd.specs.WideningTable.{first_bits}
 
 -- the number whose n digits in base p are g 0, g 1 ..
 abbrev spelled : ℕ → ℕ → (ℕ → ℕ) → ℕ

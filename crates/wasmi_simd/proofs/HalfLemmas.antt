@@ -10,13 +10,13 @@ use Rattle.std.proofs.lemmas.List.FromFn.{length-range_with_len}
 use Rattle.std.proofs.lemmas.Nat.{pow_pos}
 use Rattle.std.specs.Int.{cast_unsigned, cast_signed}
 use Rattle.std.specs.Simd.Lanes.{digits_l, number_l, zip2}
-use Rattle.wasmi_types.specs.Wrapping.{Width, w8, w16, bits, signed, wrap}
-use Rattle.wasmi_lanes.specs.Lane.{lane, unsigned}
+use Rattle.wasmi_types.specs.Numbers.{Width, w8, w16, bits, signed, wrap}
+use Rattle.wasmi_lanes.specs.Vector.{lane, unsigned}
 use Rattle.wasmi_lanes.proofs.SimdLaneLemmas.{digit_at, read_at, written_at}
 use Rattle.wasmi_lanes.proofs.TopLemmas.{xor_top}
 use Rattle.wasmi_lanes.proofs.VectorLemmas.{lane_below, lanes_make_vector}
 use Rattle.wasmi_simd.specs.WideningProofs.{IsWidening}
-use Rattle.wasmi_simd.specs.Widening.{half_unary, half_binary}
+use Rattle.wasmi_simd.specs.WideningTable.{half_unary, half_binary}
 use Rattle.wasmi_simd.proofs.WideningLemmas.{extended_fits, wrapped_is, product_of_bits, product_below}
 use lib.Dec.{T}
 use lib.Lanes.{pick_l, all_below}

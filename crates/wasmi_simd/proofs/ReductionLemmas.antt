@@ -7,13 +7,13 @@ use Rattle.std.proofs.lemmas.Nat.Bits.{and_pow}
 use Rattle.std.specs.Int.Bits.{and_self}
 use Rattle.std.proofs.lemmas.Bool.{eqb-true, eq-eqb, cases_eq, cases_lt}
 use Rattle.std.proofs.Math.Pow.{pow_mono}
-use Rattle.wasmi_types.specs.Wrapping.{Width, bits}
-use Rattle.wasmi_lanes.specs.Lane.{lane, unsigned}
+use Rattle.wasmi_types.specs.Numbers.{Width, bits}
+use Rattle.wasmi_lanes.specs.Vector.{lane, unsigned}
 use Rattle.wasmi_lanes.specs.Words.{field, lanes_in_word, in_each_lane}
 use Rattle.wasmi_lanes.proofs.FieldLemmas.{field_lt, field_and, field_not, field_wrapping_sub, field_of_zero, same_words}
 use Rattle.wasmi_lanes.proofs.VectorLemmas.{lanes_of_width}
 use Rattle.wasmi_lanes.proofs.WordVectorLemmas.{AreWords, low_lane, high_lane, filled, some_bits, lane_of_each, top_in_range}
-use Rattle.wasmi_simd.specs.Widening.{holds_below, first_bits, every_lane, lane_bits}
+use Rattle.wasmi_simd.specs.WideningTable.{holds_below, first_bits, every_lane, lane_bits}
 
 -- ---- tests that hold of all numbers below n
 

@@ -10,10 +10,9 @@ use Rattle.std.proofs.lemmas.Nat.{and_le_l, pow_pos, pow-add, mod-pow-add, and_m
 use Rattle.std.proofs.Math.Pow.{pow_mono}
 use Rattle.std.specs.List.{range_with_len}
 use Rattle.std.proofs.lemmas.List.FromFn.{get_or-map-range_with_len}
-use Rattle.wasmi_types.specs.Wrapping.{Width, w8, w64, bits, signed, wrap}
-use Rattle.wasmi_lanes.specs.Lane.{lane, unsigned}
-use Rattle.wasmi_lanes.specs.Vector.{unary_of_lanes, from_lanes}
-use Rattle.wasmi_raw.specs.Vector.{vector_of}
+use Rattle.wasmi_types.specs.Numbers.{Width, w8, w64, bits, signed, wrap}
+use Rattle.wasmi_lanes.specs.Vector.{lane, unsigned, unary_of_lanes, from_lanes}
+use Rattle.wasmi_raw.specs.RawVal.{vector_of}
 use Rattle.wasmi_lanes.specs.Words.{field, lanes_in_word, in_each_lane}
 use Rattle.wasmi_lanes.proofs.SimdLaneLemmas.{number_below}
 use Rattle.wasmi_lanes.proofs.FieldLemmas.{field_and, field_mod, first_lane, repeated_lane, lane_shr}

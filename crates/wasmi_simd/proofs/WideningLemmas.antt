@@ -8,9 +8,8 @@ use Rattle.std.proofs.Math.Nat.{mod-eq_of_lt, mod-lt, div-eq_of_lt, zero-div}
 use Rattle.std.proofs.Math.Dec.{eqb-suc-zero}
 use Rattle.std.proofs.Math.Pow.{pow_mono}
 use Rattle.std.proofs.lemmas.Bool.{cases_lt, lt-ltb, le-ltb, le-leb}
-use Rattle.wasmi_types.specs.Wrapping.{Width, w8, w16, w32, w64, bits, wrap, signed}
-use Rattle.wasmi_lanes.specs.Lane.{lane, signed_fits, unsigned}
-use Rattle.wasmi_lanes.specs.Vector.{with_lane}
+use Rattle.wasmi_types.specs.Numbers.{Width, w8, w16, w32, w64, bits, wrap, signed}
+use Rattle.wasmi_lanes.specs.Vector.{lane, signed_fits, unsigned, with_lane}
 use Rattle.wasmi_lanes.proofs.VectorLemmas.{lane_below, lanes_make_vector, lane_of_from}
 use Rattle.wasmi_lanes.proofs.WordVectorLemmas.{some_bits}
 use Rattle.wasmi_simd.specs.WideningProofs.{IsWidening}
@@ -19,7 +18,7 @@ use mir.Val.{hbits}
 use Rattle.std.proofs.lemmas.Float.{T_from_true}
 use Rattle.std.proofs.lemmas.Nat.Bits.{bit_at_lowest, bit_at-suc}
 use mir.Syntax.{w128}
-use Rattle.wasmi_simd.specs.Widening.{lane_count, half_unary, half_binary, pairwise_unary, pairwise_binary, from_low_high, first_bits, lane_bits, every_lane, holds_below}
+use Rattle.wasmi_simd.specs.WideningTable.{lane_count, half_unary, half_binary, pairwise_unary, pairwise_binary, from_low_high, first_bits, lane_bits, every_lane, holds_below}
 use Rattle.wasmi_simd.proofs.ReductionLemmas.{bits_below, holds_of_each, each_holds}
 
 -- numbers that are `low` below n and `high` from n on

@@ -1,3 +1,2 @@
-pub mod Widening
 pub mod WideningProofs
 pub mod WideningTable

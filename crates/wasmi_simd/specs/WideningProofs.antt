@@ -1,6 +1,6 @@
 -- The widths of which one is twice another, and what follows of their lanes.
 use Rattle.std.proofs.Common.{ℕ, ◌+◌, ◌*◌, ◌^◌, ◌<◌, ◌≡◌, leb, lit<, refl}
-use Rattle.wasmi_types.specs.Wrapping.{Width, w8, w16, w32, w64, bits}
+use Rattle.wasmi_types.specs.Numbers.{Width, w8, w16, w32, w64, bits}
 use lib.Dec.{T}
 use mir.Val.{hbits}
 

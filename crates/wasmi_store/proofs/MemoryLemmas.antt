@@ -5,12 +5,10 @@ use Rattle.wasmi_meter.specs.declared.error.MemoryError.{MemoryError}
 use Rattle.wasmi_meter.specs.declared.error.MemoryError.TheVariants.{OutOfBoundsGrowth, ResourceLimiterDeniedAllocation, MinimumSizeOverflow, InvalidStaticBufferSize, OutOfFuel}
 use Rattle.wasmi_meter.specs.declared.limiter.Kind.TheVariants.{Bytes}
 use Rattle.wasmi_meter.specs.Limiter.{Question, Answer, Rules}
-use Rattle.wasmi_meter.specs.Meter.{Meter, due, Charges}
-use Rattle.wasmi_meter.specs.Costs.{copy_cost}
+use Rattle.wasmi_meter.specs.Meter.{Meter, due, Charges, copy_cost}
 use Rattle.wasmi_meter.specs.Attempt.{Permits}
 use Rattle.wasmi_store.specs.Buffer.{Room, with_zeros, fits_room, CanFail}
-use Rattle.wasmi_store.specs.MemoryType.{MemoryTypeValue, page_bytes, minimum_bytes, maximum_bytes, in_bounds}
-use Rattle.wasmi_store.specs.Memory.{MemoryValue, memory_of, buffer_of, pages_of, new_memory, size_question, creation_of, growth_of, MakesMemory, PermitsMinimum}
+use Rattle.wasmi_store.specs.Memory.{MemoryTypeValue, page_bytes, minimum_bytes, maximum_bytes, in_bounds, MemoryValue, memory_of, buffer_of, pages_of, new_memory, size_question, creation_of, growth_of, MakesMemory, PermitsMinimum}
 use Rattle.wasmi_store.proofs.GrowthLemmas as any
 use Rattle.wasmi_meter.proofs.AttemptLemmas.{IsPermitted, ReachesCharge}
 use Rattle.wasmi_store.specs.Growth.{IsAsked}

@@ -10,12 +10,11 @@ use Rattle.wasmi_meter.specs.declared.limiter.Kind.TheVariants.{Elements}
 use Rattle.wasmi_meter.specs.Limiter.{Question, Answer, Rules}
 use Rattle.wasmi_meter.specs.Meter.{Meter, due, Charges}
 use Rattle.wasmi_meter.specs.Attempt.{MeteredValue}
-use Rattle.wasmi_store.specs.TableType.{TableTypeValue, is_indexable, is_within_maximum, same_type}
-use Rattle.wasmi_store.specs.Table.{TableValue, size_of, new_table, with_added, element_price, creation_of, growth_of, MakesTable, GrowsTableRawCharging, GrowsTableCharging}
+use Rattle.wasmi_store.specs.Table.{TableTypeValue, is_indexable, is_within_maximum, same_type, TableValue, size_of, new_table, with_added, element_price, creation_of, growth_of, MakesTable, GrowsTableRawCharging, GrowsTableCharging}
 use Rattle.wasmi_meter.proofs.AttemptLemmas.{IsPermitted, ReachesCharge}
 use Rattle.wasmi_store.specs.Growth.{IsAsked}
 use Rattle.wasmi_store.proofs.GrowthLemmas.{no_cause, a_cause, permitted_by, TellsOf, GrowthAttempt, EndsIn}
-use Rattle.wasmi_types.proofs.SoFarLemmas.{SoFar, SoFar-next, Yields-snoc}
+use Rattle.wasmi_types.proofs.ReadingLemmas.{SoFar, SoFar-next, Yields-snoc}
 use Rattle.wasmi_store.specs.Segment.{most_items, IsOutOfMemory}
 use Rattle.wasmi_store.proofs.GrowthLemmas as any
 

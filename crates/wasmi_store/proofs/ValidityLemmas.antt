@@ -14,13 +14,11 @@ use Rattle.wasmi_store.specs.Buffer.{Room, with_zeros}
 use Rattle.wasmi_store.specs.Growth.{Growth, Makes, Grows}
 use Rattle.wasmi_store.specs.declared.memory.ty.PageSize.{PageSize}
 use Rattle.wasmi_store.specs.declared.memory.ty.PageSize.TheVariants.{Byte, Wasm}
-use Rattle.wasmi_store.specs.MemoryType.{MemoryTypeValue, page_bytes, minimum_bytes, greatest_pages, in_bounds}
-use Rattle.wasmi_store.specs.MemoryType as memory_type
-use Rattle.wasmi_store.specs.Memory.{MemoryValue, buffer_of, pages_of, new_memory, IsValidMemory, MakesMemory, GrowsMemoryCharging}
+use Rattle.wasmi_store.specs.Memory.{MemoryTypeValue, page_bytes, minimum_bytes, greatest_pages, in_bounds, MemoryValue, buffer_of, pages_of, new_memory, IsValidMemory, MakesMemory, GrowsMemoryCharging}
+use Rattle.wasmi_store.specs.Memory as memory_type
 use Rattle.wasmi_store.specs.Memory as memory
-use Rattle.wasmi_store.specs.TableType.{TableTypeValue, is_indexable, is_within_maximum, same_type}
-use Rattle.wasmi_store.specs.TableType as table_type
-use Rattle.wasmi_store.specs.Table.{TableValue, size_of, new_table, with_added, IsValidTable, MakesTable, GrowsTableCharging}
+use Rattle.wasmi_store.specs.Table.{TableTypeValue, is_indexable, is_within_maximum, same_type, TableValue, size_of, new_table, with_added, IsValidTable, MakesTable, GrowsTableCharging}
+use Rattle.wasmi_store.specs.Table as table_type
 use Rattle.wasmi_store.specs.Table as table
 use Rattle.wasmi_store.proofs.GrowthLemmas.{on_test}
 

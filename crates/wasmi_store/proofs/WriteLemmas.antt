@@ -14,8 +14,7 @@ use Rattle.wasmi_meter.proofs.AttemptLemmas.{meter_after_nothing}
 use Rattle.wasmi_types.specs.declared.value.RefType.{RefType}
 use Rattle.wasmi_types.specs.declared.value.RefType.TheVariants.{Func, Extern}
 use Rattle.wasmi_store.specs.Growth.{metered}
-use Rattle.wasmi_store.specs.Table.{TableValue, TableWrite, MeteredTable, Ends, WritesElements, WritesTable, table_of, write_due}
-use Rattle.wasmi_store.specs.TableType.{TableTypeValue, same_type}
+use Rattle.wasmi_store.specs.Table.{TableValue, TableWrite, MeteredTable, Ends, WritesElements, WritesTable, table_of, write_due, TableTypeValue, same_type}
 use Rattle.std.proofs.lemmas.List.{length-take-le, take-take, take_at, drop_at, drop-drop, drop-take}
 
 module _ (write : TableValue → TableWrite) (ty : TableTypeValue) (xs : List ℕ) (m : Meter) where

@@ -1,8 +1,12 @@
--- Making and growing a memory or a table, as an attempt with its answer.
-use Rattle.std.specs.Prelude.{◌≡◌, ◌<◌, ◌⊎◌, ℕ, Option, None, Result, Ok}
+-- Making and growing a memory or a table, as an attempt with its answer, and what the bulk instructions write and take.
+use Rattle.std.specs.Prelude.{◌≡◌, ◌<◌, ◌⊎◌, ℕ, Option, None, Result, Ok, List, replicate, MatchBool, Some, Err}
 use Rattle.wasmi_meter.specs.Limiter.{Question, Rules}
-use Rattle.wasmi_meter.specs.Meter.{Meter}
-use Rattle.wasmi_meter.specs.Attempt.{MeteredValue, alone, Request, AttemptOutcome, Attempt, answer_of}
+use Rattle.wasmi_meter.specs.Meter.{Meter, copy_cost, meter_after}
+use Rattle.wasmi_meter.specs.Attempt.{MeteredValue, alone, Request, AttemptOutcome, Attempt, answer_of, optional_due, covers}
+use Rattle.std.specs.Option.{option_map, option_and_then}
+use Rattle.wasmi_types.specs.Access.{at, overwrite}
+use Rattle.wasmi_meter.specs.declared.error.MemoryError.{MemoryError}
+use Rattle.wasmi_meter.specs.declared.error.MemoryError.TheVariants.{OutOfBoundsAccess, OutOfFuel}
 
 -- a value with its meter, if there is one, and its limiter
 abbrev pub metered_value : {V S : Type 0} → V → Option Meter → S → MeteredValue V S
@@ -52,3 +56,28 @@ pub record GrowsBySome {V E S : Type 0} (rules : Rules S) (g : Growth V E) (s : 
 abbrev pub Grows : {V E S : Type 0} → Rules S → Growth V E → MeteredValue V S → Result ℕ E → ℕ → MeteredValue V S
     → Type 0
 Grows rules g s result charge s' = GrowsByNone g s result charge s' ⊎ GrowsBySome rules g s result charge s'
+
+-- items of which so many, from dst on, are each filled with a value, or none where they end too early
+abbrev pub filled : {A : Type 0} → List A → ℕ → A → ℕ → Option (List A)
+filled items dst value len = overwrite items dst (replicate len value)
+
+-- items whose part from dst on is written over by so many items of a list from src on, or none where a list ends too
+-- early
+abbrev pub copied : {A : Type 0} → List A → ℕ → List A → ℕ → ℕ → Option (List A)
+copied items dst source src len = option_and_then (λ part. overwrite items dst part) (at source src len)
+
+-- the fuel that is due for writing so many bytes
+abbrev pub bytes_due : Option Meter → ℕ → ℕ
+bytes_due meter len = optional_due meter (Some (λ costs. copy_cost costs len 1))
+
+-- bytes with their meter, if there is one
+abbrev pub MeteredBytes : Type 0
+MeteredBytes = MeteredValue (List ℕ) (Unit {0})
+
+-- A bulk instruction writes so many bytes, by what the bytes become, or none where a range ends past its list. That is
+-- tested first, then the fuel; an instruction that is refused writes and takes nothing.
+abbrev pub BulkWrites : Option (List ℕ) → ℕ → MeteredBytes → Result (Unit {0}) MemoryError → MeteredBytes → Type 0
+BulkWrites None len s result s' = (result ≡ Err OutOfBoundsAccess) × (s' ≡ s)
+BulkWrites (Some bytes) len s result s' = let amount = bytes_due s.meter len in MatchBool (covers s.meter amount)
+    ((result ≡ Ok tt) × (s' ≡ metered bytes (option_map (λ m. meter_after m amount) s.meter)))
+    ((result ≡ Err (OutOfFuel amount)) × (s' ≡ s))

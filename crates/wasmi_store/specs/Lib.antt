@@ -1,9 +1,5 @@
-pub mod Limits
 pub mod Growth
-pub mod Bulk
 pub mod Buffer
-pub mod MemoryType
 pub mod Memory
-pub mod TableType
 pub mod Segment
 pub mod Table

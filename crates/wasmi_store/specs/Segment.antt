@@ -2,7 +2,7 @@
 use Rattle.std.specs.Prelude.{◌≡◌, ◌^◌, ◌-◌, ◌<◌, ◌≤◌, ℕ, List, [], length, Option, Result, Ok, Err, codes}
 use Rattle.std.specs.Iterator.{Yields}
 use Rattle.wasmi_types.specs.declared.value.RefType.{RefType}
-use Rattle.wasmi_types.specs.Iteration.{ReadsAll, ReadsTooMany}
+use Rattle.wasmi_types.specs.Reading.{ReadsAll, ReadsTooMany}
 use Rattle.wasmi_store.specs.declared.table.element.ElementSegmentRef.{ElementSegmentRef}
 use Rattle.wasmi_store.specs.declared.table.element.SegmentError.{SegmentError}
 use Rattle.wasmi_store.specs.declared.table.element.SegmentError.TheVariants.{TooManyItems, OutOfSystemMemory}

@@ -4,8 +4,7 @@
 //! the bounds first (`OutOfBoundsAccess`), then the fuel (`OutOfFuel`), also for no byte. One that is
 //! refused writes no byte and takes no fuel.
 ghost use Rattle.std.specs.Prelude.{◌≡◌, length, Some};
-ghost use Rattle.wasmi_store.specs.Bulk.{filled, copied, BulkWrites};
-ghost use Rattle.wasmi_store.specs.Growth.{metered};
+ghost use Rattle.wasmi_store.specs.Growth.{filled, copied, BulkWrites, metered};
 
 use crate::range::{copy_range, fill_range, lies_within, write_range};
 use wasmi_meter::growth::charge;

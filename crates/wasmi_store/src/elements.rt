@@ -1,8 +1,7 @@
 //! What is written over a range of a table's elements, wherever these lie. The bounds are tested
 //! first, then the fuel; a write that is refused writes and takes nothing.
 ghost use Rattle.std.specs.Prelude.{◌≡◌, length, nat_eq, if◌then◌else◌, None, Some};
-ghost use Rattle.wasmi_store.specs.Bulk.{filled, copied};
-ghost use Rattle.wasmi_store.specs.Growth.{metered};
+ghost use Rattle.wasmi_store.specs.Growth.{filled, copied, metered};
 ghost use Rattle.wasmi_store.specs.Table.{WritesElements};
 
 use crate::range::{Chunk, copy_overlapping, fill_range, lies_within, write_range};

@@ -1,9 +1,7 @@
 //! What making and growing a memory or a table decides, wherever its bytes or elements lie.
 ghost use Rattle.std.specs.Prelude.{◌≡◌, ◌-◌, ◌<◌, ◌≤◌, ℕ, Ok, Err, OnOk, IfOk, IfErr, true};
-ghost use Rattle.wasmi_meter.specs.Limiter.{optional_rules};
-ghost use Rattle.wasmi_meter.specs.LimiterRef.{lent_limiter, KeepsLoan};
-ghost use Rattle.wasmi_meter.specs.Costs.{copy_cost};
-ghost use Rattle.wasmi_meter.specs.Meter.{Charges, due};
+ghost use Rattle.wasmi_meter.specs.Limiter.{optional_rules, lent_limiter, KeepsLoan};
+ghost use Rattle.wasmi_meter.specs.Meter.{copy_cost, Charges, due};
 ghost use Rattle.wasmi_store.specs.Buffer.{fits_room};
 ghost use Rattle.wasmi_store.specs.Growth.{metered_value, IsAsked};
 ghost use Rattle.wasmi_store.specs.Memory.{MemoryValue, PermitsMinimum, GrowsMemory, IsSized, size_question, growth_of};

@@ -1,9 +1,8 @@
 //! What holds of all memories and tables and of all their types. These functions do nothing: each
 //! states a law as its contract.
-ghost use Rattle.wasmi_store.specs.Memory.{IsValidMemory};
-ghost use Rattle.wasmi_store.specs.MemoryType.{MemoryTypeValue, IsSubtype};
+ghost use Rattle.wasmi_store.specs.Memory.{IsValidMemory, MemoryTypeValue, IsSubtype};
 ghost use Rattle.wasmi_store.specs.Table.{IsValidTable};
-ghost use Rattle.wasmi_store.specs.TableType as table;
+ghost use Rattle.wasmi_store.specs.Table as table;
 
 use crate::memory::{LinearMemory, Region};
 use crate::table::Table;

@@ -2,15 +2,11 @@
 ghost use Rattle.std.specs.Prelude.{◌≡◌, ◌+◌, ◌-◌, ◌*◌, ◌/◌, ◌%◌, ◌<◌, ◌≤◌, ◌^◌, ◌++◌, ◌↔◌, replicate, length, ℕ, Option, Some, None, Result, Ok, Err, OnOk, OnErr, IfOk, IfErr, true, nat_lt, if◌then◌else◌};
 ghost use Rattle.std.specs.Borrow.{sem, Lends, Array, u8};
 ghost use Rattle.wasmi_types.specs.Access.{at};
-ghost use Rattle.wasmi_meter.specs.Limiter.{optional_rules};
-ghost use Rattle.wasmi_meter.specs.LimiterRef.{lent_limiter, KeepsLoan};
-ghost use Rattle.wasmi_meter.specs.Costs.{copy_cost};
-ghost use Rattle.wasmi_meter.specs.Meter.{Charges, due, meter_at_entry, meter_at_exit};
+ghost use Rattle.wasmi_meter.specs.Limiter.{optional_rules, lent_limiter, KeepsLoan};
+ghost use Rattle.wasmi_meter.specs.Meter.{copy_cost, Charges, due, meter_at_entry, meter_at_exit};
 ghost use Rattle.wasmi_store.specs.Buffer.{fits_room};
-ghost use Rattle.wasmi_store.specs.Bulk.{filled, copied, BulkWrites};
-ghost use Rattle.wasmi_store.specs.Growth.{metered_value, metered, IsAsked};
-ghost use Rattle.wasmi_store.specs.Memory.{MemoryValue, PermitsMinimum, GrowsMemory, IsSized, IsValidMemory, size_question, growth_of};
-ghost use Rattle.wasmi_store.specs.MemoryType.{in_bounds};
+ghost use Rattle.wasmi_store.specs.Growth.{filled, copied, BulkWrites, metered_value, metered, IsAsked};
+ghost use Rattle.wasmi_store.specs.Memory.{MemoryValue, PermitsMinimum, GrowsMemory, IsSized, IsValidMemory, size_question, growth_of, in_bounds};
 
 mod buffer;
 mod ty;
@@ -134,9 +130,8 @@ impl<'r> LinearMemory<&'r mut [u8]> {
 }
 
 impl<R: Region> LinearMemory<R> {
-    ghost use Rattle.wasmi_store.specs.Memory.{memory_of, buffer_of, pages_of, dynamic_type, WritesMemory, KeepsPlace};
+    ghost use Rattle.wasmi_store.specs.Memory.{memory_of, buffer_of, pages_of, dynamic_type, WritesMemory, KeepsPlace, IsSubtype};
     ghost use Rattle.wasmi_store.specs.Buffer.{with_bytes};
-    ghost use Rattle.wasmi_store.specs.MemoryType.{IsSubtype};
     ghost use Rattle.wasmi_store.specs.contracts.memory.LinearMemory.{the_row};
 
     /// The type that it was made with.

@@ -1,8 +1,7 @@
 //! Tables.
 ghost use Rattle.std.specs.Prelude.{◌≡◌, ◌+◌, ◌<◌, ◌∷◌, [], length, take, drop, ℕ, Some, None};
 ghost use Rattle.wasmi_types.specs.Access.{overwrite};
-ghost use Rattle.wasmi_meter.specs.Limiter.{optional_rules};
-ghost use Rattle.wasmi_meter.specs.LimiterRef.{lent_limiter, KeepsLoan};
+ghost use Rattle.wasmi_meter.specs.Limiter.{optional_rules, lent_limiter, KeepsLoan};
 ghost use Rattle.wasmi_meter.specs.Meter.{meter_at_entry, meter_at_exit};
 ghost use Rattle.wasmi_store.specs.Growth.{metered_value, metered};
 ghost use Rattle.wasmi_store.specs.Segment.{segment_of};
@@ -49,8 +48,7 @@ impl Model for Table {
 }
 
 impl Table {
-    ghost use Rattle.wasmi_store.specs.TableType.{IsSubtype};
-    ghost use Rattle.wasmi_store.specs.Table.{TableValue, IsSized, IsValidTable, size_of, dynamic_type, element_at, element_price, MakesTable, GrowsTableRaw, GrowsTable, SetsTable, SetsTableRaw, WritesTable, filling_of, raw_filling_of, copy_of, initialization_of};
+    ghost use Rattle.wasmi_store.specs.Table.{IsSubtype, TableValue, IsSized, IsValidTable, size_of, dynamic_type, element_at, element_price, MakesTable, GrowsTableRaw, GrowsTable, SetsTable, SetsTableRaw, WritesTable, filling_of, raw_filling_of, copy_of, initialization_of};
 
     /// A table at the minimum of its type, each element of which is the given reference. It takes
     /// no fuel.

@@ -1,4 +1,3 @@
-pub mod ShiftAmount
 pub mod Global
 pub mod Lending
-pub mod TypedRef
+pub mod Typed

@@ -2,7 +2,7 @@
 
 ghost use Rattle.std.specs.Prelude.{◌≡◌, ℕ, ◌==◌, if◌then◌else◌};
 ghost use mir.Val.{bits};
-ghost use Rattle.wasmi_typed.specs.ShiftAmount.{shift_amount};
+ghost use Rattle.wasmi_typed.specs.Typed.{shift_amount};
 
 use std::marker::Model;
 use wasmi_raw::Number;

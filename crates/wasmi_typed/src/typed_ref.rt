@@ -70,7 +70,7 @@ impl From<TypedRawRef> for TypedRawVal {
 pub struct NotAReference;
 
 impl fmt::Display for NotAReference {
-    ghost use Rattle.wasmi_typed.specs.TypedRef.{not_a_reference_text};
+    ghost use Rattle.wasmi_typed.specs.Typed.{not_a_reference_text};
 
     ghost output = { λ _. Some not_a_reference_text };
 
@@ -82,7 +82,7 @@ impl fmt::Display for NotAReference {
 impl std::error::Error for NotAReference {}
 
 impl TryFrom<TypedRawVal> for TypedRawRef {
-    ghost use Rattle.wasmi_typed.specs.TypedRef.{IsReference};
+    ghost use Rattle.wasmi_typed.specs.Typed.{IsReference};
 
     type Error = NotAReference;
 

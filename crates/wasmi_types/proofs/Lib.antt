@@ -1,3 +1,2 @@
-pub mod SoFarLemmas
 pub mod ReadingLemmas
 pub mod FunctionTypeOrderLemmas

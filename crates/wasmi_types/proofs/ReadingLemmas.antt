@@ -1,13 +1,13 @@
--- The readings of parameters and of results, put together.
-use Rattle.std.proofs.Common.{◌≡◌, ℕ, ◌+◌, ◌<◌, List, [], ◌++◌, length, inl, inr, subst, sym, ap, ap₂, ◌∙◌, arith, length-append, take, drop, Ok}
-use Rattle.std.specs.Prelude.{Option}
+-- What is known of an iterator in the midst of reading it; the readings of parameters and results, put together.
+use Rattle.std.proofs.Common.{◌≡◌, ℕ, ◌+◌, ◌<◌, List, [], ◌++◌, length, inl, inr, subst, sym, ap, ap₂, ◌∙◌, arith, length-append, take, drop, Ok, ◌≤◌, ◌∷◌, refl, append_assoc}
+use Rattle.std.specs.Prelude.{Option, Some}
 use lib.Seq.{take-append_seam, drop-append_seam}
 use Rattle.wasmi_types.specs.declared.value.ValType.{ValType}
 use Rattle.wasmi_types.specs.declared.func_type.FuncTypeError.{FuncTypeError}
 use Rattle.wasmi_types.specs.declared.func_type.FuncTypeError.TheVariants.{TooManyFunctionResults}
 use Rattle.wasmi_types.specs.FunctionType.{FunctionType}
-use Rattle.wasmi_types.specs.Iteration.{ReadsAll}
-use Rattle.wasmi_types.specs.Reading.{IsReading, ReadsSome, IsOutOfMemory, IsRefusal, ReadsTypes, IsReadingRefusal}
+use Rattle.wasmi_types.specs.Reading.{ReadsAll, IsReading, ReadsSome, IsOutOfMemory, IsRefusal, ReadsTypes, IsReadingRefusal, IsReadingOutOfMemory}
+use Rattle.std.specs.Iterator.{Yields}
 
 -- what was read to its end was read
 some_from_all : {I : Type 0} {steps : I → Option ValType → I → Type 0} {s t : I} {xs : List ValType}
@@ -58,3 +58,45 @@ module _ {P R : Type 0} {of_params : P → Option ValType → P → Type 0} {of_
         subst (λ xs. ReadsAll 1000 of_results r xs r')
             (sym (results ∙ ap₂ drop first.counted whole ∙ drop-append_seam first.types second.types)) second.read,
       )
+
+-- one more call gave x
+pub Yields-snoc : {I A : Type 0} (steps : I → Option A → I → Type 0) (s t u : I) (xs : List A) (x : A)
+    → Yields steps s xs t → steps t (Some x) u → Yields steps s (xs ++ x ∷ []) u
+Yields-snoc steps s t u [] x run next = (u, subst (λ v. steps v (Some x) u) (sym run) next, refl)
+Yields-snoc steps s t u (y ∷ ys) x run next = (run.0, run.1, Yields-snoc steps run.0 t u ys x run.2 next)
+
+-- calls from s to t gave n items, which follow those before in `after`, and t may be called
+pub record SoFar {I A : Type 0} (steps : I → Option A → I → Type 0) (can : I → Type 0) (s : I) (before : List A) (n : ℕ)
+    (t : I) (after : List A) : Type 0 where
+  pub items : List A
+  pub run : Yields steps s items t
+  pub kept : after ≡ before ++ items
+  pub counted : n ≡ length items
+  pub callable : can t
+
+-- one more item was appended
+pub SoFar-next : {I A : Type 0} {steps : I → Option A → I → Type 0} {can : I → Type 0} {s t u : I}
+    {before after more : List A} {n : ℕ}
+    → SoFar steps can s before n t after → (x : A) → steps t (Some x) u → more ≡ after ++ x ∷ [] → can u
+    → SoFar steps can s before (n + 1) u more
+SoFar-next {steps = steps} {s = s} {t = t} {u = u} {before = before} e x next appended callable = record {
+  items = e.items ++ x ∷ [];
+  run = Yields-snoc steps s t u e.items x e.run next;
+  kept = appended ∙ ap (λ xs. xs ++ x ∷ []) e.kept ∙ append_assoc before e.items (x ∷ []);
+  counted = omega (arith, e.counted, length-append e.items (x ∷ []));
+  callable = callable;
+}
+
+-- memory was refused for one more type
+pub SoFar-refused : {I : Type 0} {steps : I → Option ValType → I → Type 0} {can : I → Type 0} {s t u : I}
+    {before after : List ValType} {n : ℕ}
+    → SoFar steps can s before n t after → n < 1000 → (x : ValType) → steps t (Some x) u → 21 ≤ length after
+    → IsReadingOutOfMemory steps s before u
+SoFar-refused {steps = steps} {s = s} {t = t} {u = u} {before = before} e few x next many = record {
+  types = e.items ++ x ∷ [];
+  read = record {
+    run = inl (Yields-snoc steps s t u e.items x e.run next);
+    short = omega (arith, few, e.counted, length-append e.items (x ∷ []));
+  };
+  many = omega (arith, many, ap length e.kept, length-append before e.items, length-append e.items (x ∷ []));
+}

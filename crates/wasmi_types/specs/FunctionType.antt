@@ -1,5 +1,5 @@
--- A function type is the pair of its lists of parameters and results (core specification 2.3), and how it is kept.
-use Rattle.std.specs.Prelude.{ℕ, ◌+◌, Bool, ◌&&◌, List, ◌∷◌, ◌++◌, length, map, nat_le, if◌then◌else◌, ◌≡◌, ◌<◌, ◌≤◌, take, drop}
+-- A function type is its lists of parameters and results (core specification 2.3); how it is kept, and its errors.
+use Rattle.std.specs.Prelude.{ℕ, ◌+◌, Bool, ◌&&◌, List, ◌∷◌, ◌++◌, length, map, nat_le, if◌then◌else◌, ◌≡◌, ◌<◌, ◌≤◌, take, drop, codes}
 use Rattle.std.specs.Cmp.Lexicographic.{pointwise, slice_cmp}
 use Rattle.std.specs.Hash.{slice}
 use Rattle.std.specs.Ordering.{nat_cmp, on}
@@ -9,6 +9,8 @@ use Rattle.wasmi_types.specs.declared.value.ValType.TheVariants.{I32, I64, F32, 
 use Rattle.std.specs.Rc.{rc_slice_items}
 use Rattle.wasmi_types.specs.declared.func_type.FuncTypeInner.{FuncTypeInner}
 use Rattle.wasmi_types.specs.declared.func_type.FuncTypeInner.TheVariants.{Inline, Big}
+use Rattle.wasmi_types.specs.declared.func_type.FuncTypeError.{FuncTypeError}
+use Rattle.wasmi_types.specs.declared.func_type.FuncTypeError.TheVariants.{TooManyFunctionParams, TooManyFunctionResults, OutOfMemory}
 
 -- the parameters and the results of a function
 pub record FunctionType : Type 0 where
@@ -66,3 +68,9 @@ IsKept (Inline params results types) = (params + results ≤ 21) × (length type
 IsKept (Big params types) =
     (21 < length (rc_slice_items types)) × (params ≤ 1000) × (params ≤ length (rc_slice_items types))
     × (length (rc_slice_items types) ≤ params + 1000)
+
+-- the text of an error of a function type
+abbrev pub func_type_error_text : FuncTypeError → List ℕ
+func_type_error_text TooManyFunctionParams = codes "encountered a function with too many parameters"
+func_type_error_text TooManyFunctionResults = codes "encountered a function with too many results"
+func_type_error_text OutOfMemory = codes "out of memory"

@@ -1,12 +1,7 @@
-pub mod Bytes
 pub mod Access
-pub mod Wrapping
 pub mod Value
-pub mod IndexType
 pub mod Trap
-pub mod TrapReason
 pub mod FunctionType
-pub mod Iteration
 pub mod Reading
 pub mod FunctionTypeProofs
-pub mod FuncTypeError
+pub mod Numbers

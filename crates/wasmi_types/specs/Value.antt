@@ -1,9 +1,12 @@
--- Which value types are number types, and which are reference types.
-use Rattle.std.specs.Prelude.{Bool, true, false, Option, Some, None}
+-- Which value types are number types and reference types, and what the type of an address means.
+use Rattle.std.specs.Prelude.{Bool, true, false, Option, Some, None, ℕ}
 use Rattle.wasmi_types.specs.declared.value.ValType.{ValType}
 use Rattle.wasmi_types.specs.declared.value.ValType.TheVariants.{I32, I64, F32, F64, FuncRef, ExternRef}
 use Rattle.wasmi_types.specs.declared.value.RefType.{RefType}
 use Rattle.wasmi_types.specs.declared.value.RefType.TheVariants.{Func, Extern}
+use Rattle.wasmi_types.specs.declared.index_ty.IndexType.{IndexType}
+use Rattle.wasmi_types.specs.declared.index_ty.IndexType.TheVariants as index
+use Rattle.wasmi_types.specs.declared.value.ValType.TheVariants as types
 
 -- whether a value type is a number type
 abbrev pub is_number_type : ValType → Bool
@@ -23,3 +26,19 @@ reference_of _ = None
 abbrev pub value_of : RefType → ValType
 value_of Func = FuncRef
 value_of Extern = ExternRef
+
+-- the value type of an address
+abbrev pub address_type : IndexType → ValType
+address_type index.I32 = types.I32
+address_type index.I64 = types.I64
+
+-- how many bits an address has
+abbrev pub address_bits : IndexType → ℕ
+address_bits index.I32 = 32
+address_bits index.I64 = 64
+
+-- the narrower of two address types
+abbrev pub narrower : IndexType → IndexType → IndexType
+narrower index.I64 index.I64 = index.I64
+narrower index.I64 index.I32 = index.I32
+narrower index.I32 _ = index.I32

@@ -32,7 +32,7 @@ pub enum FuncTypeError {
 
 impl fmt::Display for FuncTypeError {
     ghost use Rattle.std.specs.Prelude.{Some};
-    ghost use Rattle.wasmi_types.specs.FuncTypeError.{func_type_error_text};
+    ghost use Rattle.wasmi_types.specs.FunctionType.{func_type_error_text};
 
     ghost output = { λ error. Some (func_type_error_text error) };
 
@@ -89,8 +89,7 @@ impl Model for FuncType {
 }
 
 impl FuncType {
-    ghost use Rattle.wasmi_types.specs.Iteration.{EachBecomes};
-    ghost use Rattle.wasmi_types.specs.Reading.{IsReading, IsReadingOf, AfterAll};
+    ghost use Rattle.wasmi_types.specs.Reading.{EachBecomes, IsReading, IsReadingOf, AfterAll};
 
     /// Makes the type of a function with these parameters and results, which `read` reads: its
     /// contract says what each answer means.

@@ -1,7 +1,7 @@
 //! The types of addresses and of table indices.
 
 ghost use Rattle.std.specs.Prelude.{◌≡◌, ◌↔◌, ◌^◌, IsTrue};
-ghost use Rattle.wasmi_types.specs.IndexType.{address_type, address_bits, narrower};
+ghost use Rattle.wasmi_types.specs.Value.{address_type, address_bits, narrower};
 
 use crate::ValType;
 

@@ -41,7 +41,7 @@ impl<H> Model for Trap<H> {
 }
 
 impl<H: HostError> Trap<H> {
-    ghost use Rattle.wasmi_types.specs.TrapReason.{exit_status_of, code_of, host_error_of, with_host_error};
+    ghost use Rattle.wasmi_types.specs.Trap.{exit_status_of, code_of, host_error_of, with_host_error};
     ghost use Rattle.wasmi_types.specs.contracts.trap.Trap.{the_row};
 
     /// A trap that a message describes.
@@ -113,7 +113,7 @@ impl<H: HostError> Trap<H> {
 }
 
 impl<H> TrapReason<H> {
-    ghost use Rattle.wasmi_types.specs.TrapReason.{host_error_of, with_host_error};
+    ghost use Rattle.wasmi_types.specs.Trap.{host_error_of, with_host_error};
     ghost use Rattle.wasmi_types.specs.contracts.trap.TrapReason.{the_row};
 
     fn as_host_mut(&mut self) -> Option<&mut H>
@@ -129,7 +129,7 @@ impl<H> TrapReason<H> {
 }
 
 impl<H: HostError> fmt::Display for Trap<H> {
-    ghost use Rattle.wasmi_types.specs.TrapReason.{text_of};
+    ghost use Rattle.wasmi_types.specs.Trap.{text_of};
 
     ghost output = { text_of H.output };
 

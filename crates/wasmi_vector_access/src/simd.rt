@@ -5,10 +5,9 @@
 //! specification: memory instructions. Upstream: `wasmi_core::simd`.
 
 ghost use Rattle.std.specs.Prelude.{◌≡◌, ◌+◌};
-ghost use Rattle.wasmi_types.specs.Bytes.{le_bytes};
-ghost use Rattle.wasmi_types.specs.Wrapping.{w8, w16, w32, w64};
+ghost use Rattle.wasmi_types.specs.Numbers.{le_bytes, w8, w16, w32, w64};
 ghost use Rattle.wasmi_access.specs.LoadStore.{loaded, IsStore};
-ghost use Rattle.wasmi_lanes.specs.Lane as lanes;
+ghost use Rattle.wasmi_lanes.specs.Vector as lanes;
 ghost use Rattle.wasmi_lanes.specs.Vector.{splat_of, with_lane};
 ghost use Rattle.wasmi_simd.specs.WideningTable as vector;
 

@@ -29,7 +29,7 @@ pub mod access {
         /// ensures low_bits: wrap T.width (T.number result) ≡ wrap T.width (Self.number self)
         /// ```
         ///
-        /// Definitions: [`wrap`](crate::specs::types::Wrapping#wrap).
+        /// Definitions: [`wrap`](crate::specs::types::Numbers#wrap).
         fn wrap_into(self) -> T;
     }
 
@@ -178,7 +178,7 @@ pub mod access {
         ///     ≡ self
         /// ```
         ///
-        /// Definitions: [`le_bytes`](crate::specs::types::Bytes#le_bytes), [`wrap`](crate::specs::types::Wrapping#wrap), [`number_of`](crate::specs::types::Bytes#number_of), [`number_of_bits`](crate::specs::raw::Number#number_of_bits).
+        /// Definitions: [`le_bytes`](crate::specs::types::Numbers#le_bytes), [`wrap`](crate::specs::types::Numbers#wrap), [`number_of`](crate::specs::types::Numbers#number_of), [`number_of_bits`](crate::specs::raw::Number#number_of_bits).
         fn into_le_bytes(self) -> Self::Bytes;
 
         /// The value of some bytes, the lowest first.
@@ -196,7 +196,7 @@ pub mod access {
         ///     ≡ Self.Bytes.bytes_of bytes
         /// ```
         ///
-        /// Definitions: [`number_of_bits`](crate::specs::raw::Number#number_of_bits), [`number_of`](crate::specs::types::Bytes#number_of), [`wrap`](crate::specs::types::Wrapping#wrap), [`le_bytes`](crate::specs::types::Bytes#le_bytes).
+        /// Definitions: [`number_of_bits`](crate::specs::raw::Number#number_of_bits), [`number_of`](crate::specs::types::Numbers#number_of), [`wrap`](crate::specs::types::Numbers#wrap), [`le_bytes`](crate::specs::types::Numbers#le_bytes).
         fn from_le_bytes(bytes: Self::Bytes) -> Self;
     }
 
@@ -326,7 +326,7 @@ pub mod access {
     ///     (le_bytes T.Bytes.LEN (wrap T.width (T.number value))) memory.new result
     /// ```
     ///
-    /// Definitions: [`IsStore`](crate::specs::accesses::LoadStore#IsStore), [`le_bytes`](crate::specs::types::Bytes#le_bytes), [`wrap`](crate::specs::types::Wrapping#wrap).
+    /// Definitions: [`IsStore`](crate::specs::accesses::LoadStore#IsStore), [`le_bytes`](crate::specs::types::Numbers#le_bytes), [`wrap`](crate::specs::types::Numbers#wrap).
     #[inline]
     pub fn store<T>(memory: &mut [u8], ptr: u64, offset: u64, value: T) -> Result<(), TrapCode>
     where
@@ -347,7 +347,7 @@ pub mod access {
     ///     (le_bytes T.Bytes.LEN (wrap T.width (T.number value))) memory.new result
     /// ```
     ///
-    /// Definitions: [`IsStore`](crate::specs::accesses::LoadStore#IsStore), [`le_bytes`](crate::specs::types::Bytes#le_bytes), [`wrap`](crate::specs::types::Wrapping#wrap).
+    /// Definitions: [`IsStore`](crate::specs::accesses::LoadStore#IsStore), [`le_bytes`](crate::specs::types::Numbers#le_bytes), [`wrap`](crate::specs::types::Numbers#wrap).
     #[inline]
     pub fn store_at<T>(memory: &mut [u8], address: usize, value: T) -> Result<(), TrapCode>
     where
@@ -368,7 +368,7 @@ pub mod access {
     ///     (le_bytes U.Bytes.LEN (wrap U.width (T.number value))) memory.new result
     /// ```
     ///
-    /// Definitions: [`IsStore`](crate::specs::accesses::LoadStore#IsStore), [`le_bytes`](crate::specs::types::Bytes#le_bytes), [`wrap`](crate::specs::types::Wrapping#wrap).
+    /// Definitions: [`IsStore`](crate::specs::accesses::LoadStore#IsStore), [`le_bytes`](crate::specs::types::Numbers#le_bytes), [`wrap`](crate::specs::types::Numbers#wrap).
     #[inline]
     pub fn store_wrap<T, U>(
         memory: &mut [u8],
@@ -395,7 +395,7 @@ pub mod access {
     ///     (le_bytes U.Bytes.LEN (wrap U.width (T.number value))) memory.new result
     /// ```
     ///
-    /// Definitions: [`IsStore`](crate::specs::accesses::LoadStore#IsStore), [`le_bytes`](crate::specs::types::Bytes#le_bytes), [`wrap`](crate::specs::types::Wrapping#wrap).
+    /// Definitions: [`IsStore`](crate::specs::accesses::LoadStore#IsStore), [`le_bytes`](crate::specs::types::Numbers#le_bytes), [`wrap`](crate::specs::types::Numbers#wrap).
     #[inline]
     pub fn store_wrap_at<T, U>(memory: &mut [u8], address: usize, value: T) -> Result<(), TrapCode>
     where
@@ -711,7 +711,7 @@ pub mod laws {
     ///     → IsSameOutside old new a k
     /// ```
     ///
-    /// Definitions: [`IsStore`](crate::specs::accesses::LoadStore#IsStore), [`le_bytes`](crate::specs::types::Bytes#le_bytes), [`loaded`](crate::specs::accesses::LoadStore#loaded), [`IsSameOutside`](crate::specs::accesses::LoadStore#IsSameOutside).
+    /// Definitions: [`IsStore`](crate::specs::accesses::LoadStore#IsStore), [`le_bytes`](crate::specs::types::Numbers#le_bytes), [`loaded`](crate::specs::accesses::LoadStore#loaded), [`IsSameOutside`](crate::specs::accesses::LoadStore#IsSameOutside).
     #[inline]
     pub fn stored_number_is_loaded() {}
 
@@ -1096,7 +1096,7 @@ pub mod wasm {
     ///     (le_bytes 1 (cast_unsigned w32 value % 2 ^ 8)) memory.new result
     /// ```
     ///
-    /// Definitions: [`IsStore`](crate::specs::accesses::LoadStore#IsStore), [`le_bytes`](crate::specs::types::Bytes#le_bytes).
+    /// Definitions: [`IsStore`](crate::specs::accesses::LoadStore#IsStore), [`le_bytes`](crate::specs::types::Numbers#le_bytes).
     #[inline]
     pub fn i32_store8(
         memory: &mut [u8],
@@ -1116,7 +1116,7 @@ pub mod wasm {
     ///     (le_bytes 1 (cast_unsigned w32 value % 2 ^ 8)) memory.new result
     /// ```
     ///
-    /// Definitions: [`IsStore`](crate::specs::accesses::LoadStore#IsStore), [`le_bytes`](crate::specs::types::Bytes#le_bytes).
+    /// Definitions: [`IsStore`](crate::specs::accesses::LoadStore#IsStore), [`le_bytes`](crate::specs::types::Numbers#le_bytes).
     #[inline]
     pub fn i32_store8_at(memory: &mut [u8], address: usize, value: i32) -> Result<(), TrapCode> {
         store_wrap_at::<i32, i8>(memory, address, value)
@@ -1131,7 +1131,7 @@ pub mod wasm {
     ///     (le_bytes 2 (cast_unsigned w32 value % 2 ^ 16)) memory.new result
     /// ```
     ///
-    /// Definitions: [`IsStore`](crate::specs::accesses::LoadStore#IsStore), [`le_bytes`](crate::specs::types::Bytes#le_bytes).
+    /// Definitions: [`IsStore`](crate::specs::accesses::LoadStore#IsStore), [`le_bytes`](crate::specs::types::Numbers#le_bytes).
     #[inline]
     pub fn i32_store16(
         memory: &mut [u8],
@@ -1151,7 +1151,7 @@ pub mod wasm {
     ///     (le_bytes 2 (cast_unsigned w32 value % 2 ^ 16)) memory.new result
     /// ```
     ///
-    /// Definitions: [`IsStore`](crate::specs::accesses::LoadStore#IsStore), [`le_bytes`](crate::specs::types::Bytes#le_bytes).
+    /// Definitions: [`IsStore`](crate::specs::accesses::LoadStore#IsStore), [`le_bytes`](crate::specs::types::Numbers#le_bytes).
     #[inline]
     pub fn i32_store16_at(memory: &mut [u8], address: usize, value: i32) -> Result<(), TrapCode> {
         store_wrap_at::<i32, i16>(memory, address, value)
@@ -1166,7 +1166,7 @@ pub mod wasm {
     ///     (le_bytes 1 (cast_unsigned w64 value % 2 ^ 8)) memory.new result
     /// ```
     ///
-    /// Definitions: [`IsStore`](crate::specs::accesses::LoadStore#IsStore), [`le_bytes`](crate::specs::types::Bytes#le_bytes).
+    /// Definitions: [`IsStore`](crate::specs::accesses::LoadStore#IsStore), [`le_bytes`](crate::specs::types::Numbers#le_bytes).
     #[inline]
     pub fn i64_store8(
         memory: &mut [u8],
@@ -1186,7 +1186,7 @@ pub mod wasm {
     ///     (le_bytes 1 (cast_unsigned w64 value % 2 ^ 8)) memory.new result
     /// ```
     ///
-    /// Definitions: [`IsStore`](crate::specs::accesses::LoadStore#IsStore), [`le_bytes`](crate::specs::types::Bytes#le_bytes).
+    /// Definitions: [`IsStore`](crate::specs::accesses::LoadStore#IsStore), [`le_bytes`](crate::specs::types::Numbers#le_bytes).
     #[inline]
     pub fn i64_store8_at(memory: &mut [u8], address: usize, value: i64) -> Result<(), TrapCode> {
         store_wrap_at::<i64, i8>(memory, address, value)
@@ -1201,7 +1201,7 @@ pub mod wasm {
     ///     (le_bytes 2 (cast_unsigned w64 value % 2 ^ 16)) memory.new result
     /// ```
     ///
-    /// Definitions: [`IsStore`](crate::specs::accesses::LoadStore#IsStore), [`le_bytes`](crate::specs::types::Bytes#le_bytes).
+    /// Definitions: [`IsStore`](crate::specs::accesses::LoadStore#IsStore), [`le_bytes`](crate::specs::types::Numbers#le_bytes).
     #[inline]
     pub fn i64_store16(
         memory: &mut [u8],
@@ -1221,7 +1221,7 @@ pub mod wasm {
     ///     (le_bytes 2 (cast_unsigned w64 value % 2 ^ 16)) memory.new result
     /// ```
     ///
-    /// Definitions: [`IsStore`](crate::specs::accesses::LoadStore#IsStore), [`le_bytes`](crate::specs::types::Bytes#le_bytes).
+    /// Definitions: [`IsStore`](crate::specs::accesses::LoadStore#IsStore), [`le_bytes`](crate::specs::types::Numbers#le_bytes).
     #[inline]
     pub fn i64_store16_at(memory: &mut [u8], address: usize, value: i64) -> Result<(), TrapCode> {
         store_wrap_at::<i64, i16>(memory, address, value)
@@ -1236,7 +1236,7 @@ pub mod wasm {
     ///     (le_bytes 4 (cast_unsigned w64 value % 2 ^ 32)) memory.new result
     /// ```
     ///
-    /// Definitions: [`IsStore`](crate::specs::accesses::LoadStore#IsStore), [`le_bytes`](crate::specs::types::Bytes#le_bytes).
+    /// Definitions: [`IsStore`](crate::specs::accesses::LoadStore#IsStore), [`le_bytes`](crate::specs::types::Numbers#le_bytes).
     #[inline]
     pub fn i64_store32(
         memory: &mut [u8],
@@ -1256,7 +1256,7 @@ pub mod wasm {
     ///     (le_bytes 4 (cast_unsigned w64 value % 2 ^ 32)) memory.new result
     /// ```
     ///
-    /// Definitions: [`IsStore`](crate::specs::accesses::LoadStore#IsStore), [`le_bytes`](crate::specs::types::Bytes#le_bytes).
+    /// Definitions: [`IsStore`](crate::specs::accesses::LoadStore#IsStore), [`le_bytes`](crate::specs::types::Numbers#le_bytes).
     #[inline]
     pub fn i64_store32_at(memory: &mut [u8], address: usize, value: i64) -> Result<(), TrapCode> {
         store_wrap_at::<i64, i32>(memory, address, value)
@@ -1270,7 +1270,7 @@ pub mod wasm {
     /// ensures: IsStore memory.old (ptr + offset) (le_bytes 4 value) memory.new result
     /// ```
     ///
-    /// Definitions: [`IsStore`](crate::specs::accesses::LoadStore#IsStore), [`le_bytes`](crate::specs::types::Bytes#le_bytes).
+    /// Definitions: [`IsStore`](crate::specs::accesses::LoadStore#IsStore), [`le_bytes`](crate::specs::types::Numbers#le_bytes).
     #[inline]
     pub fn store32(memory: &mut [u8], ptr: u64, offset: u64, value: u32) -> Result<(), TrapCode> {
         store::<u32>(memory, ptr, offset, value)
@@ -1284,7 +1284,7 @@ pub mod wasm {
     /// ensures: IsStore memory.old address (le_bytes 4 value) memory.new result
     /// ```
     ///
-    /// Definitions: [`IsStore`](crate::specs::accesses::LoadStore#IsStore), [`le_bytes`](crate::specs::types::Bytes#le_bytes).
+    /// Definitions: [`IsStore`](crate::specs::accesses::LoadStore#IsStore), [`le_bytes`](crate::specs::types::Numbers#le_bytes).
     #[inline]
     pub fn store32_at(memory: &mut [u8], address: usize, value: u32) -> Result<(), TrapCode> {
         store_at::<u32>(memory, address, value)
@@ -1298,7 +1298,7 @@ pub mod wasm {
     /// ensures: IsStore memory.old (ptr + offset) (le_bytes 8 value) memory.new result
     /// ```
     ///
-    /// Definitions: [`IsStore`](crate::specs::accesses::LoadStore#IsStore), [`le_bytes`](crate::specs::types::Bytes#le_bytes).
+    /// Definitions: [`IsStore`](crate::specs::accesses::LoadStore#IsStore), [`le_bytes`](crate::specs::types::Numbers#le_bytes).
     #[inline]
     pub fn store64(memory: &mut [u8], ptr: u64, offset: u64, value: u64) -> Result<(), TrapCode> {
         store::<u64>(memory, ptr, offset, value)
@@ -1312,7 +1312,7 @@ pub mod wasm {
     /// ensures: IsStore memory.old address (le_bytes 8 value) memory.new result
     /// ```
     ///
-    /// Definitions: [`IsStore`](crate::specs::accesses::LoadStore#IsStore), [`le_bytes`](crate::specs::types::Bytes#le_bytes).
+    /// Definitions: [`IsStore`](crate::specs::accesses::LoadStore#IsStore), [`le_bytes`](crate::specs::types::Numbers#le_bytes).
     #[inline]
     pub fn store64_at(memory: &mut [u8], address: usize, value: u64) -> Result<(), TrapCode> {
         store_at::<u64>(memory, address, value)

@@ -138,7 +138,7 @@ pub mod laws {
     /// ensures: IsDeterministic tenant_rules
     /// ```
     ///
-    /// Definitions: [`IsDeterministic`](crate::specs::machine::Determinism#IsDeterministic), [`tenant_rules`](crate::specs::budget::Tenant#tenant_rules).
+    /// Definitions: [`IsDeterministic`](crate::specs::machine::Determinism#IsDeterministic), [`tenant_rules`](crate::specs::budget::Pool#tenant_rules).
     #[inline]
     pub fn tenants_leave_no_choice() {}
 
@@ -150,7 +150,7 @@ pub mod laws {
     /// ensures: AcceptsNotices tenant_rules
     /// ```
     ///
-    /// Definitions: [`AcceptsNotices`](crate::specs::machine::Determinism#AcceptsNotices), [`tenant_rules`](crate::specs::budget::Tenant#tenant_rules).
+    /// Definitions: [`AcceptsNotices`](crate::specs::machine::Determinism#AcceptsNotices), [`tenant_rules`](crate::specs::budget::Pool#tenant_rules).
     #[inline]
     pub fn tenants_accept_notices() {}
 }
@@ -322,7 +322,7 @@ mod pool {
         /// ensures: result ≡ option_map (λ s. total s Bytes) (slice_get self.now.machines index)
         /// ```
         ///
-        /// Definitions: [`total`](crate::specs::machine::Totals#total).
+        /// Definitions: [`total`](crate::specs::machine::State#total).
         #[inline]
         pub fn held_bytes(&self, index: usize) -> Option<u64> {
             Some(self.held(index)?.bytes)
@@ -339,7 +339,7 @@ mod pool {
         /// ensures: result ≡ option_map (λ s. total s Elements) (slice_get self.now.machines index)
         /// ```
         ///
-        /// Definitions: [`total`](crate::specs::machine::Totals#total).
+        /// Definitions: [`total`](crate::specs::machine::State#total).
         #[inline]
         pub fn held_elements(&self, index: usize) -> Option<u64> {
             Some(self.held(index)?.elements)
@@ -356,7 +356,7 @@ mod pool {
         /// ensures: result ≡ amounts_of (total_of self.now.machines)
         /// ```
         ///
-        /// Definitions: [`amounts_of`](crate::specs::meter::Amounts#amounts_of), [`total_of`](crate::specs::budget::Pool#total_of).
+        /// Definitions: [`amounts_of`](crate::specs::meter::Capped#amounts_of), [`total_of`](crate::specs::budget::Pool#total_of).
         #[inline]
         pub fn held_by_all(&self) -> Amounts {
             self.held_by_all
@@ -371,7 +371,7 @@ mod pool {
         ///     ≡ option_map (λ s. amounts_of (total s)) (slice_get self.now.machines index)
         /// ```
         ///
-        /// Definitions: [`amounts_of`](crate::specs::meter::Amounts#amounts_of), [`total`](crate::specs::machine::Totals#total).
+        /// Definitions: [`amounts_of`](crate::specs::meter::Capped#amounts_of), [`total`](crate::specs::machine::State#total).
         #[inline]
         fn held(&self, index: usize) -> Option<Amounts> {
             let machine = self.machines.get(index)?;
@@ -428,7 +428,7 @@ mod tenant {
         ///     { caps = caps; others = others; holdings = record { held = held; last = None } }
         /// ```
         ///
-        /// Definitions: [`holdings`](crate::specs::budget::Tenant#holdings).
+        /// Definitions: [`holdings`](crate::specs::budget::Pool#holdings).
         #[inline]
         pub(crate) fn new(caps: Amounts, others: Amounts, held: Amounts) -> Self {
             Tenant {
@@ -459,7 +459,7 @@ mod tenant {
         /// ensures value: result ≡ amounts_of (held_together capped_tenant self.now)
         /// ```
         ///
-        /// Definitions: [`held_together`](crate::specs::meter::Capped#held_together), [`capped_tenant`](crate::specs::budget::Tenant#capped_tenant), [`amounts_of`](crate::specs::meter::Amounts#amounts_of).
+        /// Definitions: [`held_together`](crate::specs::meter::Capped#held_together), [`capped_tenant`](crate::specs::budget::Pool#capped_tenant), [`amounts_of`](crate::specs::meter::Capped#amounts_of).
         #[inline]
         pub(crate) fn held_by_all(&self) -> Amounts {
             let held = self.held();
@@ -476,7 +476,7 @@ mod tenant {
     /// capped = capped_tenant
     /// ```
     ///
-    /// Definitions: [`capped_tenant`](crate::specs::budget::Tenant#capped_tenant).
+    /// Definitions: [`capped_tenant`](crate::specs::budget::Pool#capped_tenant).
     impl CappedLimiter for Tenant {
         #[inline]
         fn holdings(&self) -> Holdings {
@@ -506,7 +506,7 @@ mod tenant {
     /// invariant = λ m. m.held ≡ amounts_of (total m.machine)
     /// ```
     ///
-    /// Definitions: [`State`](crate::specs::machine::State#State), [`amounts_of`](crate::specs::meter::Amounts#amounts_of), [`total`](crate::specs::machine::Totals#total).
+    /// Definitions: [`State`](crate::specs::machine::State#State), [`amounts_of`](crate::specs::meter::Capped#amounts_of), [`total`](crate::specs::machine::State#total).
     #[derive(Debug)]
     pub(crate) struct CountedMachine<'r> {
         machine: Machine<'r>,
@@ -552,7 +552,7 @@ mod tenant {
         /// ensures: result ≡ amounts_of (total self.now)
         /// ```
         ///
-        /// Definitions: [`amounts_of`](crate::specs::meter::Amounts#amounts_of), [`total`](crate::specs::machine::Totals#total).
+        /// Definitions: [`amounts_of`](crate::specs::meter::Capped#amounts_of), [`total`](crate::specs::machine::State#total).
         #[inline]
         pub(crate) fn held(&self) -> Amounts {
             self.held
@@ -571,7 +571,7 @@ mod tenant {
         /// ensures held: HoldsTotals (holdings tenant.new) self.new
         /// ```
         ///
-        /// Definitions: [`HoldsTotals`](crate::specs::machine::Totals#HoldsTotals), [`holdings`](crate::specs::budget::Tenant#holdings), [`IsRunOf`](crate::specs::machine::Runs#IsRunOf), [`optional_rules`](crate::specs::meter::Limiter#optional_rules), [`tenant_rules`](crate::specs::budget::Tenant#tenant_rules), [`world`](crate::specs::machine::World#world).
+        /// Definitions: [`HoldsTotals`](crate::specs::machine::State#HoldsTotals), [`holdings`](crate::specs::budget::Pool#holdings), [`IsRunOf`](crate::specs::machine::Steps#IsRunOf), [`optional_rules`](crate::specs::meter::Limiter#optional_rules), [`tenant_rules`](crate::specs::budget::Pool#tenant_rules), [`world`](crate::specs::machine::State#world).
         #[inline]
         pub(crate) fn run(
             &mut self,

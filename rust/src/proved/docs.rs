@@ -8,7 +8,7 @@ macro_rules! docs {
 ensures: result ≡ vector.extract_lane_s w16 v lane
 ```
 
-Definitions: [`extract_lane_s`](crate::specs::lanewise::VectorTable#extract_lane_s), [`lane`](crate::specs::lanes::Lane#lane).
+Definitions: [`extract_lane_s`](crate::specs::lanewise::VectorTable#extract_lane_s), [`lane`](crate::specs::lanes::Vector#lane).
 "#### };
     (lanewise i16x8_extract_lane_u) => { r####"One lane, read unsigned.
 
@@ -18,7 +18,7 @@ Definitions: [`extract_lane_s`](crate::specs::lanewise::VectorTable#extract_lane
 ensures: result ≡ vector.extract_lane_u w16 v lane
 ```
 
-Definitions: [`extract_lane_u`](crate::specs::lanewise::VectorTable#extract_lane_u), [`lane`](crate::specs::lanes::Lane#lane).
+Definitions: [`extract_lane_u`](crate::specs::lanewise::VectorTable#extract_lane_u), [`lane`](crate::specs::lanes::Vector#lane).
 "#### };
     (lanewise i16x8_replace_lane) => { r####"`v` with the item in one lane.
 
@@ -28,7 +28,7 @@ Definitions: [`extract_lane_u`](crate::specs::lanewise::VectorTable#extract_lane
 ensures: result ≡ vector.replace_lane w16 v lane item
 ```
 
-Definitions: [`replace_lane`](crate::specs::lanewise::VectorTable#replace_lane), [`lane`](crate::specs::lanes::Lane#lane).
+Definitions: [`replace_lane`](crate::specs::lanewise::VectorTable#replace_lane), [`lane`](crate::specs::lanes::Vector#lane).
 "#### };
     (lanewise i32x4_extract_lane) => { r####"One lane, read signed.
 
@@ -38,7 +38,7 @@ Definitions: [`replace_lane`](crate::specs::lanewise::VectorTable#replace_lane),
 ensures: result ≡ vector.extract_lane_s w32 v lane
 ```
 
-Definitions: [`extract_lane_s`](crate::specs::lanewise::VectorTable#extract_lane_s), [`lane`](crate::specs::lanes::Lane#lane).
+Definitions: [`extract_lane_s`](crate::specs::lanewise::VectorTable#extract_lane_s), [`lane`](crate::specs::lanes::Vector#lane).
 "#### };
     (lanewise i32x4_replace_lane) => { r####"`v` with the item in one lane.
 
@@ -48,7 +48,7 @@ Definitions: [`extract_lane_s`](crate::specs::lanewise::VectorTable#extract_lane
 ensures: result ≡ vector.replace_lane w32 v lane item
 ```
 
-Definitions: [`replace_lane`](crate::specs::lanewise::VectorTable#replace_lane), [`lane`](crate::specs::lanes::Lane#lane).
+Definitions: [`replace_lane`](crate::specs::lanewise::VectorTable#replace_lane), [`lane`](crate::specs::lanes::Vector#lane).
 "#### };
     (lanewise i64x2_extract_lane) => { r####"One lane, read signed.
 
@@ -58,7 +58,7 @@ Definitions: [`replace_lane`](crate::specs::lanewise::VectorTable#replace_lane),
 ensures: result ≡ vector.extract_lane_s w64 v lane
 ```
 
-Definitions: [`extract_lane_s`](crate::specs::lanewise::VectorTable#extract_lane_s), [`lane`](crate::specs::lanes::Lane#lane).
+Definitions: [`extract_lane_s`](crate::specs::lanewise::VectorTable#extract_lane_s), [`lane`](crate::specs::lanes::Vector#lane).
 "#### };
     (lanewise i64x2_replace_lane) => { r####"`v` with the item in one lane.
 
@@ -68,7 +68,7 @@ Definitions: [`extract_lane_s`](crate::specs::lanewise::VectorTable#extract_lane
 ensures: result ≡ vector.replace_lane w64 v lane item
 ```
 
-Definitions: [`replace_lane`](crate::specs::lanewise::VectorTable#replace_lane), [`lane`](crate::specs::lanes::Lane#lane).
+Definitions: [`replace_lane`](crate::specs::lanewise::VectorTable#replace_lane), [`lane`](crate::specs::lanes::Vector#lane).
 "#### };
     (lanewise i8x16_extract_lane_s) => { r####"One lane, read signed.
 
@@ -78,7 +78,7 @@ Definitions: [`replace_lane`](crate::specs::lanewise::VectorTable#replace_lane),
 ensures: result ≡ vector.extract_lane_s w8 v lane
 ```
 
-Definitions: [`extract_lane_s`](crate::specs::lanewise::VectorTable#extract_lane_s), [`lane`](crate::specs::lanes::Lane#lane).
+Definitions: [`extract_lane_s`](crate::specs::lanewise::VectorTable#extract_lane_s), [`lane`](crate::specs::lanes::Vector#lane).
 "#### };
     (lanewise i8x16_extract_lane_u) => { r####"One lane, read unsigned.
 
@@ -88,7 +88,7 @@ Definitions: [`extract_lane_s`](crate::specs::lanewise::VectorTable#extract_lane
 ensures: result ≡ vector.extract_lane_u w8 v lane
 ```
 
-Definitions: [`extract_lane_u`](crate::specs::lanewise::VectorTable#extract_lane_u), [`lane`](crate::specs::lanes::Lane#lane).
+Definitions: [`extract_lane_u`](crate::specs::lanewise::VectorTable#extract_lane_u), [`lane`](crate::specs::lanes::Vector#lane).
 "#### };
     (lanewise i8x16_replace_lane) => { r####"`v` with the item in one lane.
 
@@ -98,7 +98,7 @@ Definitions: [`extract_lane_u`](crate::specs::lanewise::VectorTable#extract_lane
 ensures: result ≡ vector.replace_lane w8 v lane item
 ```
 
-Definitions: [`replace_lane`](crate::specs::lanewise::VectorTable#replace_lane), [`lane`](crate::specs::lanes::Lane#lane).
+Definitions: [`replace_lane`](crate::specs::lanewise::VectorTable#replace_lane), [`lane`](crate::specs::lanes::Vector#lane).
 "#### };
     (lanewise i8x16_shuffle) => { r####"Lane i is lane `s[i]` of `a`, or lane `s[i] - 16` of `b` where `s[i]` is above 15.
 
@@ -189,7 +189,7 @@ ensures written: BulkWrites
 ensures kept: KeepsPlace dst_memory.old dst_memory.new
 ```
 
-Definitions: [`BulkWrites`](crate::specs::store::Bulk#BulkWrites), [`copied`](crate::specs::store::Bulk#copied), [`metered`](crate::specs::store::Growth#metered), [`meter_at_entry`](crate::specs::meter::Meter#meter_at_entry), [`meter_at_exit`](crate::specs::meter::Meter#meter_at_exit), [`KeepsPlace`](crate::specs::store::Memory#KeepsPlace).
+Definitions: [`BulkWrites`](crate::specs::store::Growth#BulkWrites), [`copied`](crate::specs::store::Growth#copied), [`metered`](crate::specs::store::Growth#metered), [`meter_at_entry`](crate::specs::meter::Meter#meter_at_entry), [`meter_at_exit`](crate::specs::meter::Meter#meter_at_exit), [`KeepsPlace`](crate::specs::store::Memory#KeepsPlace).
 "#### };
     (store LinearMemory.copy_within) => { r####"Copies `len` bytes from `src` on over those from `dst` on. If the ranges overlap, the old
 bytes are copied. The errors are those of `fill`, if a range ends past the memory.
@@ -205,7 +205,7 @@ ensures written: BulkWrites (copied self.old.bytes dst self.old.bytes src len) l
 ensures kept: KeepsPlace self.old self.new
 ```
 
-Definitions: [`BulkWrites`](crate::specs::store::Bulk#BulkWrites), [`copied`](crate::specs::store::Bulk#copied), [`metered`](crate::specs::store::Growth#metered), [`meter_at_entry`](crate::specs::meter::Meter#meter_at_entry), [`meter_at_exit`](crate::specs::meter::Meter#meter_at_exit), [`KeepsPlace`](crate::specs::store::Memory#KeepsPlace).
+Definitions: [`BulkWrites`](crate::specs::store::Growth#BulkWrites), [`copied`](crate::specs::store::Growth#copied), [`metered`](crate::specs::store::Growth#metered), [`meter_at_entry`](crate::specs::meter::Meter#meter_at_entry), [`meter_at_exit`](crate::specs::meter::Meter#meter_at_exit), [`KeepsPlace`](crate::specs::store::Memory#KeepsPlace).
 "#### };
     (store LinearMemory.data) => { r####"The bytes.
 
@@ -248,7 +248,7 @@ ensures value: result ≡ dynamic_type self.now
 ensures subtype: IsSubtype result self.now.ty
 ```
 
-Definitions: [`dynamic_type`](crate::specs::store::Memory#dynamic_type), [`IsSubtype`](crate::specs::store::MemoryType#IsSubtype).
+Definitions: [`dynamic_type`](crate::specs::store::Memory#dynamic_type), [`IsSubtype`](crate::specs::store::Memory#IsSubtype).
 "#### };
     (store LinearMemory.fill) => { r####"Fills `len` bytes from `dst` on with a value.
 
@@ -267,7 +267,7 @@ ensures written: BulkWrites (filled self.old.bytes dst value len) len
 ensures kept: KeepsPlace self.old self.new
 ```
 
-Definitions: [`BulkWrites`](crate::specs::store::Bulk#BulkWrites), [`filled`](crate::specs::store::Bulk#filled), [`metered`](crate::specs::store::Growth#metered), [`meter_at_entry`](crate::specs::meter::Meter#meter_at_entry), [`meter_at_exit`](crate::specs::meter::Meter#meter_at_exit), [`KeepsPlace`](crate::specs::store::Memory#KeepsPlace).
+Definitions: [`BulkWrites`](crate::specs::store::Growth#BulkWrites), [`filled`](crate::specs::store::Growth#filled), [`metered`](crate::specs::store::Growth#metered), [`meter_at_entry`](crate::specs::meter::Meter#meter_at_entry), [`meter_at_exit`](crate::specs::meter::Meter#meter_at_exit), [`KeepsPlace`](crate::specs::store::Memory#KeepsPlace).
 "#### };
     (store LinearMemory.grow) => { r####"Grows by `additional` pages of zeros, and returns the old size in pages. A growth by 0 pages
 changes nothing and asks no limiter.
@@ -290,7 +290,7 @@ ensures grown: GrowsMemory (optional_rules L.rules) additional
     (metered_value self.new (meter_at_exit fuel.exit) (lent_limiter limiter.new))
 ```
 
-Definitions: [`KeepsLoan`](crate::specs::meter::LimiterRef#KeepsLoan), [`GrowsMemory`](crate::specs::store::Memory#GrowsMemory), [`optional_rules`](crate::specs::meter::Limiter#optional_rules), [`metered_value`](crate::specs::store::Growth#metered_value), [`meter_at_entry`](crate::specs::meter::Meter#meter_at_entry), [`lent_limiter`](crate::specs::meter::LimiterRef#lent_limiter), [`meter_at_exit`](crate::specs::meter::Meter#meter_at_exit).
+Definitions: [`KeepsLoan`](crate::specs::meter::Limiter#KeepsLoan), [`GrowsMemory`](crate::specs::store::Memory#GrowsMemory), [`optional_rules`](crate::specs::meter::Limiter#optional_rules), [`metered_value`](crate::specs::store::Growth#metered_value), [`meter_at_entry`](crate::specs::meter::Meter#meter_at_entry), [`lent_limiter`](crate::specs::meter::Limiter#lent_limiter), [`meter_at_exit`](crate::specs::meter::Meter#meter_at_exit).
 "#### };
     (store LinearMemory.init) => { r####"Copies `len` bytes of a data segment, from `src` on, over the bytes from `dst` on. A segment
 that was dropped has no bytes. The errors are those of `fill`, if a range ends past the
@@ -307,7 +307,7 @@ ensures written: BulkWrites (copied self.old.bytes dst segment.now src len) len
 ensures kept: KeepsPlace self.old self.new
 ```
 
-Definitions: [`BulkWrites`](crate::specs::store::Bulk#BulkWrites), [`copied`](crate::specs::store::Bulk#copied), [`metered`](crate::specs::store::Growth#metered), [`meter_at_entry`](crate::specs::meter::Meter#meter_at_entry), [`meter_at_exit`](crate::specs::meter::Meter#meter_at_exit), [`KeepsPlace`](crate::specs::store::Memory#KeepsPlace).
+Definitions: [`BulkWrites`](crate::specs::store::Growth#BulkWrites), [`copied`](crate::specs::store::Growth#copied), [`metered`](crate::specs::store::Growth#metered), [`meter_at_entry`](crate::specs::meter::Meter#meter_at_entry), [`meter_at_exit`](crate::specs::meter::Meter#meter_at_exit), [`KeepsPlace`](crate::specs::store::Memory#KeepsPlace).
 "#### };
     (store LinearMemory.new) => { r####"A memory of zeros, at the minimum of its type. It takes no fuel.
 
@@ -323,7 +323,7 @@ ensures made: MakesMemory (optional_rules L.rules) Owned ty
     (lent_limiter limiter.old) result (lent_limiter limiter.new)
 ```
 
-Definitions: [`KeepsLoan`](crate::specs::meter::LimiterRef#KeepsLoan), [`MakesMemory`](crate::specs::store::Memory#MakesMemory), [`optional_rules`](crate::specs::meter::Limiter#optional_rules), [`Owned`](crate::specs::store::Buffer#Owned), [`lent_limiter`](crate::specs::meter::LimiterRef#lent_limiter).
+Definitions: [`KeepsLoan`](crate::specs::meter::Limiter#KeepsLoan), [`MakesMemory`](crate::specs::store::Memory#MakesMemory), [`optional_rules`](crate::specs::meter::Limiter#optional_rules), [`Owned`](crate::specs::store::Buffer#Owned), [`lent_limiter`](crate::specs::meter::Limiter#lent_limiter).
 "#### };
     (store LinearMemory.new_static) => { r####"A memory of zeros at the front of a borrowed buffer, at the minimum of its type. It takes no
 fuel and allocates nothing, and the bytes past the minimum stay as they are.
@@ -341,7 +341,7 @@ ensures made: MakesMemory (optional_rules L.rules) (Lent region.entry.now) ty
     (lent_limiter limiter.old) result (lent_limiter limiter.new)
 ```
 
-Definitions: [`KeepsLoan`](crate::specs::meter::LimiterRef#KeepsLoan), [`MakesMemory`](crate::specs::store::Memory#MakesMemory), [`optional_rules`](crate::specs::meter::Limiter#optional_rules), [`Lent`](crate::specs::store::Buffer#Lent), [`lent_limiter`](crate::specs::meter::LimiterRef#lent_limiter).
+Definitions: [`KeepsLoan`](crate::specs::meter::Limiter#KeepsLoan), [`MakesMemory`](crate::specs::store::Memory#MakesMemory), [`optional_rules`](crate::specs::meter::Limiter#optional_rules), [`Lent`](crate::specs::store::Buffer#Lent), [`lent_limiter`](crate::specs::meter::Limiter#lent_limiter).
 "#### };
     (store LinearMemory.read) => { r####"Fills a buffer with the bytes from an offset on. The error is `OutOfBoundsAccess` if they
 end past the memory; then nothing is copied.
@@ -366,7 +366,7 @@ ensures value: result ≡ pages_of self.now
 ensures within: in_bounds self.now.ty result ≡ true
 ```
 
-Definitions: [`pages_of`](crate::specs::store::Memory#pages_of), [`in_bounds`](crate::specs::store::MemoryType#in_bounds).
+Definitions: [`pages_of`](crate::specs::store::Memory#pages_of), [`in_bounds`](crate::specs::store::Memory#in_bounds).
 "#### };
     (store LinearMemory.ty) => { r####"The type that it was made with.
 
@@ -439,7 +439,7 @@ ensures value: result ≡ dynamic_type self.now
 ensures subtype: IsSubtype result self.now.ty
 ```
 
-Definitions: [`dynamic_type`](crate::specs::store::Table#dynamic_type), [`IsSubtype`](crate::specs::store::TableType#IsSubtype).
+Definitions: [`dynamic_type`](crate::specs::store::Table#dynamic_type), [`IsSubtype`](crate::specs::store::Table#IsSubtype).
 "#### };
     (store Table.fill) => { r####"Fills `len` elements from `dst` on with a reference. The type of the reference is tested
 first (`ElementTypeMismatch`); the rest is as in `fill_raw`.
@@ -491,7 +491,7 @@ ensures grown: GrowsTable (optional_rules L.rules) delta init
     (metered_value self.new (meter_at_exit fuel.exit) (lent_limiter limiter.new))
 ```
 
-Definitions: [`KeepsLoan`](crate::specs::meter::LimiterRef#KeepsLoan), [`GrowsTable`](crate::specs::store::Table#GrowsTable), [`optional_rules`](crate::specs::meter::Limiter#optional_rules), [`metered_value`](crate::specs::store::Growth#metered_value), [`meter_at_entry`](crate::specs::meter::Meter#meter_at_entry), [`lent_limiter`](crate::specs::meter::LimiterRef#lent_limiter), [`meter_at_exit`](crate::specs::meter::Meter#meter_at_exit).
+Definitions: [`KeepsLoan`](crate::specs::meter::Limiter#KeepsLoan), [`GrowsTable`](crate::specs::store::Table#GrowsTable), [`optional_rules`](crate::specs::meter::Limiter#optional_rules), [`metered_value`](crate::specs::store::Growth#metered_value), [`meter_at_entry`](crate::specs::meter::Meter#meter_at_entry), [`lent_limiter`](crate::specs::meter::Limiter#lent_limiter), [`meter_at_exit`](crate::specs::meter::Meter#meter_at_exit).
 "#### };
     (store Table.grow_raw) => { r####"Grows by `delta` elements, each the given reference, and returns the old size. A growth by 0
 changes nothing and asks no limiter.
@@ -512,7 +512,7 @@ ensures grown: GrowsTableRaw (optional_rules L.rules) delta init
     (metered_value self.new (meter_at_exit fuel.exit) (lent_limiter limiter.new))
 ```
 
-Definitions: [`KeepsLoan`](crate::specs::meter::LimiterRef#KeepsLoan), [`GrowsTableRaw`](crate::specs::store::Table#GrowsTableRaw), [`optional_rules`](crate::specs::meter::Limiter#optional_rules), [`metered_value`](crate::specs::store::Growth#metered_value), [`meter_at_entry`](crate::specs::meter::Meter#meter_at_entry), [`lent_limiter`](crate::specs::meter::LimiterRef#lent_limiter), [`meter_at_exit`](crate::specs::meter::Meter#meter_at_exit).
+Definitions: [`KeepsLoan`](crate::specs::meter::Limiter#KeepsLoan), [`GrowsTableRaw`](crate::specs::store::Table#GrowsTableRaw), [`optional_rules`](crate::specs::meter::Limiter#optional_rules), [`metered_value`](crate::specs::store::Growth#metered_value), [`meter_at_entry`](crate::specs::meter::Meter#meter_at_entry), [`lent_limiter`](crate::specs::meter::Limiter#lent_limiter), [`meter_at_exit`](crate::specs::meter::Meter#meter_at_exit).
 "#### };
     (store Table.init) => { r####"Copies `len` items of an element segment, from `src` on, over the elements from `dst` on.
 
@@ -543,7 +543,7 @@ ensures made: MakesTable (optional_rules L.rules) ty init (lent_limiter limiter.
     (lent_limiter limiter.new)
 ```
 
-Definitions: [`KeepsLoan`](crate::specs::meter::LimiterRef#KeepsLoan), [`MakesTable`](crate::specs::store::Table#MakesTable), [`optional_rules`](crate::specs::meter::Limiter#optional_rules), [`lent_limiter`](crate::specs::meter::LimiterRef#lent_limiter).
+Definitions: [`KeepsLoan`](crate::specs::meter::Limiter#KeepsLoan), [`MakesTable`](crate::specs::store::Table#MakesTable), [`optional_rules`](crate::specs::meter::Limiter#optional_rules), [`lent_limiter`](crate::specs::meter::Limiter#lent_limiter).
 "#### };
     (store Table.set) => { r####"Sets the element at an index. Errors, in the order of the tests: `ElementTypeMismatch`,
 `SetOutOfBounds`.
@@ -592,7 +592,7 @@ ensures: result ≡ self.now.ty
 ensures: result ≡ shift_amount (bits Self.Lane.width) (Self.ShiftSource.number source)
 ```
 
-Definitions: [`shift_amount`](crate::specs::typed::ShiftAmount#shift_amount).
+Definitions: [`shift_amount`](crate::specs::typed::Typed#shift_amount).
 "#### };
     (types FuncType.contract) => { r####"# Model
 
@@ -631,7 +631,7 @@ ensures reading: IsReadingOf P.into_iter_gives P.IntoIter.next_gives R.into_iter
     R.IntoIter.next_gives params results result
 ```
 
-Definitions: [`EachBecomes`](crate::specs::types::Iteration#EachBecomes), [`AfterAll`](crate::specs::types::Reading#AfterAll), [`IsReadingOf`](crate::specs::types::Reading#IsReadingOf).
+Definitions: [`EachBecomes`](crate::specs::types::Reading#EachBecomes), [`AfterAll`](crate::specs::types::Reading#AfterAll), [`IsReadingOf`](crate::specs::types::Reading#IsReadingOf).
 "#### };
     (types FuncType.params) => { r####"The types of the parameters.
 
@@ -671,7 +671,7 @@ view = λ trap. trap.reason
 ensures: result ≡ host_error_of self
 ```
 
-Definitions: [`host_error_of`](crate::specs::types::TrapReason#host_error_of).
+Definitions: [`host_error_of`](crate::specs::types::Trap#host_error_of).
 "#### };
     (types Trap.downcast_mut.contract) => { r####"# Contract
 
@@ -681,7 +681,7 @@ ensures* writes_back: sem 𝓛 (LendsIf (the_row H.row) H.row self.entry result
 ensures value: option_copied_mut result ≡ host_error_of self.old
 ```
 
-Definitions: [`with_host_error`](crate::specs::types::TrapReason#with_host_error), [`host_error_of`](crate::specs::types::TrapReason#host_error_of).
+Definitions: [`with_host_error`](crate::specs::types::Trap#with_host_error), [`host_error_of`](crate::specs::types::Trap#host_error_of).
 "#### };
     (types Trap.downcast_ref.contract) => { r####"# Contract
 
@@ -689,7 +689,7 @@ Definitions: [`with_host_error`](crate::specs::types::TrapReason#with_host_error
 ensures: option_copied result ≡ host_error_of self.now
 ```
 
-Definitions: [`host_error_of`](crate::specs::types::TrapReason#host_error_of).
+Definitions: [`host_error_of`](crate::specs::types::Trap#host_error_of).
 "#### };
     (types Trap.i32_exit) => { r####"An exit of the program with a status.
 
@@ -707,7 +707,7 @@ ensures: result ≡ reason.I32Exit status
 ensures: result ≡ exit_status_of self.now
 ```
 
-Definitions: [`exit_status_of`](crate::specs::types::TrapReason#exit_status_of).
+Definitions: [`exit_status_of`](crate::specs::types::Trap#exit_status_of).
 "#### };
     (types Trap.new) => { r####"A trap that a message describes.
 
@@ -725,7 +725,7 @@ ensures: result ≡ reason.Message message
 ensures: result ≡ code_of self.now
 ```
 
-Definitions: [`code_of`](crate::specs::types::TrapReason#code_of).
+Definitions: [`code_of`](crate::specs::types::Trap#code_of).
 "#### };
     (vector_access v128_load16_lane) => { r####"`v128.load16_lane`: `v` with 16 bits in one lane.
 
@@ -816,7 +816,7 @@ ensures: IsStore memory.old (ptr + offset)
     (le_bytes 2 (lanes.lane w16 v lane)) memory.new result
 ```
 
-Definitions: [`IsStore`](crate::specs::accesses::LoadStore#IsStore), [`le_bytes`](crate::specs::types::Bytes#le_bytes), [`lane`](crate::specs::lanes::Lane#lane).
+Definitions: [`IsStore`](crate::specs::accesses::LoadStore#IsStore), [`le_bytes`](crate::specs::types::Numbers#le_bytes), [`lane`](crate::specs::lanes::Vector#lane).
 "#### };
     (vector_access v128_store16_lane_at) => { r####"`v128.store16_lane` at an address.
 
@@ -826,7 +826,7 @@ Definitions: [`IsStore`](crate::specs::accesses::LoadStore#IsStore), [`le_bytes`
 ensures: IsStore memory.old address (le_bytes 2 (lanes.lane w16 v lane)) memory.new result
 ```
 
-Definitions: [`IsStore`](crate::specs::accesses::LoadStore#IsStore), [`le_bytes`](crate::specs::types::Bytes#le_bytes), [`lane`](crate::specs::lanes::Lane#lane).
+Definitions: [`IsStore`](crate::specs::accesses::LoadStore#IsStore), [`le_bytes`](crate::specs::types::Numbers#le_bytes), [`lane`](crate::specs::lanes::Vector#lane).
 "#### };
     (vector_access v128_store32_lane) => { r####"`v128.store32_lane`: the 32 bits of one lane of `v`.
 
@@ -837,7 +837,7 @@ ensures: IsStore memory.old (ptr + offset)
     (le_bytes 4 (lanes.lane w32 v lane)) memory.new result
 ```
 
-Definitions: [`IsStore`](crate::specs::accesses::LoadStore#IsStore), [`le_bytes`](crate::specs::types::Bytes#le_bytes), [`lane`](crate::specs::lanes::Lane#lane).
+Definitions: [`IsStore`](crate::specs::accesses::LoadStore#IsStore), [`le_bytes`](crate::specs::types::Numbers#le_bytes), [`lane`](crate::specs::lanes::Vector#lane).
 "#### };
     (vector_access v128_store32_lane_at) => { r####"`v128.store32_lane` at an address.
 
@@ -847,7 +847,7 @@ Definitions: [`IsStore`](crate::specs::accesses::LoadStore#IsStore), [`le_bytes`
 ensures: IsStore memory.old address (le_bytes 4 (lanes.lane w32 v lane)) memory.new result
 ```
 
-Definitions: [`IsStore`](crate::specs::accesses::LoadStore#IsStore), [`le_bytes`](crate::specs::types::Bytes#le_bytes), [`lane`](crate::specs::lanes::Lane#lane).
+Definitions: [`IsStore`](crate::specs::accesses::LoadStore#IsStore), [`le_bytes`](crate::specs::types::Numbers#le_bytes), [`lane`](crate::specs::lanes::Vector#lane).
 "#### };
     (vector_access v128_store64_lane) => { r####"`v128.store64_lane`: the 64 bits of one lane of `v`.
 
@@ -858,7 +858,7 @@ ensures: IsStore memory.old (ptr + offset)
     (le_bytes 8 (lanes.lane w64 v lane)) memory.new result
 ```
 
-Definitions: [`IsStore`](crate::specs::accesses::LoadStore#IsStore), [`le_bytes`](crate::specs::types::Bytes#le_bytes), [`lane`](crate::specs::lanes::Lane#lane).
+Definitions: [`IsStore`](crate::specs::accesses::LoadStore#IsStore), [`le_bytes`](crate::specs::types::Numbers#le_bytes), [`lane`](crate::specs::lanes::Vector#lane).
 "#### };
     (vector_access v128_store64_lane_at) => { r####"`v128.store64_lane` at an address.
 
@@ -868,7 +868,7 @@ Definitions: [`IsStore`](crate::specs::accesses::LoadStore#IsStore), [`le_bytes`
 ensures: IsStore memory.old address (le_bytes 8 (lanes.lane w64 v lane)) memory.new result
 ```
 
-Definitions: [`IsStore`](crate::specs::accesses::LoadStore#IsStore), [`le_bytes`](crate::specs::types::Bytes#le_bytes), [`lane`](crate::specs::lanes::Lane#lane).
+Definitions: [`IsStore`](crate::specs::accesses::LoadStore#IsStore), [`le_bytes`](crate::specs::types::Numbers#le_bytes), [`lane`](crate::specs::lanes::Vector#lane).
 "#### };
     (vector_access v128_store8_lane) => { r####"`v128.store8_lane`: the 8 bits of one lane of `v`.
 
@@ -879,7 +879,7 @@ ensures: IsStore memory.old (ptr + offset)
     (le_bytes 1 (lanes.lane w8 v lane)) memory.new result
 ```
 
-Definitions: [`IsStore`](crate::specs::accesses::LoadStore#IsStore), [`le_bytes`](crate::specs::types::Bytes#le_bytes), [`lane`](crate::specs::lanes::Lane#lane).
+Definitions: [`IsStore`](crate::specs::accesses::LoadStore#IsStore), [`le_bytes`](crate::specs::types::Numbers#le_bytes), [`lane`](crate::specs::lanes::Vector#lane).
 "#### };
     (vector_access v128_store8_lane_at) => { r####"`v128.store8_lane` at an address.
 
@@ -889,6 +889,6 @@ Definitions: [`IsStore`](crate::specs::accesses::LoadStore#IsStore), [`le_bytes`
 ensures: IsStore memory.old address (le_bytes 1 (lanes.lane w8 v lane)) memory.new result
 ```
 
-Definitions: [`IsStore`](crate::specs::accesses::LoadStore#IsStore), [`le_bytes`](crate::specs::types::Bytes#le_bytes), [`lane`](crate::specs::lanes::Lane#lane).
+Definitions: [`IsStore`](crate::specs::accesses::LoadStore#IsStore), [`le_bytes`](crate::specs::types::Numbers#le_bytes), [`lane`](crate::specs::lanes::Vector#lane).
 "#### };
 }

@@ -1629,7 +1629,7 @@ mod script {
     ///     → (0 < line) × (line ≤ length bytes.now + 1))
     /// ```
     ///
-    /// Definitions: [`WritesScript`](crate::specs::grammar::Lines#WritesScript), [`calls_of`](crate::specs::grammar::Lines#calls_of), [`IsParseError`](crate::specs::grammar::Refusals#IsParseError).
+    /// Definitions: [`WritesScript`](crate::specs::grammar::Lines#WritesScript), [`calls_of`](crate::specs::grammar::Lines#calls_of), [`IsParseError`](crate::specs::grammar::Lines#IsParseError).
     #[inline]
     pub fn parse(bytes: &[u8]) -> Result<Script, ParseError> {
         let mut script = Script::new();

@@ -22,7 +22,7 @@ mod index {
     /// inverse = λ number. record { index = number }
     /// ```
     ///
-    /// Definitions: [`IsLaneCount`](crate::specs::lanes::Lane#IsLaneCount).
+    /// Definitions: [`IsLaneCount`](crate::specs::lanes::Vector#IsLaneCount).
     #[derive(Clone, Copy, Debug, PartialEq, Eq)]
     pub struct ImmLaneIdx<const N: usize> {
         index: u8,
@@ -48,7 +48,7 @@ mod index {
     /// is_lane_count: IsLaneCount N
     /// ```
     ///
-    /// Definitions: [`IsLaneCount`](crate::specs::lanes::Lane#IsLaneCount).
+    /// Definitions: [`IsLaneCount`](crate::specs::lanes::Vector#IsLaneCount).
     pub trait CountsLanes<const N: usize> {}
 
     impl CountsLanes<2> for ImmLaneIdx2 {}
@@ -165,7 +165,7 @@ mod item {
     /// laws: ReadsLanes width read image Fits ALL_ONES ALL_ZEROS
     /// ```
     ///
-    /// Definitions: [`lane`](crate::specs::lanes::Lane#lane), [`ReadsLanes`](crate::specs::lanes::Lane#ReadsLanes).
+    /// Definitions: [`lane`](crate::specs::lanes::Vector#lane), [`ReadsLanes`](crate::specs::lanes::Vector#ReadsLanes).
     pub trait LaneInteger: Copy {
         /// The item whose bits are all ones.
         const ALL_ONES: Self;
@@ -192,7 +192,7 @@ mod item {
         ///     → slice_index_or items.new i Self.ALL_ZEROS ≡ Self.read (lane Self.width vector i)
         /// ```
         ///
-        /// Definitions: [`lane`](crate::specs::lanes::Lane#lane).
+        /// Definitions: [`lane`](crate::specs::lanes::Vector#lane).
         fn read_into(vector: V128, items: &mut [Self; N]);
 
         /// The vector with these lanes, lane 0 first.
@@ -205,7 +205,7 @@ mod item {
         /// ensures in_range: result < 2 ^ 128
         /// ```
         ///
-        /// Definitions: [`lane`](crate::specs::lanes::Lane#lane).
+        /// Definitions: [`lane`](crate::specs::lanes::Vector#lane).
         fn write_from(items: &[Self; N]) -> V128;
     }
 
@@ -220,7 +220,7 @@ mod item {
     /// Fits = λ item. item < 2 ^ 8
     /// ```
     ///
-    /// Definitions: [`unsigned`](crate::specs::lanes::Lane#unsigned).
+    /// Definitions: [`unsigned`](crate::specs::lanes::Vector#unsigned).
     impl LaneInteger for u8 {
         const ALL_ONES: u8 = u8::MAX;
 
@@ -287,7 +287,7 @@ mod item {
     /// Fits = λ item. item < 2 ^ 16
     /// ```
     ///
-    /// Definitions: [`unsigned`](crate::specs::lanes::Lane#unsigned).
+    /// Definitions: [`unsigned`](crate::specs::lanes::Vector#unsigned).
     impl LaneInteger for u16 {
         const ALL_ONES: u16 = u16::MAX;
 
@@ -354,7 +354,7 @@ mod item {
     /// Fits = λ item. item < 2 ^ 32
     /// ```
     ///
-    /// Definitions: [`unsigned`](crate::specs::lanes::Lane#unsigned).
+    /// Definitions: [`unsigned`](crate::specs::lanes::Vector#unsigned).
     impl LaneInteger for u32 {
         const ALL_ONES: u32 = u32::MAX;
 
@@ -421,7 +421,7 @@ mod item {
     /// Fits = λ item. item < 2 ^ 64
     /// ```
     ///
-    /// Definitions: [`unsigned`](crate::specs::lanes::Lane#unsigned).
+    /// Definitions: [`unsigned`](crate::specs::lanes::Vector#unsigned).
     impl LaneInteger for u64 {
         const ALL_ONES: u64 = u64::MAX;
 
@@ -505,7 +505,7 @@ mod lanes {
     ///     Self.Item.ALL_ONES Self.Item.ALL_ZEROS
     /// ```
     ///
-    /// Definitions: [`lane`](crate::specs::lanes::Lane#lane), [`AreWholeLanes`](crate::specs::lanes::Lane#AreWholeLanes).
+    /// Definitions: [`lane`](crate::specs::lanes::Vector#lane), [`AreWholeLanes`](crate::specs::lanes::Vector#AreWholeLanes).
     pub trait Lanes: Copy {
         /// The integer of one lane.
         type Item: LaneInteger;
@@ -531,7 +531,7 @@ mod lanes {
         ///     → item result i ≡ Self.Item.read (lane Self.Item.width vector i)
         /// ```
         ///
-        /// Definitions: [`lane`](crate::specs::lanes::Lane#lane).
+        /// Definitions: [`lane`](crate::specs::lanes::Vector#lane).
         fn from_v128(vector: V128) -> Self;
 
         /// The vector with these lanes.
@@ -544,7 +544,7 @@ mod lanes {
         /// ensures in_range: result < 2 ^ 128
         /// ```
         ///
-        /// Definitions: [`lane`](crate::specs::lanes::Lane#lane).
+        /// Definitions: [`lane`](crate::specs::lanes::Vector#lane).
         fn into_v128(self) -> V128;
 
         /// The same item in all lanes.
@@ -565,7 +565,7 @@ mod lanes {
         /// ensures inside: Self.LaneIdx.number lane < LANES
         /// ```
         ///
-        /// Definitions: [`lane`](crate::specs::lanes::Lane#lane).
+        /// Definitions: [`lane`](crate::specs::lanes::Vector#lane).
         fn extract_lane(self, lane: Self::LaneIdx) -> Self::Item;
 
         /// The lanes with `value` in one of them.
@@ -577,7 +577,7 @@ mod lanes {
         ///     → item result i ≡ (if i == Self.LaneIdx.number lane then value else item self i)
         /// ```
         ///
-        /// Definitions: [`lane`](crate::specs::lanes::Lane#lane).
+        /// Definitions: [`lane`](crate::specs::lanes::Vector#lane).
         fn replace_lane(self, lane: Self::LaneIdx, value: Self::Item) -> Self;
 
         /// What `f` gives for each lane.
@@ -648,7 +648,7 @@ mod lanes {
         ///     result
         /// ```
         ///
-        /// Definitions: [`ReducesTo`](crate::specs::lanes::Lane#ReducesTo).
+        /// Definitions: [`ReducesTo`](crate::specs::lanes::Vector#ReducesTo).
         fn lanewise_reduce<T, F: Fn(u8, Self::Item, T) -> T>(self, acc: T, f: F) -> T;
     }
 
@@ -878,7 +878,7 @@ pub mod laws {
     ///     → lane w (with_lane w v k n) i ≡ (if i == k then n else lane w v i)
     /// ```
     ///
-    /// Definitions: [`lane`](crate::specs::lanes::Lane#lane), [`from_lanes`](crate::specs::lanes::Vector#from_lanes), [`splat_of`](crate::specs::lanes::Vector#splat_of), [`with_lane`](crate::specs::lanes::Vector#with_lane).
+    /// Definitions: [`lane`](crate::specs::lanes::Vector#lane), [`from_lanes`](crate::specs::lanes::Vector#from_lanes), [`splat_of`](crate::specs::lanes::Vector#splat_of), [`with_lane`](crate::specs::lanes::Vector#with_lane).
     #[inline]
     pub fn lanes_of_made_vector() {}
 
@@ -902,7 +902,7 @@ pub mod laws {
     ///     (read (lane L.Item.width b i)) then 2 ^ bits L.Item.width - 1 else 0)
     /// ```
     ///
-    /// Definitions: [`lane`](crate::specs::lanes::Lane#lane), [`unary_of_lanes`](crate::specs::lanes::Vector#unary_of_lanes), [`binary_of_lanes`](crate::specs::lanes::Vector#binary_of_lanes), [`comparison_of_lanes`](crate::specs::lanes::Vector#comparison_of_lanes).
+    /// Definitions: [`lane`](crate::specs::lanes::Vector#lane), [`unary_of_lanes`](crate::specs::lanes::Vector#unary_of_lanes), [`binary_of_lanes`](crate::specs::lanes::Vector#binary_of_lanes), [`comparison_of_lanes`](crate::specs::lanes::Vector#comparison_of_lanes).
     #[inline]
     pub fn lanes_of_rows<L: Lanes>() {}
 
@@ -1229,7 +1229,7 @@ pub mod on_vectors {
     ///     → result ≡ unary_of_lanes L.Item.width L.Item.read row a
     /// ```
     ///
-    /// Definitions: [`lane`](crate::specs::lanes::Lane#lane), [`ComputesLane`](crate::specs::lanes::Vector#ComputesLane), [`unary_of_lanes`](crate::specs::lanes::Vector#unary_of_lanes).
+    /// Definitions: [`lane`](crate::specs::lanes::Vector#lane), [`ComputesLane`](crate::specs::lanes::Vector#ComputesLane), [`unary_of_lanes`](crate::specs::lanes::Vector#unary_of_lanes).
     #[inline(always)]
     pub fn unary<L: Lanes, F: Fn(L::Item) -> L::Item>(a: V128, f: F) -> V128 {
         L::from_v128(a).lanewise_unary(f).into_v128()
@@ -1249,7 +1249,7 @@ pub mod on_vectors {
     ///     → result ≡ binary_of_lanes L.Item.width L.Item.read row a b
     /// ```
     ///
-    /// Definitions: [`lane`](crate::specs::lanes::Lane#lane), [`ComputesLaneOfTwo`](crate::specs::lanes::Vector#ComputesLaneOfTwo), [`binary_of_lanes`](crate::specs::lanes::Vector#binary_of_lanes).
+    /// Definitions: [`lane`](crate::specs::lanes::Vector#lane), [`ComputesLaneOfTwo`](crate::specs::lanes::Vector#ComputesLaneOfTwo), [`binary_of_lanes`](crate::specs::lanes::Vector#binary_of_lanes).
     #[inline(always)]
     pub fn binary<L: Lanes, F: Fn(L::Item, L::Item) -> L::Item>(a: V128, b: V128, f: F) -> V128 {
         L::from_v128(a)
@@ -1273,7 +1273,7 @@ pub mod on_vectors {
     ///     → result ≡ comparison_of_lanes L.Item.width L.Item.read test a b
     /// ```
     ///
-    /// Definitions: [`lane`](crate::specs::lanes::Lane#lane), [`DecidesTest`](crate::specs::lanes::Vector#DecidesTest), [`comparison_of_lanes`](crate::specs::lanes::Vector#comparison_of_lanes).
+    /// Definitions: [`lane`](crate::specs::lanes::Vector#lane), [`DecidesTest`](crate::specs::lanes::Vector#DecidesTest), [`comparison_of_lanes`](crate::specs::lanes::Vector#comparison_of_lanes).
     #[inline(always)]
     pub fn comparison<L: Lanes, F: Fn(L::Item, L::Item) -> bool>(a: V128, b: V128, f: F) -> V128 {
         L::from_v128(a)
@@ -1313,7 +1313,7 @@ mod simd_lane {
     /// at: Self.Vector → ℕ → ℕ
     /// ```
     ///
-    /// Definitions: [`lane`](crate::specs::lanes::Lane#lane).
+    /// Definitions: [`lane`](crate::specs::lanes::Vector#lane).
     pub trait SimdLane: LaneInteger {
         /// The lanes that fill a vector.
         type Vector: Copy;
@@ -1327,7 +1327,7 @@ mod simd_lane {
         ///     → at result i ≡ lane Self.width vector i
         /// ```
         ///
-        /// Definitions: [`lane_count`](crate::specs::lanes::Lane#lane_count), [`lane`](crate::specs::lanes::Lane#lane).
+        /// Definitions: [`lane_count`](crate::specs::lanes::Vector#lane_count), [`lane`](crate::specs::lanes::Vector#lane).
         fn lanes_of(vector: V128) -> Self::Vector;
 
         /// The vector with these lanes.
@@ -1340,7 +1340,7 @@ mod simd_lane {
         /// ensures in_range: result < 2 ^ 128
         /// ```
         ///
-        /// Definitions: [`lane_count`](crate::specs::lanes::Lane#lane_count), [`lane`](crate::specs::lanes::Lane#lane).
+        /// Definitions: [`lane_count`](crate::specs::lanes::Vector#lane_count), [`lane`](crate::specs::lanes::Vector#lane).
         fn vector_of(items: Self::Vector) -> V128;
 
         /// The same number in all lanes.
@@ -1351,7 +1351,7 @@ mod simd_lane {
         /// ensures lanes: (i : ℕ) → i < lane_count Self.width → at result i ≡ Self.image number
         /// ```
         ///
-        /// Definitions: [`lane_count`](crate::specs::lanes::Lane#lane_count).
+        /// Definitions: [`lane_count`](crate::specs::lanes::Vector#lane_count).
         fn splat(number: Self) -> Self::Vector;
 
         /// The lanes moved by half of their range, so that as unsigned numbers they stand in the order
@@ -1364,7 +1364,7 @@ mod simd_lane {
         ///     → at result i ≡ (at items i + 2 ^ (bits Self.width - 1)) % 2 ^ bits Self.width
         /// ```
         ///
-        /// Definitions: [`lane_count`](crate::specs::lanes::Lane#lane_count).
+        /// Definitions: [`lane_count`](crate::specs::lanes::Vector#lane_count).
         fn biased(items: Self::Vector) -> Self::Vector;
 
         /// The lanes of `chosen` where that of `a` is less than that of `b`, else those of `other`.
@@ -1376,7 +1376,7 @@ mod simd_lane {
         ///     → at result i ≡ (if nat_lt (at a i) (at b i) then at chosen i else at other i)
         /// ```
         ///
-        /// Definitions: [`lane_count`](crate::specs::lanes::Lane#lane_count).
+        /// Definitions: [`lane_count`](crate::specs::lanes::Vector#lane_count).
         fn choose_if_less(
             a: Self::Vector,
             b: Self::Vector,
@@ -1530,7 +1530,7 @@ mod simd_lane {
     /// ensures lanes: (i : ℕ) → i < 16 → slice_index_or result i 0 ≡ lane w8 vector i
     /// ```
     ///
-    /// Definitions: [`lane`](crate::specs::lanes::Lane#lane).
+    /// Definitions: [`lane`](crate::specs::lanes::Vector#lane).
     #[inline(always)]
     pub fn bytes_of(vector: V128) -> u8x16 {
         let (low, high) = vector.words();
@@ -1549,7 +1549,7 @@ mod simd_lane {
     /// ensures lanes: (i : ℕ) → i < 16 → slice_index_or result i 0 ≡ lane w8 vector i
     /// ```
     ///
-    /// Definitions: [`lane`](crate::specs::lanes::Lane#lane).
+    /// Definitions: [`lane`](crate::specs::lanes::Vector#lane).
     #[inline(always)]
     pub(crate) fn bytes_to_take_out(vector: V128) -> u8x16 {
         let (low, high) = vector.words();
@@ -1568,7 +1568,7 @@ mod simd_lane {
     /// ensures in_range: result < 2 ^ 128
     /// ```
     ///
-    /// Definitions: [`lane`](crate::specs::lanes::Lane#lane).
+    /// Definitions: [`lane`](crate::specs::lanes::Vector#lane).
     #[inline(always)]
     pub fn from_bytes(bytes: u8x16) -> V128 {
         let [low, high] = u64x2::from_le_bytes(bytes).to_array();
@@ -1596,7 +1596,7 @@ mod simd_lane {
     /// ensures: (low high : ℕ) → words ≡ low ∷ high ∷ [] → result ≡ vector_of low high
     /// ```
     ///
-    /// Definitions: [`vector_of`](crate::specs::raw::Vector#vector_of).
+    /// Definitions: [`vector_of`](crate::specs::raw::RawVal#vector_of).
     #[inline(always)]
     pub fn from_u64x2(words: u64x2) -> V128 {
         let [low, high] = words.to_array();
@@ -1629,7 +1629,7 @@ mod variable_lane {
         /// ensures: Self.image result ≡ lane Self.width vector (Self.LaneIdx.number at)
         /// ```
         ///
-        /// Definitions: [`lane`](crate::specs::lanes::Lane#lane).
+        /// Definitions: [`lane`](crate::specs::lanes::Vector#lane).
         fn lane_at(vector: V128, at: Self::LaneIdx) -> Self;
 
         /// The vector with `item` in the lane at an index.
@@ -1733,7 +1733,7 @@ mod variable_lane {
     /// ensures inside: (i : ℕ) → i < 16 → slice_index result i < 16
     /// ```
     ///
-    /// Definitions: [`lane`](crate::specs::lanes::Lane#lane).
+    /// Definitions: [`lane`](crate::specs::lanes::Vector#lane).
     #[inline(always)]
     fn indices_of_u8(lane: u8) -> u8x16 {
         u32x4::from_array([u32::from(lane), 0, 0, 0]).to_le_bytes()
@@ -1753,7 +1753,7 @@ mod variable_lane {
     /// ensures inside: (i : ℕ) → i < 16 → slice_index result i < 16
     /// ```
     ///
-    /// Definitions: [`lane`](crate::specs::lanes::Lane#lane).
+    /// Definitions: [`lane`](crate::specs::lanes::Vector#lane).
     #[inline(always)]
     fn indices_of_u16(lane: u8) -> u8x16 {
         u32x4::from_array([BYTES_OF_U16[usize::from(lane)], 0, 0, 0]).to_le_bytes()
@@ -1770,7 +1770,7 @@ mod variable_lane {
     /// ensures inside: (i : ℕ) → i < 16 → slice_index result i < 16
     /// ```
     ///
-    /// Definitions: [`lane`](crate::specs::lanes::Lane#lane).
+    /// Definitions: [`lane`](crate::specs::lanes::Vector#lane).
     #[inline(always)]
     fn indices_of_u32(lane: u8) -> u8x16 {
         u32x4::from_array([BYTES_OF_U32[usize::from(lane)], 0, 0, 0]).to_le_bytes()
@@ -1795,7 +1795,7 @@ mod variable_lane {
     /// ensures lanes: result ≡ replicate 8 lane
     /// ```
     ///
-    /// Definitions: [`lane`](crate::specs::lanes::Lane#lane).
+    /// Definitions: [`lane`](crate::specs::lanes::Vector#lane).
     #[inline(always)]
     fn in_each_u16(lane: u8) -> u16x8 {
         u16x8::from_le_bytes(u64x2::splat(IN_EACH_U16[usize::from(lane)]).to_le_bytes())

@@ -1172,7 +1172,7 @@ pub mod simd {
         /// ensures: result ≡ lane w32 v 0 ∷ lane w32 v 1 ∷ lane w32 v 0 ∷ lane w32 v 1 ∷ []
         /// ```
         ///
-        /// Definitions: [`lane`](crate::specs::lanes::Lane#lane).
+        /// Definitions: [`lane`](crate::specs::lanes::Vector#lane).
         #[inline(always)]
         fn lower_half_twice(v: V128) -> u32x4 {
             let items = u32::lanes_of(v);
@@ -1187,7 +1187,7 @@ pub mod simd {
         /// ensures: result ≡ vector.extract_lane_s w8 v lane
         /// ```
         ///
-        /// Definitions: [`extract_lane_s`](crate::specs::lanewise::VectorTable#extract_lane_s), [`lane`](crate::specs::lanes::Lane#lane).
+        /// Definitions: [`extract_lane_s`](crate::specs::lanewise::VectorTable#extract_lane_s), [`lane`](crate::specs::lanes::Vector#lane).
         #[inline]
         pub fn i8x16_extract_lane_s(v: V128, lane: ImmLaneIdx16) -> i32 {
             i32::from(u8::lane_at(v, lane).cast_signed())
@@ -1201,7 +1201,7 @@ pub mod simd {
         /// ensures: result ≡ vector.extract_lane_u w8 v lane
         /// ```
         ///
-        /// Definitions: [`extract_lane_u`](crate::specs::lanewise::VectorTable#extract_lane_u), [`lane`](crate::specs::lanes::Lane#lane).
+        /// Definitions: [`extract_lane_u`](crate::specs::lanewise::VectorTable#extract_lane_u), [`lane`](crate::specs::lanes::Vector#lane).
         #[inline]
         pub fn i8x16_extract_lane_u(v: V128, lane: ImmLaneIdx16) -> u32 {
             u32::from(u8::lane_at(v, lane))
@@ -1215,7 +1215,7 @@ pub mod simd {
         /// ensures: result ≡ vector.extract_lane_s w16 v lane
         /// ```
         ///
-        /// Definitions: [`extract_lane_s`](crate::specs::lanewise::VectorTable#extract_lane_s), [`lane`](crate::specs::lanes::Lane#lane).
+        /// Definitions: [`extract_lane_s`](crate::specs::lanewise::VectorTable#extract_lane_s), [`lane`](crate::specs::lanes::Vector#lane).
         #[inline]
         pub fn i16x8_extract_lane_s(v: V128, lane: ImmLaneIdx8) -> i32 {
             i32::from(u16::lane_at(v, lane).cast_signed())
@@ -1229,7 +1229,7 @@ pub mod simd {
         /// ensures: result ≡ vector.extract_lane_u w16 v lane
         /// ```
         ///
-        /// Definitions: [`extract_lane_u`](crate::specs::lanewise::VectorTable#extract_lane_u), [`lane`](crate::specs::lanes::Lane#lane).
+        /// Definitions: [`extract_lane_u`](crate::specs::lanewise::VectorTable#extract_lane_u), [`lane`](crate::specs::lanes::Vector#lane).
         #[inline]
         pub fn i16x8_extract_lane_u(v: V128, lane: ImmLaneIdx8) -> u32 {
             u32::from(u16::lane_at(v, lane))
@@ -1243,7 +1243,7 @@ pub mod simd {
         /// ensures: result ≡ vector.extract_lane_s w32 v lane
         /// ```
         ///
-        /// Definitions: [`extract_lane_s`](crate::specs::lanewise::VectorTable#extract_lane_s), [`lane`](crate::specs::lanes::Lane#lane).
+        /// Definitions: [`extract_lane_s`](crate::specs::lanewise::VectorTable#extract_lane_s), [`lane`](crate::specs::lanes::Vector#lane).
         #[inline]
         pub fn i32x4_extract_lane(v: V128, lane: ImmLaneIdx4) -> i32 {
             u32::lane_at(v, lane).cast_signed()
@@ -1257,7 +1257,7 @@ pub mod simd {
         /// ensures: result ≡ vector.extract_lane_s w64 v lane
         /// ```
         ///
-        /// Definitions: [`extract_lane_s`](crate::specs::lanewise::VectorTable#extract_lane_s), [`lane`](crate::specs::lanes::Lane#lane).
+        /// Definitions: [`extract_lane_s`](crate::specs::lanewise::VectorTable#extract_lane_s), [`lane`](crate::specs::lanes::Vector#lane).
         #[inline]
         pub fn i64x2_extract_lane(v: V128, lane: ImmLaneIdx2) -> i64 {
             u64::lane_at(v, lane).cast_signed()
@@ -1271,7 +1271,7 @@ pub mod simd {
         /// ensures: result ≡ vector.replace_lane w8 v lane item
         /// ```
         ///
-        /// Definitions: [`replace_lane`](crate::specs::lanewise::VectorTable#replace_lane), [`lane`](crate::specs::lanes::Lane#lane).
+        /// Definitions: [`replace_lane`](crate::specs::lanewise::VectorTable#replace_lane), [`lane`](crate::specs::lanes::Vector#lane).
         #[inline]
         pub fn i8x16_replace_lane(v: V128, lane: ImmLaneIdx16, item: i8) -> V128 {
             u8::with_lane(v, lane, item.cast_unsigned())
@@ -1285,7 +1285,7 @@ pub mod simd {
         /// ensures: result ≡ vector.replace_lane w16 v lane item
         /// ```
         ///
-        /// Definitions: [`replace_lane`](crate::specs::lanewise::VectorTable#replace_lane), [`lane`](crate::specs::lanes::Lane#lane).
+        /// Definitions: [`replace_lane`](crate::specs::lanewise::VectorTable#replace_lane), [`lane`](crate::specs::lanes::Vector#lane).
         #[inline]
         pub fn i16x8_replace_lane(v: V128, lane: ImmLaneIdx8, item: i16) -> V128 {
             u16::with_lane(v, lane, item.cast_unsigned())
@@ -1299,7 +1299,7 @@ pub mod simd {
         /// ensures: result ≡ vector.replace_lane w32 v lane item
         /// ```
         ///
-        /// Definitions: [`replace_lane`](crate::specs::lanewise::VectorTable#replace_lane), [`lane`](crate::specs::lanes::Lane#lane).
+        /// Definitions: [`replace_lane`](crate::specs::lanewise::VectorTable#replace_lane), [`lane`](crate::specs::lanes::Vector#lane).
         #[inline]
         pub fn i32x4_replace_lane(v: V128, lane: ImmLaneIdx4, item: i32) -> V128 {
             u32::with_lane(v, lane, item.cast_unsigned())
@@ -1313,7 +1313,7 @@ pub mod simd {
         /// ensures: result ≡ vector.replace_lane w64 v lane item
         /// ```
         ///
-        /// Definitions: [`replace_lane`](crate::specs::lanewise::VectorTable#replace_lane), [`lane`](crate::specs::lanes::Lane#lane).
+        /// Definitions: [`replace_lane`](crate::specs::lanewise::VectorTable#replace_lane), [`lane`](crate::specs::lanes::Vector#lane).
         #[inline]
         pub fn i64x2_replace_lane(v: V128, lane: ImmLaneIdx2, item: i64) -> V128 {
             u64::with_lane(v, lane, item.cast_unsigned())
@@ -1594,7 +1594,7 @@ pub mod simd {
         /// ensures in_range: result < 2 ^ 128
         /// ```
         ///
-        /// Definitions: [`lane_count`](crate::specs::lanes::Lane#lane_count), [`lane`](crate::specs::lanes::Lane#lane).
+        /// Definitions: [`lane_count`](crate::specs::lanes::Vector#lane_count), [`lane`](crate::specs::lanes::Vector#lane).
         #[inline(always)]
         fn ones_if_less<T: SimdLane>(a: T::Vector, b: T::Vector) -> V128 {
             T::vector_of(T::choose_if_less(
@@ -1614,7 +1614,7 @@ pub mod simd {
         /// ensures in_range: result < 2 ^ 128
         /// ```
         ///
-        /// Definitions: [`lane_count`](crate::specs::lanes::Lane#lane_count), [`lane`](crate::specs::lanes::Lane#lane).
+        /// Definitions: [`lane_count`](crate::specs::lanes::Vector#lane_count), [`lane`](crate::specs::lanes::Vector#lane).
         #[inline(always)]
         fn zeros_if_less<T: SimdLane>(a: T::Vector, b: T::Vector) -> V128 {
             T::vector_of(T::choose_if_less(
@@ -1644,7 +1644,7 @@ pub mod simd {
             ///     ≡ min (Self.at a i + Self.at b i) (2 ^ bits Self.width - 1)
             /// ```
             ///
-            /// Definitions: [`lane_count`](crate::specs::lanes::Lane#lane_count).
+            /// Definitions: [`lane_count`](crate::specs::lanes::Vector#lane_count).
             fn clamped_sums(a: Self::Vector, b: Self::Vector) -> Self::Vector;
 
             /// The differences, 0 where that of `b` is greater.
@@ -1656,7 +1656,7 @@ pub mod simd {
             ///     ≡ Self.at a i - Self.at b i
             /// ```
             ///
-            /// Definitions: [`lane_count`](crate::specs::lanes::Lane#lane_count).
+            /// Definitions: [`lane_count`](crate::specs::lanes::Vector#lane_count).
             fn clamped_differences(a: Self::Vector, b: Self::Vector) -> Self::Vector;
         }
 
@@ -2234,7 +2234,7 @@ pub mod simd {
         ///     × AreFilled T.width low x × AreFilled T.width high y
         /// ```
         ///
-        /// Definitions: [`AreMarks`](crate::specs::lanes::Words#AreMarks), [`vector_of`](crate::specs::raw::Vector#vector_of), [`AreFilled`](crate::specs::lanes::Words#AreFilled).
+        /// Definitions: [`AreMarks`](crate::specs::lanes::Words#AreMarks), [`vector_of`](crate::specs::raw::RawVal#vector_of), [`AreFilled`](crate::specs::lanes::Words#AreFilled).
         #[inline(always)]
         fn filled<T: WordLane>(low: u64, high: u64) -> V128 {
             let marks = u64x2::from_array([low, high]);

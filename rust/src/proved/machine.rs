@@ -309,7 +309,7 @@ mod calls {
         /// ensures: IsValidCall self.now
         /// ```
         ///
-        /// Definitions: [`IsValidCall`](crate::specs::machine::Validity#IsValidCall).
+        /// Definitions: [`IsValidCall`](crate::specs::machine::State#IsValidCall).
         #[inline(always)]
         pub(crate) fn tell_valid(&self) {
             match self {
@@ -524,7 +524,7 @@ pub mod laws {
     /// ensures: IsValid machine.now
     /// ```
     ///
-    /// Definitions: [`IsValid`](crate::specs::machine::Validity#IsValid).
+    /// Definitions: [`IsValid`](crate::specs::machine::State#IsValid).
     #[inline]
     pub fn states_are_valid(machine: &Machine) {
         machine.tell_valid();
@@ -579,7 +579,7 @@ pub mod laws {
     /// ensures reply: RepliesKeepKind
     /// ```
     ///
-    /// Definitions: [`RunsKeepKind`](crate::specs::machine::LimiterKinds#RunsKeepKind), [`RunsOfCallsKeepKind`](crate::specs::machine::LimiterKinds#RunsOfCallsKeepKind), [`RepliesKeepKind`](crate::specs::machine::LimiterKinds#RepliesKeepKind).
+    /// Definitions: [`RunsKeepKind`](crate::specs::machine::Determinism#RunsKeepKind), [`RunsOfCallsKeepKind`](crate::specs::machine::Determinism#RunsOfCallsKeepKind), [`RepliesKeepKind`](crate::specs::machine::Determinism#RepliesKeepKind).
     #[inline]
     pub fn kinds_stay() {}
 
@@ -715,7 +715,7 @@ pub mod laws {
     /// ensures: AcceptsNotices quota_rules
     /// ```
     ///
-    /// Definitions: [`AcceptsNotices`](crate::specs::machine::Determinism#AcceptsNotices), [`quota_rules`](crate::specs::meter::Quota#quota_rules).
+    /// Definitions: [`AcceptsNotices`](crate::specs::machine::Determinism#AcceptsNotices), [`quota_rules`](crate::specs::meter::Capped#quota_rules).
     #[inline]
     pub fn quota_accepts_notices() {}
 
@@ -739,7 +739,7 @@ pub mod laws {
     /// ensures: IsDeterministic quota_rules
     /// ```
     ///
-    /// Definitions: [`IsDeterministic`](crate::specs::machine::Determinism#IsDeterministic), [`quota_rules`](crate::specs::meter::Quota#quota_rules).
+    /// Definitions: [`IsDeterministic`](crate::specs::machine::Determinism#IsDeterministic), [`quota_rules`](crate::specs::meter::Capped#quota_rules).
     #[inline]
     pub fn quota_leaves_no_choice() {}
 }
@@ -772,7 +772,7 @@ mod machine {
     /// invariant = λ m. IsValid m.store
     /// ```
     ///
-    /// Definitions: [`State`](crate::specs::machine::State#State), [`IsValid`](crate::specs::machine::Validity#IsValid).
+    /// Definitions: [`State`](crate::specs::machine::State#State), [`IsValid`](crate::specs::machine::State#IsValid).
     #[doc = examples!(machine Machine)]
     #[derive(Debug)]
     pub struct Machine<'r> {
@@ -899,7 +899,7 @@ mod machine {
         /// ensures rest: self.new ≡ with_memories self.old self.new.memories
         /// ```
         ///
-        /// Definitions: [`StoresMemoryAt`](crate::specs::machine::MemoryEffects#StoresMemoryAt), [`stored_bytes`](crate::specs::ops::ScalarAccessOps#stored_bytes), [`with_memories`](crate::specs::machine::State#with_memories).
+        /// Definitions: [`StoresMemoryAt`](crate::specs::machine::MemoryEffects#StoresMemoryAt), [`stored_bytes`](crate::specs::ops::ScalarOps#stored_bytes), [`with_memories`](crate::specs::machine::State#with_memories).
         #[inline(always)]
         pub fn store_item(
             &mut self,
@@ -973,7 +973,7 @@ mod machine {
         /// ensures: result ≡ total self.now Bytes
         /// ```
         ///
-        /// Definitions: [`total`](crate::specs::machine::Totals#total).
+        /// Definitions: [`total`](crate::specs::machine::State#total).
         #[inline]
         pub fn total_bytes(&self) -> u128 {
             self.store.memories.total()
@@ -988,7 +988,7 @@ mod machine {
         /// ensures: result ≡ total self.now Elements
         /// ```
         ///
-        /// Definitions: [`total`](crate::specs::machine::Totals#total).
+        /// Definitions: [`total`](crate::specs::machine::State#total).
         #[inline]
         pub fn total_elements(&self) -> u128 {
             self.store.tables.total()
@@ -1002,7 +1002,7 @@ mod machine {
         /// ensures: IsValid self.now
         /// ```
         ///
-        /// Definitions: [`IsValid`](crate::specs::machine::Validity#IsValid).
+        /// Definitions: [`IsValid`](crate::specs::machine::State#IsValid).
         #[inline(always)]
         pub(crate) fn tell_valid(&self) {
             let _ = &self.store;
@@ -1035,7 +1035,7 @@ mod memories {
         ///     (lent_limiter limiter.old) result self.new.slots.items (lent_limiter limiter.new)
         /// ```
         ///
-        /// Definitions: [`KeepsLoan`](crate::specs::meter::LimiterRef#KeepsLoan), [`Creates`](crate::specs::machine::Effects#Creates), [`MakesMemory`](crate::specs::store::Memory#MakesMemory), [`optional_rules`](crate::specs::meter::Limiter#optional_rules), [`Owned`](crate::specs::store::Buffer#Owned), [`lent_limiter`](crate::specs::meter::LimiterRef#lent_limiter).
+        /// Definitions: [`KeepsLoan`](crate::specs::meter::Limiter#KeepsLoan), [`Creates`](crate::specs::machine::Effects#Creates), [`MakesMemory`](crate::specs::store::Memory#MakesMemory), [`optional_rules`](crate::specs::meter::Limiter#optional_rules), [`Owned`](crate::specs::store::Buffer#Owned), [`lent_limiter`](crate::specs::meter::Limiter#lent_limiter).
         #[inline(always)]
         pub(crate) fn create<L: ResourceLimiter>(
             &mut self,
@@ -1065,7 +1065,7 @@ mod memories {
         ///     (lent_limiter limiter.new)
         /// ```
         ///
-        /// Definitions: [`KeepsLoan`](crate::specs::meter::LimiterRef#KeepsLoan), [`CreatesLent`](crate::specs::machine::MemoryEffects#CreatesLent), [`optional_rules`](crate::specs::meter::Limiter#optional_rules), [`lent_limiter`](crate::specs::meter::LimiterRef#lent_limiter).
+        /// Definitions: [`KeepsLoan`](crate::specs::meter::Limiter#KeepsLoan), [`CreatesLent`](crate::specs::machine::MemoryEffects#CreatesLent), [`optional_rules`](crate::specs::meter::Limiter#optional_rules), [`lent_limiter`](crate::specs::meter::Limiter#lent_limiter).
         #[inline(always)]
         pub(crate) fn create_lent<L: ResourceLimiter>(
             &mut self,
@@ -1100,7 +1100,7 @@ mod memories {
         ///     (metered_value self.new.slots.items (Some fuel.new) (lent_limiter limiter.new))
         /// ```
         ///
-        /// Definitions: [`KeepsLoan`](crate::specs::meter::LimiterRef#KeepsLoan), [`WithCharge`](crate::specs::store::Growth#WithCharge), [`ActsAt`](crate::specs::machine::Effects#ActsAt), [`reply_of`](crate::specs::machine::Effects#reply_of), [`GrowsMemoryCharging`](crate::specs::store::Memory#GrowsMemoryCharging), [`optional_rules`](crate::specs::meter::Limiter#optional_rules), [`metered_value`](crate::specs::store::Growth#metered_value), [`lent_limiter`](crate::specs::meter::LimiterRef#lent_limiter).
+        /// Definitions: [`KeepsLoan`](crate::specs::meter::Limiter#KeepsLoan), [`WithCharge`](crate::specs::store::Growth#WithCharge), [`ActsAt`](crate::specs::machine::Effects#ActsAt), [`reply_of`](crate::specs::machine::Effects#reply_of), [`GrowsMemoryCharging`](crate::specs::store::Memory#GrowsMemoryCharging), [`optional_rules`](crate::specs::meter::Limiter#optional_rules), [`metered_value`](crate::specs::store::Growth#metered_value), [`lent_limiter`](crate::specs::meter::Limiter#lent_limiter).
         #[inline(always)]
         pub(crate) fn grow<L: ResourceLimiter>(
             &mut self,
@@ -1185,7 +1185,7 @@ mod memories {
         ///     (stored_bytes op value) self.old.slots.items result self.new.slots.items
         /// ```
         ///
-        /// Definitions: [`StoresMemoryAt`](crate::specs::machine::MemoryEffects#StoresMemoryAt), [`stored_bytes`](crate::specs::ops::ScalarAccessOps#stored_bytes).
+        /// Definitions: [`StoresMemoryAt`](crate::specs::machine::MemoryEffects#StoresMemoryAt), [`stored_bytes`](crate::specs::ops::ScalarOps#stored_bytes).
         #[inline(always)]
         pub(crate) fn store(
             &mut self,
@@ -1213,7 +1213,7 @@ mod memories {
         ///     self.old.slots.items result self.new.slots.items
         /// ```
         ///
-        /// Definitions: [`StoresVectorAt`](crate::specs::machine::RegisterEffects#StoresVectorAt), [`le_bytes`](crate::specs::types::Bytes#le_bytes).
+        /// Definitions: [`StoresVectorAt`](crate::specs::machine::RegisterEffects#StoresVectorAt), [`le_bytes`](crate::specs::types::Numbers#le_bytes).
         #[inline(always)]
         pub(crate) fn store_vector(
             &mut self,
@@ -1240,7 +1240,7 @@ mod memories {
         ///     self.old.slots.items result self.new.slots.items
         /// ```
         ///
-        /// Definitions: [`StoresVectorAt`](crate::specs::machine::RegisterEffects#StoresVectorAt), [`stored_lane`](crate::specs::ops::VectorAccessOps#stored_lane).
+        /// Definitions: [`StoresVectorAt`](crate::specs::machine::RegisterEffects#StoresVectorAt), [`stored_lane`](crate::specs::ops::VectorOps#stored_lane).
         #[inline(always)]
         pub(crate) fn store_lane(
             &mut self,
@@ -1303,7 +1303,7 @@ mod memories {
     /// ensures: StoresMemory memory.old (ptr + offset) (stored_bytes op value) result memory.new
     /// ```
     ///
-    /// Definitions: [`StoresMemory`](crate::specs::machine::MemoryEffects#StoresMemory), [`stored_bytes`](crate::specs::ops::ScalarAccessOps#stored_bytes).
+    /// Definitions: [`StoresMemory`](crate::specs::machine::MemoryEffects#StoresMemory), [`stored_bytes`](crate::specs::ops::ScalarOps#stored_bytes).
     #[inline(always)]
     fn store(
         memory: &mut Memory,
@@ -1323,7 +1323,7 @@ mod memories {
     /// ensures: StoresMemory memory.old (ptr + offset) (le_bytes 16 vector) result memory.new
     /// ```
     ///
-    /// Definitions: [`StoresMemory`](crate::specs::machine::MemoryEffects#StoresMemory), [`le_bytes`](crate::specs::types::Bytes#le_bytes).
+    /// Definitions: [`StoresMemory`](crate::specs::machine::MemoryEffects#StoresMemory), [`le_bytes`](crate::specs::types::Numbers#le_bytes).
     #[inline]
     fn store_vector(
         memory: &mut Memory,
@@ -1342,7 +1342,7 @@ mod memories {
     /// ensures: StoresMemory memory.old (ptr + offset) (stored_lane op vector) result memory.new
     /// ```
     ///
-    /// Definitions: [`StoresMemory`](crate::specs::machine::MemoryEffects#StoresMemory), [`stored_lane`](crate::specs::ops::VectorAccessOps#stored_lane).
+    /// Definitions: [`StoresMemory`](crate::specs::machine::MemoryEffects#StoresMemory), [`stored_lane`](crate::specs::ops::VectorOps#stored_lane).
     #[inline]
     fn store_lane(
         memory: &mut Memory,
@@ -1430,7 +1430,7 @@ mod registers {
         ///     (Some (as_raw raw_of_vector vector)) self.old.values result self.new.values
         /// ```
         ///
-        /// Definitions: [`SetsRegister`](crate::specs::machine::RegisterEffects#SetsRegister), [`as_raw`](crate::specs::ops::RawResults#as_raw), [`raw_of_vector`](crate::specs::raw::RawVal#raw_of_vector).
+        /// Definitions: [`SetsRegister`](crate::specs::machine::RegisterEffects#SetsRegister), [`as_raw`](crate::specs::ops::ScalarOps#as_raw), [`raw_of_vector`](crate::specs::raw::RawVal#raw_of_vector).
         #[inline(always)]
         fn set_loaded(&mut self, dst: u8, vector: Result<V128, TrapCode>) -> Reply {
             match vector {
@@ -1464,7 +1464,7 @@ mod registers {
         ///     self.old.values result self.new.values
         /// ```
         ///
-        /// Definitions: [`SetsRegister`](crate::specs::machine::RegisterEffects#SetsRegister), [`given_vector`](crate::specs::machine::RegisterEffects#given_vector), [`made_vector`](crate::specs::ops::MakeOps#made_vector).
+        /// Definitions: [`SetsRegister`](crate::specs::machine::RegisterEffects#SetsRegister), [`given_vector`](crate::specs::machine::RegisterEffects#given_vector), [`made_vector`](crate::specs::ops::VectorOps#made_vector).
         #[inline(always)]
         pub(crate) fn make(&mut self, op: MakeOp, dst: u8, a: u8) -> Reply {
             let Some(a) = self.get(a) else {
@@ -1483,7 +1483,7 @@ mod registers {
         ///     self.new.values
         /// ```
         ///
-        /// Definitions: [`SetsRegister`](crate::specs::machine::RegisterEffects#SetsRegister), [`of_one`](crate::specs::machine::RegisterEffects#of_one), [`unary_vector`](crate::specs::ops::UnaryOps#unary_vector), [`vector_at`](crate::specs::machine::RegisterEffects#vector_at).
+        /// Definitions: [`SetsRegister`](crate::specs::machine::RegisterEffects#SetsRegister), [`of_one`](crate::specs::machine::RegisterEffects#of_one), [`unary_vector`](crate::specs::ops::VectorOps#unary_vector), [`vector_at`](crate::specs::machine::RegisterEffects#vector_at).
         #[inline(always)]
         pub(crate) fn unary(&mut self, op: UnaryOp, dst: u8, a: u8) -> Reply {
             let Some(a) = self.vector(a) else {
@@ -1502,7 +1502,7 @@ mod registers {
         ///     self.old.values result self.new.values
         /// ```
         ///
-        /// Definitions: [`SetsRegister`](crate::specs::machine::RegisterEffects#SetsRegister), [`of_two`](crate::specs::machine::RegisterEffects#of_two), [`binary_vector`](crate::specs::ops::BinaryOps#binary_vector), [`vector_at`](crate::specs::machine::RegisterEffects#vector_at).
+        /// Definitions: [`SetsRegister`](crate::specs::machine::RegisterEffects#SetsRegister), [`of_two`](crate::specs::machine::RegisterEffects#of_two), [`binary_vector`](crate::specs::ops::VectorOps#binary_vector), [`vector_at`](crate::specs::machine::RegisterEffects#vector_at).
         #[inline(always)]
         pub(crate) fn binary(&mut self, op: BinaryOp, dst: u8, a: u8, b: u8) -> Reply {
             let (Some(a), Some(b)) = (self.vector(a), self.vector(b)) else {
@@ -1522,7 +1522,7 @@ mod registers {
         ///     self.new.values
         /// ```
         ///
-        /// Definitions: [`SetsRegister`](crate::specs::machine::RegisterEffects#SetsRegister), [`of_three`](crate::specs::machine::RegisterEffects#of_three), [`ternary_vector`](crate::specs::ops::TernaryOps#ternary_vector), [`vector_at`](crate::specs::machine::RegisterEffects#vector_at).
+        /// Definitions: [`SetsRegister`](crate::specs::machine::RegisterEffects#SetsRegister), [`of_three`](crate::specs::machine::RegisterEffects#of_three), [`ternary_vector`](crate::specs::ops::VectorOps#ternary_vector), [`vector_at`](crate::specs::machine::RegisterEffects#vector_at).
         #[inline(always)]
         pub(crate) fn ternary(&mut self, op: TernaryOp, dst: u8, a: u8, b: u8, c: u8) -> Reply {
             let (Some(a), Some(b), Some(c)) = (self.vector(a), self.vector(b), self.vector(c))
@@ -1542,7 +1542,7 @@ mod registers {
         ///     result self.new.values
         /// ```
         ///
-        /// Definitions: [`SetsRegister`](crate::specs::machine::RegisterEffects#SetsRegister), [`of_one`](crate::specs::machine::RegisterEffects#of_one), [`shifted_vector`](crate::specs::ops::ShiftOps#shifted_vector), [`vector_at`](crate::specs::machine::RegisterEffects#vector_at).
+        /// Definitions: [`SetsRegister`](crate::specs::machine::RegisterEffects#SetsRegister), [`of_one`](crate::specs::machine::RegisterEffects#of_one), [`shifted_vector`](crate::specs::ops::VectorOps#shifted_vector), [`vector_at`](crate::specs::machine::RegisterEffects#vector_at).
         #[inline(always)]
         pub(crate) fn shift(&mut self, op: ShiftOp, dst: u8, a: u8, amount: u32) -> Reply {
             let Some(a) = self.vector(a) else {
@@ -1559,7 +1559,7 @@ mod registers {
         /// ensures: result ≡ raw_reply (option_map (tested_raw op) (vector_at self.now.values a))
         /// ```
         ///
-        /// Definitions: [`raw_reply`](crate::specs::machine::RegisterEffects#raw_reply), [`tested_raw`](crate::specs::ops::TestOps#tested_raw), [`vector_at`](crate::specs::machine::RegisterEffects#vector_at).
+        /// Definitions: [`raw_reply`](crate::specs::machine::RegisterEffects#raw_reply), [`tested_raw`](crate::specs::ops::VectorOps#tested_raw), [`vector_at`](crate::specs::machine::RegisterEffects#vector_at).
         #[inline(always)]
         pub(crate) fn test(&self, op: TestOp, a: u8) -> Reply {
             let Some(a) = self.vector(a) else {
@@ -1705,7 +1705,7 @@ mod running {
         /// ensures valid: IsValid self.new
         /// ```
         ///
-        /// Definitions: [`KeepsLoan`](crate::specs::meter::LimiterRef#KeepsLoan), [`RepliesWith`](crate::specs::machine::Steps#RepliesWith), [`optional_rules`](crate::specs::meter::Limiter#optional_rules), [`world`](crate::specs::machine::World#world), [`lent_limiter`](crate::specs::meter::LimiterRef#lent_limiter), [`IsValid`](crate::specs::machine::Validity#IsValid).
+        /// Definitions: [`KeepsLoan`](crate::specs::meter::Limiter#KeepsLoan), [`RepliesWith`](crate::specs::machine::Steps#RepliesWith), [`optional_rules`](crate::specs::meter::Limiter#optional_rules), [`world`](crate::specs::machine::State#world), [`lent_limiter`](crate::specs::meter::Limiter#lent_limiter), [`IsValid`](crate::specs::machine::State#IsValid).
         #[inline(always)]
         pub fn step<L: ResourceLimiter>(
             &mut self,
@@ -1730,7 +1730,7 @@ mod running {
         /// ensures valid: IsValid self.new
         /// ```
         ///
-        /// Definitions: [`KeepsLoan`](crate::specs::meter::LimiterRef#KeepsLoan), [`RepliesWith`](crate::specs::machine::Steps#RepliesWith), [`optional_rules`](crate::specs::meter::Limiter#optional_rules), [`world`](crate::specs::machine::World#world), [`lent_limiter`](crate::specs::meter::LimiterRef#lent_limiter), [`IsValid`](crate::specs::machine::Validity#IsValid).
+        /// Definitions: [`KeepsLoan`](crate::specs::meter::Limiter#KeepsLoan), [`RepliesWith`](crate::specs::machine::Steps#RepliesWith), [`optional_rules`](crate::specs::meter::Limiter#optional_rules), [`world`](crate::specs::machine::State#world), [`lent_limiter`](crate::specs::meter::Limiter#lent_limiter), [`IsValid`](crate::specs::machine::State#IsValid).
         #[inline(always)]
         pub fn grow_memory<L: ResourceLimiter>(
             &mut self,
@@ -1752,7 +1752,7 @@ mod running {
         /// ensures valid: IsValid self.new
         /// ```
         ///
-        /// Definitions: [`RepliesWith`](crate::specs::machine::Steps#RepliesWith), [`optional_rules`](crate::specs::meter::Limiter#optional_rules), [`world`](crate::specs::machine::World#world), [`IsValid`](crate::specs::machine::Validity#IsValid).
+        /// Definitions: [`RepliesWith`](crate::specs::machine::Steps#RepliesWith), [`optional_rules`](crate::specs::meter::Limiter#optional_rules), [`world`](crate::specs::machine::State#world), [`IsValid`](crate::specs::machine::State#IsValid).
         #[inline(always)]
         pub fn grow_memory_lending<L: ResourceLimiter>(
             &mut self,
@@ -1777,7 +1777,7 @@ mod running {
         /// ensures valid: IsValid self.new
         /// ```
         ///
-        /// Definitions: [`RepliesWith`](crate::specs::machine::Steps#RepliesWith), [`optional_rules`](crate::specs::meter::Limiter#optional_rules), [`world`](crate::specs::machine::World#world), [`IsValid`](crate::specs::machine::Validity#IsValid).
+        /// Definitions: [`RepliesWith`](crate::specs::machine::Steps#RepliesWith), [`optional_rules`](crate::specs::meter::Limiter#optional_rules), [`world`](crate::specs::machine::State#world), [`IsValid`](crate::specs::machine::State#IsValid).
         #[inline(always)]
         pub fn step_lending<L: ResourceLimiter>(&mut self, call: &Call, limiter: &mut L) -> Reply {
             let mut lent = ResourceLimiterRef::from(limiter);
@@ -1801,7 +1801,7 @@ mod running {
     /// ensures valid: IsValid machine.new
     /// ```
     ///
-    /// Definitions: [`KeepsLoan`](crate::specs::meter::LimiterRef#KeepsLoan), [`IsRunOf`](crate::specs::machine::Runs#IsRunOf), [`optional_rules`](crate::specs::meter::Limiter#optional_rules), [`world`](crate::specs::machine::World#world), [`lent_limiter`](crate::specs::meter::LimiterRef#lent_limiter), [`IsValid`](crate::specs::machine::Validity#IsValid).
+    /// Definitions: [`KeepsLoan`](crate::specs::meter::Limiter#KeepsLoan), [`IsRunOf`](crate::specs::machine::Steps#IsRunOf), [`optional_rules`](crate::specs::meter::Limiter#optional_rules), [`world`](crate::specs::machine::State#world), [`lent_limiter`](crate::specs::meter::Limiter#lent_limiter), [`IsValid`](crate::specs::machine::State#IsValid).
     #[inline]
     pub fn run<L: ResourceLimiter>(
         machine: &mut Machine,
@@ -1830,7 +1830,7 @@ mod running {
     /// ensures valid: IsValid machine.new
     /// ```
     ///
-    /// Definitions: [`IsRunOf`](crate::specs::machine::Runs#IsRunOf), [`optional_rules`](crate::specs::meter::Limiter#optional_rules), [`world`](crate::specs::machine::World#world), [`IsValid`](crate::specs::machine::Validity#IsValid).
+    /// Definitions: [`IsRunOf`](crate::specs::machine::Steps#IsRunOf), [`optional_rules`](crate::specs::meter::Limiter#optional_rules), [`world`](crate::specs::machine::State#world), [`IsValid`](crate::specs::machine::State#IsValid).
     #[inline]
     pub fn run_lending<L: ResourceLimiter>(
         machine: &mut Machine,
@@ -1862,7 +1862,7 @@ mod running {
     /// ensures valid: IsValid machine.new
     /// ```
     ///
-    /// Definitions: [`HoldsTotals`](crate::specs::machine::Totals#HoldsTotals), [`IsRunOf`](crate::specs::machine::Runs#IsRunOf), [`optional_rules`](crate::specs::meter::Limiter#optional_rules), [`world`](crate::specs::machine::World#world), [`IsValid`](crate::specs::machine::Validity#IsValid).
+    /// Definitions: [`HoldsTotals`](crate::specs::machine::State#HoldsTotals), [`IsRunOf`](crate::specs::machine::Steps#IsRunOf), [`optional_rules`](crate::specs::meter::Limiter#optional_rules), [`world`](crate::specs::machine::State#world), [`IsValid`](crate::specs::machine::State#IsValid).
     #[inline]
     pub fn run_reserving<L: Reserving>(
         machine: &mut Machine,
@@ -2024,7 +2024,7 @@ mod slots {
         /// ensures: result ≡ slot_count T.Counted.count self.now
         /// ```
         ///
-        /// Definitions: [`slot_count`](crate::specs::machine::Totals#slot_count).
+        /// Definitions: [`slot_count`](crate::specs::machine::State#slot_count).
         #[inline]
         fn count(&self) -> usize
         where
@@ -2166,7 +2166,7 @@ mod slots {
         /// ensures: result ≡ sum (map (slot_count T.Counted.count) self.now.slots.items)
         /// ```
         ///
-        /// Definitions: [`slot_count`](crate::specs::machine::Totals#slot_count).
+        /// Definitions: [`slot_count`](crate::specs::machine::State#slot_count).
         #[inline]
         pub(crate) fn total(&self) -> u128 {
             let mut total = 0;
@@ -2231,7 +2231,7 @@ mod store {
         /// ensures: SetsFuel fuel self.old result self.new
         /// ```
         ///
-        /// Definitions: [`SetsFuel`](crate::specs::machine::FuelEffects#SetsFuel).
+        /// Definitions: [`SetsFuel`](crate::specs::machine::ValueEffects#SetsFuel).
         #[inline(always)]
         fn set_fuel(&mut self, fuel: u64) -> Reply {
             match self.fuel.set_fuel(fuel) {
@@ -2246,7 +2246,7 @@ mod store {
         /// ensures: result ≡ get_fuel_reply self.now.meter
         /// ```
         ///
-        /// Definitions: [`get_fuel_reply`](crate::specs::machine::FuelEffects#get_fuel_reply).
+        /// Definitions: [`get_fuel_reply`](crate::specs::machine::ValueEffects#get_fuel_reply).
         #[inline(always)]
         fn get_fuel(&self) -> Reply {
             self.fuel.get_fuel().map_or_else(Reply::Fuel, Reply::Number)
@@ -2264,7 +2264,7 @@ mod store {
         ///     (world self.new (lent_limiter limiter.new))
         /// ```
         ///
-        /// Definitions: [`KeepsLoan`](crate::specs::meter::LimiterRef#KeepsLoan), [`RepliesWith`](crate::specs::machine::Steps#RepliesWith), [`optional_rules`](crate::specs::meter::Limiter#optional_rules), [`world`](crate::specs::machine::World#world), [`lent_limiter`](crate::specs::meter::LimiterRef#lent_limiter).
+        /// Definitions: [`KeepsLoan`](crate::specs::meter::Limiter#KeepsLoan), [`RepliesWith`](crate::specs::machine::Steps#RepliesWith), [`optional_rules`](crate::specs::meter::Limiter#optional_rules), [`world`](crate::specs::machine::State#world), [`lent_limiter`](crate::specs::meter::Limiter#lent_limiter).
         #[inline(always)]
         pub(crate) fn grow_memory<L: ResourceLimiter>(
             &mut self,
@@ -2286,7 +2286,7 @@ mod store {
         ///     (world self.new (lent_limiter limiter.new))
         /// ```
         ///
-        /// Definitions: [`KeepsLoan`](crate::specs::meter::LimiterRef#KeepsLoan), [`RepliesWith`](crate::specs::machine::Steps#RepliesWith), [`optional_rules`](crate::specs::meter::Limiter#optional_rules), [`world`](crate::specs::machine::World#world), [`lent_limiter`](crate::specs::meter::LimiterRef#lent_limiter).
+        /// Definitions: [`KeepsLoan`](crate::specs::meter::Limiter#KeepsLoan), [`RepliesWith`](crate::specs::machine::Steps#RepliesWith), [`optional_rules`](crate::specs::meter::Limiter#optional_rules), [`world`](crate::specs::machine::State#world), [`lent_limiter`](crate::specs::meter::Limiter#lent_limiter).
         #[inline(always)]
         pub(crate) fn step<L: ResourceLimiter>(
             &mut self,
@@ -2349,7 +2349,7 @@ mod store {
         ///     (world self.new (lent_limiter limiter.new))
         /// ```
         ///
-        /// Definitions: [`subject_of`](crate::specs::machine::Steps#subject_of), [`Memories`](crate::specs::machine::Steps#Memories), [`KeepsLoan`](crate::specs::meter::LimiterRef#KeepsLoan), [`RepliesWith`](crate::specs::machine::Steps#RepliesWith), [`optional_rules`](crate::specs::meter::Limiter#optional_rules), [`world`](crate::specs::machine::World#world), [`lent_limiter`](crate::specs::meter::LimiterRef#lent_limiter).
+        /// Definitions: [`subject_of`](crate::specs::machine::Steps#subject_of), [`Memories`](crate::specs::machine::Steps#Memories), [`KeepsLoan`](crate::specs::meter::Limiter#KeepsLoan), [`RepliesWith`](crate::specs::machine::Steps#RepliesWith), [`optional_rules`](crate::specs::meter::Limiter#optional_rules), [`world`](crate::specs::machine::State#world), [`lent_limiter`](crate::specs::meter::Limiter#lent_limiter).
         #[inline(always)]
         fn step_memory<L: ResourceLimiter>(
             &mut self,
@@ -2400,7 +2400,7 @@ mod store {
         ///     (world self.new (lent_limiter limiter.new))
         /// ```
         ///
-        /// Definitions: [`subject_of`](crate::specs::machine::Steps#subject_of), [`Tables`](crate::specs::machine::Steps#Tables), [`KeepsLoan`](crate::specs::meter::LimiterRef#KeepsLoan), [`RepliesWith`](crate::specs::machine::Steps#RepliesWith), [`optional_rules`](crate::specs::meter::Limiter#optional_rules), [`world`](crate::specs::machine::World#world), [`lent_limiter`](crate::specs::meter::LimiterRef#lent_limiter).
+        /// Definitions: [`subject_of`](crate::specs::machine::Steps#subject_of), [`Tables`](crate::specs::machine::Steps#Tables), [`KeepsLoan`](crate::specs::meter::Limiter#KeepsLoan), [`RepliesWith`](crate::specs::machine::Steps#RepliesWith), [`optional_rules`](crate::specs::meter::Limiter#optional_rules), [`world`](crate::specs::machine::State#world), [`lent_limiter`](crate::specs::meter::Limiter#lent_limiter).
         #[inline(always)]
         fn step_table<L: ResourceLimiter>(
             &mut self,
@@ -2569,7 +2569,7 @@ mod tables {
         ///     (lent_limiter limiter.old) result self.new.slots.items (lent_limiter limiter.new)
         /// ```
         ///
-        /// Definitions: [`KeepsLoan`](crate::specs::meter::LimiterRef#KeepsLoan), [`Creates`](crate::specs::machine::Effects#Creates), [`MakesTable`](crate::specs::store::Table#MakesTable), [`optional_rules`](crate::specs::meter::Limiter#optional_rules), [`lent_limiter`](crate::specs::meter::LimiterRef#lent_limiter).
+        /// Definitions: [`KeepsLoan`](crate::specs::meter::Limiter#KeepsLoan), [`Creates`](crate::specs::machine::Effects#Creates), [`MakesTable`](crate::specs::store::Table#MakesTable), [`optional_rules`](crate::specs::meter::Limiter#optional_rules), [`lent_limiter`](crate::specs::meter::Limiter#lent_limiter).
         #[inline(always)]
         pub(crate) fn create<L: ResourceLimiter>(
             &mut self,
@@ -2599,7 +2599,7 @@ mod tables {
         ///     (metered_value self.new.slots.items (Some fuel.new) (lent_limiter limiter.new))
         /// ```
         ///
-        /// Definitions: [`KeepsLoan`](crate::specs::meter::LimiterRef#KeepsLoan), [`WithCharge`](crate::specs::store::Growth#WithCharge), [`ActsAt`](crate::specs::machine::Effects#ActsAt), [`reply_of`](crate::specs::machine::Effects#reply_of), [`GrowsTableCharging`](crate::specs::store::Table#GrowsTableCharging), [`optional_rules`](crate::specs::meter::Limiter#optional_rules), [`metered_value`](crate::specs::store::Growth#metered_value), [`lent_limiter`](crate::specs::meter::LimiterRef#lent_limiter).
+        /// Definitions: [`KeepsLoan`](crate::specs::meter::Limiter#KeepsLoan), [`WithCharge`](crate::specs::store::Growth#WithCharge), [`ActsAt`](crate::specs::machine::Effects#ActsAt), [`reply_of`](crate::specs::machine::Effects#reply_of), [`GrowsTableCharging`](crate::specs::store::Table#GrowsTableCharging), [`optional_rules`](crate::specs::meter::Limiter#optional_rules), [`metered_value`](crate::specs::store::Growth#metered_value), [`lent_limiter`](crate::specs::meter::Limiter#lent_limiter).
         #[inline(always)]
         pub(crate) fn grow<L: ResourceLimiter>(
             &mut self,

@@ -22,7 +22,7 @@ mod amounts {
         /// ensures: result ≡ amount_of self.now kind
         /// ```
         ///
-        /// Definitions: [`amount_of`](crate::specs::meter::Amounts#amount_of).
+        /// Definitions: [`amount_of`](crate::specs::meter::Capped#amount_of).
         #[inline]
         pub fn of(&self, kind: Kind) -> u64 {
             match kind {
@@ -244,7 +244,7 @@ mod capped {
     ///     → GivesBack (kind_of failure) (holdings l) (holdings l')
     /// ```
     ///
-    /// Definitions: [`Question`](crate::specs::meter::Limiter#Question), [`Answer`](crate::specs::meter::Limiter#Answer), [`Reserves`](crate::specs::meter::Holdings#Reserves), [`Failure`](crate::specs::meter::Limiter#Failure), [`NoticeAnswer`](crate::specs::meter::Limiter#NoticeAnswer), [`GivesBack`](crate::specs::meter::Holdings#GivesBack), [`kind_of`](crate::specs::meter::Limiter#kind_of).
+    /// Definitions: [`Question`](crate::specs::meter::Limiter#Question), [`Answer`](crate::specs::meter::Limiter#Answer), [`Reserves`](crate::specs::meter::Capped#Reserves), [`Failure`](crate::specs::meter::Limiter#Failure), [`NoticeAnswer`](crate::specs::meter::Limiter#NoticeAnswer), [`GivesBack`](crate::specs::meter::Capped#GivesBack), [`kind_of`](crate::specs::meter::Limiter#kind_of).
     pub trait Reserving: ResourceLimiter {
         /// The bytes that it permitted and that weren't given back.
         ///
@@ -308,7 +308,7 @@ mod capped {
         /// ensures rest: self.new ≡ capped.with_holdings self.old (capped.holdings self.new)
         /// ```
         ///
-        /// Definitions: [`without_last`](crate::specs::meter::Holdings#without_last).
+        /// Definitions: [`without_last`](crate::specs::meter::Capped#without_last).
         fn give_back(&mut self, kind: Kind);
     }
 
@@ -684,7 +684,7 @@ mod fuel {
         /// ensures: costs_of result ≡ custom
         /// ```
         ///
-        /// Definitions: [`costs_of`](crate::specs::meter::Costs#costs_of).
+        /// Definitions: [`costs_of`](crate::specs::meter::Meter#costs_of).
         #[inline]
         pub fn custom(custom: CustomFuelCosts) -> Self {
             FuelCostsProvider {
@@ -700,7 +700,7 @@ mod fuel {
         /// ensures: result ≡ costs_of self.now
         /// ```
         ///
-        /// Definitions: [`costs_of`](crate::specs::meter::Costs#costs_of).
+        /// Definitions: [`costs_of`](crate::specs::meter::Meter#costs_of).
         #[inline]
         pub(crate) fn costs(&self) -> CustomFuelCosts {
             self.custom.unwrap_or(DEFAULT_COSTS)
@@ -714,7 +714,7 @@ mod fuel {
         /// ensures: result ≡ cut_product len_bytes (costs_of self.now).fuel_per_bytes_translated
         /// ```
         ///
-        /// Definitions: [`cut_product`](crate::specs::meter::Costs#cut_product), [`costs_of`](crate::specs::meter::Costs#costs_of).
+        /// Definitions: [`cut_product`](crate::specs::meter::Meter#cut_product), [`costs_of`](crate::specs::meter::Meter#costs_of).
         #[inline]
         pub fn fuel_for_translating_bytes(&self, len_bytes: u64) -> u64 {
             len_bytes.saturating_mul(u64::from(self.costs().fuel_per_bytes_translated))
@@ -728,7 +728,7 @@ mod fuel {
         /// ensures: result ≡ cut_product len_bytes (costs_of self.now).fuel_per_bytes_validated
         /// ```
         ///
-        /// Definitions: [`cut_product`](crate::specs::meter::Costs#cut_product), [`costs_of`](crate::specs::meter::Costs#costs_of).
+        /// Definitions: [`cut_product`](crate::specs::meter::Meter#cut_product), [`costs_of`](crate::specs::meter::Meter#costs_of).
         #[inline]
         pub fn fuel_for_validating_bytes(&self, len_bytes: u64) -> u64 {
             len_bytes.saturating_mul(u64::from(self.costs().fuel_per_bytes_validated))
@@ -743,7 +743,7 @@ mod fuel {
         /// ensures: result ≡ copy_cost (costs_of self.now) len_values T.SIZE
         /// ```
         ///
-        /// Definitions: [`copy_cost`](crate::specs::meter::Costs#copy_cost), [`costs_of`](crate::specs::meter::Costs#costs_of).
+        /// Definitions: [`copy_cost`](crate::specs::meter::Meter#copy_cost), [`costs_of`](crate::specs::meter::Meter#costs_of).
         #[inline]
         pub fn fuel_for_copying_values<T>(&self, len_values: u64) -> u64 {
             let len_bytes = len_values.saturating_mul(T::SIZE);
@@ -828,7 +828,7 @@ mod fuel {
     /// invariant = λ f. f.enabled ≡ false → f.remaining ≡ 0
     /// ```
     ///
-    /// Definitions: [`Meter`](crate::specs::meter::Meter#Meter), [`costs_of`](crate::specs::meter::Costs#costs_of).
+    /// Definitions: [`Meter`](crate::specs::meter::Meter#Meter), [`costs_of`](crate::specs::meter::Meter#costs_of).
     #[doc = examples!(meter Fuel)]
     #[derive(Debug)]
     pub struct Fuel {
@@ -847,7 +847,7 @@ mod fuel {
         ///     ≡ record { left = (if enabled then Some 0 else None); costs = costs_of costs }
         /// ```
         ///
-        /// Definitions: [`costs_of`](crate::specs::meter::Costs#costs_of).
+        /// Definitions: [`costs_of`](crate::specs::meter::Meter#costs_of).
         #[inline]
         pub fn new(enabled: bool, costs: FuelCostsProvider) -> Self {
             Fuel {
@@ -865,7 +865,7 @@ mod fuel {
         /// ensures: result ≡ record { left = None; costs = default_costs }
         /// ```
         ///
-        /// Definitions: [`default_costs`](crate::specs::meter::Costs#default_costs).
+        /// Definitions: [`default_costs`](crate::specs::meter::Meter#default_costs).
         #[inline]
         pub(crate) fn unmetered() -> Self {
             Fuel::new(false, FuelCostsProvider::default())
@@ -955,7 +955,7 @@ mod fuel {
         ///     → (result ≡ Err FuelError.FuelMeteringDisabled) × (self.new ≡ self.old)
         /// ```
         ///
-        /// Definitions: [`Computes`](crate::specs::meter::Costs#Computes), [`ConsumesFuel`](crate::specs::meter::Meter#ConsumesFuel), [`amount_left`](crate::specs::meter::Meter#amount_left).
+        /// Definitions: [`Computes`](crate::specs::meter::Meter#Computes), [`ConsumesFuel`](crate::specs::meter::Meter#ConsumesFuel), [`amount_left`](crate::specs::meter::Meter#amount_left).
         #[inline]
         pub fn consume_fuel(
             &mut self,
@@ -979,7 +979,7 @@ mod fuel {
         /// ensures off: self.old.left ≡ None → (result ≡ Ok tt) × (self.new ≡ self.old)
         /// ```
         ///
-        /// Definitions: [`Computes`](crate::specs::meter::Costs#Computes), [`ConsumesFuel`](crate::specs::meter::Meter#ConsumesFuel).
+        /// Definitions: [`Computes`](crate::specs::meter::Meter#Computes), [`ConsumesFuel`](crate::specs::meter::Meter#ConsumesFuel).
         #[inline]
         pub fn consume_fuel_if(
             &mut self,
@@ -1051,7 +1051,7 @@ pub mod growth {
         ///     (lent_limiter limiter.new)
         /// ```
         ///
-        /// Definitions: [`KeepsLoan`](crate::specs::meter::LimiterRef#KeepsLoan), [`optional_rules`](crate::specs::meter::Limiter#optional_rules), [`lent_limiter`](crate::specs::meter::LimiterRef#lent_limiter).
+        /// Definitions: [`KeepsLoan`](crate::specs::meter::Limiter#KeepsLoan), [`optional_rules`](crate::specs::meter::Limiter#optional_rules), [`lent_limiter`](crate::specs::meter::Limiter#lent_limiter).
         fn notify<L: ResourceLimiter>(
             &self,
             limiter: &mut ResourceLimiterRef<L>,
@@ -1105,7 +1105,7 @@ pub mod growth {
     ///     × (result ≡ error_of_failure refusal cause notice_answer)
     /// ```
     ///
-    /// Definitions: [`KeepsLoan`](crate::specs::meter::LimiterRef#KeepsLoan), [`NoticeAnswer`](crate::specs::meter::Limiter#NoticeAnswer), [`optional_rules`](crate::specs::meter::Limiter#optional_rules), [`lent_limiter`](crate::specs::meter::LimiterRef#lent_limiter), [`error_of_failure`](crate::specs::meter::Attempt#error_of_failure).
+    /// Definitions: [`KeepsLoan`](crate::specs::meter::Limiter#KeepsLoan), [`NoticeAnswer`](crate::specs::meter::Limiter#NoticeAnswer), [`optional_rules`](crate::specs::meter::Limiter#optional_rules), [`lent_limiter`](crate::specs::meter::Limiter#lent_limiter), [`error_of_failure`](crate::specs::meter::Attempt#error_of_failure).
     #[inline]
     pub fn tell<L: ResourceLimiter, E: GrowthError>(
         limiter: &mut ResourceLimiterRef<L>,
@@ -1129,7 +1129,7 @@ pub mod growth {
     ///     (due fuel.old (λ costs. copy_cost costs values T.SIZE)) result fuel.new
     /// ```
     ///
-    /// Definitions: [`Charges`](crate::specs::meter::Meter#Charges), [`due`](crate::specs::meter::Meter#due), [`copy_cost`](crate::specs::meter::Costs#copy_cost).
+    /// Definitions: [`Charges`](crate::specs::meter::Meter#Charges), [`due`](crate::specs::meter::Meter#due), [`copy_cost`](crate::specs::meter::Meter#copy_cost).
     #[inline]
     pub fn charge<T: ValueSize>(fuel: &mut Fuel, values: u64) -> Result<(), u64> {
         match fuel.consume_fuel_if(|costs| costs.fuel_for_copying_values::<T>(values)) {
@@ -1211,7 +1211,7 @@ mod holdings {
         /// ensures: Takes others cap self.old kind difference result self.new
         /// ```
         ///
-        /// Definitions: [`Takes`](crate::specs::meter::Holdings#Takes).
+        /// Definitions: [`Takes`](crate::specs::meter::Capped#Takes).
         #[inline]
         pub fn take(&mut self, kind: Kind, difference: u64, others: u64, cap: u64) -> bool {
             let together = others as u128 + self.held.of(kind) as u128;
@@ -1234,7 +1234,7 @@ mod holdings {
         /// ensures: self.new ≡ without_last kind self.old
         /// ```
         ///
-        /// Definitions: [`without_last`](crate::specs::meter::Holdings#without_last).
+        /// Definitions: [`without_last`](crate::specs::meter::Capped#without_last).
         #[inline]
         pub fn give_back(&mut self, kind: Kind) {
             match (kind, self.last) {
@@ -1621,7 +1621,7 @@ mod limiter_ref {
     /// last: Self → Self.Lent → Self
     /// ```
     ///
-    /// Definitions: [`loan`](crate::specs::meter::LimiterRef#loan).
+    /// Definitions: [`loan`](crate::specs::meter::Limiter#loan).
     pub trait Lender: sealed::Sealed {
         /// The type of what is lent.
         type Lent;
@@ -1682,7 +1682,7 @@ mod limiter_ref {
     /// is_default = λ r. loan r ≡ None
     /// ```
     ///
-    /// Definitions: [`loan`](crate::specs::meter::LimiterRef#loan).
+    /// Definitions: [`loan`](crate::specs::meter::Limiter#loan).
     impl<'a, L> Default for LimiterRef<&'a mut L> {
         #[inline]
         fn default() -> Self {
@@ -1696,7 +1696,7 @@ mod limiter_ref {
     /// from_gives = λ l r. loan r ≡ Some l
     /// ```
     ///
-    /// Definitions: [`loan`](crate::specs::meter::LimiterRef#loan).
+    /// Definitions: [`loan`](crate::specs::meter::Limiter#loan).
     impl<'a, L> From<&'a mut L> for LimiterRef<&'a mut L> {
         #[inline]
         fn from(limiter: &'a mut L) -> Self {
@@ -1712,7 +1712,7 @@ mod limiter_ref {
     /// from_gives = λ limiter r. loan r ≡ limiter
     /// ```
     ///
-    /// Definitions: [`loan`](crate::specs::meter::LimiterRef#loan).
+    /// Definitions: [`loan`](crate::specs::meter::Limiter#loan).
     impl<'a, L> From<Option<&'a mut L>> for LimiterRef<&'a mut L> {
         #[inline]
         fn from(limiter: Option<&'a mut L>) -> Self {
@@ -1730,7 +1730,7 @@ mod limiter_ref {
         /// ensures: result ≡ loan self
         /// ```
         ///
-        /// Definitions: [`loan`](crate::specs::meter::LimiterRef#loan).
+        /// Definitions: [`loan`](crate::specs::meter::Limiter#loan).
         #[inline]
         pub fn into_resource_limiter(self) -> Option<R> {
             let LimiterRef { limiter } = self;
@@ -1752,7 +1752,7 @@ mod limiter_ref {
         /// ensures value: loan self ≡ Some result
         /// ```
         ///
-        /// Definitions: [`loan`](crate::specs::meter::LimiterRef#loan).
+        /// Definitions: [`loan`](crate::specs::meter::Limiter#loan).
         #[inline]
         pub fn into_limiter(self) -> R {
             assert!(self.limiter.is_some(), "the reference lends no limiter");
@@ -1772,7 +1772,7 @@ mod limiter_ref {
         /// ensures value: option_copied_mut result ≡ shown_of R.Lender.shown (loan self.old)
         /// ```
         ///
-        /// Definitions: [`LendsLimiter`](crate::specs::meter::LimiterRef#LendsLimiter), [`shown_of`](crate::specs::meter::LimiterRef#shown_of), [`loan`](crate::specs::meter::LimiterRef#loan).
+        /// Definitions: [`LendsLimiter`](crate::specs::meter::Limiter#LendsLimiter), [`shown_of`](crate::specs::meter::Limiter#shown_of), [`loan`](crate::specs::meter::Limiter#loan).
         #[inline]
         pub fn as_resource_limiter(&mut self) -> Option<&mut R::Lent>
         where
@@ -1802,7 +1802,7 @@ mod limiter_ref {
         ///     result (lent_limiter self.new)
         /// ```
         ///
-        /// Definitions: [`loan`](crate::specs::meter::LimiterRef#loan), [`KeepsLoan`](crate::specs::meter::LimiterRef#KeepsLoan), [`optional_rules`](crate::specs::meter::Limiter#optional_rules), [`lent_limiter`](crate::specs::meter::LimiterRef#lent_limiter).
+        /// Definitions: [`loan`](crate::specs::meter::Limiter#loan), [`KeepsLoan`](crate::specs::meter::Limiter#KeepsLoan), [`optional_rules`](crate::specs::meter::Limiter#optional_rules), [`lent_limiter`](crate::specs::meter::Limiter#lent_limiter).
         #[inline]
         pub fn memory_growing(
             &mut self,
@@ -1836,7 +1836,7 @@ mod limiter_ref {
         ///     result (lent_limiter self.new)
         /// ```
         ///
-        /// Definitions: [`loan`](crate::specs::meter::LimiterRef#loan), [`KeepsLoan`](crate::specs::meter::LimiterRef#KeepsLoan), [`optional_rules`](crate::specs::meter::Limiter#optional_rules), [`lent_limiter`](crate::specs::meter::LimiterRef#lent_limiter).
+        /// Definitions: [`loan`](crate::specs::meter::Limiter#loan), [`KeepsLoan`](crate::specs::meter::Limiter#KeepsLoan), [`optional_rules`](crate::specs::meter::Limiter#optional_rules), [`lent_limiter`](crate::specs::meter::Limiter#lent_limiter).
         #[inline]
         pub fn table_growing(
             &mut self,
@@ -1864,7 +1864,7 @@ mod limiter_ref {
         ///     (MemoryFailure error.now) result (lent_limiter self.new)
         /// ```
         ///
-        /// Definitions: [`loan`](crate::specs::meter::LimiterRef#loan), [`KeepsLoan`](crate::specs::meter::LimiterRef#KeepsLoan), [`optional_rules`](crate::specs::meter::Limiter#optional_rules), [`lent_limiter`](crate::specs::meter::LimiterRef#lent_limiter), [`MemoryFailure`](crate::specs::meter::Limiter#MemoryFailure).
+        /// Definitions: [`loan`](crate::specs::meter::Limiter#loan), [`KeepsLoan`](crate::specs::meter::Limiter#KeepsLoan), [`optional_rules`](crate::specs::meter::Limiter#optional_rules), [`lent_limiter`](crate::specs::meter::Limiter#lent_limiter), [`MemoryFailure`](crate::specs::meter::Limiter#MemoryFailure).
         #[inline]
         pub fn memory_grow_failed(&mut self, error: &MemoryError) -> Result<(), LimiterError> {
             match &mut self.limiter {
@@ -1883,7 +1883,7 @@ mod limiter_ref {
         ///     (TableFailure error.now) result (lent_limiter self.new)
         /// ```
         ///
-        /// Definitions: [`loan`](crate::specs::meter::LimiterRef#loan), [`KeepsLoan`](crate::specs::meter::LimiterRef#KeepsLoan), [`optional_rules`](crate::specs::meter::Limiter#optional_rules), [`lent_limiter`](crate::specs::meter::LimiterRef#lent_limiter), [`TableFailure`](crate::specs::meter::Limiter#TableFailure).
+        /// Definitions: [`loan`](crate::specs::meter::Limiter#loan), [`KeepsLoan`](crate::specs::meter::Limiter#KeepsLoan), [`optional_rules`](crate::specs::meter::Limiter#optional_rules), [`lent_limiter`](crate::specs::meter::Limiter#lent_limiter), [`TableFailure`](crate::specs::meter::Limiter#TableFailure).
         #[inline]
         pub fn table_grow_failed(&mut self, error: &TableError) -> Result<(), LimiterError> {
             match &mut self.limiter {
@@ -1923,7 +1923,7 @@ mod quota {
         /// ensures within: IsWithinCaps result
         /// ```
         ///
-        /// Definitions: [`cap_of`](crate::specs::meter::Quota#cap_of), [`holdings`](crate::specs::meter::Quota#holdings), [`nothing`](crate::specs::meter::Amounts#nothing), [`IsWithinCaps`](crate::specs::meter::Quota#IsWithinCaps).
+        /// Definitions: [`cap_of`](crate::specs::meter::Capped#cap_of), [`holdings`](crate::specs::meter::Capped#holdings), [`nothing`](crate::specs::meter::Capped#nothing), [`IsWithinCaps`](crate::specs::meter::Capped#IsWithinCaps).
         #[inline]
         pub fn new(bytes: u64, elements: u64) -> Self {
             Quota {
@@ -1941,7 +1941,7 @@ mod quota {
         /// ensures: result ≡ record { caps = caps; holdings = holdings }
         /// ```
         ///
-        /// Definitions: [`holdings`](crate::specs::meter::Quota#holdings).
+        /// Definitions: [`holdings`](crate::specs::meter::Capped#holdings).
         #[inline]
         pub fn resume(caps: Amounts, holdings: Holdings) -> Self {
             Quota { caps, holdings }
@@ -1967,7 +1967,7 @@ mod quota {
         /// ensures: result ≡ holdings self.now
         /// ```
         ///
-        /// Definitions: [`holdings`](crate::specs::meter::Quota#holdings).
+        /// Definitions: [`holdings`](crate::specs::meter::Capped#holdings).
         #[inline]
         pub fn holdings(&self) -> Holdings {
             self.holdings
@@ -1981,7 +1981,7 @@ mod quota {
         /// ensures: result ≡ (holdings self.now).held.bytes
         /// ```
         ///
-        /// Definitions: [`holdings`](crate::specs::meter::Quota#holdings).
+        /// Definitions: [`holdings`](crate::specs::meter::Capped#holdings).
         #[inline]
         pub fn held_bytes(&self) -> u64 {
             self.holdings.held().bytes
@@ -1995,7 +1995,7 @@ mod quota {
         /// ensures: result ≡ (holdings self.now).held.elements
         /// ```
         ///
-        /// Definitions: [`holdings`](crate::specs::meter::Quota#holdings).
+        /// Definitions: [`holdings`](crate::specs::meter::Capped#holdings).
         #[inline]
         pub fn held_elements(&self) -> u64 {
             self.holdings.held().elements
@@ -2008,7 +2008,7 @@ mod quota {
     /// capped = capped_quota
     /// ```
     ///
-    /// Definitions: [`capped_quota`](crate::specs::meter::Quota#capped_quota).
+    /// Definitions: [`capped_quota`](crate::specs::meter::Capped#capped_quota).
     impl CappedLimiter for Quota {
         #[inline]
         fn holdings(&self) -> Holdings {

@@ -430,7 +430,7 @@ pub mod operand {
     /// writes = IsName scalar_unary_name
     /// ```
     ///
-    /// Definitions: [`IsName`](crate::specs::operands::Names#IsName), [`scalar_unary_name`](crate::specs::ops::ScalarUnaryOps#scalar_unary_name).
+    /// Definitions: [`IsName`](crate::specs::operands::Names#IsName), [`scalar_unary_name`](crate::specs::ops::ScalarOps#scalar_unary_name).
     impl Operand for ScalarUnaryOp {
         #[inline]
         fn from_word(word: &str) -> Result<Self, LineError> {
@@ -444,7 +444,7 @@ pub mod operand {
     /// writes = IsName scalar_binary_name
     /// ```
     ///
-    /// Definitions: [`IsName`](crate::specs::operands::Names#IsName), [`scalar_binary_name`](crate::specs::ops::ScalarBinaryOps#scalar_binary_name).
+    /// Definitions: [`IsName`](crate::specs::operands::Names#IsName), [`scalar_binary_name`](crate::specs::ops::ScalarOps#scalar_binary_name).
     impl Operand for ScalarBinaryOp {
         #[inline]
         fn from_word(word: &str) -> Result<Self, LineError> {
@@ -458,7 +458,7 @@ pub mod operand {
     /// writes = IsName load_name
     /// ```
     ///
-    /// Definitions: [`IsName`](crate::specs::operands::Names#IsName), [`load_name`](crate::specs::ops::ScalarAccessOps#load_name).
+    /// Definitions: [`IsName`](crate::specs::operands::Names#IsName), [`load_name`](crate::specs::ops::ScalarOps#load_name).
     impl Operand for LoadOp {
         #[inline]
         fn from_word(word: &str) -> Result<Self, LineError> {
@@ -472,7 +472,7 @@ pub mod operand {
     /// writes = IsName store_name
     /// ```
     ///
-    /// Definitions: [`IsName`](crate::specs::operands::Names#IsName), [`store_name`](crate::specs::ops::ScalarAccessOps#store_name).
+    /// Definitions: [`IsName`](crate::specs::operands::Names#IsName), [`store_name`](crate::specs::ops::ScalarOps#store_name).
     impl Operand for StoreOp {
         #[inline]
         fn from_word(word: &str) -> Result<Self, LineError> {
@@ -486,7 +486,7 @@ pub mod operand {
     /// writes = IsName make_name
     /// ```
     ///
-    /// Definitions: [`IsName`](crate::specs::operands::Names#IsName), [`make_name`](crate::specs::ops::MakeOps#make_name).
+    /// Definitions: [`IsName`](crate::specs::operands::Names#IsName), [`make_name`](crate::specs::ops::VectorOps#make_name).
     impl Operand for MakeOp {
         #[inline]
         fn from_word(word: &str) -> Result<Self, LineError> {
@@ -500,7 +500,7 @@ pub mod operand {
     /// writes = IsName unary_name
     /// ```
     ///
-    /// Definitions: [`IsName`](crate::specs::operands::Names#IsName), [`unary_name`](crate::specs::ops::UnaryOps#unary_name).
+    /// Definitions: [`IsName`](crate::specs::operands::Names#IsName), [`unary_name`](crate::specs::ops::VectorOps#unary_name).
     impl Operand for UnaryOp {
         #[inline]
         fn from_word(word: &str) -> Result<Self, LineError> {
@@ -514,7 +514,7 @@ pub mod operand {
     /// writes = IsName binary_name
     /// ```
     ///
-    /// Definitions: [`IsName`](crate::specs::operands::Names#IsName), [`binary_name`](crate::specs::ops::BinaryOps#binary_name).
+    /// Definitions: [`IsName`](crate::specs::operands::Names#IsName), [`binary_name`](crate::specs::ops::VectorOps#binary_name).
     impl Operand for BinaryOp {
         #[inline]
         fn from_word(word: &str) -> Result<Self, LineError> {
@@ -528,7 +528,7 @@ pub mod operand {
     /// writes = IsName ternary_name
     /// ```
     ///
-    /// Definitions: [`IsName`](crate::specs::operands::Names#IsName), [`ternary_name`](crate::specs::ops::TernaryOps#ternary_name).
+    /// Definitions: [`IsName`](crate::specs::operands::Names#IsName), [`ternary_name`](crate::specs::ops::VectorOps#ternary_name).
     impl Operand for TernaryOp {
         #[inline]
         fn from_word(word: &str) -> Result<Self, LineError> {
@@ -542,7 +542,7 @@ pub mod operand {
     /// writes = IsName shift_name
     /// ```
     ///
-    /// Definitions: [`IsName`](crate::specs::operands::Names#IsName), [`shift_name`](crate::specs::ops::ShiftOps#shift_name).
+    /// Definitions: [`IsName`](crate::specs::operands::Names#IsName), [`shift_name`](crate::specs::ops::VectorOps#shift_name).
     impl Operand for ShiftOp {
         #[inline]
         fn from_word(word: &str) -> Result<Self, LineError> {
@@ -556,7 +556,7 @@ pub mod operand {
     /// writes = IsName test_name
     /// ```
     ///
-    /// Definitions: [`IsName`](crate::specs::operands::Names#IsName), [`test_name`](crate::specs::ops::TestOps#test_name).
+    /// Definitions: [`IsName`](crate::specs::operands::Names#IsName), [`test_name`](crate::specs::ops::VectorOps#test_name).
     impl Operand for TestOp {
         #[inline]
         fn from_word(word: &str) -> Result<Self, LineError> {
@@ -570,7 +570,7 @@ pub mod operand {
     /// writes = IsName extract_name
     /// ```
     ///
-    /// Definitions: [`IsName`](crate::specs::operands::Names#IsName), [`extract_name`](crate::specs::ops::LaneKinds#extract_name).
+    /// Definitions: [`IsName`](crate::specs::operands::Names#IsName), [`extract_name`](crate::specs::ops::LaneOps#extract_name).
     impl Operand for ExtractKind {
         #[inline]
         fn from_word(word: &str) -> Result<Self, LineError> {
@@ -584,7 +584,7 @@ pub mod operand {
     /// writes = IsName replace_name
     /// ```
     ///
-    /// Definitions: [`IsName`](crate::specs::operands::Names#IsName), [`replace_name`](crate::specs::ops::LaneKinds#replace_name).
+    /// Definitions: [`IsName`](crate::specs::operands::Names#IsName), [`replace_name`](crate::specs::ops::LaneOps#replace_name).
     impl Operand for ReplaceKind {
         #[inline]
         fn from_word(word: &str) -> Result<Self, LineError> {
@@ -598,7 +598,7 @@ pub mod operand {
     /// writes = IsName vector_load_name
     /// ```
     ///
-    /// Definitions: [`IsName`](crate::specs::operands::Names#IsName), [`vector_load_name`](crate::specs::ops::VectorAccessOps#vector_load_name).
+    /// Definitions: [`IsName`](crate::specs::operands::Names#IsName), [`vector_load_name`](crate::specs::ops::VectorOps#vector_load_name).
     impl Operand for VectorLoadOp {
         #[inline]
         fn from_word(word: &str) -> Result<Self, LineError> {
@@ -612,7 +612,7 @@ pub mod operand {
     /// writes = IsName load_lane_name
     /// ```
     ///
-    /// Definitions: [`IsName`](crate::specs::operands::Names#IsName), [`load_lane_name`](crate::specs::ops::LaneKinds#load_lane_name).
+    /// Definitions: [`IsName`](crate::specs::operands::Names#IsName), [`load_lane_name`](crate::specs::ops::LaneOps#load_lane_name).
     impl Operand for LoadLaneKind {
         #[inline]
         fn from_word(word: &str) -> Result<Self, LineError> {
@@ -626,7 +626,7 @@ pub mod operand {
     /// writes = IsName store_lane_name
     /// ```
     ///
-    /// Definitions: [`IsName`](crate::specs::operands::Names#IsName), [`store_lane_name`](crate::specs::ops::LaneKinds#store_lane_name).
+    /// Definitions: [`IsName`](crate::specs::operands::Names#IsName), [`store_lane_name`](crate::specs::ops::LaneOps#store_lane_name).
     impl Operand for StoreLaneKind {
         #[inline]
         fn from_word(word: &str) -> Result<Self, LineError> {

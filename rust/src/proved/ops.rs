@@ -127,7 +127,7 @@ mod scalar {
             /// ensures: result ≡ loaded_raw self memory.now (ptr + offset)
             /// ```
             ///
-            /// Definitions: [`loaded_raw`](crate::specs::ops::ScalarAccessOps#loaded_raw).
+            /// Definitions: [`loaded_raw`](crate::specs::ops::ScalarOps#loaded_raw).
             #[inline(always)]
             pub fn load(self, memory: &[u8], ptr: u64, offset: u64) -> Result<RawVal, TrapCode> {
                 // The address is tested once, and not in the arm of each load.
@@ -146,7 +146,7 @@ mod scalar {
             /// ensures: result ≡ loaded_raw self bytes.now 0
             /// ```
             ///
-            /// Definitions: [`loaded_raw`](crate::specs::ops::ScalarAccessOps#loaded_raw).
+            /// Definitions: [`loaded_raw`](crate::specs::ops::ScalarOps#loaded_raw).
             #[inline(always)]
             fn load_front(self, bytes: &[u8]) -> Result<RawVal, TrapCode> {
                 Ok(loads!(calls! self(bytes, 0, 0)))
@@ -194,7 +194,7 @@ mod scalar {
             /// ensures: IsStore memory.old (ptr + offset) (stored_bytes self value) memory.new result
             /// ```
             ///
-            /// Definitions: [`IsStore`](crate::specs::accesses::LoadStore#IsStore), [`stored_bytes`](crate::specs::ops::ScalarAccessOps#stored_bytes).
+            /// Definitions: [`IsStore`](crate::specs::accesses::LoadStore#IsStore), [`stored_bytes`](crate::specs::ops::ScalarOps#stored_bytes).
             #[inline(always)]
             pub fn store(
                 self,
@@ -381,7 +381,7 @@ mod scalar {
             /// ensures: result ≡ binary_raw self lhs rhs
             /// ```
             ///
-            /// Definitions: [`binary_raw`](crate::specs::ops::ScalarBinaryOps#binary_raw).
+            /// Definitions: [`binary_raw`](crate::specs::ops::ScalarOps#binary_raw).
             #[inline]
             pub fn apply(self, lhs: RawVal, rhs: RawVal) -> Result<RawVal, TrapCode> {
                 Ok(scalar_binaries!(calls! self(lhs.read_as(), rhs.read_as())))
@@ -456,7 +456,7 @@ mod scalar {
             /// ensures: result ≡ unary_raw self raw
             /// ```
             ///
-            /// Definitions: [`unary_raw`](crate::specs::ops::ScalarUnaryOps#unary_raw).
+            /// Definitions: [`unary_raw`](crate::specs::ops::ScalarOps#unary_raw).
             #[inline]
             pub fn apply(self, raw: RawVal) -> RawVal {
                 scalar_unaries!(calls! self(raw.read_as()))
@@ -477,7 +477,7 @@ mod scalar {
         /// ensures: result ≡ raw_of_vector (add128 (vector_in lhs) (vector_in rhs))
         /// ```
         ///
-        /// Definitions: [`raw_of_vector`](crate::specs::raw::RawVal#raw_of_vector), [`add128`](crate::specs::scalar::Wide#add128), [`vector_in`](crate::specs::raw::RawVal#vector_in).
+        /// Definitions: [`raw_of_vector`](crate::specs::raw::RawVal#raw_of_vector), [`add128`](crate::specs::scalar::Numerics#add128), [`vector_in`](crate::specs::raw::RawVal#vector_in).
         #[inline]
         pub fn i64_add128(lhs: RawVal, rhs: RawVal) -> RawVal {
             let (lhs_lo, lhs_hi) = words(lhs);
@@ -494,7 +494,7 @@ mod scalar {
         /// ensures: result ≡ raw_of_vector (sub128 (vector_in lhs) (vector_in rhs))
         /// ```
         ///
-        /// Definitions: [`raw_of_vector`](crate::specs::raw::RawVal#raw_of_vector), [`sub128`](crate::specs::scalar::Wide#sub128), [`vector_in`](crate::specs::raw::RawVal#vector_in).
+        /// Definitions: [`raw_of_vector`](crate::specs::raw::RawVal#raw_of_vector), [`sub128`](crate::specs::scalar::Numerics#sub128), [`vector_in`](crate::specs::raw::RawVal#vector_in).
         #[inline]
         pub fn i64_sub128(lhs: RawVal, rhs: RawVal) -> RawVal {
             let (lhs_lo, lhs_hi) = words(lhs);
@@ -541,7 +541,7 @@ mod scalar {
         /// ensures: unsigned_of result.0 result.1 ≡ vector_in raw
         /// ```
         ///
-        /// Definitions: [`unsigned_of`](crate::specs::scalar::Wide#unsigned_of), [`vector_in`](crate::specs::raw::RawVal#vector_in).
+        /// Definitions: [`unsigned_of`](crate::specs::scalar::Numerics#unsigned_of), [`vector_in`](crate::specs::raw::RawVal#vector_in).
         #[inline]
         fn words(raw: RawVal) -> (i64, i64) {
             (raw.lo.cast_signed(), raw.hi.cast_signed())
@@ -555,7 +555,7 @@ mod scalar {
         /// ensures: result ≡ raw_of_vector (unsigned_of lo hi)
         /// ```
         ///
-        /// Definitions: [`raw_of_vector`](crate::specs::raw::RawVal#raw_of_vector), [`unsigned_of`](crate::specs::scalar::Wide#unsigned_of).
+        /// Definitions: [`raw_of_vector`](crate::specs::raw::RawVal#raw_of_vector), [`unsigned_of`](crate::specs::scalar::Numerics#unsigned_of).
         #[inline]
         fn of_words(lo: i64, hi: i64) -> RawVal {
             RawVal::from(V128::from_word_pair(lo.cast_unsigned(), hi.cast_unsigned()))
@@ -629,7 +629,7 @@ mod vector {
             /// ensures: result ≡ loaded_vector self memory.now (ptr + offset)
             /// ```
             ///
-            /// Definitions: [`loaded_vector`](crate::specs::ops::VectorAccessOps#loaded_vector).
+            /// Definitions: [`loaded_vector`](crate::specs::ops::VectorOps#loaded_vector).
             #[inline]
             pub fn load(self, memory: &[u8], ptr: u64, offset: u64) -> Result<V128, TrapCode> {
                 vector_loads!(calls! self(memory, ptr, offset))
@@ -666,7 +666,7 @@ mod vector {
             /// ensures: result ≡ loaded_lane self vector memory.now (ptr + offset)
             /// ```
             ///
-            /// Definitions: [`loaded_lane`](crate::specs::ops::VectorAccessOps#loaded_lane).
+            /// Definitions: [`loaded_lane`](crate::specs::ops::VectorOps#loaded_lane).
             #[inline]
             pub fn load(
                 self,
@@ -710,7 +710,7 @@ mod vector {
             /// ensures: IsStore memory.old (ptr + offset) (stored_lane self vector) memory.new result
             /// ```
             ///
-            /// Definitions: [`IsStore`](crate::specs::accesses::LoadStore#IsStore), [`stored_lane`](crate::specs::ops::VectorAccessOps#stored_lane).
+            /// Definitions: [`IsStore`](crate::specs::accesses::LoadStore#IsStore), [`stored_lane`](crate::specs::ops::VectorOps#stored_lane).
             #[inline]
             pub fn store(
                 self,
@@ -995,7 +995,7 @@ mod vector {
             /// ensures: result ≡ binary_vector self a b
             /// ```
             ///
-            /// Definitions: [`binary_vector`](crate::specs::ops::BinaryOps#binary_vector).
+            /// Definitions: [`binary_vector`](crate::specs::ops::VectorOps#binary_vector).
             #[inline]
             pub fn apply(self, a: V128, b: V128) -> V128 {
                 binaries!(calls! self(a, b))
@@ -1131,7 +1131,7 @@ mod vector {
             /// ensures: result ≡ extract_op self lane
             /// ```
             ///
-            /// Definitions: [`extract_op`](crate::specs::ops::LaneKinds#extract_op).
+            /// Definitions: [`extract_op`](crate::specs::ops::LaneOps#extract_op).
             #[inline]
             pub fn on(self, lane: u8) -> Option<ExtractOp> {
                 extractions!(on_lane! self ExtractOp lane)
@@ -1163,7 +1163,7 @@ mod vector {
             /// ensures: result ≡ replace_op self lane
             /// ```
             ///
-            /// Definitions: [`replace_op`](crate::specs::ops::LaneKinds#replace_op).
+            /// Definitions: [`replace_op`](crate::specs::ops::LaneOps#replace_op).
             #[inline]
             pub fn on(self, lane: u8) -> Option<ReplaceOp> {
                 replacements!(on_lane! self ReplaceOp lane)
@@ -1195,7 +1195,7 @@ mod vector {
             /// ensures: result ≡ load_lane_op self lane
             /// ```
             ///
-            /// Definitions: [`load_lane_op`](crate::specs::ops::LaneKinds#load_lane_op).
+            /// Definitions: [`load_lane_op`](crate::specs::ops::LaneOps#load_lane_op).
             #[inline]
             pub fn on(self, lane: u8) -> Option<LoadLaneOp> {
                 lane_loads!(on_lane! self LoadLaneOp lane)
@@ -1227,7 +1227,7 @@ mod vector {
             /// ensures: result ≡ store_lane_op self lane
             /// ```
             ///
-            /// Definitions: [`store_lane_op`](crate::specs::ops::LaneKinds#store_lane_op).
+            /// Definitions: [`store_lane_op`](crate::specs::ops::LaneOps#store_lane_op).
             #[inline]
             pub fn on(self, lane: u8) -> Option<StoreLaneOp> {
                 lane_stores!(on_lane! self StoreLaneOp lane)
@@ -1299,7 +1299,7 @@ mod vector {
             /// ensures: result ≡ made_vector self raw
             /// ```
             ///
-            /// Definitions: [`made_vector`](crate::specs::ops::MakeOps#made_vector).
+            /// Definitions: [`made_vector`](crate::specs::ops::VectorOps#made_vector).
             #[inline]
             pub fn apply(self, raw: RawVal) -> V128 {
                 makes!(calls! self(raw.read_as()))
@@ -1364,7 +1364,7 @@ mod vector {
             /// ensures: result ≡ shifted_vector self a amount
             /// ```
             ///
-            /// Definitions: [`shifted_vector`](crate::specs::ops::ShiftOps#shifted_vector).
+            /// Definitions: [`shifted_vector`](crate::specs::ops::VectorOps#shifted_vector).
             #[inline]
             pub fn apply(self, a: V128, amount: u32) -> V128 {
                 shifts!(calls! self(a, amount))
@@ -1424,7 +1424,7 @@ mod vector {
             /// ensures: result ≡ ternary_vector self a b c
             /// ```
             ///
-            /// Definitions: [`ternary_vector`](crate::specs::ops::TernaryOps#ternary_vector).
+            /// Definitions: [`ternary_vector`](crate::specs::ops::VectorOps#ternary_vector).
             #[inline]
             pub fn apply(self, a: V128, b: V128, c: V128) -> V128 {
                 ternaries!(calls! self(a, b, c))
@@ -1484,7 +1484,7 @@ mod vector {
             /// ensures: result ≡ tested_raw self a
             /// ```
             ///
-            /// Definitions: [`tested_raw`](crate::specs::ops::TestOps#tested_raw).
+            /// Definitions: [`tested_raw`](crate::specs::ops::VectorOps#tested_raw).
             #[inline]
             pub fn apply(self, a: V128) -> RawVal {
                 tests!(calls! self(a))
@@ -1598,7 +1598,7 @@ mod vector {
             /// ensures: result ≡ unary_vector self a
             /// ```
             ///
-            /// Definitions: [`unary_vector`](crate::specs::ops::UnaryOps#unary_vector).
+            /// Definitions: [`unary_vector`](crate::specs::ops::VectorOps#unary_vector).
             #[inline]
             pub fn apply(self, a: V128) -> V128 {
                 unaries!(calls! self(a))

@@ -1321,7 +1321,7 @@ mod vector {
     /// inverse = λ number. record { low = number % 2 ^ 64; high = number / 2 ^ 64 }
     /// ```
     ///
-    /// Definitions: [`vector_of`](crate::specs::raw::Vector#vector_of).
+    /// Definitions: [`vector_of`](crate::specs::raw::RawVal#vector_of).
     #[doc = examples!(raw V128)]
     #[derive(Clone, Copy, PartialEq, Eq)]
     pub struct V128 {
@@ -1338,7 +1338,7 @@ mod vector {
         /// ensures: result ≡ vector_of low high
         /// ```
         ///
-        /// Definitions: [`vector_of`](crate::specs::raw::Vector#vector_of).
+        /// Definitions: [`vector_of`](crate::specs::raw::RawVal#vector_of).
         #[inline]
         pub(crate) fn from_word_pair(low: u64, high: u64) -> V128 {
             V128 { low, high }
@@ -1354,7 +1354,7 @@ mod vector {
         /// ensures high: result.1 ≡ self / 2 ^ 64
         /// ```
         ///
-        /// Definitions: [`vector_of`](crate::specs::raw::Vector#vector_of).
+        /// Definitions: [`vector_of`](crate::specs::raw::RawVal#vector_of).
         #[inline]
         pub(crate) fn words(self) -> (u64, u64) {
             (self.low, self.high)

@@ -83,7 +83,7 @@ pub mod memory {
     /// ensures: result ≡ size / page_bytes ty.page
     /// ```
     ///
-    /// Definitions: [`page_bytes`](crate::specs::store::MemoryType#page_bytes).
+    /// Definitions: [`page_bytes`](crate::specs::store::Memory#page_bytes).
     #[inline]
     pub fn pages(ty: MemoryType, size: usize) -> u64 {
         ty.pages_in(size)
@@ -109,7 +109,7 @@ pub mod memory {
     /// ensures len: length region.new ≡ length region.old
     /// ```
     ///
-    /// Definitions: [`KeepsLoan`](crate::specs::meter::LimiterRef#KeepsLoan), [`MakesMemory`](crate::specs::store::Memory#MakesMemory), [`optional_rules`](crate::specs::meter::Limiter#optional_rules), [`Lent`](crate::specs::store::Buffer#Lent), [`lent_limiter`](crate::specs::meter::LimiterRef#lent_limiter), [`made_in`](crate::specs::region::Memory#made_in), [`IsSized`](crate::specs::store::Memory#IsSized).
+    /// Definitions: [`KeepsLoan`](crate::specs::meter::Limiter#KeepsLoan), [`MakesMemory`](crate::specs::store::Memory#MakesMemory), [`optional_rules`](crate::specs::meter::Limiter#optional_rules), [`Lent`](crate::specs::store::Buffer#Lent), [`lent_limiter`](crate::specs::meter::Limiter#lent_limiter), [`made_in`](crate::specs::region::Memory#made_in), [`IsSized`](crate::specs::store::Memory#IsSized).
     #[doc = examples!(region make)]
     #[inline]
     pub fn make<L: ResourceLimiter>(
@@ -155,7 +155,7 @@ pub mod memory {
     /// ensures size: OnErr result (size.new ≡ size.old)
     /// ```
     ///
-    /// Definitions: [`IsSized`](crate::specs::store::Memory#IsSized), [`KeepsLoan`](crate::specs::meter::LimiterRef#KeepsLoan), [`GrowsMemory`](crate::specs::store::Memory#GrowsMemory), [`optional_rules`](crate::specs::meter::Limiter#optional_rules), [`metered_value`](crate::specs::store::Growth#metered_value), [`memory_in`](crate::specs::region::Memory#memory_in), [`lent_limiter`](crate::specs::meter::LimiterRef#lent_limiter).
+    /// Definitions: [`IsSized`](crate::specs::store::Memory#IsSized), [`KeepsLoan`](crate::specs::meter::Limiter#KeepsLoan), [`GrowsMemory`](crate::specs::store::Memory#GrowsMemory), [`optional_rules`](crate::specs::meter::Limiter#optional_rules), [`metered_value`](crate::specs::store::Growth#metered_value), [`memory_in`](crate::specs::region::Memory#memory_in), [`lent_limiter`](crate::specs::meter::Limiter#lent_limiter).
     #[inline]
     pub fn grow<L: ResourceLimiter>(
         ty: MemoryType,
@@ -203,7 +203,7 @@ pub mod memory {
     ///     × (asked.0 ≡ size + additional * page_bytes ty.page) × (asked.1 ≡ maximum_bytes ty))
     /// ```
     ///
-    /// Definitions: [`IsSized`](crate::specs::store::Memory#IsSized), [`in_bounds`](crate::specs::store::MemoryType#in_bounds), [`page_bytes`](crate::specs::store::MemoryType#page_bytes), [`maximum_bytes`](crate::specs::store::MemoryType#maximum_bytes).
+    /// Definitions: [`IsSized`](crate::specs::store::Memory#IsSized), [`in_bounds`](crate::specs::store::Memory#in_bounds), [`page_bytes`](crate::specs::store::Memory#page_bytes), [`maximum_bytes`](crate::specs::store::Memory#maximum_bytes).
     #[inline]
     pub fn question(
         ty: MemoryType,
@@ -273,7 +273,7 @@ pub mod memory {
     /// ensures len: length region.new ≡ length region.old
     /// ```
     ///
-    /// Definitions: [`BulkWrites`](crate::specs::store::Bulk#BulkWrites), [`filled`](crate::specs::store::Bulk#filled), [`metered`](crate::specs::store::Growth#metered).
+    /// Definitions: [`BulkWrites`](crate::specs::store::Growth#BulkWrites), [`filled`](crate::specs::store::Growth#filled), [`metered`](crate::specs::store::Growth#metered).
     #[inline]
     pub fn fill(
         region: &mut [u8],
@@ -309,7 +309,7 @@ pub mod memory {
     /// ensures len: length region.new ≡ length region.old
     /// ```
     ///
-    /// Definitions: [`BulkWrites`](crate::specs::store::Bulk#BulkWrites), [`copied`](crate::specs::store::Bulk#copied), [`metered`](crate::specs::store::Growth#metered).
+    /// Definitions: [`BulkWrites`](crate::specs::store::Growth#BulkWrites), [`copied`](crate::specs::store::Growth#copied), [`metered`](crate::specs::store::Growth#metered).
     #[inline]
     pub fn copy_within(
         region: &mut [u8],
@@ -345,7 +345,7 @@ pub mod memory {
     /// ensures len: length region.new ≡ length region.old
     /// ```
     ///
-    /// Definitions: [`BulkWrites`](crate::specs::store::Bulk#BulkWrites), [`copied`](crate::specs::store::Bulk#copied), [`metered`](crate::specs::store::Growth#metered).
+    /// Definitions: [`BulkWrites`](crate::specs::store::Growth#BulkWrites), [`copied`](crate::specs::store::Growth#copied), [`metered`](crate::specs::store::Growth#metered).
     #[inline]
     pub fn copy(
         region: &mut [u8],
@@ -382,7 +382,7 @@ pub mod memory {
     /// ensures len: length region.new ≡ length region.old
     /// ```
     ///
-    /// Definitions: [`BulkWrites`](crate::specs::store::Bulk#BulkWrites), [`copied`](crate::specs::store::Bulk#copied), [`metered`](crate::specs::store::Growth#metered).
+    /// Definitions: [`BulkWrites`](crate::specs::store::Growth#BulkWrites), [`copied`](crate::specs::store::Growth#copied), [`metered`](crate::specs::store::Growth#metered).
     #[inline]
     pub fn init(
         region: &mut [u8],
@@ -463,7 +463,7 @@ pub mod table {
     /// ensures len: length region.new ≡ length region.old
     /// ```
     ///
-    /// Definitions: [`KeepsLoan`](crate::specs::meter::LimiterRef#KeepsLoan), [`MakesTableIn`](crate::specs::region::Table#MakesTableIn), [`optional_rules`](crate::specs::meter::Limiter#optional_rules), [`lent_limiter`](crate::specs::meter::LimiterRef#lent_limiter), [`made_in`](crate::specs::region::Table#made_in), [`IsSized`](crate::specs::store::Table#IsSized).
+    /// Definitions: [`KeepsLoan`](crate::specs::meter::Limiter#KeepsLoan), [`MakesTableIn`](crate::specs::region::Table#MakesTableIn), [`optional_rules`](crate::specs::meter::Limiter#optional_rules), [`lent_limiter`](crate::specs::meter::Limiter#lent_limiter), [`made_in`](crate::specs::region::Table#made_in), [`IsSized`](crate::specs::store::Table#IsSized).
     #[inline]
     pub fn make<L: ResourceLimiter>(
         ty: TableType,
@@ -513,7 +513,7 @@ pub mod table {
     /// ensures size: OnErr result (size.new ≡ size.old)
     /// ```
     ///
-    /// Definitions: [`IsSized`](crate::specs::store::Table#IsSized), [`KeepsLoan`](crate::specs::meter::LimiterRef#KeepsLoan), [`GrowsTableIn`](crate::specs::region::Table#GrowsTableIn), [`optional_rules`](crate::specs::meter::Limiter#optional_rules), [`metered_value`](crate::specs::store::Growth#metered_value), [`table_in`](crate::specs::region::Table#table_in), [`lent_limiter`](crate::specs::meter::LimiterRef#lent_limiter).
+    /// Definitions: [`IsSized`](crate::specs::store::Table#IsSized), [`KeepsLoan`](crate::specs::meter::Limiter#KeepsLoan), [`GrowsTableIn`](crate::specs::region::Table#GrowsTableIn), [`optional_rules`](crate::specs::meter::Limiter#optional_rules), [`metered_value`](crate::specs::store::Growth#metered_value), [`table_in`](crate::specs::region::Table#table_in), [`lent_limiter`](crate::specs::meter::Limiter#lent_limiter).
     #[inline]
     pub fn grow<L: ResourceLimiter>(
         ty: TableType,
@@ -568,7 +568,7 @@ pub mod table {
     ///     × (asked.0 ≡ size + delta) × (asked.1 ≡ ty.maximum))
     /// ```
     ///
-    /// Definitions: [`is_indexable`](crate::specs::store::TableType#is_indexable).
+    /// Definitions: [`is_indexable`](crate::specs::store::Table#is_indexable).
     #[inline]
     pub fn question(ty: TableType, size: usize, delta: u64) -> Option<(usize, Option<usize>)> {
         let desired = ty.grown_size(size as u64, delta)?;

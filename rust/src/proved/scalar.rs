@@ -1332,7 +1332,7 @@ pub mod wasm {
     /// ensures: result ≡ unsigned_of lo hi
     /// ```
     ///
-    /// Definitions: [`unsigned_of`](crate::specs::scalar::Wide#unsigned_of).
+    /// Definitions: [`unsigned_of`](crate::specs::scalar::Numerics#unsigned_of).
     #[inline]
     fn combine128(lo: i64, hi: i64) -> u128 {
         hi.cast_unsigned() as u128 * 0x1_0000_0000_0000_0000 + lo.cast_unsigned() as u128
@@ -1344,7 +1344,7 @@ pub mod wasm {
     /// ensures: unsigned_of result.0 result.1 ≡ value
     /// ```
     ///
-    /// Definitions: [`unsigned_of`](crate::specs::scalar::Wide#unsigned_of).
+    /// Definitions: [`unsigned_of`](crate::specs::scalar::Numerics#unsigned_of).
     #[inline]
     fn split128(value: u128) -> (i64, i64) {
         let lo = (value % 0x1_0000_0000_0000_0000) as u64;
@@ -1361,7 +1361,7 @@ pub mod wasm {
     ///     ≡ add128 (unsigned_of lhs_lo lhs_hi) (unsigned_of rhs_lo rhs_hi)
     /// ```
     ///
-    /// Definitions: [`unsigned_of`](crate::specs::scalar::Wide#unsigned_of), [`add128`](crate::specs::scalar::Wide#add128).
+    /// Definitions: [`unsigned_of`](crate::specs::scalar::Numerics#unsigned_of), [`add128`](crate::specs::scalar::Numerics#add128).
     #[inline]
     pub fn i64_add128(lhs_lo: i64, lhs_hi: i64, rhs_lo: i64, rhs_hi: i64) -> (i64, i64) {
         let lhs = combine128(lhs_lo, lhs_hi);
@@ -1378,7 +1378,7 @@ pub mod wasm {
     ///     ≡ sub128 (unsigned_of lhs_lo lhs_hi) (unsigned_of rhs_lo rhs_hi)
     /// ```
     ///
-    /// Definitions: [`unsigned_of`](crate::specs::scalar::Wide#unsigned_of), [`sub128`](crate::specs::scalar::Wide#sub128).
+    /// Definitions: [`unsigned_of`](crate::specs::scalar::Numerics#unsigned_of), [`sub128`](crate::specs::scalar::Numerics#sub128).
     #[inline]
     pub fn i64_sub128(lhs_lo: i64, lhs_hi: i64, rhs_lo: i64, rhs_hi: i64) -> (i64, i64) {
         let lhs = combine128(lhs_lo, lhs_hi);
@@ -1394,7 +1394,7 @@ pub mod wasm {
     /// ensures: signed_of result.0 result.1 ≡ lhs *ℤ rhs
     /// ```
     ///
-    /// Definitions: [`signed_of`](crate::specs::scalar::Wide#signed_of).
+    /// Definitions: [`signed_of`](crate::specs::scalar::Numerics#signed_of).
     #[inline]
     pub fn i64_mul_wide_s(lhs: i64, rhs: i64) -> (i64, i64) {
         let product = lhs as i128 * rhs as i128;
@@ -1409,7 +1409,7 @@ pub mod wasm {
     /// ensures: unsigned_of result.0 result.1 ≡ cast_unsigned w64 lhs * cast_unsigned w64 rhs
     /// ```
     ///
-    /// Definitions: [`unsigned_of`](crate::specs::scalar::Wide#unsigned_of).
+    /// Definitions: [`unsigned_of`](crate::specs::scalar::Numerics#unsigned_of).
     #[inline]
     pub fn i64_mul_wide_u(lhs: i64, rhs: i64) -> (i64, i64) {
         let product = lhs.cast_unsigned() as u128 * rhs.cast_unsigned() as u128;

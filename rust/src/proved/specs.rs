@@ -17,39 +17,9 @@ abbrev pub <b id="overwrite">overwrite</b> : {A : Type 0} → List A → ℕ →
 </code></pre>
 "####]
     pub mod Access {}
-    #[doc = r####"Numbers in bytes, the lowest byte first.
+    #[doc = r####"A function type is its lists of parameters and results (core specification 2.3); how it is kept, and its errors.
 
-<pre><code>use Rattle.std.specs.Prelude.{ℕ, ◌+◌, ◌*◌, List, [], ◌∷◌}
-use Rattle.std.specs.Int.{bytes_low_first}
-
--- the number of a list of bytes: the sum of byte i times 256 to the power i
-unfoldable pub <b id="number_of">number_of</b> : List ℕ → ℕ
-<a href="../../types/Bytes/index.html#number_of">number_of</a> [] = 0
-<a href="../../types/Bytes/index.html#number_of">number_of</a> (b ∷ bs) = b + 256 * <a href="../../types/Bytes/index.html#number_of">number_of</a> bs
-
--- the k bytes of a number below 256 to the power k
-abbrev pub <b id="le_bytes">le_bytes</b> : ℕ → ℕ → List ℕ
-<a href="../../types/Bytes/index.html#le_bytes">le_bytes</a> k n = bytes_low_first 0 k n
-</code></pre>
-"####]
-    pub mod Bytes {}
-    #[doc = r####"What an error of a function type prints.
-
-<pre><code>use Rattle.std.specs.Prelude.{ℕ, List, codes}
-use Rattle.wasmi_types.specs.declared.func_type.FuncTypeError.{FuncTypeError}
-use Rattle.wasmi_types.specs.declared.func_type.FuncTypeError.TheVariants.{TooManyFunctionParams, TooManyFunctionResults, OutOfMemory}
-
--- the text of an error of a function type
-abbrev pub <b id="func_type_error_text">func_type_error_text</b> : FuncTypeError → List ℕ
-<a href="../../types/FuncTypeError/index.html#func_type_error_text">func_type_error_text</a> TooManyFunctionParams = codes "encountered a function with too many parameters"
-<a href="../../types/FuncTypeError/index.html#func_type_error_text">func_type_error_text</a> TooManyFunctionResults = codes "encountered a function with too many results"
-<a href="../../types/FuncTypeError/index.html#func_type_error_text">func_type_error_text</a> OutOfMemory = codes "out of memory"
-</code></pre>
-"####]
-    pub mod FuncTypeError {}
-    #[doc = r####"A function type is the pair of its lists of parameters and results (core specification 2.3), and how it is kept.
-
-<pre><code>use Rattle.std.specs.Prelude.{ℕ, ◌+◌, Bool, ◌&amp;&amp;◌, List, ◌∷◌, ◌++◌, length, map, nat_le, if◌then◌else◌, ◌≡◌, ◌&lt;◌, ◌≤◌, take, drop}
+<pre><code>use Rattle.std.specs.Prelude.{ℕ, ◌+◌, Bool, ◌&amp;&amp;◌, List, ◌∷◌, ◌++◌, length, map, nat_le, if◌then◌else◌, ◌≡◌, ◌&lt;◌, ◌≤◌, take, drop, codes}
 use Rattle.std.specs.Cmp.Lexicographic.{pointwise, slice_cmp}
 use Rattle.std.specs.Hash.{slice}
 use Rattle.std.specs.Ordering.{nat_cmp, on}
@@ -59,6 +29,8 @@ use Rattle.wasmi_types.specs.declared.value.ValType.TheVariants.{I32, I64, F32, 
 use Rattle.std.specs.Rc.{rc_slice_items}
 use Rattle.wasmi_types.specs.declared.func_type.FuncTypeInner.{FuncTypeInner}
 use Rattle.wasmi_types.specs.declared.func_type.FuncTypeInner.TheVariants.{Inline, Big}
+use Rattle.wasmi_types.specs.declared.func_type.FuncTypeError.{FuncTypeError}
+use Rattle.wasmi_types.specs.declared.func_type.FuncTypeError.TheVariants.{TooManyFunctionParams, TooManyFunctionResults, OutOfMemory}
 
 -- the parameters and the results of a function
 pub record <b id="FunctionType">FunctionType</b> : Type 0 where
@@ -116,6 +88,12 @@ abbrev pub <b id="IsKept">IsKept</b> : FuncTypeInner → Type 0
 <a href="../../types/FunctionType/index.html#IsKept">IsKept</a> (Big <a href="../../types/FunctionType/index.html#params">params</a> types) =
     (21 &lt; length (rc_slice_items types)) × (<a href="../../types/FunctionType/index.html#params">params</a> ≤ 1000) × (<a href="../../types/FunctionType/index.html#params">params</a> ≤ length (rc_slice_items types))
     × (length (rc_slice_items types) ≤ <a href="../../types/FunctionType/index.html#params">params</a> + 1000)
+
+-- the text of an error of a function type
+abbrev pub <b id="func_type_error_text">func_type_error_text</b> : FuncTypeError → List ℕ
+<a href="../../types/FunctionType/index.html#func_type_error_text">func_type_error_text</a> TooManyFunctionParams = codes "encountered a function with too many parameters"
+<a href="../../types/FunctionType/index.html#func_type_error_text">func_type_error_text</a> TooManyFunctionResults = codes "encountered a function with too many <a href="../../types/FunctionType/index.html#results">results</a>"
+<a href="../../types/FunctionType/index.html#func_type_error_text">func_type_error_text</a> OutOfMemory = codes "out of memory"
 </code></pre>
 "####]
     pub mod FunctionType {}
@@ -218,40 +196,43 @@ pub <b id="same_type_decides">same_type_decides</b> : (x y : ValType) → Decide
 </code></pre>
 "####]
     pub mod FunctionTypeProofs {}
-    #[doc = r####"What the type of an address means: its value type, its width, and the narrower of two.
+    #[doc = r####"Numbers cut to a width of w bits, and numbers in bytes, the lowest byte first.
 
-<pre><code>use Rattle.std.specs.Prelude.{ℕ}
-use Rattle.wasmi_types.specs.declared.index_ty.IndexType.{IndexType}
-use Rattle.wasmi_types.specs.declared.index_ty.IndexType.TheVariants as index
-use Rattle.wasmi_types.specs.declared.value.ValType.{ValType}
-use Rattle.wasmi_types.specs.declared.value.ValType.TheVariants as types
+<pre><code><a href="../../types/Numbers/index.html#use">use</a> Rattle.std.specs.Prelude.{ℕ, ◌^◌, ℤ, pos, unsigned_abs, ◌+◌, ◌*◌, List, [], ◌∷◌}
+<a href="../../types/Numbers/index.html#use">use</a> Rattle.std.specs.Int.{int_rem_euclid, bytes_low_first}
+pub <b id="use">use</b> mir.Val.{bits}
+-- the widths of 8 to 64 bits; a number below 2 ^ w, less 2 ^ w where it is 2 ^ (w - 1) or more; the nearest number of a
+-- signed or unsigned width
+pub <b id="use">use</b> Rattle.std.specs.Int.{Width, w8, w16, w32, w64, cast_signed as signed, saturate_signed as clamp_signed, saturate_unsigned as clamp_unsigned}
 
--- the value type of an address
-abbrev pub <b id="address_type">address_type</b> : IndexType → ValType
-<a href="../../types/IndexType/index.html#address_type">address_type</a> index.I32 = types.I32
-<a href="../../types/IndexType/index.html#address_type">address_type</a> index.I64 = types.I64
+-- the number below 2 ^ w that differs from z by a multiple of 2 ^ w
+abbrev pub <b id="wrap">wrap</b> : Width → ℤ → ℕ
+<a href="../../types/Numbers/index.html#wrap">wrap</a> w z = unsigned_abs (int_rem_euclid z (pos (2 ^ bits w)))
 
--- how many bits an address has
-abbrev pub <b id="address_bits">address_bits</b> : IndexType → ℕ
-<a href="../../types/IndexType/index.html#address_bits">address_bits</a> index.I32 = 32
-<a href="../../types/IndexType/index.html#address_bits">address_bits</a> index.I64 = 64
+-- the number of a list of bytes: the sum of byte i times 256 to the power i
+unfoldable pub <b id="number_of">number_of</b> : List ℕ → ℕ
+<a href="../../types/Numbers/index.html#number_of">number_of</a> [] = 0
+<a href="../../types/Numbers/index.html#number_of">number_of</a> (b ∷ bs) = b + 256 * <a href="../../types/Numbers/index.html#number_of">number_of</a> bs
 
--- the narrower of two address types
-abbrev pub <b id="narrower">narrower</b> : IndexType → IndexType → IndexType
-<a href="../../types/IndexType/index.html#narrower">narrower</a> index.I64 index.I64 = index.I64
-<a href="../../types/IndexType/index.html#narrower">narrower</a> index.I64 index.I32 = index.I32
-<a href="../../types/IndexType/index.html#narrower">narrower</a> index.I32 _ = index.I32
+-- the k bytes of a number below 256 to the power k
+abbrev pub <b id="le_bytes">le_bytes</b> : ℕ → ℕ → List ℕ
+<a href="../../types/Numbers/index.html#le_bytes">le_bytes</a> k n = bytes_low_first 0 k n
 </code></pre>
 "####]
-    pub mod IndexType {}
-    #[doc = r####"Reading an iterator to its end, or past the greatest number of items that are taken.
+    pub mod Numbers {}
+    #[doc = r####"How a function type is read of two iterators, each to its end or past the greatest number of items that are taken.
 
-<pre><code>use Rattle.std.specs.Prelude.{◌≡◌, ℕ, ◌≤◌, List, length, Option, Some, None}
-use Rattle.std.specs.Iterator.{YieldsThen}
+<pre><code>use Rattle.std.specs.Prelude.{◌≡◌, ℕ, ◌≤◌, List, length, Option, Some, None, ◌⊎◌, ◌+◌, ◌&lt;◌, Bool, true, false, [], ◌∷◌, ◌++◌, Result, Ok, Err}
+use Rattle.std.specs.Iterator.{YieldsThen, Yields}
+use Rattle.std.specs.declared.alloc.AllocError.{AllocError}
+use Rattle.wasmi_types.specs.declared.value.ValType.{ValType}
+use Rattle.wasmi_types.specs.declared.func_type.FuncTypeError.{FuncTypeError}
+use Rattle.wasmi_types.specs.declared.func_type.FuncTypeError.TheVariants.{TooManyFunctionParams, TooManyFunctionResults, OutOfMemory}
+use Rattle.wasmi_types.specs.FunctionType.{<a href="../../types/FunctionType/index.html#FunctionType">FunctionType</a>}
 
 -- each iterator that a value becomes has a fact
 abbrev pub <b id="EachBecomes">EachBecomes</b> : {X I : Type 0} → (X → I → Type 0) → X → (I → Type 0) → Type 0
-<a href="../../types/Iteration/index.html#EachBecomes">EachBecomes</a> {X} {I} becomes x Fact = (it : I) → becomes x it → Fact it
+<a href="../../types/Reading/index.html#EachBecomes">EachBecomes</a> {X} {I} becomes x Fact = (it : I) → becomes x it → Fact it
 
 -- calls from s to t gave the items xs, at most so many, and then the end
 pub record <b id="ReadsAll">ReadsAll</b> {I A : Type 0} (most : ℕ) (steps : I → Option A → I → Type 0) (s : I) (xs : List A) (t : I) : Type 0
@@ -263,26 +244,13 @@ pub record <b id="ReadsAll">ReadsAll</b> {I A : Type 0} (most : ℕ) (steps : I 
 pub record <b id="ReadsTooMany">ReadsTooMany</b> {I A : Type 0} (most : ℕ) (steps : I → Option A → I → Type 0) (s t : I) : Type 0 where
   pub <b id="items">items</b> : List A
   pub <b id="last">last</b> : A
-  pub <b id="run">run</b> : YieldsThen steps s <a href="../../types/Iteration/index.html#items">items</a> (Some <a href="../../types/Iteration/index.html#last">last</a>) t
-  pub <b id="full">full</b> : length <a href="../../types/Iteration/index.html#items">items</a> ≡ most
-</code></pre>
-"####]
-    pub mod Iteration {}
-    #[doc = r####"How a function type is read of two iterators.
-
-<pre><code>use Rattle.std.specs.Prelude.{◌≡◌, ◌⊎◌, ℕ, ◌+◌, ◌≤◌, ◌&lt;◌, Bool, true, false, List, [], ◌∷◌, ◌++◌, length, Option, Some, None, Result, Ok, Err}
-use Rattle.std.specs.Iterator.{Yields, YieldsThen}
-use Rattle.std.specs.declared.alloc.AllocError.{AllocError}
-use Rattle.wasmi_types.specs.declared.value.ValType.{ValType}
-use Rattle.wasmi_types.specs.declared.func_type.FuncTypeError.{FuncTypeError}
-use Rattle.wasmi_types.specs.declared.func_type.FuncTypeError.TheVariants.{TooManyFunctionParams, TooManyFunctionResults, OutOfMemory}
-use Rattle.wasmi_types.specs.FunctionType.{<a href="../../types/FunctionType/index.html#FunctionType">FunctionType</a>}
-use Rattle.wasmi_types.specs.Iteration.{<a href="../../types/Iteration/index.html#ReadsAll">ReadsAll</a>, <a href="../../types/Iteration/index.html#ReadsTooMany">ReadsTooMany</a>}
+  pub <b id="run">run</b> : YieldsThen steps s <a href="../../types/Reading/index.html#items">items</a> (Some <a href="../../types/Reading/index.html#last">last</a>) t
+  pub <b id="full">full</b> : length <a href="../../types/Reading/index.html#items">items</a> ≡ most
 
 module _ {I : Type 0} (steps : I → Option ValType → I → Type 0) where
   -- a fact that holds once calls from s gave all types, and then the end
   abbrev pub <b id="AfterAll">AfterAll</b> : I → Type 0 → Type 0
-  <a href="../../types/Reading/index.html#AfterAll">AfterAll</a> s Fact = (<a href="../../types/Reading/index.html#types">types</a> : List ValType) (t : I) → <a href="../../types/Iteration/index.html#ReadsAll">ReadsAll</a> 1000 steps s <a href="../../types/Reading/index.html#types">types</a> t → Fact
+  <a href="../../types/Reading/index.html#AfterAll">AfterAll</a> s Fact = (<a href="../../types/Reading/index.html#types">types</a> : List ValType) (t : I) → <a href="../../types/Reading/index.html#ReadsAll">ReadsAll</a> 1000 steps s <a href="../../types/Reading/index.html#types">types</a> t → Fact
 
   -- calls from s to t gave the types xs, at most 1,000, and then perhaps the end
   pub record <b id="ReadsSome">ReadsSome</b> (s : I) (xs : List ValType) (t : I) : Type 0 where
@@ -297,19 +265,19 @@ module _ {P R : Type 0} (of_params : P → Option ValType → P → Type 0)
     pub <b id="results">results</b> : List ValType
     pub <b id="params_read">params_read</b> : <a href="../../types/Reading/index.html#ReadsSome">ReadsSome</a> of_params p <a href="../../types/Reading/index.html#params">params</a> p&#x27;
     pub <b id="results_read">results_read</b> : <a href="../../types/Reading/index.html#ReadsSome">ReadsSome</a> of_results r <a href="../../types/Reading/index.html#results">results</a> r&#x27;
-    pub <b id="in_order">in_order</b> : <a href="../../types/Iteration/index.html#ReadsAll">ReadsAll</a> 1000 of_params p <a href="../../types/Reading/index.html#params">params</a> p&#x27; ⊎ (r&#x27; ≡ r)
+    pub <b id="in_order">in_order</b> : <a href="../../types/Reading/index.html#ReadsAll">ReadsAll</a> 1000 of_params p <a href="../../types/Reading/index.html#params">params</a> p&#x27; ⊎ (r&#x27; ≡ r)
     pub <b id="many">many</b> : 21 &lt; length <a href="../../types/Reading/index.html#params">params</a> + length <a href="../../types/Reading/index.html#results">results</a>
 
   -- why no function type was read
   abbrev pub <b id="IsRefusal">IsRefusal</b> : P → R → FuncTypeError → P → R → Type 0
-  <a href="../../types/Reading/index.html#IsRefusal">IsRefusal</a> p r TooManyFunctionParams p&#x27; r&#x27; = <a href="../../types/Iteration/index.html#ReadsTooMany">ReadsTooMany</a> 1000 of_params p p&#x27; × (r&#x27; ≡ r)
+  <a href="../../types/Reading/index.html#IsRefusal">IsRefusal</a> p r TooManyFunctionParams p&#x27; r&#x27; = <a href="../../types/Reading/index.html#ReadsTooMany">ReadsTooMany</a> 1000 of_params p p&#x27; × (r&#x27; ≡ r)
   <a href="../../types/Reading/index.html#IsRefusal">IsRefusal</a> p r TooManyFunctionResults p&#x27; r&#x27; =
-      ((<a href="../../types/Reading/index.html#params">params</a> : List ValType) × <a href="../../types/Iteration/index.html#ReadsAll">ReadsAll</a> 1000 of_params p <a href="../../types/Reading/index.html#params">params</a> p&#x27;) × <a href="../../types/Iteration/index.html#ReadsTooMany">ReadsTooMany</a> 1000 of_results r r&#x27;
+      ((<a href="../../types/Reading/index.html#params">params</a> : List ValType) × <a href="../../types/Reading/index.html#ReadsAll">ReadsAll</a> 1000 of_params p <a href="../../types/Reading/index.html#params">params</a> p&#x27;) × <a href="../../types/Reading/index.html#ReadsTooMany">ReadsTooMany</a> 1000 of_results r r&#x27;
   <a href="../../types/Reading/index.html#IsRefusal">IsRefusal</a> p r OutOfMemory p&#x27; r&#x27; = <a href="../../types/Reading/index.html#IsOutOfMemory">IsOutOfMemory</a> p r p&#x27; r&#x27;
 
   -- the answer after calls from p to p&#x27; and from r to r&#x27;: the function type of all that came, or the refusal
   abbrev pub <b id="IsReading">IsReading</b> : P → R → Result <a href="../../types/FunctionType/index.html#FunctionType">FunctionType</a> FuncTypeError → P → R → Type 0
-  <a href="../../types/Reading/index.html#IsReading">IsReading</a> p r (Ok ty) p&#x27; r&#x27; = <a href="../../types/Iteration/index.html#ReadsAll">ReadsAll</a> 1000 of_params p ty.params p&#x27; × <a href="../../types/Iteration/index.html#ReadsAll">ReadsAll</a> 1000 of_results r ty.results r&#x27;
+  <a href="../../types/Reading/index.html#IsReading">IsReading</a> p r (Ok ty) p&#x27; r&#x27; = <a href="../../types/Reading/index.html#ReadsAll">ReadsAll</a> 1000 of_params p ty.params p&#x27; × <a href="../../types/Reading/index.html#ReadsAll">ReadsAll</a> 1000 of_results r ty.results r&#x27;
   <a href="../../types/Reading/index.html#IsReading">IsReading</a> p r (Err error) p&#x27; r&#x27; = <a href="../../types/Reading/index.html#IsRefusal">IsRefusal</a> p r error p&#x27; r&#x27;
 
 -- the answer after reading the iterators that x and y become
@@ -335,7 +303,7 @@ module _ {I : Type 0} (steps : I → Option ValType → I → Type 0) where
   -- calls from s to t gave so many types, at most 1,000, and then the end; they follow those before
   pub record <b id="ReadsTypes">ReadsTypes</b> (s : I) (before : List ValType) (count : ℕ) (t : I) (after : List ValType) : Type 0 where
     pub <b id="types">types</b> : List ValType
-    pub <b id="read">read</b> : <a href="../../types/Iteration/index.html#ReadsAll">ReadsAll</a> 1000 steps s <a href="../../types/Reading/index.html#types">types</a> t
+    pub <b id="read">read</b> : <a href="../../types/Reading/index.html#ReadsAll">ReadsAll</a> 1000 steps s <a href="../../types/Reading/index.html#types">types</a> t
     pub <b id="kept">kept</b> : after ≡ before ++ <a href="../../types/Reading/index.html#types">types</a>
     pub <b id="counted">counted</b> : count ≡ length <a href="../../types/Reading/index.html#types">types</a>
 
@@ -348,16 +316,19 @@ module _ {I : Type 0} (steps : I → Option ValType → I → Type 0) where
   -- why a part was not read
   abbrev pub <b id="IsReadingRefusal">IsReadingRefusal</b> : FuncTypeError → I → List ValType → FuncTypeError → I → Type 0
   <a href="../../types/Reading/index.html#IsReadingRefusal">IsReadingRefusal</a> too_many s before error t =
-      ((error ≡ too_many) × <a href="../../types/Iteration/index.html#ReadsTooMany">ReadsTooMany</a> 1000 steps s t) ⊎ ((error ≡ OutOfMemory) × <a href="../../types/Reading/index.html#IsReadingOutOfMemory">IsReadingOutOfMemory</a> s before t)
+      ((error ≡ too_many) × <a href="../../types/Reading/index.html#ReadsTooMany">ReadsTooMany</a> 1000 steps s t) ⊎ ((error ≡ OutOfMemory) × <a href="../../types/Reading/index.html#IsReadingOutOfMemory">IsReadingOutOfMemory</a> s before t)
 </code></pre>
 "####]
     pub mod Reading {}
-    #[doc = r####"The number and the text of each trap code.
+    #[doc = r####"The number and the text of each trap code; what the reason of a trap carries, and its text.
 
-<pre><code>use Rattle.std.specs.Prelude.{◌≡◌, ℕ, ◌&lt;◌, ◌⊎◌, List, Result, Ok, IsErr, codes}
+<pre><code>use Rattle.std.specs.Prelude.{◌≡◌, ℕ, ◌&lt;◌, ◌⊎◌, List, Result, Ok, IsErr, codes, ◌++◌, Option, Some, None, ℤ, string_bytes}
 use Rattle.wasmi_types.specs.declared.trap.TrapCode.{TrapCode}
 use Rattle.wasmi_types.specs.declared.trap.TrapCode.TheVariants.{UnreachableCodeReached, MemoryOutOfBounds, TableOutOfBounds, IndirectCallToNull, IntegerDivisionByZero, IntegerOverflow, BadConversionToInteger, StackOverflow, BadSignature, OutOfFuel, GrowthOperationLimited, OutOfSystemMemory}
 use Rattle.wasmi_types.specs.declared.trap.InvalidTrapCode.{InvalidTrapCode}
+use Rattle.std.specs.Fmt.{signed_decimal}
+use Rattle.wasmi_types.specs.declared.trap.TrapReason.{TrapReason}
+use Rattle.wasmi_types.specs.declared.trap.TrapReason.TheVariants.{InstructionTrap, I32Exit, Message, Host}
 
 -- the number that stands for a trap code
 abbrev pub <b id="code_number">code_number</b> : TrapCode → ℕ
@@ -393,62 +364,54 @@ abbrev pub <b id="code_message">code_message</b> : TrapCode → List ℕ
 pub record <b id="IsCodeOf">IsCodeOf</b> (number : ℕ) (answer : Result TrapCode InvalidTrapCode) : Type 0 where
   pub <b id="known">known</b> : (code : TrapCode) → number ≡ <a href="../../types/Trap/index.html#code_number">code_number</a> code → answer ≡ Ok code
   pub <b id="unknown">unknown</b> : (number ≡ 0) ⊎ (12 &lt; number) → IsErr answer
-</code></pre>
-"####]
-    pub mod Trap {}
-    #[doc = r####"What the reason of a trap carries, and its text.
-
-<pre><code>use Rattle.std.specs.Prelude.{ℕ, List, ◌++◌, Option, Some, None, ℤ, codes, string_bytes}
-use Rattle.std.specs.Fmt.{signed_decimal}
-use Rattle.wasmi_types.specs.Trap.{<a href="../../types/Trap/index.html#code_message">code_message</a>}
-use Rattle.wasmi_types.specs.declared.trap.TrapCode.{TrapCode}
-use Rattle.wasmi_types.specs.declared.trap.TrapReason.{TrapReason}
-use Rattle.wasmi_types.specs.declared.trap.TrapReason.TheVariants.{InstructionTrap, I32Exit, Message, Host}
 
 -- the trap code of a reason, if it is one
 abbrev pub <b id="code_of">code_of</b> : {H : Type 0} → TrapReason H → Option TrapCode
-<a href="../../types/TrapReason/index.html#code_of">code_of</a> (InstructionTrap code) = Some code
-<a href="../../types/TrapReason/index.html#code_of">code_of</a> (I32Exit status) = None
-<a href="../../types/TrapReason/index.html#code_of">code_of</a> (Message message) = None
-<a href="../../types/TrapReason/index.html#code_of">code_of</a> (Host error) = None
+<a href="../../types/Trap/index.html#code_of">code_of</a> (InstructionTrap code) = Some code
+<a href="../../types/Trap/index.html#code_of">code_of</a> (I32Exit status) = None
+<a href="../../types/Trap/index.html#code_of">code_of</a> (Message message) = None
+<a href="../../types/Trap/index.html#code_of">code_of</a> (Host error) = None
 
 -- the exit status of a reason, if it is one
 abbrev pub <b id="exit_status_of">exit_status_of</b> : {H : Type 0} → TrapReason H → Option ℤ
-<a href="../../types/TrapReason/index.html#exit_status_of">exit_status_of</a> (InstructionTrap code) = None
-<a href="../../types/TrapReason/index.html#exit_status_of">exit_status_of</a> (I32Exit status) = Some status
-<a href="../../types/TrapReason/index.html#exit_status_of">exit_status_of</a> (Message message) = None
-<a href="../../types/TrapReason/index.html#exit_status_of">exit_status_of</a> (Host error) = None
+<a href="../../types/Trap/index.html#exit_status_of">exit_status_of</a> (InstructionTrap code) = None
+<a href="../../types/Trap/index.html#exit_status_of">exit_status_of</a> (I32Exit status) = Some status
+<a href="../../types/Trap/index.html#exit_status_of">exit_status_of</a> (Message message) = None
+<a href="../../types/Trap/index.html#exit_status_of">exit_status_of</a> (Host error) = None
 
 -- the host&#x27;s error of a reason, if it is one
 abbrev pub <b id="host_error_of">host_error_of</b> : {H : Type 0} → TrapReason H → Option H
-<a href="../../types/TrapReason/index.html#host_error_of">host_error_of</a> (InstructionTrap code) = None
-<a href="../../types/TrapReason/index.html#host_error_of">host_error_of</a> (I32Exit status) = None
-<a href="../../types/TrapReason/index.html#host_error_of">host_error_of</a> (Message message) = None
-<a href="../../types/TrapReason/index.html#host_error_of">host_error_of</a> (Host error) = Some error
+<a href="../../types/Trap/index.html#host_error_of">host_error_of</a> (InstructionTrap code) = None
+<a href="../../types/Trap/index.html#host_error_of">host_error_of</a> (I32Exit status) = None
+<a href="../../types/Trap/index.html#host_error_of">host_error_of</a> (Message message) = None
+<a href="../../types/Trap/index.html#host_error_of">host_error_of</a> (Host error) = Some error
 
 -- the reason with another error of the host, if it carries one
 abbrev pub <b id="with_host_error">with_host_error</b> : {H : Type 0} → TrapReason H → H → TrapReason H
-<a href="../../types/TrapReason/index.html#with_host_error">with_host_error</a> (InstructionTrap code) other = InstructionTrap code
-<a href="../../types/TrapReason/index.html#with_host_error">with_host_error</a> (I32Exit status) other = I32Exit status
-<a href="../../types/TrapReason/index.html#with_host_error">with_host_error</a> (Message message) other = Message message
-<a href="../../types/TrapReason/index.html#with_host_error">with_host_error</a> (Host error) other = Host other
+<a href="../../types/Trap/index.html#with_host_error">with_host_error</a> (InstructionTrap code) other = InstructionTrap code
+<a href="../../types/Trap/index.html#with_host_error">with_host_error</a> (I32Exit status) other = I32Exit status
+<a href="../../types/Trap/index.html#with_host_error">with_host_error</a> (Message message) other = Message message
+<a href="../../types/Trap/index.html#with_host_error">with_host_error</a> (Host error) other = Host other
 
 -- the text of a reason, where `host_text` is that of the host&#x27;s error
 abbrev pub <b id="text_of">text_of</b> : {H : Type 0} → (H → Option (List ℕ)) → TrapReason H → Option (List ℕ)
-<a href="../../types/TrapReason/index.html#text_of">text_of</a> host_text (InstructionTrap code) = Some (<a href="../../types/Trap/index.html#code_message">code_message</a> code)
-<a href="../../types/TrapReason/index.html#text_of">text_of</a> host_text (I32Exit status) = Some (codes "Exited with i32 exit status " ++ signed_decimal status)
-<a href="../../types/TrapReason/index.html#text_of">text_of</a> host_text (Message message) = Some (string_bytes message)
-<a href="../../types/TrapReason/index.html#text_of">text_of</a> host_text (Host error) = host_text error
+<a href="../../types/Trap/index.html#text_of">text_of</a> host_text (InstructionTrap code) = Some (<a href="../../types/Trap/index.html#code_message">code_message</a> code)
+<a href="../../types/Trap/index.html#text_of">text_of</a> host_text (I32Exit status) = Some (codes "Exited with i32 exit status " ++ signed_decimal status)
+<a href="../../types/Trap/index.html#text_of">text_of</a> host_text (Message message) = Some (string_bytes message)
+<a href="../../types/Trap/index.html#text_of">text_of</a> host_text (Host error) = host_text error
 </code></pre>
 "####]
-    pub mod TrapReason {}
-    #[doc = r####"Which value types are number types, and which are reference types.
+    pub mod Trap {}
+    #[doc = r####"Which value types are number types and reference types, and what the type of an address means.
 
-<pre><code>use Rattle.std.specs.Prelude.{Bool, true, false, Option, Some, None}
+<pre><code>use Rattle.std.specs.Prelude.{Bool, true, false, Option, Some, None, ℕ}
 use Rattle.wasmi_types.specs.declared.value.ValType.{ValType}
 use Rattle.wasmi_types.specs.declared.value.ValType.TheVariants.{I32, I64, F32, F64, FuncRef, ExternRef}
 use Rattle.wasmi_types.specs.declared.value.RefType.{RefType}
 use Rattle.wasmi_types.specs.declared.value.RefType.TheVariants.{Func, Extern}
+use Rattle.wasmi_types.specs.declared.index_ty.IndexType.{IndexType}
+use Rattle.wasmi_types.specs.declared.index_ty.IndexType.TheVariants as index
+use Rattle.wasmi_types.specs.declared.value.ValType.TheVariants as types
 
 -- whether a value type is a number type
 abbrev pub <b id="is_number_type">is_number_type</b> : ValType → Bool
@@ -468,24 +431,25 @@ abbrev pub <b id="reference_of">reference_of</b> : ValType → Option RefType
 abbrev pub <b id="value_of">value_of</b> : RefType → ValType
 <a href="../../types/Value/index.html#value_of">value_of</a> Func = FuncRef
 <a href="../../types/Value/index.html#value_of">value_of</a> Extern = ExternRef
+
+-- the value type of an address
+abbrev pub <b id="address_type">address_type</b> : IndexType → ValType
+<a href="../../types/Value/index.html#address_type">address_type</a> index.I32 = types.I32
+<a href="../../types/Value/index.html#address_type">address_type</a> index.I64 = types.I64
+
+-- how many bits an address has
+abbrev pub <b id="address_bits">address_bits</b> : IndexType → ℕ
+<a href="../../types/Value/index.html#address_bits">address_bits</a> index.I32 = 32
+<a href="../../types/Value/index.html#address_bits">address_bits</a> index.I64 = 64
+
+-- the narrower of two address types
+abbrev pub <b id="narrower">narrower</b> : IndexType → IndexType → IndexType
+<a href="../../types/Value/index.html#narrower">narrower</a> index.I64 index.I64 = index.I64
+<a href="../../types/Value/index.html#narrower">narrower</a> index.I64 index.I32 = index.I32
+<a href="../../types/Value/index.html#narrower">narrower</a> index.I32 _ = index.I32
 </code></pre>
 "####]
     pub mod Value {}
-    #[doc = r####"Numbers cut to a width of w bits.
-
-<pre><code><a href="../../types/Wrapping/index.html#use">use</a> Rattle.std.specs.Prelude.{ℕ, ◌^◌, ℤ, pos, unsigned_abs}
-<a href="../../types/Wrapping/index.html#use">use</a> Rattle.std.specs.Int.{int_rem_euclid}
-pub <b id="use">use</b> mir.Val.{bits}
--- the widths of 8 to 64 bits; a number below 2 ^ w, less 2 ^ w where it is 2 ^ (w - 1) or more; the nearest number of a
--- signed or unsigned width
-pub <b id="use">use</b> Rattle.std.specs.Int.{Width, w8, w16, w32, w64, cast_signed as signed, saturate_signed as clamp_signed, saturate_unsigned as clamp_unsigned}
-
--- the number below 2 ^ w that differs from z by a multiple of 2 ^ w
-abbrev pub <b id="wrap">wrap</b> : Width → ℤ → ℕ
-<a href="../../types/Wrapping/index.html#wrap">wrap</a> w z = unsigned_abs (int_rem_euclid z (pos (2 ^ bits w)))
-</code></pre>
-"####]
-    pub mod Wrapping {}
 }
 /// Definitions of `wasmi_raw`.
 pub mod raw {
@@ -535,13 +499,16 @@ pub <b id="unsigned_numbers">unsigned_numbers</b> : (w : Width) → <a href="../
 </code></pre>
 "####]
     pub mod NumberProofs {}
-    #[doc = r####"What the two words of a raw value mean, by type.
+    #[doc = r####"What the two words of a raw value and of a vector mean, by type.
 
-<pre><code>use Rattle.std.specs.Prelude.{ℕ, ◌%◌, ◌/◌, ◌^◌, ◌==◌, Bool, not, ℤ}
+<pre><code>use Rattle.std.specs.Prelude.{ℕ, ◌+◌, ◌*◌, ◌^◌, ◌%◌, ◌/◌, ◌==◌, Bool, not, ℤ}
 use Rattle.std.specs.Int.{Width, cast_signed}
 use mir.Val.{bits}
-use Rattle.wasmi_raw.specs.Vector.{<a href="../../raw/Vector/index.html#vector_of">vector_of</a>}
 use Rattle.wasmi_raw.specs.declared.raw.RawVal.{RawVal}
+
+-- the vector whose words are low and high
+abbrev pub <b id="vector_of">vector_of</b> : ℕ → ℕ → ℕ
+<a href="../../raw/RawVal/index.html#vector_of">vector_of</a> low high = high * 2 ^ 64 + low
 
 -- the low word cut to a width: the unsigned integer, and the signed one
 abbrev pub <b id="unsigned_in">unsigned_in</b> : Width → RawVal → ℕ
@@ -557,7 +524,7 @@ abbrev pub <b id="bool_in">bool_in</b> : RawVal → Bool
 
 -- the vector of both words
 abbrev pub <b id="vector_in">vector_in</b> : RawVal → ℕ
-<a href="../../raw/RawVal/index.html#vector_in">vector_in</a> raw = <a href="../../raw/Vector/index.html#vector_of">vector_of</a> raw.lo raw.hi
+<a href="../../raw/RawVal/index.html#vector_in">vector_in</a> raw = <a href="../../raw/RawVal/index.html#vector_of">vector_of</a> raw.lo raw.hi
 
 -- the low word becomes n, and the high word is kept
 abbrev pub <b id="with_low">with_low</b> : RawVal → ℕ → RawVal
@@ -573,16 +540,6 @@ abbrev pub <b id="raw_of_vector">raw_of_vector</b> : ℕ → RawVal
 </code></pre>
 "####]
     pub mod RawVal {}
-    #[doc = r####"Vectors of 128 bits, and their two words of 64 bits.
-
-<pre><code>use Rattle.std.specs.Prelude.{ℕ, ◌+◌, ◌*◌, ◌^◌}
-
--- the vector whose words are low and high
-abbrev pub <b id="vector_of">vector_of</b> : ℕ → ℕ → ℕ
-<a href="../../raw/Vector/index.html#vector_of">vector_of</a> low high = high * 2 ^ 64 + low
-</code></pre>
-"####]
-    pub mod Vector {}
 }
 /// Definitions of `wasmi_typed`.
 pub mod typed {
@@ -634,23 +591,10 @@ abbrev pub <b id="LendsValue">LendsValue</b> : MutBor <a href="../../typed/Globa
 </code></pre>
 "####]
     pub mod Lending {}
-    #[doc = r####"The amount of a shift.
+    #[doc = r####"References with their types, and the amounts of shifts.
 
-<pre><code>use Rattle.std.specs.Prelude.{ℕ, ℤ, pos, ◌==◌, Option, Some, None, unsigned_abs, if◌then◌else◌}
-use Rattle.std.specs.Int.{int_rem_euclid}
-
--- the remainder of a number by a width in bits, 0 or more; none where that is 0
-abbrev pub <b id="shift_amount">shift_amount</b> : ℕ → ℤ → Option ℕ
-<a href="../../typed/ShiftAmount/index.html#shift_amount">shift_amount</a> width z =
-    let amount = unsigned_abs (int_rem_euclid z (pos width))
-    in if amount == 0 then None else Some amount
-</code></pre>
-"####]
-    pub mod ShiftAmount {}
-    #[doc = r####"References with their types.
-
-<pre><code>use Rattle.std.specs.Prelude.{◌≡◌, Some, None, Result, Ok, Err, ℕ, List, codes}
-use Rattle.std.specs.Int.{w32}
+<pre><code>use Rattle.std.specs.Prelude.{◌≡◌, Some, None, Result, Ok, Err, ℕ, List, codes, ℤ, pos, ◌==◌, Option, unsigned_abs, if◌then◌else◌}
+use Rattle.std.specs.Int.{w32, int_rem_euclid}
 use Rattle.wasmi_types.specs.Value.{<a href="../../types/Value/index.html#reference_of">reference_of</a>}
 use Rattle.wasmi_raw.specs.RawVal.{<a href="../../raw/RawVal/index.html#unsigned_in">unsigned_in</a>}
 use Rattle.wasmi_typed.specs.declared.typed.TypedRawVal.{TypedRawVal}
@@ -659,16 +603,22 @@ use Rattle.wasmi_typed.specs.declared.typed_ref.NotAReference.{NotAReference}
 
 -- the answer is the reference that a typed raw value is, or the error where its type is none of references
 abbrev pub <b id="IsReference">IsReference</b> : TypedRawVal → Result TypedRawRef NotAReference → Type 0
-<a href="../../typed/TypedRef/index.html#IsReference">IsReference</a> typed (Ok reference) =
+<a href="../../typed/Typed/index.html#IsReference">IsReference</a> typed (Ok reference) =
     (<a href="../../types/Value/index.html#reference_of">reference_of</a> typed.ty ≡ Some reference.ty) × (reference.raw ≡ <a href="../../raw/RawVal/index.html#unsigned_in">unsigned_in</a> w32 typed.raw)
-<a href="../../typed/TypedRef/index.html#IsReference">IsReference</a> typed (Err error) = <a href="../../types/Value/index.html#reference_of">reference_of</a> typed.ty ≡ None
+<a href="../../typed/Typed/index.html#IsReference">IsReference</a> typed (Err error) = <a href="../../types/Value/index.html#reference_of">reference_of</a> typed.ty ≡ None
 
 -- the text of the error where a value is no reference
 abbrev pub <b id="not_a_reference_text">not_a_reference_text</b> : List ℕ
-<a href="../../typed/TypedRef/index.html#not_a_reference_text">not_a_reference_text</a> = codes "not a reference type"
+<a href="../../typed/Typed/index.html#not_a_reference_text">not_a_reference_text</a> = codes "not a reference type"
+
+-- the remainder of a number by a width in bits, 0 or more; none where that is 0
+abbrev pub <b id="shift_amount">shift_amount</b> : ℕ → ℤ → Option ℕ
+<a href="../../typed/Typed/index.html#shift_amount">shift_amount</a> width z =
+    let amount = unsigned_abs (int_rem_euclid z (pos width))
+    in if amount == 0 then None else Some amount
 </code></pre>
 "####]
-    pub mod TypedRef {}
+    pub mod Typed {}
 }
 /// Definitions of `wasmi_access`.
 pub mod accesses {
@@ -677,7 +627,7 @@ pub mod accesses {
 <pre><code>use Rattle.std.specs.Prelude.{◌≡◌, ℕ, ◌+◌, ◌^◌, nat_lt, if◌then◌else◌, List, take, drop, Option, Some, None, Result, Ok, Err, MatchResult}
 use Rattle.wasmi_types.specs.declared.trap.TrapCode.{TrapCode}
 use Rattle.wasmi_types.specs.declared.trap.TrapCode.TheVariants.{MemoryOutOfBounds}
-use Rattle.wasmi_types.specs.Bytes.{<a href="../../types/Bytes/index.html#number_of">number_of</a>}
+use Rattle.wasmi_types.specs.Numbers.{<a href="../../types/Numbers/index.html#number_of">number_of</a>}
 use Rattle.wasmi_types.specs.Access.{<a href="../../types/Access/index.html#at">at</a>, <a href="../../types/Access/index.html#overwrite">overwrite</a>}
 
 -- an access at the address a, which is what is found there; none where a is 2 ^ 64 or more
@@ -686,7 +636,7 @@ abbrev pub <b id="accessed">accessed</b> : {X : Type 0} → ℕ → Option X →
 
 -- the value that the number of the bytes stands for, or the trap where there are none
 abbrev pub <b id="value_of_bytes">value_of_bytes</b> : {V : Type 0} → (ℕ → V) → Option (List ℕ) → Result V TrapCode
-<a href="../../accesses/LoadStore/index.html#value_of_bytes">value_of_bytes</a> value (Some bytes) = Ok (value (<a href="../../types/Bytes/index.html#number_of">number_of</a> bytes))
+<a href="../../accesses/LoadStore/index.html#value_of_bytes">value_of_bytes</a> value (Some bytes) = Ok (value (<a href="../../types/Numbers/index.html#number_of">number_of</a> bytes))
 <a href="../../accesses/LoadStore/index.html#value_of_bytes">value_of_bytes</a> value None = Err MemoryOutOfBounds
 
 -- what a load of n bytes at a gives
@@ -722,7 +672,7 @@ pub mod scalar {
     #[doc = r####"The integer operations of the WebAssembly core specification (section "Numerics"), over whole numbers. A number of a signed type is read signed, one of an unsigned type unsigned, and \`w\` is the width of the type, of \`bits w\` bits. std's words for the two readings: \`int\_wrap w z\` is the number of the signed type that differs from z by a multiple of 2 to the power \`bits w\` (the standard's \`wrap\` and \`extend\_s\`), \`cast\_unsigned w z\` the unsigned number with the bits of z, \`cast\_signed w n\` the signed number with the bits of n.
 
 <pre><code><a href="../../scalar/Numerics/index.html#use">use</a> Rattle.std.specs.Prelude.{ℕ, ◌+◌, ◌-◌, ◌*◌, ◌/◌, ◌%◌, ◌^◌, ℤ, pos, ◌+ℤ◌, ◌-ℤ◌, ◌*ℤ◌, int_div, int_rem, int_lt, int_le, nat_lt, nat_le, ◌==◌, not, Bool, bit_and, bit_or, bit_xor, count_ones, Result, Ok, Err, if◌then◌else◌}
-<a href="../../scalar/Numerics/index.html#use">use</a> Rattle.std.specs.Int.{Width, cast_signed, cast_unsigned, int_wrap, int_shr, leading_zeros, trailing_zeros}
+<a href="../../scalar/Numerics/index.html#use">use</a> Rattle.std.specs.Int.{Width, cast_signed, cast_unsigned, int_wrap, int_shr, leading_zeros, trailing_zeros, w64}
 <a href="../../scalar/Numerics/index.html#use">use</a> Rattle.std.specs.Ordering.{int_eq}
 <a href="../../scalar/Numerics/index.html#use">use</a> mir.Val.{bits}
 <a href="../../scalar/Numerics/index.html#use">use</a> Rattle.wasmi_types.specs.declared.trap.TrapCode.{TrapCode}
@@ -867,100 +817,41 @@ abbrev pub <b id="ige_s">ige_s</b> : ℤ → ℤ → Bool
 -- whether the first is at least the second, both read unsigned
 abbrev pub <b id="ige_u">ige_u</b> : ℕ → ℕ → Bool
 <a href="../../scalar/Numerics/index.html#ige_u">ige_u</a> m n = <a href="../../scalar/Numerics/index.html#ile_u">ile_u</a> n m
-</code></pre>
-"####]
-    pub mod Numerics {}
-    #[doc = r####"The numbers of the wide-arithmetic proposal: 128 bits in a low and a high word.
-
-<pre><code>use Rattle.std.specs.Prelude.{ℕ, ◌+◌, ◌-◌, ◌*◌, ◌^◌, ◌%◌, ℤ, pos, ◌+ℤ◌, ◌*ℤ◌}
-use Rattle.std.specs.Int.{w64, cast_unsigned}
 
 -- the number of a low and a high word, read unsigned
 abbrev pub <b id="unsigned_of">unsigned_of</b> : ℤ → ℤ → ℕ
-<a href="../../scalar/Wide/index.html#unsigned_of">unsigned_of</a> lo hi = cast_unsigned w64 hi * 2 ^ 64 + cast_unsigned w64 lo
+<a href="../../scalar/Numerics/index.html#unsigned_of">unsigned_of</a> lo hi = cast_unsigned w64 hi * 2 ^ 64 + cast_unsigned w64 lo
 
 -- the number of two words of 64 bits, of which the high one is read signed
 abbrev pub <b id="signed_of">signed_of</b> : ℤ → ℤ → ℤ
-<a href="../../scalar/Wide/index.html#signed_of">signed_of</a> lo hi = (hi *ℤ pos (2 ^ 64)) +ℤ pos (cast_unsigned w64 lo)
+<a href="../../scalar/Numerics/index.html#signed_of">signed_of</a> lo hi = (hi *ℤ pos (2 ^ 64)) +ℤ pos (cast_unsigned w64 lo)
 
 -- the sum modulo 2 to the power 128
 abbrev pub <b id="add128">add128</b> : ℕ → ℕ → ℕ
-<a href="../../scalar/Wide/index.html#add128">add128</a> m n = (m + n) % 2 ^ 128
+<a href="../../scalar/Numerics/index.html#add128">add128</a> m n = (m + n) % 2 ^ 128
 
 -- the difference modulo 2 to the power 128
 abbrev pub <b id="sub128">sub128</b> : ℕ → ℕ → ℕ
-<a href="../../scalar/Wide/index.html#sub128">sub128</a> m n = (m + 2 ^ 128 - n) % 2 ^ 128
+<a href="../../scalar/Numerics/index.html#sub128">sub128</a> m n = (m + 2 ^ 128 - n) % 2 ^ 128
 </code></pre>
 "####]
-    pub mod Wide {}
+    pub mod Numerics {}
 }
 /// Definitions of `wasmi_lanes`.
 pub mod lanes {
-    #[doc = r####"A vector is a number below 2 ^ 128. Its lanes of one width are its digits to the base 2 ^ width, lane 0 the lowest (the WebAssembly core specification, section "Numerics": storage in little-endian order).
-
-<pre><code>use Rattle.std.specs.Prelude.{ℕ, zero, suc, ◌-◌, ◌*◌, ◌/◌, ◌%◌, ◌^◌, ◌&lt;◌, ◌≡◌, ◌⊎◌, FitsSigned}
-use Rattle.std.proofs.Math.Facts.{sfits_to_z}
-use mir.Val.{Fits}
-use Rattle.wasmi_types.specs.Wrapping.{Width, bits, signed}
-
--- lane i of the vector v
-abbrev pub <b id="lane">lane</b> : Width → ℕ → ℕ → ℕ
-<a href="../../lanes/Lane/index.html#lane">lane</a> w v i = v / 2 ^ (bits w * i) % 2 ^ bits w
-
--- how many lanes of a width a vector has
-abbrev pub <b id="lane_count">lane_count</b> : Width → ℕ
-<a href="../../lanes/Lane/index.html#lane_count">lane_count</a> w = 128 / bits w
-
--- a lane&#x27;s number as it is; `signed` reads it as a signed number
-abbrev pub <b id="unsigned">unsigned</b> : ℕ → ℕ
-<a href="../../lanes/Lane/index.html#unsigned">unsigned</a> n = n
-
--- a number of w bits, read signed, is in the range of the signed type
-pub <b id="signed_fits">signed_fits</b> : (w : Width) (n : ℕ) → n &lt; 2 ^ bits w → FitsSigned w (signed w n)
-<a href="../../lanes/Lane/index.html#signed_fits">signed_fits</a> w n below = let fits : Fits w n = record { fits = below } in sfits_to_z fits
-
--- the items of a type are those of lanes of a width: `read` gives the item of a lane&#x27;s number, `image` the number of an
--- item, and `Fits` says which items are in the type&#x27;s range; `ones` is the item whose bits are all ones, `zeros` that
--- whose bits are all zeros
-pub record <b id="ReadsLanes">ReadsLanes</b> {Item : Type 0} (width : Width) (read : ℕ → Item) (image : Item → ℕ) (Fits : Item → Type 0)
-    (ones zeros : Item) : Type 0 where
-  pub <b id="image_of_ones">image_of_ones</b> : image ones ≡ 2 ^ bits width - 1
-  pub <b id="image_of_zeros">image_of_zeros</b> : image zeros ≡ 0
-  pub <b id="image_of_read">image_of_read</b> : (n : ℕ) → n &lt; 2 ^ bits width → image (read n) ≡ n
-  pub <b id="read_fits">read_fits</b> : (n : ℕ) → n &lt; 2 ^ bits width → Fits (read n)
-
--- the lanes of a type fill a vector, have as many indices, and have the ones and zeros of its items
-pub record <b id="AreWholeLanes">AreWholeLanes</b> {Item : Type 0} (width : Width) (lanes indices : ℕ)
-    (ones zeros item_ones item_zeros : Item) : Type 0 where
-  pub <b id="filled">filled</b> : lanes * bits width ≡ 128
-  pub <b id="counted">counted</b> : indices ≡ lanes
-  pub <b id="ones_eq">ones_eq</b> : ones ≡ item_ones
-  pub <b id="zeros_eq">zeros_eq</b> : zeros ≡ item_zeros
-
--- a number of lanes: of one vector, or of two vectors of bytes
-abbrev pub <b id="IsLaneCount">IsLaneCount</b> : ℕ → Type 0
-<a href="../../lanes/Lane/index.html#IsLaneCount">IsLaneCount</a> n = (n ≡ 2) ⊎ (n ≡ 4) ⊎ (n ≡ 8) ⊎ (n ≡ 16) ⊎ (n ≡ 32)
-
--- the steps at 0, 1 and so on, n of them, lead from `first` to `last`
-abbrev pub <b id="ReducesTo">ReducesTo</b> : {A : Type 0} → (ℕ → A → A → Type 0) → ℕ → A → A → Type 0
-<a href="../../lanes/Lane/index.html#ReducesTo">ReducesTo</a> Step zero first last = last ≡ first
-<a href="../../lanes/Lane/index.html#ReducesTo">ReducesTo</a> {A} Step (suc n) first last = (middle : A) × <a href="../../lanes/Lane/index.html#ReducesTo">ReducesTo</a> Step n first middle × Step n middle last
-</code></pre>
-"####]
-    pub mod Lane {}
     #[doc = r####"The integers of a width are the items of lanes of the width, and lanes of the words of 64 bits.
 
 <pre><code>use Rattle.std.specs.Prelude.{ℕ, pos, negsuc, ◌-◌, ◌*◌, ◌%◌, ◌^◌, ◌&lt;◌, ◌≡◌, refl, FitsSigned}
 use Rattle.std.specs.Int.{cast_unsigned}
 use Rattle.std.proofs.lemmas.Int.{of_z-to_z}
 use mir.Syntax.{w128}
-use Rattle.wasmi_types.specs.Wrapping.{Width, w8, w16, w32, w64, bits, signed}
-use Rattle.wasmi_lanes.specs.Lane.{<a href="../../lanes/Lane/index.html#ReadsLanes">ReadsLanes</a>, <a href="../../lanes/Lane/index.html#unsigned">unsigned</a>, <a href="../../lanes/Lane/index.html#signed_fits">signed_fits</a>}
+use Rattle.wasmi_types.specs.Numbers.{Width, w8, w16, w32, w64, bits, signed}
+use Rattle.wasmi_lanes.specs.Vector.{<a href="../../lanes/Vector/index.html#ReadsLanes">ReadsLanes</a>, <a href="../../lanes/Vector/index.html#unsigned">unsigned</a>, <a href="../../lanes/Vector/index.html#signed_fits">signed_fits</a>}
 use Rattle.wasmi_lanes.specs.Words.{<a href="../../lanes/Words/index.html#IsWordLane">IsWordLane</a>, <a href="../../lanes/Words/index.html#lanes_in_word">lanes_in_word</a>, <a href="../../lanes/Words/index.html#in_each_lane">in_each_lane</a>}
 
 -- the unsigned integers of a width
 pub <b id="unsigned_lanes">unsigned_lanes</b> : (w : Width)
-    → <a href="../../lanes/Lane/index.html#ReadsLanes">ReadsLanes</a> w <a href="../../lanes/Lane/index.html#unsigned">unsigned</a> (λ item. item) (λ item. item &lt; 2 ^ bits w) (2 ^ bits w - 1) 0
+    → <a href="../../lanes/Vector/index.html#ReadsLanes">ReadsLanes</a> w <a href="../../lanes/Vector/index.html#unsigned">unsigned</a> (λ item. item) (λ item. item &lt; 2 ^ bits w) (2 ^ bits w - 1) 0
 <a href="../../lanes/LaneProofs/index.html#unsigned_lanes">unsigned_lanes</a> w = record {
   image_of_ones = refl;
   image_of_zeros = refl;
@@ -985,12 +876,12 @@ zeros_of_zero w64 = refl
 zeros_of_zero w128 = refl
 
 -- the signed integers of a width
-pub <b id="signed_lanes">signed_lanes</b> : (w : Width) → <a href="../../lanes/Lane/index.html#ReadsLanes">ReadsLanes</a> w (signed w) (cast_unsigned w) (FitsSigned w) (negsuc 0) (pos 0)
+pub <b id="signed_lanes">signed_lanes</b> : (w : Width) → <a href="../../lanes/Vector/index.html#ReadsLanes">ReadsLanes</a> w (signed w) (cast_unsigned w) (FitsSigned w) (negsuc 0) (pos 0)
 <a href="../../lanes/LaneProofs/index.html#signed_lanes">signed_lanes</a> w = record {
   image_of_ones = ones_of_minus_one w;
   image_of_zeros = zeros_of_zero w;
   image_of_read = of_z-to_z w;
-  read_fits = <a href="../../lanes/Lane/index.html#signed_fits">signed_fits</a> w;
+  read_fits = <a href="../../lanes/Vector/index.html#signed_fits">signed_fits</a> w;
 }
 
 -- numbers that are each what a width asks for
@@ -1009,11 +900,55 @@ pub <b id="word_lane">word_lane</b> : {w : Width} {lane_bits tops ones : ℕ}
 </code></pre>
 "####]
     pub mod LaneProofs {}
-    #[doc = r####"Vectors by their lanes, in the terms of the WebAssembly core specification (section "Numerics", "Vector Operations"). Everywhere \`read\` is how a lane's number is read, as it is or signed, and \`row\` is the number of the resulting lane.
+    #[doc = r####"A vector is a number below 2 ^ 128; its lanes of one width are its digits to the base 2 ^ width, lane 0 the lowest.
 
-<pre><code>use Rattle.std.specs.Prelude.{◌≡◌, ℕ, zero, suc, ◌+◌, ◌-◌, ◌*◌, ◌/◌, ◌%◌, ◌^◌, Bool, if◌then◌else◌, ◌==◌}
-use Rattle.wasmi_types.specs.Wrapping.{Width, bits}
-use Rattle.wasmi_lanes.specs.Lane.{<a href="../../lanes/Lane/index.html#lane">lane</a>}
+<pre><code>use Rattle.std.specs.Prelude.{ℕ, zero, suc, ◌-◌, ◌*◌, ◌/◌, ◌%◌, ◌^◌, ◌&lt;◌, ◌≡◌, ◌⊎◌, FitsSigned, ◌+◌, Bool, if◌then◌else◌, ◌==◌}
+use Rattle.std.proofs.Math.Facts.{sfits_to_z}
+use mir.Val.{Fits}
+use Rattle.wasmi_types.specs.Numbers.{Width, bits, signed}
+
+-- lane i of the vector v
+abbrev pub <b id="lane">lane</b> : Width → ℕ → ℕ → ℕ
+<a href="../../lanes/Vector/index.html#lane">lane</a> w v i = v / 2 ^ (bits w * i) % 2 ^ bits w
+
+-- how many lanes of a width a vector has
+abbrev pub <b id="lane_count">lane_count</b> : Width → ℕ
+<a href="../../lanes/Vector/index.html#lane_count">lane_count</a> w = 128 / bits w
+
+-- a lane&#x27;s number as it is; `signed` reads it as a signed number
+abbrev pub <b id="unsigned">unsigned</b> : ℕ → ℕ
+<a href="../../lanes/Vector/index.html#unsigned">unsigned</a> n = n
+
+-- a number of w bits, read signed, is in the range of the signed type
+pub <b id="signed_fits">signed_fits</b> : (w : Width) (n : ℕ) → n &lt; 2 ^ bits w → FitsSigned w (signed w n)
+<a href="../../lanes/Vector/index.html#signed_fits">signed_fits</a> w n below = let fits : Fits w n = record { fits = below } in sfits_to_z fits
+
+-- the items of a type are those of lanes of a width: `read` gives the item of a lane&#x27;s number, `image` the number of an
+-- item, and `Fits` says which items are in the type&#x27;s range; `ones` is the item whose bits are all ones, `zeros` that
+-- whose bits are all zeros
+pub record <b id="ReadsLanes">ReadsLanes</b> {Item : Type 0} (width : Width) (read : ℕ → Item) (image : Item → ℕ) (Fits : Item → Type 0)
+    (ones zeros : Item) : Type 0 where
+  pub <b id="image_of_ones">image_of_ones</b> : image ones ≡ 2 ^ bits width - 1
+  pub <b id="image_of_zeros">image_of_zeros</b> : image zeros ≡ 0
+  pub <b id="image_of_read">image_of_read</b> : (n : ℕ) → n &lt; 2 ^ bits width → image (read n) ≡ n
+  pub <b id="read_fits">read_fits</b> : (n : ℕ) → n &lt; 2 ^ bits width → Fits (read n)
+
+-- the lanes of a type fill a vector, have as many indices, and have the ones and zeros of its items
+pub record <b id="AreWholeLanes">AreWholeLanes</b> {Item : Type 0} (width : Width) (lanes indices : ℕ)
+    (ones zeros item_ones item_zeros : Item) : Type 0 where
+  pub <b id="filled">filled</b> : lanes * bits width ≡ 128
+  pub <b id="counted">counted</b> : indices ≡ lanes
+  pub <b id="ones_eq">ones_eq</b> : ones ≡ item_ones
+  pub <b id="zeros_eq">zeros_eq</b> : zeros ≡ item_zeros
+
+-- a number of lanes: of one vector, or of two vectors of bytes
+abbrev pub <b id="IsLaneCount">IsLaneCount</b> : ℕ → Type 0
+<a href="../../lanes/Vector/index.html#IsLaneCount">IsLaneCount</a> n = (n ≡ 2) ⊎ (n ≡ 4) ⊎ (n ≡ 8) ⊎ (n ≡ 16) ⊎ (n ≡ 32)
+
+-- the steps at 0, 1 and so on, n of them, lead from `first` to `last`
+abbrev pub <b id="ReducesTo">ReducesTo</b> : {A : Type 0} → (ℕ → A → A → Type 0) → ℕ → A → A → Type 0
+<a href="../../lanes/Vector/index.html#ReducesTo">ReducesTo</a> Step zero first last = last ≡ first
+<a href="../../lanes/Vector/index.html#ReducesTo">ReducesTo</a> {A} Step (suc n) first last = (middle : A) × <a href="../../lanes/Vector/index.html#ReducesTo">ReducesTo</a> Step n first middle × Step n middle last
 
 -- the number whose first n lanes are f 0, f 1 and so on, and whose others are 0
 unfoldable pub <b id="first_lanes">first_lanes</b> : Width → ℕ → (ℕ → ℕ) → ℕ
@@ -1026,16 +961,16 @@ abbrev pub <b id="from_lanes">from_lanes</b> : Width → (ℕ → ℕ) → ℕ
 
 -- the vector whose lane i is the row of the operands&#x27; lanes i
 unfoldable pub <b id="unary_of_lanes">unary_of_lanes</b> : {A : Type 0} → (w : Width) → (ℕ → A) → (A → ℕ) → ℕ → ℕ
-<a href="../../lanes/Vector/index.html#unary_of_lanes">unary_of_lanes</a> w read row a = <a href="../../lanes/Vector/index.html#from_lanes">from_lanes</a> w (λ i. row (read (<a href="../../lanes/Lane/index.html#lane">lane</a> w a i)))
+<a href="../../lanes/Vector/index.html#unary_of_lanes">unary_of_lanes</a> w read row a = <a href="../../lanes/Vector/index.html#from_lanes">from_lanes</a> w (λ i. row (read (<a href="../../lanes/Vector/index.html#lane">lane</a> w a i)))
 
 -- the vector whose lane i is the row of lanes i of two vectors, read in one way
 unfoldable pub <b id="binary_of_lanes">binary_of_lanes</b> : {A : Type 0} → (w : Width) → (ℕ → A) → (A → A → ℕ) → ℕ → ℕ → ℕ
-<a href="../../lanes/Vector/index.html#binary_of_lanes">binary_of_lanes</a> w read row a b = <a href="../../lanes/Vector/index.html#from_lanes">from_lanes</a> w (λ i. row (read (<a href="../../lanes/Lane/index.html#lane">lane</a> w a i)) (read (<a href="../../lanes/Lane/index.html#lane">lane</a> w b i)))
+<a href="../../lanes/Vector/index.html#binary_of_lanes">binary_of_lanes</a> w read row a b = <a href="../../lanes/Vector/index.html#from_lanes">from_lanes</a> w (λ i. row (read (<a href="../../lanes/Vector/index.html#lane">lane</a> w a i)) (read (<a href="../../lanes/Vector/index.html#lane">lane</a> w b i)))
 
 -- all ones where the test of the operands&#x27; lanes i holds, else all zeros
 unfoldable pub <b id="comparison_of_lanes">comparison_of_lanes</b> : {A : Type 0} → (w : Width) → (ℕ → A) → (A → A → Bool) → ℕ → ℕ → ℕ
 <a href="../../lanes/Vector/index.html#comparison_of_lanes">comparison_of_lanes</a> w read test a b =
-    <a href="../../lanes/Vector/index.html#from_lanes">from_lanes</a> w (λ i. if test (read (<a href="../../lanes/Lane/index.html#lane">lane</a> w a i)) (read (<a href="../../lanes/Lane/index.html#lane">lane</a> w b i)) then 2 ^ bits w - 1 else 0)
+    <a href="../../lanes/Vector/index.html#from_lanes">from_lanes</a> w (λ i. if test (read (<a href="../../lanes/Vector/index.html#lane">lane</a> w a i)) (read (<a href="../../lanes/Vector/index.html#lane">lane</a> w b i)) then 2 ^ bits w - 1 else 0)
 
 -- n in each lane
 unfoldable pub <b id="splat_of">splat_of</b> : Width → ℕ → ℕ
@@ -1043,7 +978,7 @@ unfoldable pub <b id="splat_of">splat_of</b> : Width → ℕ → ℕ
 
 -- v with n in lane k
 unfoldable pub <b id="with_lane">with_lane</b> : Width → ℕ → ℕ → ℕ → ℕ
-<a href="../../lanes/Vector/index.html#with_lane">with_lane</a> w v k n = <a href="../../lanes/Vector/index.html#from_lanes">from_lanes</a> w (λ i. if i == k then n else <a href="../../lanes/Lane/index.html#lane">lane</a> w v i)
+<a href="../../lanes/Vector/index.html#with_lane">with_lane</a> w v k n = <a href="../../lanes/Vector/index.html#from_lanes">from_lanes</a> w (λ i. if i == k then n else <a href="../../lanes/Vector/index.html#lane">lane</a> w v i)
 
 -- what is made of an item in range has the number that the row names; `Makes` relates the item to what is made of it
 abbrev pub <b id="ComputesLane">ComputesLane</b> : {A : Type 0} → (A → Type 0) → (A → ℕ) → (A → A → Type 0) → (A → ℕ) → Type 0
@@ -1065,7 +1000,7 @@ abbrev pub <b id="DecidesTest">DecidesTest</b> : {A : Type 0} → (A → Type 0)
 <pre><code>use Rattle.std.specs.Prelude.{ℕ, ◌≡◌, ◌+◌, ◌-◌, ◌*◌, ◌/◌, ◌%◌, ◌^◌, ◌&lt;◌, ◌≤◌, ◌⊎◌, List, [], ◌∷◌, replicate, ◌==◌, if◌then◌else◌}
 use Rattle.std.specs.Int.{bit_at}
 use Rattle.std.specs.Simd.Lanes.{number_l}
-use Rattle.wasmi_types.specs.Wrapping.{Width, bits}
+use Rattle.wasmi_types.specs.Numbers.{Width, bits}
 
 -- the number in the bits of v from start to start + width - 1
 unfoldable pub <b id="field">field</b> : ℕ → ℕ → ℕ → ℕ
@@ -1131,67 +1066,66 @@ pub mod lanewise {
 <pre><code>use Rattle.std.specs.Prelude.{ℕ, ◌+◌, ◌-◌, ◌*◌, ◌/◌, ◌%◌, ◌^◌, min, max, nat_eq, nat_lt, nat_le, not, ℤ, pos, ◌+ℤ◌, ◌-ℤ◌, ◌*ℤ◌, unsigned_abs, bit_and, bit_or, bit_xor, count_ones, List, slice_index, if◌then◌else◌}
 use Rattle.std.specs.Int.{int_min, int_max, int_shr}
 use Rattle.std.specs.Int.RustNames.{int_lt, int_le}
-use Rattle.wasmi_types.specs.Wrapping.{Width, w8, w16, bits, signed, <a href="../../types/Wrapping/index.html#wrap">wrap</a>, clamp_signed, clamp_unsigned}
-use Rattle.wasmi_lanes.specs.Lane.{<a href="../../lanes/Lane/index.html#lane">lane</a>, <a href="../../lanes/Lane/index.html#unsigned">unsigned</a>}
-use Rattle.wasmi_lanes.specs.Vector.{<a href="../../lanes/Vector/index.html#from_lanes">from_lanes</a>, <a href="../../lanes/Vector/index.html#unary_of_lanes">unary_of_lanes</a>, <a href="../../lanes/Vector/index.html#binary_of_lanes">binary_of_lanes</a>, <a href="../../lanes/Vector/index.html#comparison_of_lanes">comparison_of_lanes</a>, <a href="../../lanes/Vector/index.html#splat_of">splat_of</a>, <a href="../../lanes/Vector/index.html#with_lane">with_lane</a>}
+use Rattle.wasmi_types.specs.Numbers.{Width, w8, w16, bits, signed, <a href="../../types/Numbers/index.html#wrap">wrap</a>, clamp_signed, clamp_unsigned}
+use Rattle.wasmi_lanes.specs.Vector.{<a href="../../lanes/Vector/index.html#lane">lane</a>, <a href="../../lanes/Vector/index.html#unsigned">unsigned</a>, <a href="../../lanes/Vector/index.html#from_lanes">from_lanes</a>, <a href="../../lanes/Vector/index.html#unary_of_lanes">unary_of_lanes</a>, <a href="../../lanes/Vector/index.html#binary_of_lanes">binary_of_lanes</a>, <a href="../../lanes/Vector/index.html#comparison_of_lanes">comparison_of_lanes</a>, <a href="../../lanes/Vector/index.html#splat_of">splat_of</a>, <a href="../../lanes/Vector/index.html#with_lane">with_lane</a>}
 
 -- ---- making and taking lanes
 
 -- each lane is the number modulo 2 to the width
 abbrev pub <b id="splat">splat</b> : Width → ℤ → ℕ
-<a href="../../lanewise/VectorTable/index.html#splat">splat</a> w x = <a href="../../lanes/Vector/index.html#splat_of">splat_of</a> w (<a href="../../types/Wrapping/index.html#wrap">wrap</a> w x)
+<a href="../../lanewise/VectorTable/index.html#splat">splat</a> w x = <a href="../../lanes/Vector/index.html#splat_of">splat_of</a> w (<a href="../../types/Numbers/index.html#wrap">wrap</a> w x)
 
 -- a lane read signed
 abbrev pub <b id="extract_lane_s">extract_lane_s</b> : Width → ℕ → ℕ → ℤ
-<a href="../../lanewise/VectorTable/index.html#extract_lane_s">extract_lane_s</a> w v k = signed w (<a href="../../lanes/Lane/index.html#lane">lane</a> w v k)
+<a href="../../lanewise/VectorTable/index.html#extract_lane_s">extract_lane_s</a> w v k = signed w (<a href="../../lanes/Vector/index.html#lane">lane</a> w v k)
 
 -- a lane read unsigned
 abbrev pub <b id="extract_lane_u">extract_lane_u</b> : Width → ℕ → ℕ → ℕ
-<a href="../../lanewise/VectorTable/index.html#extract_lane_u">extract_lane_u</a> w v k = <a href="../../lanes/Lane/index.html#lane">lane</a> w v k
+<a href="../../lanewise/VectorTable/index.html#extract_lane_u">extract_lane_u</a> w v k = <a href="../../lanes/Vector/index.html#lane">lane</a> w v k
 
 -- one lane is the number modulo 2 to the width, and the others stay
 abbrev pub <b id="replace_lane">replace_lane</b> : Width → ℕ → ℕ → ℤ → ℕ
-<a href="../../lanewise/VectorTable/index.html#replace_lane">replace_lane</a> w v k x = <a href="../../lanes/Vector/index.html#with_lane">with_lane</a> w v k (<a href="../../types/Wrapping/index.html#wrap">wrap</a> w x)
+<a href="../../lanewise/VectorTable/index.html#replace_lane">replace_lane</a> w v k x = <a href="../../lanes/Vector/index.html#with_lane">with_lane</a> w v k (<a href="../../types/Numbers/index.html#wrap">wrap</a> w x)
 
 -- of the 32 bytes of a and b, those at the indices s
 abbrev pub <b id="shuffle">shuffle</b> : ℕ → ℕ → List ℕ → ℕ
 <a href="../../lanewise/VectorTable/index.html#shuffle">shuffle</a> a b s =
     <a href="../../lanes/Vector/index.html#from_lanes">from_lanes</a> w8
-    (λ i. if nat_lt (slice_index s i) 16 then <a href="../../lanes/Lane/index.html#lane">lane</a> w8 a (slice_index s i) else <a href="../../lanes/Lane/index.html#lane">lane</a> w8 b (slice_index s i - 16))
+    (λ i. if nat_lt (slice_index s i) 16 then <a href="../../lanes/Vector/index.html#lane">lane</a> w8 a (slice_index s i) else <a href="../../lanes/Vector/index.html#lane">lane</a> w8 b (slice_index s i - 16))
 
 -- of the 16 bytes of a, those at the indices that the lanes of s are, and 0 where one is above 15
 abbrev pub <b id="swizzle">swizzle</b> : ℕ → ℕ → ℕ
-<a href="../../lanewise/VectorTable/index.html#swizzle">swizzle</a> a s = <a href="../../lanes/Vector/index.html#unary_of_lanes">unary_of_lanes</a> w8 <a href="../../lanes/Lane/index.html#unsigned">unsigned</a> (λ k. if nat_lt k 16 then <a href="../../lanes/Lane/index.html#lane">lane</a> w8 a k else 0) s
+<a href="../../lanewise/VectorTable/index.html#swizzle">swizzle</a> a s = <a href="../../lanes/Vector/index.html#unary_of_lanes">unary_of_lanes</a> w8 <a href="../../lanes/Vector/index.html#unsigned">unsigned</a> (λ k. if nat_lt k 16 then <a href="../../lanes/Vector/index.html#lane">lane</a> w8 a k else 0) s
 
 -- ---- binary
 
 -- the sums of the lanes modulo 2 to the width
 abbrev pub <b id="add">add</b> : Width → ℕ → ℕ → ℕ
-<a href="../../lanewise/VectorTable/index.html#add">add</a> w = <a href="../../lanes/Vector/index.html#binary_of_lanes">binary_of_lanes</a> w <a href="../../lanes/Lane/index.html#unsigned">unsigned</a> (λ x y. (x + y) % 2 ^ bits w)
+<a href="../../lanewise/VectorTable/index.html#add">add</a> w = <a href="../../lanes/Vector/index.html#binary_of_lanes">binary_of_lanes</a> w <a href="../../lanes/Vector/index.html#unsigned">unsigned</a> (λ x y. (x + y) % 2 ^ bits w)
 
 -- the differences of the lanes modulo 2 to the width
 abbrev pub <b id="sub">sub</b> : Width → ℕ → ℕ → ℕ
-<a href="../../lanewise/VectorTable/index.html#sub">sub</a> w = <a href="../../lanes/Vector/index.html#binary_of_lanes">binary_of_lanes</a> w <a href="../../lanes/Lane/index.html#unsigned">unsigned</a> (λ x y. (x + (2 ^ bits w - y)) % 2 ^ bits w)
+<a href="../../lanewise/VectorTable/index.html#sub">sub</a> w = <a href="../../lanes/Vector/index.html#binary_of_lanes">binary_of_lanes</a> w <a href="../../lanes/Vector/index.html#unsigned">unsigned</a> (λ x y. (x + (2 ^ bits w - y)) % 2 ^ bits w)
 
 -- the products of the lanes modulo 2 to the width
 abbrev pub <b id="mul">mul</b> : Width → ℕ → ℕ → ℕ
-<a href="../../lanewise/VectorTable/index.html#mul">mul</a> w = <a href="../../lanes/Vector/index.html#binary_of_lanes">binary_of_lanes</a> w <a href="../../lanes/Lane/index.html#unsigned">unsigned</a> (λ x y. (x * y) % 2 ^ bits w)
+<a href="../../lanewise/VectorTable/index.html#mul">mul</a> w = <a href="../../lanes/Vector/index.html#binary_of_lanes">binary_of_lanes</a> w <a href="../../lanes/Vector/index.html#unsigned">unsigned</a> (λ x y. (x * y) % 2 ^ bits w)
 
 -- the sums of lanes read signed, clamped to the signed range
 abbrev pub <b id="add_sat_s">add_sat_s</b> : Width → ℕ → ℕ → ℕ
-<a href="../../lanewise/VectorTable/index.html#add_sat_s">add_sat_s</a> w = <a href="../../lanes/Vector/index.html#binary_of_lanes">binary_of_lanes</a> w (signed w) (λ x y. <a href="../../types/Wrapping/index.html#wrap">wrap</a> w (clamp_signed w (x +ℤ y)))
+<a href="../../lanewise/VectorTable/index.html#add_sat_s">add_sat_s</a> w = <a href="../../lanes/Vector/index.html#binary_of_lanes">binary_of_lanes</a> w (signed w) (λ x y. <a href="../../types/Numbers/index.html#wrap">wrap</a> w (clamp_signed w (x +ℤ y)))
 
 -- the sums of lanes read unsigned, clamped to the unsigned range
 abbrev pub <b id="add_sat_u">add_sat_u</b> : Width → ℕ → ℕ → ℕ
-<a href="../../lanewise/VectorTable/index.html#add_sat_u">add_sat_u</a> w = <a href="../../lanes/Vector/index.html#binary_of_lanes">binary_of_lanes</a> w <a href="../../lanes/Lane/index.html#unsigned">unsigned</a> (λ x y. clamp_unsigned w (pos x +ℤ pos y))
+<a href="../../lanewise/VectorTable/index.html#add_sat_u">add_sat_u</a> w = <a href="../../lanes/Vector/index.html#binary_of_lanes">binary_of_lanes</a> w <a href="../../lanes/Vector/index.html#unsigned">unsigned</a> (λ x y. clamp_unsigned w (pos x +ℤ pos y))
 
 -- the differences of lanes read signed, clamped to the signed range
 abbrev pub <b id="sub_sat_s">sub_sat_s</b> : Width → ℕ → ℕ → ℕ
-<a href="../../lanewise/VectorTable/index.html#sub_sat_s">sub_sat_s</a> w = <a href="../../lanes/Vector/index.html#binary_of_lanes">binary_of_lanes</a> w (signed w) (λ x y. <a href="../../types/Wrapping/index.html#wrap">wrap</a> w (clamp_signed w (x -ℤ y)))
+<a href="../../lanewise/VectorTable/index.html#sub_sat_s">sub_sat_s</a> w = <a href="../../lanes/Vector/index.html#binary_of_lanes">binary_of_lanes</a> w (signed w) (λ x y. <a href="../../types/Numbers/index.html#wrap">wrap</a> w (clamp_signed w (x -ℤ y)))
 
 -- the differences of lanes read unsigned, clamped to the unsigned range
 abbrev pub <b id="sub_sat_u">sub_sat_u</b> : Width → ℕ → ℕ → ℕ
-<a href="../../lanewise/VectorTable/index.html#sub_sat_u">sub_sat_u</a> w = <a href="../../lanes/Vector/index.html#binary_of_lanes">binary_of_lanes</a> w <a href="../../lanes/Lane/index.html#unsigned">unsigned</a> (λ x y. clamp_unsigned w (pos x -ℤ pos y))
+<a href="../../lanewise/VectorTable/index.html#sub_sat_u">sub_sat_u</a> w = <a href="../../lanes/Vector/index.html#binary_of_lanes">binary_of_lanes</a> w <a href="../../lanes/Vector/index.html#unsigned">unsigned</a> (λ x y. clamp_unsigned w (pos x -ℤ pos y))
 
 -- (x * y + 2 ^ 14) / 2 ^ 15, rounded down
 abbrev pub <b id="q15mulr">q15mulr</b> : ℤ → ℤ → ℤ
@@ -1199,23 +1133,23 @@ abbrev pub <b id="q15mulr">q15mulr</b> : ℤ → ℤ → ℤ
 
 -- the rounded products of q15 numbers, clamped to the signed range
 abbrev pub <b id="q15mulr_sat_s">q15mulr_sat_s</b> : ℕ → ℕ → ℕ
-<a href="../../lanewise/VectorTable/index.html#q15mulr_sat_s">q15mulr_sat_s</a> = <a href="../../lanes/Vector/index.html#binary_of_lanes">binary_of_lanes</a> w16 (signed w16) (λ x y. <a href="../../types/Wrapping/index.html#wrap">wrap</a> w16 (clamp_signed w16 (<a href="../../lanewise/VectorTable/index.html#q15mulr">q15mulr</a> x y)))
+<a href="../../lanewise/VectorTable/index.html#q15mulr_sat_s">q15mulr_sat_s</a> = <a href="../../lanes/Vector/index.html#binary_of_lanes">binary_of_lanes</a> w16 (signed w16) (λ x y. <a href="../../types/Numbers/index.html#wrap">wrap</a> w16 (clamp_signed w16 (<a href="../../lanewise/VectorTable/index.html#q15mulr">q15mulr</a> x y)))
 
 -- the smaller of each two lanes read signed
 abbrev pub <b id="min_s">min_s</b> : Width → ℕ → ℕ → ℕ
-<a href="../../lanewise/VectorTable/index.html#min_s">min_s</a> w = <a href="../../lanes/Vector/index.html#binary_of_lanes">binary_of_lanes</a> w (signed w) (λ x y. <a href="../../types/Wrapping/index.html#wrap">wrap</a> w (int_min x y))
+<a href="../../lanewise/VectorTable/index.html#min_s">min_s</a> w = <a href="../../lanes/Vector/index.html#binary_of_lanes">binary_of_lanes</a> w (signed w) (λ x y. <a href="../../types/Numbers/index.html#wrap">wrap</a> w (int_min x y))
 
 -- the smaller of each two lanes read unsigned
 abbrev pub <b id="min_u">min_u</b> : Width → ℕ → ℕ → ℕ
-<a href="../../lanewise/VectorTable/index.html#min_u">min_u</a> w = <a href="../../lanes/Vector/index.html#binary_of_lanes">binary_of_lanes</a> w <a href="../../lanes/Lane/index.html#unsigned">unsigned</a> min
+<a href="../../lanewise/VectorTable/index.html#min_u">min_u</a> w = <a href="../../lanes/Vector/index.html#binary_of_lanes">binary_of_lanes</a> w <a href="../../lanes/Vector/index.html#unsigned">unsigned</a> min
 
 -- the greater of each two lanes read signed
 abbrev pub <b id="max_s">max_s</b> : Width → ℕ → ℕ → ℕ
-<a href="../../lanewise/VectorTable/index.html#max_s">max_s</a> w = <a href="../../lanes/Vector/index.html#binary_of_lanes">binary_of_lanes</a> w (signed w) (λ x y. <a href="../../types/Wrapping/index.html#wrap">wrap</a> w (int_max x y))
+<a href="../../lanewise/VectorTable/index.html#max_s">max_s</a> w = <a href="../../lanes/Vector/index.html#binary_of_lanes">binary_of_lanes</a> w (signed w) (λ x y. <a href="../../types/Numbers/index.html#wrap">wrap</a> w (int_max x y))
 
 -- the greater of each two lanes read unsigned
 abbrev pub <b id="max_u">max_u</b> : Width → ℕ → ℕ → ℕ
-<a href="../../lanewise/VectorTable/index.html#max_u">max_u</a> w = <a href="../../lanes/Vector/index.html#binary_of_lanes">binary_of_lanes</a> w <a href="../../lanes/Lane/index.html#unsigned">unsigned</a> max
+<a href="../../lanewise/VectorTable/index.html#max_u">max_u</a> w = <a href="../../lanes/Vector/index.html#binary_of_lanes">binary_of_lanes</a> w <a href="../../lanes/Vector/index.html#unsigned">unsigned</a> max
 
 -- (x + y) / 2, halves rounded up
 abbrev pub <b id="average">average</b> : ℕ → ℕ → ℕ
@@ -1223,7 +1157,7 @@ abbrev pub <b id="average">average</b> : ℕ → ℕ → ℕ
 
 -- the averages of lanes read unsigned, rounded up
 abbrev pub <b id="avgr_u">avgr_u</b> : Width → ℕ → ℕ → ℕ
-<a href="../../lanewise/VectorTable/index.html#avgr_u">avgr_u</a> w = <a href="../../lanes/Vector/index.html#binary_of_lanes">binary_of_lanes</a> w <a href="../../lanes/Lane/index.html#unsigned">unsigned</a> <a href="../../lanewise/VectorTable/index.html#average">average</a>
+<a href="../../lanewise/VectorTable/index.html#avgr_u">avgr_u</a> w = <a href="../../lanes/Vector/index.html#binary_of_lanes">binary_of_lanes</a> w <a href="../../lanes/Vector/index.html#unsigned">unsigned</a> <a href="../../lanewise/VectorTable/index.html#average">average</a>
 
 -- ---- bit by bit, on the whole number
 
@@ -1255,7 +1189,7 @@ abbrev pub <b id="v128_bitselect">v128_bitselect</b> : ℕ → ℕ → ℕ → �
 
 -- the negatives of the lanes modulo 2 to the width
 abbrev pub <b id="neg">neg</b> : Width → ℕ → ℕ
-<a href="../../lanewise/VectorTable/index.html#neg">neg</a> w = <a href="../../lanes/Vector/index.html#unary_of_lanes">unary_of_lanes</a> w <a href="../../lanes/Lane/index.html#unsigned">unsigned</a> (λ x. (2 ^ bits w - x) % 2 ^ bits w)
+<a href="../../lanewise/VectorTable/index.html#neg">neg</a> w = <a href="../../lanes/Vector/index.html#unary_of_lanes">unary_of_lanes</a> w <a href="../../lanes/Vector/index.html#unsigned">unsigned</a> (λ x. (2 ^ bits w - x) % 2 ^ bits w)
 
 -- the absolute values of lanes read signed, modulo 2 to the width
 abbrev pub <b id="abs">abs</b> : Width → ℕ → ℕ
@@ -1263,17 +1197,17 @@ abbrev pub <b id="abs">abs</b> : Width → ℕ → ℕ
 
 -- how many bits of each lane are set
 abbrev pub <b id="popcnt">popcnt</b> : Width → ℕ → ℕ
-<a href="../../lanewise/VectorTable/index.html#popcnt">popcnt</a> w = <a href="../../lanes/Vector/index.html#unary_of_lanes">unary_of_lanes</a> w <a href="../../lanes/Lane/index.html#unsigned">unsigned</a> count_ones
+<a href="../../lanewise/VectorTable/index.html#popcnt">popcnt</a> w = <a href="../../lanes/Vector/index.html#unary_of_lanes">unary_of_lanes</a> w <a href="../../lanes/Vector/index.html#unsigned">unsigned</a> count_ones
 
 -- ---- comparisons: all ones in the lanes where they hold, else all zeros
 
 -- all ones in the lanes that are equal, else all zeros
 abbrev pub <b id="eq">eq</b> : Width → ℕ → ℕ → ℕ
-<a href="../../lanewise/VectorTable/index.html#eq">eq</a> w = <a href="../../lanes/Vector/index.html#comparison_of_lanes">comparison_of_lanes</a> w <a href="../../lanes/Lane/index.html#unsigned">unsigned</a> nat_eq
+<a href="../../lanewise/VectorTable/index.html#eq">eq</a> w = <a href="../../lanes/Vector/index.html#comparison_of_lanes">comparison_of_lanes</a> w <a href="../../lanes/Vector/index.html#unsigned">unsigned</a> nat_eq
 
 -- all ones in the lanes that differ, else all zeros
 abbrev pub <b id="ne">ne</b> : Width → ℕ → ℕ → ℕ
-<a href="../../lanewise/VectorTable/index.html#ne">ne</a> w = <a href="../../lanes/Vector/index.html#comparison_of_lanes">comparison_of_lanes</a> w <a href="../../lanes/Lane/index.html#unsigned">unsigned</a> (λ x y. not (nat_eq x y))
+<a href="../../lanewise/VectorTable/index.html#ne">ne</a> w = <a href="../../lanes/Vector/index.html#comparison_of_lanes">comparison_of_lanes</a> w <a href="../../lanes/Vector/index.html#unsigned">unsigned</a> (λ x y. not (nat_eq x y))
 
 -- all ones in the lanes that are less, read signed, else all zeros
 abbrev pub <b id="lt_s">lt_s</b> : Width → ℕ → ℕ → ℕ
@@ -1293,11 +1227,11 @@ abbrev pub <b id="ge_s">ge_s</b> : Width → ℕ → ℕ → ℕ
 
 -- all ones in the lanes that are less, read unsigned, else all zeros
 abbrev pub <b id="lt_u">lt_u</b> : Width → ℕ → ℕ → ℕ
-<a href="../../lanewise/VectorTable/index.html#lt_u">lt_u</a> w = <a href="../../lanes/Vector/index.html#comparison_of_lanes">comparison_of_lanes</a> w <a href="../../lanes/Lane/index.html#unsigned">unsigned</a> nat_lt
+<a href="../../lanewise/VectorTable/index.html#lt_u">lt_u</a> w = <a href="../../lanes/Vector/index.html#comparison_of_lanes">comparison_of_lanes</a> w <a href="../../lanes/Vector/index.html#unsigned">unsigned</a> nat_lt
 
 -- all ones in the lanes that are at most the other, read unsigned, else all zeros
 abbrev pub <b id="le_u">le_u</b> : Width → ℕ → ℕ → ℕ
-<a href="../../lanewise/VectorTable/index.html#le_u">le_u</a> w = <a href="../../lanes/Vector/index.html#comparison_of_lanes">comparison_of_lanes</a> w <a href="../../lanes/Lane/index.html#unsigned">unsigned</a> nat_le
+<a href="../../lanewise/VectorTable/index.html#le_u">le_u</a> w = <a href="../../lanes/Vector/index.html#comparison_of_lanes">comparison_of_lanes</a> w <a href="../../lanes/Vector/index.html#unsigned">unsigned</a> nat_le
 
 -- all ones in the lanes that are greater, read unsigned, else all zeros
 abbrev pub <b id="gt_u">gt_u</b> : Width → ℕ → ℕ → ℕ
@@ -1312,69 +1246,10 @@ abbrev pub <b id="ge_u">ge_u</b> : Width → ℕ → ℕ → ℕ
 }
 /// Definitions of `wasmi_simd`.
 pub mod widening {
-    #[doc = r####"Vectors made of lanes of another width, and what the lanes of one vector make together, in the terms of the WebAssembly core specification (section "Numerics", "Vector Operations"). \`read\` is how an operand's lane is read, as it is or signed, and \`row\` is the number of the resulting lane.
-
-<pre><code>use Rattle.std.specs.Prelude.{ℕ, zero, suc, ◌+◌, ◌-◌, ◌*◌, ◌/◌, Bool, true, ◌&amp;&amp;◌, nat_lt, if◌then◌else◌}
-use Rattle.wasmi_types.specs.Wrapping.{Width, bits}
-use Rattle.wasmi_lanes.specs.Lane.{<a href="../../lanes/Lane/index.html#lane">lane</a>}
-use Rattle.wasmi_lanes.specs.Vector.{<a href="../../lanes/Vector/index.html#from_lanes">from_lanes</a>}
-
--- how many lanes of a width a vector has
-abbrev pub <b id="lane_count">lane_count</b> : Width → ℕ
-<a href="../../widening/Widening/index.html#lane_count">lane_count</a> w = 128 / bits w
-
--- the wide vector whose lane i is the row of the narrow lane first + i: first is 0 for the lower half, and `lane_count
--- wide` for the upper
-unfoldable pub <b id="half_unary">half_unary</b> : {A : Type 0} → (narrow wide : Width) → ℕ → (ℕ → A) → (A → ℕ) → ℕ → ℕ
-<a href="../../widening/Widening/index.html#half_unary">half_unary</a> narrow wide first read row v = <a href="../../lanes/Vector/index.html#from_lanes">from_lanes</a> wide (λ i. row (read (<a href="../../lanes/Lane/index.html#lane">lane</a> narrow v (first + i))))
-
--- the wide vector whose lane i is the row of the narrow lanes at first + i of two vectors
-unfoldable pub <b id="half_binary">half_binary</b> : {A : Type 0} → (narrow wide : Width) → ℕ → (ℕ → A) → (A → A → ℕ) → ℕ → ℕ → ℕ
-<a href="../../widening/Widening/index.html#half_binary">half_binary</a> narrow wide first read row a b =
-    <a href="../../lanes/Vector/index.html#from_lanes">from_lanes</a> wide (λ i. row (read (<a href="../../lanes/Lane/index.html#lane">lane</a> narrow a (first + i))) (read (<a href="../../lanes/Lane/index.html#lane">lane</a> narrow b (first + i))))
-
--- the wide vector whose lane i is the row of the narrow lanes 2 * i and 2 * i + 1 of a vector
-unfoldable pub <b id="pairwise_unary">pairwise_unary</b> : {A : Type 0} → (narrow wide : Width) → (ℕ → A) → (A → A → ℕ) → ℕ → ℕ
-<a href="../../widening/Widening/index.html#pairwise_unary">pairwise_unary</a> narrow wide read row v =
-    <a href="../../lanes/Vector/index.html#from_lanes">from_lanes</a> wide (λ i. row (read (<a href="../../lanes/Lane/index.html#lane">lane</a> narrow v (2 * i))) (read (<a href="../../lanes/Lane/index.html#lane">lane</a> narrow v (2 * i + 1))))
-
--- the wide vector whose lane i is the row of the narrow lanes 2 * i and 2 * i + 1 of two vectors
-unfoldable pub <b id="pairwise_binary">pairwise_binary</b> : {A : Type 0} → (narrow wide : Width) → (ℕ → A) → (A → A → A → A → ℕ) → ℕ → ℕ → ℕ
-<a href="../../widening/Widening/index.html#pairwise_binary">pairwise_binary</a> narrow wide read row a b =
-    <a href="../../lanes/Vector/index.html#from_lanes">from_lanes</a> wide (λ i. row (read (<a href="../../lanes/Lane/index.html#lane">lane</a> narrow a (2 * i))) (read (<a href="../../lanes/Lane/index.html#lane">lane</a> narrow a (2 * i + 1)))
-    (read (<a href="../../lanes/Lane/index.html#lane">lane</a> narrow b (2 * i))) (read (<a href="../../lanes/Lane/index.html#lane">lane</a> narrow b (2 * i + 1))))
-
--- the narrow vector of the rows of the wide lanes of `low`, and then those of `high`
-unfoldable pub <b id="from_low_high">from_low_high</b> : {A : Type 0} → (wide narrow : Width) → (ℕ → A) → (A → ℕ) → ℕ → ℕ → ℕ
-<a href="../../widening/Widening/index.html#from_low_high">from_low_high</a> wide narrow read row low high =
-    <a href="../../lanes/Vector/index.html#from_lanes">from_lanes</a> narrow
-    (λ i. if nat_lt i (<a href="../../widening/Widening/index.html#lane_count">lane_count</a> wide) then row (read (<a href="../../lanes/Lane/index.html#lane">lane</a> wide low i)) else row
-    (read (<a href="../../lanes/Lane/index.html#lane">lane</a> wide high (i - <a href="../../widening/Widening/index.html#lane_count">lane_count</a> wide))))
-
--- whether the test holds of each number below n
-unfoldable pub <b id="holds_below">holds_below</b> : ℕ → (ℕ → Bool) → Bool
-<a href="../../widening/Widening/index.html#holds_below">holds_below</a> zero test = true
-<a href="../../widening/Widening/index.html#holds_below">holds_below</a> (suc n) test = <a href="../../widening/Widening/index.html#holds_below">holds_below</a> n test &amp;&amp; test n
-
--- the number whose bit i, of the lowest n, is 1 where the test holds of i, and whose others are 0
-unfoldable pub <b id="first_bits">first_bits</b> : ℕ → (ℕ → Bool) → ℕ
-<a href="../../widening/Widening/index.html#first_bits">first_bits</a> zero test = 0
-<a href="../../widening/Widening/index.html#first_bits">first_bits</a> (suc n) test = (if test 0 then 1 else 0) + 2 * <a href="../../widening/Widening/index.html#first_bits">first_bits</a> n (λ i. test (suc i))
-
--- whether the test holds of every lane
-unfoldable pub <b id="every_lane">every_lane</b> : {A : Type 0} → Width → (ℕ → A) → (A → Bool) → ℕ → Bool
-<a href="../../widening/Widening/index.html#every_lane">every_lane</a> w read test v = <a href="../../widening/Widening/index.html#holds_below">holds_below</a> (<a href="../../widening/Widening/index.html#lane_count">lane_count</a> w) (λ i. test (read (<a href="../../lanes/Lane/index.html#lane">lane</a> w v i)))
-
--- the number whose bit i is 1 where the test holds of lane i
-unfoldable pub <b id="lane_bits">lane_bits</b> : {A : Type 0} → Width → (ℕ → A) → (A → Bool) → ℕ → ℕ
-<a href="../../widening/Widening/index.html#lane_bits">lane_bits</a> w read test v = <a href="../../widening/Widening/index.html#first_bits">first_bits</a> (<a href="../../widening/Widening/index.html#lane_count">lane_count</a> w) (λ i. test (read (<a href="../../lanes/Lane/index.html#lane">lane</a> w v i)))
-</code></pre>
-"####]
-    pub mod Widening {}
     #[doc = r####"The widths of which one is twice another, and what follows of their lanes.
 
 <pre><code>use Rattle.std.proofs.Common.{ℕ, ◌+◌, ◌*◌, ◌^◌, ◌&lt;◌, ◌≡◌, leb, lit&lt;, refl}
-use Rattle.wasmi_types.specs.Wrapping.{Width, w8, w16, w32, w64, bits}
+use Rattle.wasmi_types.specs.Numbers.{Width, w8, w16, w32, w64, bits}
 use lib.Dec.{T}
 use mir.Val.{hbits}
 
@@ -1400,61 +1275,109 @@ pub <b id="u32x4_widened">u32x4_widened</b> : <a href="../../widening/WideningPr
 </code></pre>
 "####]
     pub mod WideningProofs {}
-    #[doc = r####"The vector instructions of the WebAssembly core specification (section "Numerics", "Vector Operations") that change the width of lanes, shift lanes or test them, and the relaxed ones with the choice made here: what each gives, over whole numbers. A vector is a number below 2 ^ 128, and each lane's number is read as it is (\`unsigned\`) or as a signed number (\`signed w\`). A lane is computed without bounds, then wrapped or clamped.
+    #[doc = r####"The vector instructions (core specification, "Numerics") that widen, narrow, shift or test lanes, by their lanes.
 
-<pre><code>use Rattle.std.specs.Prelude.{ℕ, ◌+◌, ◌-◌, ◌*◌, ◌/◌, ◌%◌, ◌^◌, Bool, not, nat_eq, nat_le, ◌+ℤ◌, ◌*ℤ◌}
+<pre><code>use Rattle.std.specs.Prelude.{ℕ, zero, suc, ◌+◌, ◌-◌, ◌*◌, ◌/◌, Bool, true, ◌&amp;&amp;◌, nat_lt, if◌then◌else◌, ◌%◌, ◌^◌, not, nat_eq, nat_le, ◌+ℤ◌, ◌*ℤ◌}
+use Rattle.wasmi_types.specs.Numbers.{Width, bits, w8, w16, w32, signed, <a href="../../types/Numbers/index.html#wrap">wrap</a>, clamp_signed, clamp_unsigned}
+use Rattle.wasmi_lanes.specs.Vector.{<a href="../../lanes/Vector/index.html#lane">lane</a>, <a href="../../lanes/Vector/index.html#from_lanes">from_lanes</a>, <a href="../../lanes/Vector/index.html#unsigned">unsigned</a>, <a href="../../lanes/Vector/index.html#unary_of_lanes">unary_of_lanes</a>, <a href="../../lanes/Vector/index.html#with_lane">with_lane</a>}
 use Rattle.std.specs.Int.{int_shr}
-use Rattle.wasmi_types.specs.Wrapping.{Width, w8, w16, w32, bits, signed, <a href="../../types/Wrapping/index.html#wrap">wrap</a>, clamp_signed, clamp_unsigned}
-use Rattle.wasmi_lanes.specs.Lane.{<a href="../../lanes/Lane/index.html#unsigned">unsigned</a>}
-use Rattle.wasmi_lanes.specs.Vector.{<a href="../../lanes/Vector/index.html#unary_of_lanes">unary_of_lanes</a>, <a href="../../lanes/Vector/index.html#with_lane">with_lane</a>}
 use Rattle.wasmi_lanewise.specs.VectorTable.{<a href="../../lanewise/VectorTable/index.html#add">add</a>, <a href="../../lanewise/VectorTable/index.html#swizzle">swizzle</a>, <a href="../../lanewise/VectorTable/index.html#v128_bitselect">v128_bitselect</a>, <a href="../../lanewise/VectorTable/index.html#q15mulr_sat_s">q15mulr_sat_s</a>}
-use Rattle.wasmi_simd.specs.Widening.{<a href="../../widening/Widening/index.html#lane_count">lane_count</a>, <a href="../../widening/Widening/index.html#half_unary">half_unary</a>, <a href="../../widening/Widening/index.html#half_binary">half_binary</a>, <a href="../../widening/Widening/index.html#pairwise_unary">pairwise_unary</a>, <a href="../../widening/Widening/index.html#pairwise_binary">pairwise_binary</a>, <a href="../../widening/Widening/index.html#from_low_high">from_low_high</a>, <a href="../../widening/Widening/index.html#every_lane">every_lane</a>, <a href="../../widening/Widening/index.html#lane_bits">lane_bits</a>}
+
+-- how many lanes of a width a vector has
+abbrev pub <b id="lane_count">lane_count</b> : Width → ℕ
+<a href="../../widening/WideningTable/index.html#lane_count">lane_count</a> w = 128 / bits w
+
+-- the wide vector whose lane i is the row of the narrow lane first + i: first is 0 for the lower half, and `lane_count
+-- wide` for the upper
+unfoldable pub <b id="half_unary">half_unary</b> : {A : Type 0} → (narrow wide : Width) → ℕ → (ℕ → A) → (A → ℕ) → ℕ → ℕ
+<a href="../../widening/WideningTable/index.html#half_unary">half_unary</a> narrow wide first read row v = <a href="../../lanes/Vector/index.html#from_lanes">from_lanes</a> wide (λ i. row (read (<a href="../../lanes/Vector/index.html#lane">lane</a> narrow v (first + i))))
+
+-- the wide vector whose lane i is the row of the narrow lanes at first + i of two vectors
+unfoldable pub <b id="half_binary">half_binary</b> : {A : Type 0} → (narrow wide : Width) → ℕ → (ℕ → A) → (A → A → ℕ) → ℕ → ℕ → ℕ
+<a href="../../widening/WideningTable/index.html#half_binary">half_binary</a> narrow wide first read row a b =
+    <a href="../../lanes/Vector/index.html#from_lanes">from_lanes</a> wide (λ i. row (read (<a href="../../lanes/Vector/index.html#lane">lane</a> narrow a (first + i))) (read (<a href="../../lanes/Vector/index.html#lane">lane</a> narrow b (first + i))))
+
+-- the wide vector whose lane i is the row of the narrow lanes 2 * i and 2 * i + 1 of a vector
+unfoldable pub <b id="pairwise_unary">pairwise_unary</b> : {A : Type 0} → (narrow wide : Width) → (ℕ → A) → (A → A → ℕ) → ℕ → ℕ
+<a href="../../widening/WideningTable/index.html#pairwise_unary">pairwise_unary</a> narrow wide read row v =
+    <a href="../../lanes/Vector/index.html#from_lanes">from_lanes</a> wide (λ i. row (read (<a href="../../lanes/Vector/index.html#lane">lane</a> narrow v (2 * i))) (read (<a href="../../lanes/Vector/index.html#lane">lane</a> narrow v (2 * i + 1))))
+
+-- the wide vector whose lane i is the row of the narrow lanes 2 * i and 2 * i + 1 of two vectors
+unfoldable pub <b id="pairwise_binary">pairwise_binary</b> : {A : Type 0} → (narrow wide : Width) → (ℕ → A) → (A → A → A → A → ℕ) → ℕ → ℕ → ℕ
+<a href="../../widening/WideningTable/index.html#pairwise_binary">pairwise_binary</a> narrow wide read row a b =
+    <a href="../../lanes/Vector/index.html#from_lanes">from_lanes</a> wide (λ i. row (read (<a href="../../lanes/Vector/index.html#lane">lane</a> narrow a (2 * i))) (read (<a href="../../lanes/Vector/index.html#lane">lane</a> narrow a (2 * i + 1)))
+    (read (<a href="../../lanes/Vector/index.html#lane">lane</a> narrow b (2 * i))) (read (<a href="../../lanes/Vector/index.html#lane">lane</a> narrow b (2 * i + 1))))
+
+-- the narrow vector of the rows of the wide lanes of `low`, and then those of `high`
+unfoldable pub <b id="from_low_high">from_low_high</b> : {A : Type 0} → (wide narrow : Width) → (ℕ → A) → (A → ℕ) → ℕ → ℕ → ℕ
+<a href="../../widening/WideningTable/index.html#from_low_high">from_low_high</a> wide narrow read row low high =
+    <a href="../../lanes/Vector/index.html#from_lanes">from_lanes</a> narrow
+    (λ i. if nat_lt i (<a href="../../widening/WideningTable/index.html#lane_count">lane_count</a> wide) then row (read (<a href="../../lanes/Vector/index.html#lane">lane</a> wide low i)) else row
+    (read (<a href="../../lanes/Vector/index.html#lane">lane</a> wide high (i - <a href="../../widening/WideningTable/index.html#lane_count">lane_count</a> wide))))
+
+-- whether the test holds of each number below n
+unfoldable pub <b id="holds_below">holds_below</b> : ℕ → (ℕ → Bool) → Bool
+<a href="../../widening/WideningTable/index.html#holds_below">holds_below</a> zero test = true
+<a href="../../widening/WideningTable/index.html#holds_below">holds_below</a> (suc n) test = <a href="../../widening/WideningTable/index.html#holds_below">holds_below</a> n test &amp;&amp; test n
+
+-- the number whose bit i, of the lowest n, is 1 where the test holds of i, and whose others are 0
+unfoldable pub <b id="first_bits">first_bits</b> : ℕ → (ℕ → Bool) → ℕ
+<a href="../../widening/WideningTable/index.html#first_bits">first_bits</a> zero test = 0
+<a href="../../widening/WideningTable/index.html#first_bits">first_bits</a> (suc n) test = (if test 0 then 1 else 0) + 2 * <a href="../../widening/WideningTable/index.html#first_bits">first_bits</a> n (λ i. test (suc i))
+
+-- whether the test holds of every lane
+unfoldable pub <b id="every_lane">every_lane</b> : {A : Type 0} → Width → (ℕ → A) → (A → Bool) → ℕ → Bool
+<a href="../../widening/WideningTable/index.html#every_lane">every_lane</a> w read test v = <a href="../../widening/WideningTable/index.html#holds_below">holds_below</a> (<a href="../../widening/WideningTable/index.html#lane_count">lane_count</a> w) (λ i. test (read (<a href="../../lanes/Vector/index.html#lane">lane</a> w v i)))
+
+-- the number whose bit i is 1 where the test holds of lane i
+unfoldable pub <b id="lane_bits">lane_bits</b> : {A : Type 0} → Width → (ℕ → A) → (A → Bool) → ℕ → ℕ
+<a href="../../widening/WideningTable/index.html#lane_bits">lane_bits</a> w read test v = <a href="../../widening/WideningTable/index.html#first_bits">first_bits</a> (<a href="../../widening/WideningTable/index.html#lane_count">lane_count</a> w) (λ i. test (read (<a href="../../lanes/Vector/index.html#lane">lane</a> w v i)))
 
 -- ---- widening: each takes the narrow width, then the wide one
 
 -- the low lanes read signed, at twice their width
 abbrev pub <b id="extend_low_s">extend_low_s</b> : Width → Width → ℕ → ℕ
-<a href="../../widening/WideningTable/index.html#extend_low_s">extend_low_s</a> narrow wide = <a href="../../widening/Widening/index.html#half_unary">half_unary</a> narrow wide 0 (signed narrow) (<a href="../../types/Wrapping/index.html#wrap">wrap</a> wide)
+<a href="../../widening/WideningTable/index.html#extend_low_s">extend_low_s</a> narrow wide = <a href="../../widening/WideningTable/index.html#half_unary">half_unary</a> narrow wide 0 (signed narrow) (<a href="../../types/Numbers/index.html#wrap">wrap</a> wide)
 
 -- the low lanes read unsigned, at twice their width
 abbrev pub <b id="extend_low_u">extend_low_u</b> : Width → Width → ℕ → ℕ
-<a href="../../widening/WideningTable/index.html#extend_low_u">extend_low_u</a> narrow wide = <a href="../../widening/Widening/index.html#half_unary">half_unary</a> narrow wide 0 <a href="../../lanes/Lane/index.html#unsigned">unsigned</a> (λ x. x)
+<a href="../../widening/WideningTable/index.html#extend_low_u">extend_low_u</a> narrow wide = <a href="../../widening/WideningTable/index.html#half_unary">half_unary</a> narrow wide 0 <a href="../../lanes/Vector/index.html#unsigned">unsigned</a> (λ x. x)
 
 -- the high lanes read signed, at twice their width
 abbrev pub <b id="extend_high_s">extend_high_s</b> : Width → Width → ℕ → ℕ
-<a href="../../widening/WideningTable/index.html#extend_high_s">extend_high_s</a> narrow wide = <a href="../../widening/Widening/index.html#half_unary">half_unary</a> narrow wide (<a href="../../widening/Widening/index.html#lane_count">lane_count</a> wide) (signed narrow) (<a href="../../types/Wrapping/index.html#wrap">wrap</a> wide)
+<a href="../../widening/WideningTable/index.html#extend_high_s">extend_high_s</a> narrow wide = <a href="../../widening/WideningTable/index.html#half_unary">half_unary</a> narrow wide (<a href="../../widening/WideningTable/index.html#lane_count">lane_count</a> wide) (signed narrow) (<a href="../../types/Numbers/index.html#wrap">wrap</a> wide)
 
 -- the high lanes read unsigned, at twice their width
 abbrev pub <b id="extend_high_u">extend_high_u</b> : Width → Width → ℕ → ℕ
-<a href="../../widening/WideningTable/index.html#extend_high_u">extend_high_u</a> narrow wide = <a href="../../widening/Widening/index.html#half_unary">half_unary</a> narrow wide (<a href="../../widening/Widening/index.html#lane_count">lane_count</a> wide) <a href="../../lanes/Lane/index.html#unsigned">unsigned</a> (λ x. x)
+<a href="../../widening/WideningTable/index.html#extend_high_u">extend_high_u</a> narrow wide = <a href="../../widening/WideningTable/index.html#half_unary">half_unary</a> narrow wide (<a href="../../widening/WideningTable/index.html#lane_count">lane_count</a> wide) <a href="../../lanes/Vector/index.html#unsigned">unsigned</a> (λ x. x)
 
 -- the products of the low lanes read signed, at twice their width
 abbrev pub <b id="extmul_low_s">extmul_low_s</b> : Width → Width → ℕ → ℕ → ℕ
-<a href="../../widening/WideningTable/index.html#extmul_low_s">extmul_low_s</a> narrow wide = <a href="../../widening/Widening/index.html#half_binary">half_binary</a> narrow wide 0 (signed narrow) (λ x y. <a href="../../types/Wrapping/index.html#wrap">wrap</a> wide (x *ℤ y))
+<a href="../../widening/WideningTable/index.html#extmul_low_s">extmul_low_s</a> narrow wide = <a href="../../widening/WideningTable/index.html#half_binary">half_binary</a> narrow wide 0 (signed narrow) (λ x y. <a href="../../types/Numbers/index.html#wrap">wrap</a> wide (x *ℤ y))
 
 -- the products of the low lanes read unsigned, at twice their width
 abbrev pub <b id="extmul_low_u">extmul_low_u</b> : Width → Width → ℕ → ℕ → ℕ
-<a href="../../widening/WideningTable/index.html#extmul_low_u">extmul_low_u</a> narrow wide = <a href="../../widening/Widening/index.html#half_binary">half_binary</a> narrow wide 0 <a href="../../lanes/Lane/index.html#unsigned">unsigned</a> (λ x y. x * y)
+<a href="../../widening/WideningTable/index.html#extmul_low_u">extmul_low_u</a> narrow wide = <a href="../../widening/WideningTable/index.html#half_binary">half_binary</a> narrow wide 0 <a href="../../lanes/Vector/index.html#unsigned">unsigned</a> (λ x y. x * y)
 
 -- the products of the high lanes read signed, at twice their width
 abbrev pub <b id="extmul_high_s">extmul_high_s</b> : Width → Width → ℕ → ℕ → ℕ
-<a href="../../widening/WideningTable/index.html#extmul_high_s">extmul_high_s</a> narrow wide = <a href="../../widening/Widening/index.html#half_binary">half_binary</a> narrow wide (<a href="../../widening/Widening/index.html#lane_count">lane_count</a> wide) (signed narrow) (λ x y. <a href="../../types/Wrapping/index.html#wrap">wrap</a> wide (x *ℤ y))
+<a href="../../widening/WideningTable/index.html#extmul_high_s">extmul_high_s</a> narrow wide = <a href="../../widening/WideningTable/index.html#half_binary">half_binary</a> narrow wide (<a href="../../widening/WideningTable/index.html#lane_count">lane_count</a> wide) (signed narrow) (λ x y. <a href="../../types/Numbers/index.html#wrap">wrap</a> wide (x *ℤ y))
 
 -- the products of the high lanes read unsigned, at twice their width
 abbrev pub <b id="extmul_high_u">extmul_high_u</b> : Width → Width → ℕ → ℕ → ℕ
-<a href="../../widening/WideningTable/index.html#extmul_high_u">extmul_high_u</a> narrow wide = <a href="../../widening/Widening/index.html#half_binary">half_binary</a> narrow wide (<a href="../../widening/Widening/index.html#lane_count">lane_count</a> wide) <a href="../../lanes/Lane/index.html#unsigned">unsigned</a> (λ x y. x * y)
+<a href="../../widening/WideningTable/index.html#extmul_high_u">extmul_high_u</a> narrow wide = <a href="../../widening/WideningTable/index.html#half_binary">half_binary</a> narrow wide (<a href="../../widening/WideningTable/index.html#lane_count">lane_count</a> wide) <a href="../../lanes/Vector/index.html#unsigned">unsigned</a> (λ x y. x * y)
 
 -- the sums of each two adjacent lanes read signed, at twice their width
 abbrev pub <b id="extadd_pairwise_s">extadd_pairwise_s</b> : Width → Width → ℕ → ℕ
-<a href="../../widening/WideningTable/index.html#extadd_pairwise_s">extadd_pairwise_s</a> narrow wide = <a href="../../widening/Widening/index.html#pairwise_unary">pairwise_unary</a> narrow wide (signed narrow) (λ x y. <a href="../../types/Wrapping/index.html#wrap">wrap</a> wide (x +ℤ y))
+<a href="../../widening/WideningTable/index.html#extadd_pairwise_s">extadd_pairwise_s</a> narrow wide = <a href="../../widening/WideningTable/index.html#pairwise_unary">pairwise_unary</a> narrow wide (signed narrow) (λ x y. <a href="../../types/Numbers/index.html#wrap">wrap</a> wide (x +ℤ y))
 
 -- the sums of each two adjacent lanes read unsigned, at twice their width
 abbrev pub <b id="extadd_pairwise_u">extadd_pairwise_u</b> : Width → Width → ℕ → ℕ
-<a href="../../widening/WideningTable/index.html#extadd_pairwise_u">extadd_pairwise_u</a> narrow wide = <a href="../../widening/Widening/index.html#pairwise_unary">pairwise_unary</a> narrow wide <a href="../../lanes/Lane/index.html#unsigned">unsigned</a> (λ x y. x + y)
+<a href="../../widening/WideningTable/index.html#extadd_pairwise_u">extadd_pairwise_u</a> narrow wide = <a href="../../widening/WideningTable/index.html#pairwise_unary">pairwise_unary</a> narrow wide <a href="../../lanes/Vector/index.html#unsigned">unsigned</a> (λ x y. x + y)
 
 -- the sums of the products of each two adjacent lanes of two vectors, read signed, modulo 2 to the wide width
 abbrev pub <b id="dot_s">dot_s</b> : Width → Width → ℕ → ℕ → ℕ
-<a href="../../widening/WideningTable/index.html#dot_s">dot_s</a> narrow wide = <a href="../../widening/Widening/index.html#pairwise_binary">pairwise_binary</a> narrow wide (signed narrow) (λ x x&#x27; y y&#x27;. <a href="../../types/Wrapping/index.html#wrap">wrap</a> wide ((x *ℤ y) +ℤ (x&#x27; *ℤ y&#x27;)))
+<a href="../../widening/WideningTable/index.html#dot_s">dot_s</a> narrow wide = <a href="../../widening/WideningTable/index.html#pairwise_binary">pairwise_binary</a> narrow wide (signed narrow) (λ x x&#x27; y y&#x27;. <a href="../../types/Numbers/index.html#wrap">wrap</a> wide ((x *ℤ y) +ℤ (x&#x27; *ℤ y&#x27;)))
 
 -- the lanes of a number of 64 bits read signed, at twice their width
 abbrev pub <b id="widen_s">widen_s</b> : Width → Width → ℕ → ℕ
@@ -1472,31 +1395,31 @@ abbrev pub <b id="low_zero">low_zero</b> : Width → ℕ → ℕ
 
 -- the lanes of two vectors read signed, clamped to the signed range of half their width
 abbrev pub <b id="narrow_s">narrow_s</b> : Width → Width → ℕ → ℕ → ℕ
-<a href="../../widening/WideningTable/index.html#narrow_s">narrow_s</a> wide narrow = <a href="../../widening/Widening/index.html#from_low_high">from_low_high</a> wide narrow (signed wide) (λ x. <a href="../../types/Wrapping/index.html#wrap">wrap</a> narrow (clamp_signed narrow x))
+<a href="../../widening/WideningTable/index.html#narrow_s">narrow_s</a> wide narrow = <a href="../../widening/WideningTable/index.html#from_low_high">from_low_high</a> wide narrow (signed wide) (λ x. <a href="../../types/Numbers/index.html#wrap">wrap</a> narrow (clamp_signed narrow x))
 
 -- the lanes of two vectors read signed, clamped to the unsigned range of half their width
 abbrev pub <b id="narrow_u">narrow_u</b> : Width → Width → ℕ → ℕ → ℕ
-<a href="../../widening/WideningTable/index.html#narrow_u">narrow_u</a> wide narrow = <a href="../../widening/Widening/index.html#from_low_high">from_low_high</a> wide narrow (signed wide) (clamp_unsigned narrow)
+<a href="../../widening/WideningTable/index.html#narrow_u">narrow_u</a> wide narrow = <a href="../../widening/WideningTable/index.html#from_low_high">from_low_high</a> wide narrow (signed wide) (clamp_unsigned narrow)
 
 -- ---- shifts, by an amount modulo the width
 
 -- each lane shifted to the left by the amount modulo the width
 abbrev pub <b id="shl">shl</b> : Width → ℕ → ℕ → ℕ
-<a href="../../widening/WideningTable/index.html#shl">shl</a> w v amount = <a href="../../lanes/Vector/index.html#unary_of_lanes">unary_of_lanes</a> w <a href="../../lanes/Lane/index.html#unsigned">unsigned</a> (λ x. (x * 2 ^ (amount % bits w)) % 2 ^ bits w) v
+<a href="../../widening/WideningTable/index.html#shl">shl</a> w v amount = <a href="../../lanes/Vector/index.html#unary_of_lanes">unary_of_lanes</a> w <a href="../../lanes/Vector/index.html#unsigned">unsigned</a> (λ x. (x * 2 ^ (amount % bits w)) % 2 ^ bits w) v
 
 -- each lane shifted to the right by the amount modulo the width, with its sign from above
 abbrev pub <b id="shr_s">shr_s</b> : Width → ℕ → ℕ → ℕ
-<a href="../../widening/WideningTable/index.html#shr_s">shr_s</a> w v amount = <a href="../../lanes/Vector/index.html#unary_of_lanes">unary_of_lanes</a> w (signed w) (λ x. <a href="../../types/Wrapping/index.html#wrap">wrap</a> w (int_shr x (amount % bits w))) v
+<a href="../../widening/WideningTable/index.html#shr_s">shr_s</a> w v amount = <a href="../../lanes/Vector/index.html#unary_of_lanes">unary_of_lanes</a> w (signed w) (λ x. <a href="../../types/Numbers/index.html#wrap">wrap</a> w (int_shr x (amount % bits w))) v
 
 -- each lane shifted to the right by the amount modulo the width, with zeros from above
 abbrev pub <b id="shr_u">shr_u</b> : Width → ℕ → ℕ → ℕ
-<a href="../../widening/WideningTable/index.html#shr_u">shr_u</a> w v amount = <a href="../../lanes/Vector/index.html#unary_of_lanes">unary_of_lanes</a> w <a href="../../lanes/Lane/index.html#unsigned">unsigned</a> (λ x. x / 2 ^ (amount % bits w)) v
+<a href="../../widening/WideningTable/index.html#shr_u">shr_u</a> w v amount = <a href="../../lanes/Vector/index.html#unary_of_lanes">unary_of_lanes</a> w <a href="../../lanes/Vector/index.html#unsigned">unsigned</a> (λ x. x / 2 ^ (amount % bits w)) v
 
 -- ---- tests
 
 -- whether no lane is 0
 abbrev pub <b id="all_true">all_true</b> : Width → ℕ → Bool
-<a href="../../widening/WideningTable/index.html#all_true">all_true</a> w = <a href="../../widening/Widening/index.html#every_lane">every_lane</a> w <a href="../../lanes/Lane/index.html#unsigned">unsigned</a> (λ x. not (nat_eq x 0))
+<a href="../../widening/WideningTable/index.html#all_true">all_true</a> w = <a href="../../widening/WideningTable/index.html#every_lane">every_lane</a> w <a href="../../lanes/Vector/index.html#unsigned">unsigned</a> (λ x. not (nat_eq x 0))
 
 -- whether a bit of the vector is set
 abbrev pub <b id="any_true">any_true</b> : ℕ → Bool
@@ -1504,7 +1427,7 @@ abbrev pub <b id="any_true">any_true</b> : ℕ → Bool
 
 -- the number whose bit i is the highest bit of lane i
 abbrev pub <b id="bitmask">bitmask</b> : Width → ℕ → ℕ
-<a href="../../widening/WideningTable/index.html#bitmask">bitmask</a> w = <a href="../../widening/Widening/index.html#lane_bits">lane_bits</a> w <a href="../../lanes/Lane/index.html#unsigned">unsigned</a> (λ x. nat_le (2 ^ (bits w - 1)) x)
+<a href="../../widening/WideningTable/index.html#bitmask">bitmask</a> w = <a href="../../widening/WideningTable/index.html#lane_bits">lane_bits</a> w <a href="../../lanes/Vector/index.html#unsigned">unsigned</a> (λ x. nat_le (2 ^ (bits w - 1)) x)
 
 -- ---- relaxed instructions, each with one of the answers that the standard allows
 
@@ -1533,222 +1456,30 @@ abbrev pub <b id="relaxed_dot_add_s">relaxed_dot_add_s</b> : ℕ → ℕ → ℕ
 }
 /// Definitions of `wasmi_ops`.
 pub mod ops {
-    #[doc = r####"The vector instructions of two operands.
-
-<pre><code>use Rattle.std.specs.Prelude.{ℕ, List, codes}
-use Rattle.wasmi_types.specs.Wrapping.{w8, w16, w32, w64}
-use Rattle.wasmi_lanewise.specs.VectorTable as vector
-use Rattle.wasmi_simd.specs.WideningTable as widening
-use Rattle.wasmi_ops.specs.declared.vector.binary.BinaryOp.{BinaryOp}
-use Rattle.wasmi_ops.specs.declared.vector.binary.BinaryOp.TheVariants as binary
-
--- each instruction of two vectors: its name, and what it gives
-abbrev pub <b id="binary_row">binary_row</b> : BinaryOp → List ℕ × (ℕ → ℕ → ℕ)
-<a href="../../ops/BinaryOps/index.html#binary_row">binary_row</a> binary.I8x16Add = (codes "i8x16_add", <a href="../../lanewise/VectorTable/index.html#add">vector.add</a> w8)
-<a href="../../ops/BinaryOps/index.html#binary_row">binary_row</a> binary.I16x8Add = (codes "i16x8_add", <a href="../../lanewise/VectorTable/index.html#add">vector.add</a> w16)
-<a href="../../ops/BinaryOps/index.html#binary_row">binary_row</a> binary.I32x4Add = (codes "i32x4_add", <a href="../../lanewise/VectorTable/index.html#add">vector.add</a> w32)
-<a href="../../ops/BinaryOps/index.html#binary_row">binary_row</a> binary.I64x2Add = (codes "i64x2_add", <a href="../../lanewise/VectorTable/index.html#add">vector.add</a> w64)
-<a href="../../ops/BinaryOps/index.html#binary_row">binary_row</a> binary.I8x16Sub = (codes "i8x16_sub", <a href="../../lanewise/VectorTable/index.html#sub">vector.sub</a> w8)
-<a href="../../ops/BinaryOps/index.html#binary_row">binary_row</a> binary.I16x8Sub = (codes "i16x8_sub", <a href="../../lanewise/VectorTable/index.html#sub">vector.sub</a> w16)
-<a href="../../ops/BinaryOps/index.html#binary_row">binary_row</a> binary.I32x4Sub = (codes "i32x4_sub", <a href="../../lanewise/VectorTable/index.html#sub">vector.sub</a> w32)
-<a href="../../ops/BinaryOps/index.html#binary_row">binary_row</a> binary.I64x2Sub = (codes "i64x2_sub", <a href="../../lanewise/VectorTable/index.html#sub">vector.sub</a> w64)
-<a href="../../ops/BinaryOps/index.html#binary_row">binary_row</a> binary.I8x16Mul = (codes "i8x16_mul", <a href="../../lanewise/VectorTable/index.html#mul">vector.mul</a> w8)
-<a href="../../ops/BinaryOps/index.html#binary_row">binary_row</a> binary.I16x8Mul = (codes "i16x8_mul", <a href="../../lanewise/VectorTable/index.html#mul">vector.mul</a> w16)
-<a href="../../ops/BinaryOps/index.html#binary_row">binary_row</a> binary.I32x4Mul = (codes "i32x4_mul", <a href="../../lanewise/VectorTable/index.html#mul">vector.mul</a> w32)
-<a href="../../ops/BinaryOps/index.html#binary_row">binary_row</a> binary.I64x2Mul = (codes "i64x2_mul", <a href="../../lanewise/VectorTable/index.html#mul">vector.mul</a> w64)
-<a href="../../ops/BinaryOps/index.html#binary_row">binary_row</a> binary.I8x16AddSatS = (codes "i8x16_add_sat_s", <a href="../../lanewise/VectorTable/index.html#add_sat_s">vector.add_sat_s</a> w8)
-<a href="../../ops/BinaryOps/index.html#binary_row">binary_row</a> binary.I8x16AddSatU = (codes "i8x16_add_sat_u", <a href="../../lanewise/VectorTable/index.html#add_sat_u">vector.add_sat_u</a> w8)
-<a href="../../ops/BinaryOps/index.html#binary_row">binary_row</a> binary.I16x8AddSatS = (codes "i16x8_add_sat_s", <a href="../../lanewise/VectorTable/index.html#add_sat_s">vector.add_sat_s</a> w16)
-<a href="../../ops/BinaryOps/index.html#binary_row">binary_row</a> binary.I16x8AddSatU = (codes "i16x8_add_sat_u", <a href="../../lanewise/VectorTable/index.html#add_sat_u">vector.add_sat_u</a> w16)
-<a href="../../ops/BinaryOps/index.html#binary_row">binary_row</a> binary.I8x16SubSatS = (codes "i8x16_sub_sat_s", <a href="../../lanewise/VectorTable/index.html#sub_sat_s">vector.sub_sat_s</a> w8)
-<a href="../../ops/BinaryOps/index.html#binary_row">binary_row</a> binary.I8x16SubSatU = (codes "i8x16_sub_sat_u", <a href="../../lanewise/VectorTable/index.html#sub_sat_u">vector.sub_sat_u</a> w8)
-<a href="../../ops/BinaryOps/index.html#binary_row">binary_row</a> binary.I16x8SubSatS = (codes "i16x8_sub_sat_s", <a href="../../lanewise/VectorTable/index.html#sub_sat_s">vector.sub_sat_s</a> w16)
-<a href="../../ops/BinaryOps/index.html#binary_row">binary_row</a> binary.I16x8SubSatU = (codes "i16x8_sub_sat_u", <a href="../../lanewise/VectorTable/index.html#sub_sat_u">vector.sub_sat_u</a> w16)
-<a href="../../ops/BinaryOps/index.html#binary_row">binary_row</a> binary.I16x8Q15mulrSatS = (codes "i16x8_q15mulr_sat_s", <a href="../../lanewise/VectorTable/index.html#q15mulr_sat_s">vector.q15mulr_sat_s</a>)
-<a href="../../ops/BinaryOps/index.html#binary_row">binary_row</a> binary.I8x16MinS = (codes "i8x16_min_s", <a href="../../lanewise/VectorTable/index.html#min_s">vector.min_s</a> w8)
-<a href="../../ops/BinaryOps/index.html#binary_row">binary_row</a> binary.I8x16MinU = (codes "i8x16_min_u", <a href="../../lanewise/VectorTable/index.html#min_u">vector.min_u</a> w8)
-<a href="../../ops/BinaryOps/index.html#binary_row">binary_row</a> binary.I16x8MinS = (codes "i16x8_min_s", <a href="../../lanewise/VectorTable/index.html#min_s">vector.min_s</a> w16)
-<a href="../../ops/BinaryOps/index.html#binary_row">binary_row</a> binary.I16x8MinU = (codes "i16x8_min_u", <a href="../../lanewise/VectorTable/index.html#min_u">vector.min_u</a> w16)
-<a href="../../ops/BinaryOps/index.html#binary_row">binary_row</a> binary.I32x4MinS = (codes "i32x4_min_s", <a href="../../lanewise/VectorTable/index.html#min_s">vector.min_s</a> w32)
-<a href="../../ops/BinaryOps/index.html#binary_row">binary_row</a> binary.I32x4MinU = (codes "i32x4_min_u", <a href="../../lanewise/VectorTable/index.html#min_u">vector.min_u</a> w32)
-<a href="../../ops/BinaryOps/index.html#binary_row">binary_row</a> binary.I8x16MaxS = (codes "i8x16_max_s", <a href="../../lanewise/VectorTable/index.html#max_s">vector.max_s</a> w8)
-<a href="../../ops/BinaryOps/index.html#binary_row">binary_row</a> binary.I8x16MaxU = (codes "i8x16_max_u", <a href="../../lanewise/VectorTable/index.html#max_u">vector.max_u</a> w8)
-<a href="../../ops/BinaryOps/index.html#binary_row">binary_row</a> binary.I16x8MaxS = (codes "i16x8_max_s", <a href="../../lanewise/VectorTable/index.html#max_s">vector.max_s</a> w16)
-<a href="../../ops/BinaryOps/index.html#binary_row">binary_row</a> binary.I16x8MaxU = (codes "i16x8_max_u", <a href="../../lanewise/VectorTable/index.html#max_u">vector.max_u</a> w16)
-<a href="../../ops/BinaryOps/index.html#binary_row">binary_row</a> binary.I32x4MaxS = (codes "i32x4_max_s", <a href="../../lanewise/VectorTable/index.html#max_s">vector.max_s</a> w32)
-<a href="../../ops/BinaryOps/index.html#binary_row">binary_row</a> binary.I32x4MaxU = (codes "i32x4_max_u", <a href="../../lanewise/VectorTable/index.html#max_u">vector.max_u</a> w32)
-<a href="../../ops/BinaryOps/index.html#binary_row">binary_row</a> binary.I8x16AvgrU = (codes "i8x16_avgr_u", <a href="../../lanewise/VectorTable/index.html#avgr_u">vector.avgr_u</a> w8)
-<a href="../../ops/BinaryOps/index.html#binary_row">binary_row</a> binary.I16x8AvgrU = (codes "i16x8_avgr_u", <a href="../../lanewise/VectorTable/index.html#avgr_u">vector.avgr_u</a> w16)
-<a href="../../ops/BinaryOps/index.html#binary_row">binary_row</a> binary.V128And = (codes "v128_and", <a href="../../lanewise/VectorTable/index.html#v128_and">vector.v128_and</a>)
-<a href="../../ops/BinaryOps/index.html#binary_row">binary_row</a> binary.V128Or = (codes "v128_or", <a href="../../lanewise/VectorTable/index.html#v128_or">vector.v128_or</a>)
-<a href="../../ops/BinaryOps/index.html#binary_row">binary_row</a> binary.V128Xor = (codes "v128_xor", <a href="../../lanewise/VectorTable/index.html#v128_xor">vector.v128_xor</a>)
-<a href="../../ops/BinaryOps/index.html#binary_row">binary_row</a> binary.V128Andnot = (codes "v128_andnot", <a href="../../lanewise/VectorTable/index.html#v128_andnot">vector.v128_andnot</a>)
-<a href="../../ops/BinaryOps/index.html#binary_row">binary_row</a> binary.I8x16Eq = (codes "i8x16_eq", <a href="../../lanewise/VectorTable/index.html#eq">vector.eq</a> w8)
-<a href="../../ops/BinaryOps/index.html#binary_row">binary_row</a> binary.I16x8Eq = (codes "i16x8_eq", <a href="../../lanewise/VectorTable/index.html#eq">vector.eq</a> w16)
-<a href="../../ops/BinaryOps/index.html#binary_row">binary_row</a> binary.I32x4Eq = (codes "i32x4_eq", <a href="../../lanewise/VectorTable/index.html#eq">vector.eq</a> w32)
-<a href="../../ops/BinaryOps/index.html#binary_row">binary_row</a> binary.I64x2Eq = (codes "i64x2_eq", <a href="../../lanewise/VectorTable/index.html#eq">vector.eq</a> w64)
-<a href="../../ops/BinaryOps/index.html#binary_row">binary_row</a> binary.I8x16Ne = (codes "i8x16_ne", <a href="../../lanewise/VectorTable/index.html#ne">vector.ne</a> w8)
-<a href="../../ops/BinaryOps/index.html#binary_row">binary_row</a> binary.I16x8Ne = (codes "i16x8_ne", <a href="../../lanewise/VectorTable/index.html#ne">vector.ne</a> w16)
-<a href="../../ops/BinaryOps/index.html#binary_row">binary_row</a> binary.I32x4Ne = (codes "i32x4_ne", <a href="../../lanewise/VectorTable/index.html#ne">vector.ne</a> w32)
-<a href="../../ops/BinaryOps/index.html#binary_row">binary_row</a> binary.I64x2Ne = (codes "i64x2_ne", <a href="../../lanewise/VectorTable/index.html#ne">vector.ne</a> w64)
-<a href="../../ops/BinaryOps/index.html#binary_row">binary_row</a> binary.I8x16LtS = (codes "i8x16_lt_s", <a href="../../lanewise/VectorTable/index.html#lt_s">vector.lt_s</a> w8)
-<a href="../../ops/BinaryOps/index.html#binary_row">binary_row</a> binary.I16x8LtS = (codes "i16x8_lt_s", <a href="../../lanewise/VectorTable/index.html#lt_s">vector.lt_s</a> w16)
-<a href="../../ops/BinaryOps/index.html#binary_row">binary_row</a> binary.I32x4LtS = (codes "i32x4_lt_s", <a href="../../lanewise/VectorTable/index.html#lt_s">vector.lt_s</a> w32)
-<a href="../../ops/BinaryOps/index.html#binary_row">binary_row</a> binary.I64x2LtS = (codes "i64x2_lt_s", <a href="../../lanewise/VectorTable/index.html#lt_s">vector.lt_s</a> w64)
-<a href="../../ops/BinaryOps/index.html#binary_row">binary_row</a> binary.I8x16LtU = (codes "i8x16_lt_u", <a href="../../lanewise/VectorTable/index.html#lt_u">vector.lt_u</a> w8)
-<a href="../../ops/BinaryOps/index.html#binary_row">binary_row</a> binary.I16x8LtU = (codes "i16x8_lt_u", <a href="../../lanewise/VectorTable/index.html#lt_u">vector.lt_u</a> w16)
-<a href="../../ops/BinaryOps/index.html#binary_row">binary_row</a> binary.I32x4LtU = (codes "i32x4_lt_u", <a href="../../lanewise/VectorTable/index.html#lt_u">vector.lt_u</a> w32)
-<a href="../../ops/BinaryOps/index.html#binary_row">binary_row</a> binary.I8x16LeS = (codes "i8x16_le_s", <a href="../../lanewise/VectorTable/index.html#le_s">vector.le_s</a> w8)
-<a href="../../ops/BinaryOps/index.html#binary_row">binary_row</a> binary.I16x8LeS = (codes "i16x8_le_s", <a href="../../lanewise/VectorTable/index.html#le_s">vector.le_s</a> w16)
-<a href="../../ops/BinaryOps/index.html#binary_row">binary_row</a> binary.I32x4LeS = (codes "i32x4_le_s", <a href="../../lanewise/VectorTable/index.html#le_s">vector.le_s</a> w32)
-<a href="../../ops/BinaryOps/index.html#binary_row">binary_row</a> binary.I64x2LeS = (codes "i64x2_le_s", <a href="../../lanewise/VectorTable/index.html#le_s">vector.le_s</a> w64)
-<a href="../../ops/BinaryOps/index.html#binary_row">binary_row</a> binary.I8x16LeU = (codes "i8x16_le_u", <a href="../../lanewise/VectorTable/index.html#le_u">vector.le_u</a> w8)
-<a href="../../ops/BinaryOps/index.html#binary_row">binary_row</a> binary.I16x8LeU = (codes "i16x8_le_u", <a href="../../lanewise/VectorTable/index.html#le_u">vector.le_u</a> w16)
-<a href="../../ops/BinaryOps/index.html#binary_row">binary_row</a> binary.I32x4LeU = (codes "i32x4_le_u", <a href="../../lanewise/VectorTable/index.html#le_u">vector.le_u</a> w32)
-<a href="../../ops/BinaryOps/index.html#binary_row">binary_row</a> binary.I8x16GtS = (codes "i8x16_gt_s", <a href="../../lanewise/VectorTable/index.html#gt_s">vector.gt_s</a> w8)
-<a href="../../ops/BinaryOps/index.html#binary_row">binary_row</a> binary.I16x8GtS = (codes "i16x8_gt_s", <a href="../../lanewise/VectorTable/index.html#gt_s">vector.gt_s</a> w16)
-<a href="../../ops/BinaryOps/index.html#binary_row">binary_row</a> binary.I32x4GtS = (codes "i32x4_gt_s", <a href="../../lanewise/VectorTable/index.html#gt_s">vector.gt_s</a> w32)
-<a href="../../ops/BinaryOps/index.html#binary_row">binary_row</a> binary.I64x2GtS = (codes "i64x2_gt_s", <a href="../../lanewise/VectorTable/index.html#gt_s">vector.gt_s</a> w64)
-<a href="../../ops/BinaryOps/index.html#binary_row">binary_row</a> binary.I8x16GtU = (codes "i8x16_gt_u", <a href="../../lanewise/VectorTable/index.html#gt_u">vector.gt_u</a> w8)
-<a href="../../ops/BinaryOps/index.html#binary_row">binary_row</a> binary.I16x8GtU = (codes "i16x8_gt_u", <a href="../../lanewise/VectorTable/index.html#gt_u">vector.gt_u</a> w16)
-<a href="../../ops/BinaryOps/index.html#binary_row">binary_row</a> binary.I32x4GtU = (codes "i32x4_gt_u", <a href="../../lanewise/VectorTable/index.html#gt_u">vector.gt_u</a> w32)
-<a href="../../ops/BinaryOps/index.html#binary_row">binary_row</a> binary.I8x16GeS = (codes "i8x16_ge_s", <a href="../../lanewise/VectorTable/index.html#ge_s">vector.ge_s</a> w8)
-<a href="../../ops/BinaryOps/index.html#binary_row">binary_row</a> binary.I16x8GeS = (codes "i16x8_ge_s", <a href="../../lanewise/VectorTable/index.html#ge_s">vector.ge_s</a> w16)
-<a href="../../ops/BinaryOps/index.html#binary_row">binary_row</a> binary.I32x4GeS = (codes "i32x4_ge_s", <a href="../../lanewise/VectorTable/index.html#ge_s">vector.ge_s</a> w32)
-<a href="../../ops/BinaryOps/index.html#binary_row">binary_row</a> binary.I64x2GeS = (codes "i64x2_ge_s", <a href="../../lanewise/VectorTable/index.html#ge_s">vector.ge_s</a> w64)
-<a href="../../ops/BinaryOps/index.html#binary_row">binary_row</a> binary.I8x16GeU = (codes "i8x16_ge_u", <a href="../../lanewise/VectorTable/index.html#ge_u">vector.ge_u</a> w8)
-<a href="../../ops/BinaryOps/index.html#binary_row">binary_row</a> binary.I16x8GeU = (codes "i16x8_ge_u", <a href="../../lanewise/VectorTable/index.html#ge_u">vector.ge_u</a> w16)
-<a href="../../ops/BinaryOps/index.html#binary_row">binary_row</a> binary.I32x4GeU = (codes "i32x4_ge_u", <a href="../../lanewise/VectorTable/index.html#ge_u">vector.ge_u</a> w32)
-<a href="../../ops/BinaryOps/index.html#binary_row">binary_row</a> binary.I8x16Swizzle = (codes "i8x16_swizzle", <a href="../../lanewise/VectorTable/index.html#swizzle">vector.swizzle</a>)
-<a href="../../ops/BinaryOps/index.html#binary_row">binary_row</a> binary.I16x8ExtmulLowI8x16S = (codes "i16x8_extmul_low_i8x16_s", <a href="../../widening/WideningTable/index.html#extmul_low_s">widening.extmul_low_s</a> w8 w16)
-<a href="../../ops/BinaryOps/index.html#binary_row">binary_row</a> binary.I16x8ExtmulLowI8x16U = (codes "i16x8_extmul_low_i8x16_u", <a href="../../widening/WideningTable/index.html#extmul_low_u">widening.extmul_low_u</a> w8 w16)
-<a href="../../ops/BinaryOps/index.html#binary_row">binary_row</a> binary.I16x8ExtmulHighI8x16S = (codes "i16x8_extmul_high_i8x16_s", <a href="../../widening/WideningTable/index.html#extmul_high_s">widening.extmul_high_s</a> w8 w16)
-<a href="../../ops/BinaryOps/index.html#binary_row">binary_row</a> binary.I16x8ExtmulHighI8x16U = (codes "i16x8_extmul_high_i8x16_u", <a href="../../widening/WideningTable/index.html#extmul_high_u">widening.extmul_high_u</a> w8 w16)
-<a href="../../ops/BinaryOps/index.html#binary_row">binary_row</a> binary.I32x4ExtmulLowI16x8S = (codes "i32x4_extmul_low_i16x8_s", <a href="../../widening/WideningTable/index.html#extmul_low_s">widening.extmul_low_s</a> w16 w32)
-<a href="../../ops/BinaryOps/index.html#binary_row">binary_row</a> binary.I32x4ExtmulLowI16x8U = (codes "i32x4_extmul_low_i16x8_u", <a href="../../widening/WideningTable/index.html#extmul_low_u">widening.extmul_low_u</a> w16 w32)
-<a href="../../ops/BinaryOps/index.html#binary_row">binary_row</a> binary.I32x4ExtmulHighI16x8S = (codes "i32x4_extmul_high_i16x8_s", <a href="../../widening/WideningTable/index.html#extmul_high_s">widening.extmul_high_s</a> w16 w32)
-<a href="../../ops/BinaryOps/index.html#binary_row">binary_row</a> binary.I32x4ExtmulHighI16x8U = (codes "i32x4_extmul_high_i16x8_u", <a href="../../widening/WideningTable/index.html#extmul_high_u">widening.extmul_high_u</a> w16 w32)
-<a href="../../ops/BinaryOps/index.html#binary_row">binary_row</a> binary.I64x2ExtmulLowI32x4S = (codes "i64x2_extmul_low_i32x4_s", <a href="../../widening/WideningTable/index.html#extmul_low_s">widening.extmul_low_s</a> w32 w64)
-<a href="../../ops/BinaryOps/index.html#binary_row">binary_row</a> binary.I64x2ExtmulLowI32x4U = (codes "i64x2_extmul_low_i32x4_u", <a href="../../widening/WideningTable/index.html#extmul_low_u">widening.extmul_low_u</a> w32 w64)
-<a href="../../ops/BinaryOps/index.html#binary_row">binary_row</a> binary.I64x2ExtmulHighI32x4S = (codes "i64x2_extmul_high_i32x4_s", <a href="../../widening/WideningTable/index.html#extmul_high_s">widening.extmul_high_s</a> w32 w64)
-<a href="../../ops/BinaryOps/index.html#binary_row">binary_row</a> binary.I64x2ExtmulHighI32x4U = (codes "i64x2_extmul_high_i32x4_u", <a href="../../widening/WideningTable/index.html#extmul_high_u">widening.extmul_high_u</a> w32 w64)
-<a href="../../ops/BinaryOps/index.html#binary_row">binary_row</a> binary.I8x16NarrowI16x8S = (codes "i8x16_narrow_i16x8_s", <a href="../../widening/WideningTable/index.html#narrow_s">widening.narrow_s</a> w16 w8)
-<a href="../../ops/BinaryOps/index.html#binary_row">binary_row</a> binary.I8x16NarrowI16x8U = (codes "i8x16_narrow_i16x8_u", <a href="../../widening/WideningTable/index.html#narrow_u">widening.narrow_u</a> w16 w8)
-<a href="../../ops/BinaryOps/index.html#binary_row">binary_row</a> binary.I16x8NarrowI32x4S = (codes "i16x8_narrow_i32x4_s", <a href="../../widening/WideningTable/index.html#narrow_s">widening.narrow_s</a> w32 w16)
-<a href="../../ops/BinaryOps/index.html#binary_row">binary_row</a> binary.I16x8NarrowI32x4U = (codes "i16x8_narrow_i32x4_u", <a href="../../widening/WideningTable/index.html#narrow_u">widening.narrow_u</a> w32 w16)
-<a href="../../ops/BinaryOps/index.html#binary_row">binary_row</a> binary.I32x4DotI16x8S = (codes "i32x4_dot_i16x8_s", <a href="../../widening/WideningTable/index.html#dot_s">widening.dot_s</a> w16 w32)
-<a href="../../ops/BinaryOps/index.html#binary_row">binary_row</a> binary.I16x8RelaxedDotI8x16I7x16S = (codes "i16x8_relaxed_dot_i8x16_i7x16_s", <a href="../../widening/WideningTable/index.html#relaxed_dot_s">widening.relaxed_dot_s</a>)
-<a href="../../ops/BinaryOps/index.html#binary_row">binary_row</a> binary.I8x16RelaxedSwizzle = (codes "i8x16_relaxed_swizzle", <a href="../../widening/WideningTable/index.html#relaxed_swizzle">widening.relaxed_swizzle</a>)
-<a href="../../ops/BinaryOps/index.html#binary_row">binary_row</a> binary.I16x8RelaxedQ15mulrS = (codes "i16x8_relaxed_q15mulr_s", <a href="../../widening/WideningTable/index.html#relaxed_q15mulr_s">widening.relaxed_q15mulr_s</a>)
-
--- what an instruction of two vectors gives
-abbrev pub <b id="binary_vector">binary_vector</b> : BinaryOp → ℕ → ℕ → ℕ
-<a href="../../ops/BinaryOps/index.html#binary_vector">binary_vector</a> op = (<a href="../../ops/BinaryOps/index.html#binary_row">binary_row</a> op).1
-
--- the name of an instruction of two vectors
-abbrev pub <b id="binary_name">binary_name</b> : BinaryOp → List ℕ
-<a href="../../ops/BinaryOps/index.html#binary_name">binary_name</a> op = (<a href="../../ops/BinaryOps/index.html#binary_row">binary_row</a> op).0
-</code></pre>
-"####]
-    pub mod BinaryOps {}
-    #[doc = r####"The instructions on one lane without the lane's index: their names, and the instruction on the lane of an index.
+    #[doc = r####"The vector instructions on one lane, and their kinds without the lane's index.
 
 <pre><code>use Rattle.std.specs.Prelude.{ℕ, nat_lt, if◌then◌else◌, List, Option, Some, None, codes}
-use Rattle.wasmi_ops.specs.declared.vector.lane.ExtractOp.{ExtractOp}
-use Rattle.wasmi_ops.specs.declared.vector.lane.ExtractOp.TheVariants as extract
-use Rattle.wasmi_ops.specs.declared.vector.lane.ReplaceOp.{ReplaceOp}
-use Rattle.wasmi_ops.specs.declared.vector.lane.ReplaceOp.TheVariants as replace
-use Rattle.wasmi_ops.specs.declared.vector.access.LoadLaneOp.{LoadLaneOp}
-use Rattle.wasmi_ops.specs.declared.vector.access.LoadLaneOp.TheVariants as load_lane
-use Rattle.wasmi_ops.specs.declared.vector.access.StoreLaneOp.{StoreLaneOp}
-use Rattle.wasmi_ops.specs.declared.vector.access.StoreLaneOp.TheVariants as store_lane
-use Rattle.wasmi_ops.specs.declared.vector.lane_kind.ExtractKind.{ExtractKind}
-use Rattle.wasmi_ops.specs.declared.vector.lane_kind.ExtractKind.TheVariants as extract_kind
-use Rattle.wasmi_ops.specs.declared.vector.lane_kind.ReplaceKind.{ReplaceKind}
-use Rattle.wasmi_ops.specs.declared.vector.lane_kind.ReplaceKind.TheVariants as replace_kind
-use Rattle.wasmi_ops.specs.declared.vector.lane_kind.LoadLaneKind.{LoadLaneKind}
-use Rattle.wasmi_ops.specs.declared.vector.lane_kind.LoadLaneKind.TheVariants as load_lane_kind
-use Rattle.wasmi_ops.specs.declared.vector.lane_kind.StoreLaneKind.{StoreLaneKind}
-use Rattle.wasmi_ops.specs.declared.vector.lane_kind.StoreLaneKind.TheVariants as store_lane_kind
-
--- the instruction on the lane of an index, where there are so many lanes
-abbrev pub <b id="on_lane">on_lane</b> : {Op : Type 0} → ℕ → ℕ → (ℕ → Op) → Option Op
-<a href="../../ops/LaneKinds/index.html#on_lane">on_lane</a> count lane op = if nat_lt lane count then Some (op lane) else None
-
--- an extraction of the lane of an index
-abbrev pub <b id="extract_op">extract_op</b> : ExtractKind → ℕ → Option ExtractOp
-<a href="../../ops/LaneKinds/index.html#extract_op">extract_op</a> extract_kind.I8x16ExtractLaneS lane = <a href="../../ops/LaneKinds/index.html#on_lane">on_lane</a> 16 lane (λ index. extract.I8x16ExtractLaneS index)
-<a href="../../ops/LaneKinds/index.html#extract_op">extract_op</a> extract_kind.I8x16ExtractLaneU lane = <a href="../../ops/LaneKinds/index.html#on_lane">on_lane</a> 16 lane (λ index. extract.I8x16ExtractLaneU index)
-<a href="../../ops/LaneKinds/index.html#extract_op">extract_op</a> extract_kind.I16x8ExtractLaneS lane = <a href="../../ops/LaneKinds/index.html#on_lane">on_lane</a> 8 lane (λ index. extract.I16x8ExtractLaneS index)
-<a href="../../ops/LaneKinds/index.html#extract_op">extract_op</a> extract_kind.I16x8ExtractLaneU lane = <a href="../../ops/LaneKinds/index.html#on_lane">on_lane</a> 8 lane (λ index. extract.I16x8ExtractLaneU index)
-<a href="../../ops/LaneKinds/index.html#extract_op">extract_op</a> extract_kind.I32x4ExtractLane lane = <a href="../../ops/LaneKinds/index.html#on_lane">on_lane</a> 4 lane (λ index. extract.I32x4ExtractLane index)
-<a href="../../ops/LaneKinds/index.html#extract_op">extract_op</a> extract_kind.I64x2ExtractLane lane = <a href="../../ops/LaneKinds/index.html#on_lane">on_lane</a> 2 lane (λ index. extract.I64x2ExtractLane index)
-
--- the name of an extraction of a lane
-abbrev pub <b id="extract_name">extract_name</b> : ExtractKind → List ℕ
-<a href="../../ops/LaneKinds/index.html#extract_name">extract_name</a> extract_kind.I8x16ExtractLaneS = codes "i8x16_extract_lane_s"
-<a href="../../ops/LaneKinds/index.html#extract_name">extract_name</a> extract_kind.I8x16ExtractLaneU = codes "i8x16_extract_lane_u"
-<a href="../../ops/LaneKinds/index.html#extract_name">extract_name</a> extract_kind.I16x8ExtractLaneS = codes "i16x8_extract_lane_s"
-<a href="../../ops/LaneKinds/index.html#extract_name">extract_name</a> extract_kind.I16x8ExtractLaneU = codes "i16x8_extract_lane_u"
-<a href="../../ops/LaneKinds/index.html#extract_name">extract_name</a> extract_kind.I32x4ExtractLane = codes "i32x4_extract_lane"
-<a href="../../ops/LaneKinds/index.html#extract_name">extract_name</a> extract_kind.I64x2ExtractLane = codes "i64x2_extract_lane"
-
--- a replacement of the lane of an index
-abbrev pub <b id="replace_op">replace_op</b> : ReplaceKind → ℕ → Option ReplaceOp
-<a href="../../ops/LaneKinds/index.html#replace_op">replace_op</a> replace_kind.I8x16ReplaceLane lane = <a href="../../ops/LaneKinds/index.html#on_lane">on_lane</a> 16 lane (λ index. replace.I8x16ReplaceLane index)
-<a href="../../ops/LaneKinds/index.html#replace_op">replace_op</a> replace_kind.I16x8ReplaceLane lane = <a href="../../ops/LaneKinds/index.html#on_lane">on_lane</a> 8 lane (λ index. replace.I16x8ReplaceLane index)
-<a href="../../ops/LaneKinds/index.html#replace_op">replace_op</a> replace_kind.I32x4ReplaceLane lane = <a href="../../ops/LaneKinds/index.html#on_lane">on_lane</a> 4 lane (λ index. replace.I32x4ReplaceLane index)
-<a href="../../ops/LaneKinds/index.html#replace_op">replace_op</a> replace_kind.I64x2ReplaceLane lane = <a href="../../ops/LaneKinds/index.html#on_lane">on_lane</a> 2 lane (λ index. replace.I64x2ReplaceLane index)
-
--- the name of a replacement of a lane
-abbrev pub <b id="replace_name">replace_name</b> : ReplaceKind → List ℕ
-<a href="../../ops/LaneKinds/index.html#replace_name">replace_name</a> replace_kind.I8x16ReplaceLane = codes "i8x16_replace_lane"
-<a href="../../ops/LaneKinds/index.html#replace_name">replace_name</a> replace_kind.I16x8ReplaceLane = codes "i16x8_replace_lane"
-<a href="../../ops/LaneKinds/index.html#replace_name">replace_name</a> replace_kind.I32x4ReplaceLane = codes "i32x4_replace_lane"
-<a href="../../ops/LaneKinds/index.html#replace_name">replace_name</a> replace_kind.I64x2ReplaceLane = codes "i64x2_replace_lane"
-
--- a load of the lane of an index
-abbrev pub <b id="load_lane_op">load_lane_op</b> : LoadLaneKind → ℕ → Option LoadLaneOp
-<a href="../../ops/LaneKinds/index.html#load_lane_op">load_lane_op</a> load_lane_kind.V128Load8Lane lane = <a href="../../ops/LaneKinds/index.html#on_lane">on_lane</a> 16 lane (λ index. load_lane.V128Load8Lane index)
-<a href="../../ops/LaneKinds/index.html#load_lane_op">load_lane_op</a> load_lane_kind.V128Load16Lane lane = <a href="../../ops/LaneKinds/index.html#on_lane">on_lane</a> 8 lane (λ index. load_lane.V128Load16Lane index)
-<a href="../../ops/LaneKinds/index.html#load_lane_op">load_lane_op</a> load_lane_kind.V128Load32Lane lane = <a href="../../ops/LaneKinds/index.html#on_lane">on_lane</a> 4 lane (λ index. load_lane.V128Load32Lane index)
-<a href="../../ops/LaneKinds/index.html#load_lane_op">load_lane_op</a> load_lane_kind.V128Load64Lane lane = <a href="../../ops/LaneKinds/index.html#on_lane">on_lane</a> 2 lane (λ index. load_lane.V128Load64Lane index)
-
--- the name of a load of a lane
-abbrev pub <b id="load_lane_name">load_lane_name</b> : LoadLaneKind → List ℕ
-<a href="../../ops/LaneKinds/index.html#load_lane_name">load_lane_name</a> load_lane_kind.V128Load8Lane = codes "v128_load8_lane"
-<a href="../../ops/LaneKinds/index.html#load_lane_name">load_lane_name</a> load_lane_kind.V128Load16Lane = codes "v128_load16_lane"
-<a href="../../ops/LaneKinds/index.html#load_lane_name">load_lane_name</a> load_lane_kind.V128Load32Lane = codes "v128_load32_lane"
-<a href="../../ops/LaneKinds/index.html#load_lane_name">load_lane_name</a> load_lane_kind.V128Load64Lane = codes "v128_load64_lane"
-
--- a store of the lane of an index
-abbrev pub <b id="store_lane_op">store_lane_op</b> : StoreLaneKind → ℕ → Option StoreLaneOp
-<a href="../../ops/LaneKinds/index.html#store_lane_op">store_lane_op</a> store_lane_kind.V128Store8Lane lane = <a href="../../ops/LaneKinds/index.html#on_lane">on_lane</a> 16 lane (λ index. store_lane.V128Store8Lane index)
-<a href="../../ops/LaneKinds/index.html#store_lane_op">store_lane_op</a> store_lane_kind.V128Store16Lane lane = <a href="../../ops/LaneKinds/index.html#on_lane">on_lane</a> 8 lane (λ index. store_lane.V128Store16Lane index)
-<a href="../../ops/LaneKinds/index.html#store_lane_op">store_lane_op</a> store_lane_kind.V128Store32Lane lane = <a href="../../ops/LaneKinds/index.html#on_lane">on_lane</a> 4 lane (λ index. store_lane.V128Store32Lane index)
-<a href="../../ops/LaneKinds/index.html#store_lane_op">store_lane_op</a> store_lane_kind.V128Store64Lane lane = <a href="../../ops/LaneKinds/index.html#on_lane">on_lane</a> 2 lane (λ index. store_lane.V128Store64Lane index)
-
--- the name of a store of a lane
-abbrev pub <b id="store_lane_name">store_lane_name</b> : StoreLaneKind → List ℕ
-<a href="../../ops/LaneKinds/index.html#store_lane_name">store_lane_name</a> store_lane_kind.V128Store8Lane = codes "v128_store8_lane"
-<a href="../../ops/LaneKinds/index.html#store_lane_name">store_lane_name</a> store_lane_kind.V128Store16Lane = codes "v128_store16_lane"
-<a href="../../ops/LaneKinds/index.html#store_lane_name">store_lane_name</a> store_lane_kind.V128Store32Lane = codes "v128_store32_lane"
-<a href="../../ops/LaneKinds/index.html#store_lane_name">store_lane_name</a> store_lane_kind.V128Store64Lane = codes "v128_store64_lane"
-</code></pre>
-"####]
-    pub mod LaneKinds {}
-    #[doc = r####"The vector instructions on one lane.
-
-<pre><code>use Rattle.std.specs.Prelude.{ℕ}
-use Rattle.wasmi_types.specs.Wrapping.{w8, w16, w32, w64}
-use Rattle.wasmi_lanewise.specs.VectorTable as vector
+use Rattle.wasmi_types.specs.Numbers.{w8, w16, w32, w64}
 use Rattle.std.specs.Int.{cast_unsigned}
 use Rattle.wasmi_raw.specs.declared.raw.RawVal.{RawVal}
 use Rattle.wasmi_raw.specs.RawVal.{<a href="../../raw/RawVal/index.html#raw_of">raw_of</a>, <a href="../../raw/RawVal/index.html#signed_in">signed_in</a>}
-use Rattle.wasmi_ops.specs.declared.<a href="../../lanes/Lane/index.html#lane">vector.lane</a>.ExtractOp.{ExtractOp}
-use Rattle.wasmi_ops.specs.declared.<a href="../../lanes/Lane/index.html#lane">vector.lane</a>.ExtractOp.TheVariants as extract
-use Rattle.wasmi_ops.specs.declared.<a href="../../lanes/Lane/index.html#lane">vector.lane</a>.ReplaceOp.{ReplaceOp}
-use Rattle.wasmi_ops.specs.declared.<a href="../../lanes/Lane/index.html#lane">vector.lane</a>.ReplaceOp.TheVariants as replace
+use Rattle.wasmi_ops.specs.declared.<a href="../../lanes/Vector/index.html#lane">vector.lane</a>.ExtractOp.{ExtractOp}
+use Rattle.wasmi_ops.specs.declared.<a href="../../lanes/Vector/index.html#lane">vector.lane</a>.ReplaceOp.{ReplaceOp}
+use Rattle.wasmi_ops.specs.declared.vector.access.LoadLaneOp.{LoadLaneOp}
+use Rattle.wasmi_ops.specs.declared.vector.access.StoreLaneOp.{StoreLaneOp}
+use Rattle.wasmi_ops.specs.declared.vector.lane_kind.ExtractKind.{ExtractKind}
+use Rattle.wasmi_ops.specs.declared.vector.lane_kind.ReplaceKind.{ReplaceKind}
+use Rattle.wasmi_ops.specs.declared.vector.lane_kind.LoadLaneKind.{LoadLaneKind}
+use Rattle.wasmi_ops.specs.declared.vector.lane_kind.StoreLaneKind.{StoreLaneKind}
+use Rattle.wasmi_lanewise.specs.VectorTable as vector
+use Rattle.wasmi_ops.specs.declared.<a href="../../lanes/Vector/index.html#lane">vector.lane</a>.ExtractOp.TheVariants as extract
+use Rattle.wasmi_ops.specs.declared.<a href="../../lanes/Vector/index.html#lane">vector.lane</a>.ReplaceOp.TheVariants as replace
+use Rattle.wasmi_ops.specs.declared.vector.access.LoadLaneOp.TheVariants as load_lane
+use Rattle.wasmi_ops.specs.declared.vector.access.StoreLaneOp.TheVariants as store_lane
+use Rattle.wasmi_ops.specs.declared.vector.lane_kind.ExtractKind.TheVariants as extract_kind
+use Rattle.wasmi_ops.specs.declared.vector.lane_kind.ReplaceKind.TheVariants as replace_kind
+use Rattle.wasmi_ops.specs.declared.vector.lane_kind.LoadLaneKind.TheVariants as load_lane_kind
+use Rattle.wasmi_ops.specs.declared.vector.lane_kind.StoreLaneKind.TheVariants as store_lane_kind
 
 -- the lane that an instruction takes from a vector, as a raw value
 abbrev pub <b id="extracted_raw">extracted_raw</b> : ExtractOp → ℕ → RawVal
@@ -1765,526 +1496,593 @@ abbrev pub <b id="replaced_vector">replaced_vector</b> : ReplaceOp → ℕ → R
 <a href="../../ops/LaneOps/index.html#replaced_vector">replaced_vector</a> (replace.I16x8ReplaceLane index) a raw = <a href="../../lanewise/VectorTable/index.html#replace_lane">vector.replace_lane</a> w16 a index (<a href="../../raw/RawVal/index.html#signed_in">signed_in</a> w16 raw)
 <a href="../../ops/LaneOps/index.html#replaced_vector">replaced_vector</a> (replace.I32x4ReplaceLane index) a raw = <a href="../../lanewise/VectorTable/index.html#replace_lane">vector.replace_lane</a> w32 a index (<a href="../../raw/RawVal/index.html#signed_in">signed_in</a> w32 raw)
 <a href="../../ops/LaneOps/index.html#replaced_vector">replaced_vector</a> (replace.I64x2ReplaceLane index) a raw = <a href="../../lanewise/VectorTable/index.html#replace_lane">vector.replace_lane</a> w64 a index (<a href="../../raw/RawVal/index.html#signed_in">signed_in</a> w64 raw)
+
+-- the instruction on the lane of an index, where there are so many lanes
+abbrev pub <b id="on_lane">on_lane</b> : {Op : Type 0} → ℕ → ℕ → (ℕ → Op) → Option Op
+<a href="../../ops/LaneOps/index.html#on_lane">on_lane</a> count lane op = if nat_lt lane count then Some (op lane) else None
+
+-- an extraction of the lane of an index
+abbrev pub <b id="extract_op">extract_op</b> : ExtractKind → ℕ → Option ExtractOp
+<a href="../../ops/LaneOps/index.html#extract_op">extract_op</a> extract_kind.I8x16ExtractLaneS lane = <a href="../../ops/LaneOps/index.html#on_lane">on_lane</a> 16 lane (λ index. extract.I8x16ExtractLaneS index)
+<a href="../../ops/LaneOps/index.html#extract_op">extract_op</a> extract_kind.I8x16ExtractLaneU lane = <a href="../../ops/LaneOps/index.html#on_lane">on_lane</a> 16 lane (λ index. extract.I8x16ExtractLaneU index)
+<a href="../../ops/LaneOps/index.html#extract_op">extract_op</a> extract_kind.I16x8ExtractLaneS lane = <a href="../../ops/LaneOps/index.html#on_lane">on_lane</a> 8 lane (λ index. extract.I16x8ExtractLaneS index)
+<a href="../../ops/LaneOps/index.html#extract_op">extract_op</a> extract_kind.I16x8ExtractLaneU lane = <a href="../../ops/LaneOps/index.html#on_lane">on_lane</a> 8 lane (λ index. extract.I16x8ExtractLaneU index)
+<a href="../../ops/LaneOps/index.html#extract_op">extract_op</a> extract_kind.I32x4ExtractLane lane = <a href="../../ops/LaneOps/index.html#on_lane">on_lane</a> 4 lane (λ index. extract.I32x4ExtractLane index)
+<a href="../../ops/LaneOps/index.html#extract_op">extract_op</a> extract_kind.I64x2ExtractLane lane = <a href="../../ops/LaneOps/index.html#on_lane">on_lane</a> 2 lane (λ index. extract.I64x2ExtractLane index)
+
+-- the name of an extraction of a lane
+abbrev pub <b id="extract_name">extract_name</b> : ExtractKind → List ℕ
+<a href="../../ops/LaneOps/index.html#extract_name">extract_name</a> extract_kind.I8x16ExtractLaneS = codes "i8x16_extract_lane_s"
+<a href="../../ops/LaneOps/index.html#extract_name">extract_name</a> extract_kind.I8x16ExtractLaneU = codes "i8x16_extract_lane_u"
+<a href="../../ops/LaneOps/index.html#extract_name">extract_name</a> extract_kind.I16x8ExtractLaneS = codes "i16x8_extract_lane_s"
+<a href="../../ops/LaneOps/index.html#extract_name">extract_name</a> extract_kind.I16x8ExtractLaneU = codes "i16x8_extract_lane_u"
+<a href="../../ops/LaneOps/index.html#extract_name">extract_name</a> extract_kind.I32x4ExtractLane = codes "i32x4_extract_lane"
+<a href="../../ops/LaneOps/index.html#extract_name">extract_name</a> extract_kind.I64x2ExtractLane = codes "i64x2_extract_lane"
+
+-- a replacement of the lane of an index
+abbrev pub <b id="replace_op">replace_op</b> : ReplaceKind → ℕ → Option ReplaceOp
+<a href="../../ops/LaneOps/index.html#replace_op">replace_op</a> replace_kind.I8x16ReplaceLane lane = <a href="../../ops/LaneOps/index.html#on_lane">on_lane</a> 16 lane (λ index. replace.I8x16ReplaceLane index)
+<a href="../../ops/LaneOps/index.html#replace_op">replace_op</a> replace_kind.I16x8ReplaceLane lane = <a href="../../ops/LaneOps/index.html#on_lane">on_lane</a> 8 lane (λ index. replace.I16x8ReplaceLane index)
+<a href="../../ops/LaneOps/index.html#replace_op">replace_op</a> replace_kind.I32x4ReplaceLane lane = <a href="../../ops/LaneOps/index.html#on_lane">on_lane</a> 4 lane (λ index. replace.I32x4ReplaceLane index)
+<a href="../../ops/LaneOps/index.html#replace_op">replace_op</a> replace_kind.I64x2ReplaceLane lane = <a href="../../ops/LaneOps/index.html#on_lane">on_lane</a> 2 lane (λ index. replace.I64x2ReplaceLane index)
+
+-- the name of a replacement of a lane
+abbrev pub <b id="replace_name">replace_name</b> : ReplaceKind → List ℕ
+<a href="../../ops/LaneOps/index.html#replace_name">replace_name</a> replace_kind.I8x16ReplaceLane = codes "i8x16_replace_lane"
+<a href="../../ops/LaneOps/index.html#replace_name">replace_name</a> replace_kind.I16x8ReplaceLane = codes "i16x8_replace_lane"
+<a href="../../ops/LaneOps/index.html#replace_name">replace_name</a> replace_kind.I32x4ReplaceLane = codes "i32x4_replace_lane"
+<a href="../../ops/LaneOps/index.html#replace_name">replace_name</a> replace_kind.I64x2ReplaceLane = codes "i64x2_replace_lane"
+
+-- a load of the lane of an index
+abbrev pub <b id="load_lane_op">load_lane_op</b> : LoadLaneKind → ℕ → Option LoadLaneOp
+<a href="../../ops/LaneOps/index.html#load_lane_op">load_lane_op</a> load_lane_kind.V128Load8Lane lane = <a href="../../ops/LaneOps/index.html#on_lane">on_lane</a> 16 lane (λ index. load_lane.V128Load8Lane index)
+<a href="../../ops/LaneOps/index.html#load_lane_op">load_lane_op</a> load_lane_kind.V128Load16Lane lane = <a href="../../ops/LaneOps/index.html#on_lane">on_lane</a> 8 lane (λ index. load_lane.V128Load16Lane index)
+<a href="../../ops/LaneOps/index.html#load_lane_op">load_lane_op</a> load_lane_kind.V128Load32Lane lane = <a href="../../ops/LaneOps/index.html#on_lane">on_lane</a> 4 lane (λ index. load_lane.V128Load32Lane index)
+<a href="../../ops/LaneOps/index.html#load_lane_op">load_lane_op</a> load_lane_kind.V128Load64Lane lane = <a href="../../ops/LaneOps/index.html#on_lane">on_lane</a> 2 lane (λ index. load_lane.V128Load64Lane index)
+
+-- the name of a load of a lane
+abbrev pub <b id="load_lane_name">load_lane_name</b> : LoadLaneKind → List ℕ
+<a href="../../ops/LaneOps/index.html#load_lane_name">load_lane_name</a> load_lane_kind.V128Load8Lane = codes "v128_load8_lane"
+<a href="../../ops/LaneOps/index.html#load_lane_name">load_lane_name</a> load_lane_kind.V128Load16Lane = codes "v128_load16_lane"
+<a href="../../ops/LaneOps/index.html#load_lane_name">load_lane_name</a> load_lane_kind.V128Load32Lane = codes "v128_load32_lane"
+<a href="../../ops/LaneOps/index.html#load_lane_name">load_lane_name</a> load_lane_kind.V128Load64Lane = codes "v128_load64_lane"
+
+-- a store of the lane of an index
+abbrev pub <b id="store_lane_op">store_lane_op</b> : StoreLaneKind → ℕ → Option StoreLaneOp
+<a href="../../ops/LaneOps/index.html#store_lane_op">store_lane_op</a> store_lane_kind.V128Store8Lane lane = <a href="../../ops/LaneOps/index.html#on_lane">on_lane</a> 16 lane (λ index. store_lane.V128Store8Lane index)
+<a href="../../ops/LaneOps/index.html#store_lane_op">store_lane_op</a> store_lane_kind.V128Store16Lane lane = <a href="../../ops/LaneOps/index.html#on_lane">on_lane</a> 8 lane (λ index. store_lane.V128Store16Lane index)
+<a href="../../ops/LaneOps/index.html#store_lane_op">store_lane_op</a> store_lane_kind.V128Store32Lane lane = <a href="../../ops/LaneOps/index.html#on_lane">on_lane</a> 4 lane (λ index. store_lane.V128Store32Lane index)
+<a href="../../ops/LaneOps/index.html#store_lane_op">store_lane_op</a> store_lane_kind.V128Store64Lane lane = <a href="../../ops/LaneOps/index.html#on_lane">on_lane</a> 2 lane (λ index. store_lane.V128Store64Lane index)
+
+-- the name of a store of a lane
+abbrev pub <b id="store_lane_name">store_lane_name</b> : StoreLaneKind → List ℕ
+<a href="../../ops/LaneOps/index.html#store_lane_name">store_lane_name</a> store_lane_kind.V128Store8Lane = codes "v128_store8_lane"
+<a href="../../ops/LaneOps/index.html#store_lane_name">store_lane_name</a> store_lane_kind.V128Store16Lane = codes "v128_store16_lane"
+<a href="../../ops/LaneOps/index.html#store_lane_name">store_lane_name</a> store_lane_kind.V128Store32Lane = codes "v128_store32_lane"
+<a href="../../ops/LaneOps/index.html#store_lane_name">store_lane_name</a> store_lane_kind.V128Store64Lane = codes "v128_store64_lane"
 </code></pre>
 "####]
     pub mod LaneOps {}
-    #[doc = r####"The vector instructions that make a vector of an item.
+    #[doc = r####"The scalar instructions: a row for each, its name and what it gives, as raw values.
 
-<pre><code>use Rattle.std.specs.Prelude.{ℕ, List, codes}
-use Rattle.wasmi_types.specs.Wrapping.{w8, w16, w32, w64}
-use Rattle.wasmi_lanewise.specs.VectorTable as vector
-use Rattle.wasmi_simd.specs.WideningTable as widening
-use Rattle.wasmi_raw.specs.declared.raw.RawVal.{RawVal}
-use Rattle.wasmi_raw.specs.RawVal.{<a href="../../raw/RawVal/index.html#signed_in">signed_in</a>, <a href="../../raw/RawVal/index.html#unsigned_in">unsigned_in</a>}
-use Rattle.wasmi_ops.specs.declared.vector.make.MakeOp.{MakeOp}
-use Rattle.wasmi_ops.specs.declared.vector.make.MakeOp.TheVariants as make
-
--- each instruction that makes a vector of an item: its name, and the vector for an item in a raw value
-abbrev pub <b id="make_row">make_row</b> : MakeOp → List ℕ × (RawVal → ℕ)
-<a href="../../ops/MakeOps/index.html#make_row">make_row</a> make.I8x16Splat = (codes "i8x16_splat", λ raw. <a href="../../lanewise/VectorTable/index.html#splat">vector.splat</a> w8 (<a href="../../raw/RawVal/index.html#signed_in">signed_in</a> w8 raw))
-<a href="../../ops/MakeOps/index.html#make_row">make_row</a> make.I16x8Splat = (codes "i16x8_splat", λ raw. <a href="../../lanewise/VectorTable/index.html#splat">vector.splat</a> w16 (<a href="../../raw/RawVal/index.html#signed_in">signed_in</a> w16 raw))
-<a href="../../ops/MakeOps/index.html#make_row">make_row</a> make.I32x4Splat = (codes "i32x4_splat", λ raw. <a href="../../lanewise/VectorTable/index.html#splat">vector.splat</a> w32 (<a href="../../raw/RawVal/index.html#signed_in">signed_in</a> w32 raw))
-<a href="../../ops/MakeOps/index.html#make_row">make_row</a> make.I64x2Splat = (codes "i64x2_splat", λ raw. <a href="../../lanewise/VectorTable/index.html#splat">vector.splat</a> w64 (<a href="../../raw/RawVal/index.html#signed_in">signed_in</a> w64 raw))
-<a href="../../ops/MakeOps/index.html#make_row">make_row</a> make.V128Widen8x8S = (codes "v128_widen8x8_s", λ raw. <a href="../../widening/WideningTable/index.html#widen_s">widening.widen_s</a> w8 w16 (<a href="../../raw/RawVal/index.html#unsigned_in">unsigned_in</a> w64 raw))
-<a href="../../ops/MakeOps/index.html#make_row">make_row</a> make.V128Widen8x8U = (codes "v128_widen8x8_u", λ raw. <a href="../../widening/WideningTable/index.html#widen_u">widening.widen_u</a> w8 w16 (<a href="../../raw/RawVal/index.html#unsigned_in">unsigned_in</a> w64 raw))
-<a href="../../ops/MakeOps/index.html#make_row">make_row</a> make.V128Widen16x4S = (codes "v128_widen16x4_s", λ raw. <a href="../../widening/WideningTable/index.html#widen_s">widening.widen_s</a> w16 w32 (<a href="../../raw/RawVal/index.html#unsigned_in">unsigned_in</a> w64 raw))
-<a href="../../ops/MakeOps/index.html#make_row">make_row</a> make.V128Widen16x4U = (codes "v128_widen16x4_u", λ raw. <a href="../../widening/WideningTable/index.html#widen_u">widening.widen_u</a> w16 w32 (<a href="../../raw/RawVal/index.html#unsigned_in">unsigned_in</a> w64 raw))
-<a href="../../ops/MakeOps/index.html#make_row">make_row</a> make.V128Widen32x2S = (codes "v128_widen32x2_s", λ raw. <a href="../../widening/WideningTable/index.html#widen_s">widening.widen_s</a> w32 w64 (<a href="../../raw/RawVal/index.html#unsigned_in">unsigned_in</a> w64 raw))
-<a href="../../ops/MakeOps/index.html#make_row">make_row</a> make.V128Widen32x2U = (codes "v128_widen32x2_u", λ raw. <a href="../../widening/WideningTable/index.html#widen_u">widening.widen_u</a> w32 w64 (<a href="../../raw/RawVal/index.html#unsigned_in">unsigned_in</a> w64 raw))
-<a href="../../ops/MakeOps/index.html#make_row">make_row</a> make.V128Low32Zero = (codes "v128_low32_zero", λ raw. <a href="../../widening/WideningTable/index.html#low_zero">widening.low_zero</a> w32 (<a href="../../raw/RawVal/index.html#unsigned_in">unsigned_in</a> w32 raw))
-<a href="../../ops/MakeOps/index.html#make_row">make_row</a> make.V128Low64Zero = (codes "v128_low64_zero", λ raw. <a href="../../widening/WideningTable/index.html#low_zero">widening.low_zero</a> w64 (<a href="../../raw/RawVal/index.html#unsigned_in">unsigned_in</a> w64 raw))
-
--- the vector that an instruction makes of an item in a raw value
-abbrev pub <b id="made_vector">made_vector</b> : MakeOp → RawVal → ℕ
-<a href="../../ops/MakeOps/index.html#made_vector">made_vector</a> op = (<a href="../../ops/MakeOps/index.html#make_row">make_row</a> op).1
-
--- the name of what makes a vector of an item
-abbrev pub <b id="make_name">make_name</b> : MakeOp → List ℕ
-<a href="../../ops/MakeOps/index.html#make_name">make_name</a> op = (<a href="../../ops/MakeOps/index.html#make_row">make_row</a> op).0
-</code></pre>
-"####]
-    pub mod MakeOps {}
-    #[doc = r####"Results as raw values.
-
-<pre><code>use Rattle.std.specs.Prelude.{Bool, ℤ, Result, Ok, Err}
-use Rattle.std.specs.Int.{Width, cast_unsigned, from_bool}
+<pre><code>use Rattle.std.specs.Prelude.{Bool, ℤ, Result, Ok, Err, ℕ, List, codes, ◌*◌, ◌*ℤ◌, ◌/◌, ◌%◌, ◌^◌, pos}
+use Rattle.std.specs.Int.{Width, cast_unsigned, from_bool, w8, w16, w32, w64, int_wrap, w128, cast_signed}
 use Rattle.wasmi_types.specs.declared.trap.TrapCode.{TrapCode}
 use Rattle.wasmi_raw.specs.declared.raw.RawVal.{RawVal}
-use Rattle.wasmi_raw.specs.RawVal.{<a href="../../raw/RawVal/index.html#raw_of">raw_of</a>}
+use Rattle.wasmi_raw.specs.RawVal.{<a href="../../raw/RawVal/index.html#raw_of">raw_of</a>, <a href="../../raw/RawVal/index.html#signed_in">signed_in</a>, <a href="../../raw/RawVal/index.html#unsigned_in">unsigned_in</a>, <a href="../../raw/RawVal/index.html#raw_of_vector">raw_of_vector</a>, <a href="../../raw/RawVal/index.html#vector_in">vector_in</a>}
+use Rattle.wasmi_scalar.specs.Numerics.{<a href="../../scalar/Numerics/index.html#iclz">iclz</a>, <a href="../../scalar/Numerics/index.html#ictz">ictz</a>, <a href="../../scalar/Numerics/index.html#ipopcnt">ipopcnt</a>, <a href="../../scalar/Numerics/index.html#ieqz">ieqz</a>, <a href="../../scalar/Numerics/index.html#iadd">iadd</a>, <a href="../../scalar/Numerics/index.html#isub">isub</a>, <a href="../../scalar/Numerics/index.html#imul">imul</a>, <a href="../../scalar/Numerics/index.html#idiv_s">idiv_s</a>, <a href="../../scalar/Numerics/index.html#idiv_u">idiv_u</a>, <a href="../../scalar/Numerics/index.html#irem_s">irem_s</a>, <a href="../../scalar/Numerics/index.html#irem_u">irem_u</a>, <a href="../../scalar/Numerics/index.html#iand">iand</a>, <a href="../../scalar/Numerics/index.html#ior">ior</a>, <a href="../../scalar/Numerics/index.html#ixor">ixor</a>, <a href="../../scalar/Numerics/index.html#ishl">ishl</a>, <a href="../../scalar/Numerics/index.html#ishr_s">ishr_s</a>, <a href="../../scalar/Numerics/index.html#ishr_u">ishr_u</a>, <a href="../../scalar/Numerics/index.html#irotl">irotl</a>, <a href="../../scalar/Numerics/index.html#irotr">irotr</a>, <a href="../../scalar/Numerics/index.html#ieq">ieq</a>, <a href="../../scalar/Numerics/index.html#ine">ine</a>, <a href="../../scalar/Numerics/index.html#ilt_s">ilt_s</a>, <a href="../../scalar/Numerics/index.html#ilt_u">ilt_u</a>, <a href="../../scalar/Numerics/index.html#igt_s">igt_s</a>, <a href="../../scalar/Numerics/index.html#igt_u">igt_u</a>, <a href="../../scalar/Numerics/index.html#ile_s">ile_s</a>, <a href="../../scalar/Numerics/index.html#ile_u">ile_u</a>, <a href="../../scalar/Numerics/index.html#ige_s">ige_s</a>, <a href="../../scalar/Numerics/index.html#ige_u">ige_u</a>, <a href="../../scalar/Numerics/index.html#add128">add128</a>, <a href="../../scalar/Numerics/index.html#sub128">sub128</a>}
+use Rattle.wasmi_ops.specs.declared.scalar.unary.ScalarUnaryOp.{ScalarUnaryOp}
+use Rattle.wasmi_ops.specs.declared.scalar.binary.ScalarBinaryOp.{ScalarBinaryOp}
+use mir.Val.{bits}
+use Rattle.wasmi_types.specs.Numbers.{<a href="../../types/Numbers/index.html#le_bytes">le_bytes</a>}
+use Rattle.wasmi_access.specs.LoadStore.{<a href="../../accesses/LoadStore/index.html#loaded">loaded</a>}
+use Rattle.wasmi_ops.specs.declared.scalar.access.LoadOp.{LoadOp}
+use Rattle.wasmi_ops.specs.declared.scalar.access.StoreOp.{StoreOp}
+use Rattle.wasmi_ops.specs.declared.scalar.unary.ScalarUnaryOp.TheVariants as unary
+use Rattle.wasmi_ops.specs.declared.scalar.binary.ScalarBinaryOp.TheVariants as binary
+use Rattle.wasmi_ops.specs.declared.scalar.access.LoadOp.TheVariants as load
+use Rattle.wasmi_ops.specs.declared.scalar.access.StoreOp.TheVariants as store
 
 -- the raw value of a signed number of a width
 abbrev pub <b id="signed_raw">signed_raw</b> : Width → ℤ → RawVal
-<a href="../../ops/RawResults/index.html#signed_raw">signed_raw</a> w z = <a href="../../raw/RawVal/index.html#raw_of">raw_of</a> (cast_unsigned w z)
+<a href="../../ops/ScalarOps/index.html#signed_raw">signed_raw</a> w z = <a href="../../raw/RawVal/index.html#raw_of">raw_of</a> (cast_unsigned w z)
 
 -- the raw value of a Boolean, 0 or 1
 abbrev pub <b id="bool_raw">bool_raw</b> : Bool → RawVal
-<a href="../../ops/RawResults/index.html#bool_raw">bool_raw</a> flag = <a href="../../raw/RawVal/index.html#raw_of">raw_of</a> (from_bool flag)
+<a href="../../ops/ScalarOps/index.html#bool_raw">bool_raw</a> flag = <a href="../../raw/RawVal/index.html#raw_of">raw_of</a> (from_bool flag)
 
 -- an answer as a raw value; a trap stays
 abbrev pub <b id="as_raw">as_raw</b> : {A : Type 0} → (A → RawVal) → Result A TrapCode → Result RawVal TrapCode
-<a href="../../ops/RawResults/index.html#as_raw">as_raw</a> raw (Ok value) = Ok (raw value)
-<a href="../../ops/RawResults/index.html#as_raw">as_raw</a> raw (Err trap) = Err trap
-</code></pre>
-"####]
-    pub mod RawResults {}
-    #[doc = r####"The scalar loads and stores on raw values (core specification, memory instructions).
-
-<pre><code>use Rattle.std.specs.Prelude.{ℕ, ◌/◌, ◌%◌, ◌^◌, pos, List, Result, codes}
-use Rattle.std.specs.Int.{Width, w8, w16, w32, w64, cast_signed}
-use mir.Val.{bits}
-use Rattle.wasmi_types.specs.Bytes.{<a href="../../types/Bytes/index.html#le_bytes">le_bytes</a>}
-use Rattle.wasmi_types.specs.declared.trap.TrapCode.{TrapCode}
-use Rattle.wasmi_raw.specs.declared.raw.RawVal.{RawVal}
-use Rattle.wasmi_raw.specs.RawVal.{<a href="../../raw/RawVal/index.html#raw_of">raw_of</a>}
-use Rattle.wasmi_access.specs.LoadStore.{<a href="../../accesses/LoadStore/index.html#loaded">loaded</a>}
-use Rattle.wasmi_ops.specs.RawResults.{<a href="../../ops/RawResults/index.html#as_raw">as_raw</a>, <a href="../../ops/RawResults/index.html#signed_raw">signed_raw</a>}
-use Rattle.wasmi_ops.specs.declared.scalar.access.LoadOp.{LoadOp}
-use Rattle.wasmi_ops.specs.declared.scalar.access.LoadOp.TheVariants as load
-use Rattle.wasmi_ops.specs.declared.scalar.access.StoreOp.{StoreOp}
-use Rattle.wasmi_ops.specs.declared.scalar.access.StoreOp.TheVariants as store
-
--- what a load from an address in a memory of these bytes gives, or its trap
-abbrev pub <b id="RawLoad">RawLoad</b> : Type 0
-<a href="../../ops/ScalarAccessOps/index.html#RawLoad">RawLoad</a> = List ℕ → ℕ → Result RawVal TrapCode
-
--- the load of a number of a narrow width, sign-extended to a width
-abbrev pub <b id="sign_extended">sign_extended</b> : Width → Width → <a href="../../ops/ScalarAccessOps/index.html#RawLoad">RawLoad</a>
-<a href="../../ops/ScalarAccessOps/index.html#sign_extended">sign_extended</a> w narrow bytes a = <a href="../../ops/RawResults/index.html#as_raw">as_raw</a> (<a href="../../ops/RawResults/index.html#signed_raw">signed_raw</a> w) (<a href="../../accesses/LoadStore/index.html#loaded">loaded</a> (bits narrow / 8) (cast_signed narrow) bytes a)
-
--- the load of a number of a narrow width, zero-extended to a width
-abbrev pub <b id="zero_extended">zero_extended</b> : Width → Width → <a href="../../ops/ScalarAccessOps/index.html#RawLoad">RawLoad</a>
-<a href="../../ops/ScalarAccessOps/index.html#zero_extended">zero_extended</a> w narrow bytes a = <a href="../../ops/RawResults/index.html#as_raw">as_raw</a> (<a href="../../ops/RawResults/index.html#signed_raw">signed_raw</a> w) (<a href="../../accesses/LoadStore/index.html#loaded">loaded</a> (bits narrow / 8) pos bytes a)
-
--- the load of a value of a width
-abbrev pub <b id="unextended">unextended</b> : Width → <a href="../../ops/ScalarAccessOps/index.html#RawLoad">RawLoad</a>
-<a href="../../ops/ScalarAccessOps/index.html#unextended">unextended</a> w bytes a = <a href="../../ops/RawResults/index.html#as_raw">as_raw</a> <a href="../../raw/RawVal/index.html#raw_of">raw_of</a> (<a href="../../accesses/LoadStore/index.html#loaded">loaded</a> (bits w / 8) (λ number. number) bytes a)
-
--- each load: its name, and the load
-abbrev pub <b id="load_row">load_row</b> : LoadOp → List ℕ × <a href="../../ops/ScalarAccessOps/index.html#RawLoad">RawLoad</a>
-<a href="../../ops/ScalarAccessOps/index.html#load_row">load_row</a> load.I32Load8S = (codes "i32_load8_s", <a href="../../ops/ScalarAccessOps/index.html#sign_extended">sign_extended</a> w32 w8)
-<a href="../../ops/ScalarAccessOps/index.html#load_row">load_row</a> load.I32Load8U = (codes "i32_load8_u", <a href="../../ops/ScalarAccessOps/index.html#zero_extended">zero_extended</a> w32 w8)
-<a href="../../ops/ScalarAccessOps/index.html#load_row">load_row</a> load.I32Load16S = (codes "i32_load16_s", <a href="../../ops/ScalarAccessOps/index.html#sign_extended">sign_extended</a> w32 w16)
-<a href="../../ops/ScalarAccessOps/index.html#load_row">load_row</a> load.I32Load16U = (codes "i32_load16_u", <a href="../../ops/ScalarAccessOps/index.html#zero_extended">zero_extended</a> w32 w16)
-<a href="../../ops/ScalarAccessOps/index.html#load_row">load_row</a> load.I64Load8S = (codes "i64_load8_s", <a href="../../ops/ScalarAccessOps/index.html#sign_extended">sign_extended</a> w64 w8)
-<a href="../../ops/ScalarAccessOps/index.html#load_row">load_row</a> load.I64Load8U = (codes "i64_load8_u", <a href="../../ops/ScalarAccessOps/index.html#zero_extended">zero_extended</a> w64 w8)
-<a href="../../ops/ScalarAccessOps/index.html#load_row">load_row</a> load.I64Load16S = (codes "i64_load16_s", <a href="../../ops/ScalarAccessOps/index.html#sign_extended">sign_extended</a> w64 w16)
-<a href="../../ops/ScalarAccessOps/index.html#load_row">load_row</a> load.I64Load16U = (codes "i64_load16_u", <a href="../../ops/ScalarAccessOps/index.html#zero_extended">zero_extended</a> w64 w16)
-<a href="../../ops/ScalarAccessOps/index.html#load_row">load_row</a> load.I64Load32S = (codes "i64_load32_s", <a href="../../ops/ScalarAccessOps/index.html#sign_extended">sign_extended</a> w64 w32)
-<a href="../../ops/ScalarAccessOps/index.html#load_row">load_row</a> load.I64Load32U = (codes "i64_load32_u", <a href="../../ops/ScalarAccessOps/index.html#zero_extended">zero_extended</a> w64 w32)
-<a href="../../ops/ScalarAccessOps/index.html#load_row">load_row</a> load.LoadU32 = (codes "load_u32", <a href="../../ops/ScalarAccessOps/index.html#unextended">unextended</a> w32)
-<a href="../../ops/ScalarAccessOps/index.html#load_row">load_row</a> load.LoadU64 = (codes "load_u64", <a href="../../ops/ScalarAccessOps/index.html#unextended">unextended</a> w64)
-
--- the load of each instruction
-abbrev pub <b id="loaded_raw">loaded_raw</b> : LoadOp → <a href="../../ops/ScalarAccessOps/index.html#RawLoad">RawLoad</a>
-<a href="../../ops/ScalarAccessOps/index.html#loaded_raw">loaded_raw</a> op = (<a href="../../ops/ScalarAccessOps/index.html#load_row">load_row</a> op).1
-
--- the name of a scalar load
-abbrev pub <b id="load_name">load_name</b> : LoadOp → List ℕ
-<a href="../../ops/ScalarAccessOps/index.html#load_name">load_name</a> op = (<a href="../../ops/ScalarAccessOps/index.html#load_row">load_row</a> op).0
-
--- each store: its name, and the bytes that it writes, the low ones of the value
-abbrev pub <b id="store_row">store_row</b> : StoreOp → List ℕ × (RawVal → List ℕ)
-<a href="../../ops/ScalarAccessOps/index.html#store_row">store_row</a> store.I32Store8 = (codes "i32_store8", λ value. <a href="../../types/Bytes/index.html#le_bytes">le_bytes</a> 1 (value.lo % 2 ^ 8))
-<a href="../../ops/ScalarAccessOps/index.html#store_row">store_row</a> store.I32Store16 = (codes "i32_store16", λ value. <a href="../../types/Bytes/index.html#le_bytes">le_bytes</a> 2 (value.lo % 2 ^ 16))
-<a href="../../ops/ScalarAccessOps/index.html#store_row">store_row</a> store.I64Store8 = (codes "i64_store8", λ value. <a href="../../types/Bytes/index.html#le_bytes">le_bytes</a> 1 (value.lo % 2 ^ 8))
-<a href="../../ops/ScalarAccessOps/index.html#store_row">store_row</a> store.I64Store16 = (codes "i64_store16", λ value. <a href="../../types/Bytes/index.html#le_bytes">le_bytes</a> 2 (value.lo % 2 ^ 16))
-<a href="../../ops/ScalarAccessOps/index.html#store_row">store_row</a> store.I64Store32 = (codes "i64_store32", λ value. <a href="../../types/Bytes/index.html#le_bytes">le_bytes</a> 4 (value.lo % 2 ^ 32))
-<a href="../../ops/ScalarAccessOps/index.html#store_row">store_row</a> store.Store32 = (codes "store32", λ value. <a href="../../types/Bytes/index.html#le_bytes">le_bytes</a> 4 (value.lo % 2 ^ 32))
-<a href="../../ops/ScalarAccessOps/index.html#store_row">store_row</a> store.Store64 = (codes "store64", λ value. <a href="../../types/Bytes/index.html#le_bytes">le_bytes</a> 8 value.lo)
-
--- the bytes that a store writes: the low ones of the value
-abbrev pub <b id="stored_bytes">stored_bytes</b> : StoreOp → RawVal → List ℕ
-<a href="../../ops/ScalarAccessOps/index.html#stored_bytes">stored_bytes</a> op = (<a href="../../ops/ScalarAccessOps/index.html#store_row">store_row</a> op).1
-
--- the name of a scalar store
-abbrev pub <b id="store_name">store_name</b> : StoreOp → List ℕ
-<a href="../../ops/ScalarAccessOps/index.html#store_name">store_name</a> op = (<a href="../../ops/ScalarAccessOps/index.html#store_row">store_row</a> op).0
-</code></pre>
-"####]
-    pub mod ScalarAccessOps {}
-    #[doc = r####"The scalar instructions of two operands.
-
-<pre><code>use Rattle.std.specs.Prelude.{ℕ, ℤ, Bool, ◌*◌, ◌*ℤ◌, Result, Ok, List, codes}
-use Rattle.std.specs.Int.{Width, w32, w64, w128, cast_unsigned}
-use Rattle.wasmi_types.specs.declared.trap.TrapCode.{TrapCode}
-use Rattle.wasmi_raw.specs.declared.raw.RawVal.{RawVal}
-use Rattle.wasmi_raw.specs.RawVal.{<a href="../../raw/RawVal/index.html#raw_of">raw_of</a>, <a href="../../raw/RawVal/index.html#raw_of_vector">raw_of_vector</a>, <a href="../../raw/RawVal/index.html#signed_in">signed_in</a>, <a href="../../raw/RawVal/index.html#unsigned_in">unsigned_in</a>, <a href="../../raw/RawVal/index.html#vector_in">vector_in</a>}
-use Rattle.wasmi_scalar.specs.Numerics.{<a href="../../scalar/Numerics/index.html#iadd">iadd</a>, <a href="../../scalar/Numerics/index.html#isub">isub</a>, <a href="../../scalar/Numerics/index.html#imul">imul</a>, <a href="../../scalar/Numerics/index.html#idiv_s">idiv_s</a>, <a href="../../scalar/Numerics/index.html#idiv_u">idiv_u</a>, <a href="../../scalar/Numerics/index.html#irem_s">irem_s</a>, <a href="../../scalar/Numerics/index.html#irem_u">irem_u</a>, <a href="../../scalar/Numerics/index.html#iand">iand</a>, <a href="../../scalar/Numerics/index.html#ior">ior</a>, <a href="../../scalar/Numerics/index.html#ixor">ixor</a>, <a href="../../scalar/Numerics/index.html#ishl">ishl</a>, <a href="../../scalar/Numerics/index.html#ishr_s">ishr_s</a>, <a href="../../scalar/Numerics/index.html#ishr_u">ishr_u</a>, <a href="../../scalar/Numerics/index.html#irotl">irotl</a>, <a href="../../scalar/Numerics/index.html#irotr">irotr</a>, <a href="../../scalar/Numerics/index.html#ieq">ieq</a>, <a href="../../scalar/Numerics/index.html#ine">ine</a>, <a href="../../scalar/Numerics/index.html#ilt_s">ilt_s</a>, <a href="../../scalar/Numerics/index.html#ilt_u">ilt_u</a>, <a href="../../scalar/Numerics/index.html#igt_s">igt_s</a>, <a href="../../scalar/Numerics/index.html#igt_u">igt_u</a>, <a href="../../scalar/Numerics/index.html#ile_s">ile_s</a>, <a href="../../scalar/Numerics/index.html#ile_u">ile_u</a>, <a href="../../scalar/Numerics/index.html#ige_s">ige_s</a>, <a href="../../scalar/Numerics/index.html#ige_u">ige_u</a>}
-use Rattle.wasmi_scalar.specs.Wide.{<a href="../../scalar/Wide/index.html#add128">add128</a>, <a href="../../scalar/Wide/index.html#sub128">sub128</a>}
-use Rattle.wasmi_ops.specs.RawResults.{<a href="../../ops/RawResults/index.html#as_raw">as_raw</a>, <a href="../../ops/RawResults/index.html#signed_raw">signed_raw</a>, <a href="../../ops/RawResults/index.html#bool_raw">bool_raw</a>}
-use Rattle.wasmi_ops.specs.declared.scalar.binary.ScalarBinaryOp.{ScalarBinaryOp}
-use Rattle.wasmi_ops.specs.declared.scalar.binary.ScalarBinaryOp.TheVariants as binary
-
--- what an instruction of two raw values gives, or its trap
-abbrev pub <b id="RawOperation">RawOperation</b> : Type 0
-<a href="../../ops/ScalarBinaryOps/index.html#RawOperation">RawOperation</a> = RawVal → RawVal → Result RawVal TrapCode
-
--- an operation on two numbers that are read signed in a width
-abbrev pub <b id="signed_operation">signed_operation</b> : Width → (Width → ℤ → ℤ → ℤ) → <a href="../../ops/ScalarBinaryOps/index.html#RawOperation">RawOperation</a>
-<a href="../../ops/ScalarBinaryOps/index.html#signed_operation">signed_operation</a> w operator lhs rhs = Ok (<a href="../../ops/RawResults/index.html#signed_raw">signed_raw</a> w (operator w (<a href="../../raw/RawVal/index.html#signed_in">signed_in</a> w lhs) (<a href="../../raw/RawVal/index.html#signed_in">signed_in</a> w rhs)))
-
--- the operation on two raw values whose numbers are read unsigned
-abbrev pub <b id="unsigned_operation">unsigned_operation</b> : Width → (Width → ℕ → ℕ → ℕ) → <a href="../../ops/ScalarBinaryOps/index.html#RawOperation">RawOperation</a>
-<a href="../../ops/ScalarBinaryOps/index.html#unsigned_operation">unsigned_operation</a> w operator lhs rhs = Ok (<a href="../../raw/RawVal/index.html#raw_of">raw_of</a> (operator w (<a href="../../raw/RawVal/index.html#unsigned_in">unsigned_in</a> w lhs) (<a href="../../raw/RawVal/index.html#unsigned_in">unsigned_in</a> w rhs)))
-
--- an operation on two numbers that are read signed in a width, which may trap
-abbrev pub <b id="signed_partial">signed_partial</b> : Width → (ℤ → ℤ → Result ℤ TrapCode) → <a href="../../ops/ScalarBinaryOps/index.html#RawOperation">RawOperation</a>
-<a href="../../ops/ScalarBinaryOps/index.html#signed_partial">signed_partial</a> w operator lhs rhs = <a href="../../ops/RawResults/index.html#as_raw">as_raw</a> (<a href="../../ops/RawResults/index.html#signed_raw">signed_raw</a> w) (operator (<a href="../../raw/RawVal/index.html#signed_in">signed_in</a> w lhs) (<a href="../../raw/RawVal/index.html#signed_in">signed_in</a> w rhs))
-
--- the operation that may trap, on two raw values whose numbers are read unsigned
-abbrev pub <b id="unsigned_partial">unsigned_partial</b> : Width → (ℕ → ℕ → Result ℕ TrapCode) → <a href="../../ops/ScalarBinaryOps/index.html#RawOperation">RawOperation</a>
-<a href="../../ops/ScalarBinaryOps/index.html#unsigned_partial">unsigned_partial</a> w operator lhs rhs = <a href="../../ops/RawResults/index.html#as_raw">as_raw</a> <a href="../../raw/RawVal/index.html#raw_of">raw_of</a> (operator (<a href="../../raw/RawVal/index.html#unsigned_in">unsigned_in</a> w lhs) (<a href="../../raw/RawVal/index.html#unsigned_in">unsigned_in</a> w rhs))
-
--- a comparison of two numbers that are read signed in a width
-abbrev pub <b id="signed_comparison">signed_comparison</b> : Width → (ℤ → ℤ → Bool) → <a href="../../ops/ScalarBinaryOps/index.html#RawOperation">RawOperation</a>
-<a href="../../ops/ScalarBinaryOps/index.html#signed_comparison">signed_comparison</a> w relation lhs rhs = Ok (<a href="../../ops/RawResults/index.html#bool_raw">bool_raw</a> (relation (<a href="../../raw/RawVal/index.html#signed_in">signed_in</a> w lhs) (<a href="../../raw/RawVal/index.html#signed_in">signed_in</a> w rhs)))
-
--- the comparison of two raw values whose numbers are read unsigned
-abbrev pub <b id="unsigned_comparison">unsigned_comparison</b> : Width → (ℕ → ℕ → Bool) → <a href="../../ops/ScalarBinaryOps/index.html#RawOperation">RawOperation</a>
-<a href="../../ops/ScalarBinaryOps/index.html#unsigned_comparison">unsigned_comparison</a> w relation lhs rhs = Ok (<a href="../../ops/RawResults/index.html#bool_raw">bool_raw</a> (relation (<a href="../../raw/RawVal/index.html#unsigned_in">unsigned_in</a> w lhs) (<a href="../../raw/RawVal/index.html#unsigned_in">unsigned_in</a> w rhs)))
-
--- an operation on two numbers of 128 bits
-abbrev pub <b id="wide_operation">wide_operation</b> : (ℕ → ℕ → ℕ) → <a href="../../ops/ScalarBinaryOps/index.html#RawOperation">RawOperation</a>
-<a href="../../ops/ScalarBinaryOps/index.html#wide_operation">wide_operation</a> operator lhs rhs = Ok (<a href="../../raw/RawVal/index.html#raw_of_vector">raw_of_vector</a> (operator (<a href="../../raw/RawVal/index.html#vector_in">vector_in</a> lhs) (<a href="../../raw/RawVal/index.html#vector_in">vector_in</a> rhs)))
-
--- each instruction of two raw values: its name, and its operation
-abbrev pub <b id="scalar_binary_row">scalar_binary_row</b> : ScalarBinaryOp → List ℕ × <a href="../../ops/ScalarBinaryOps/index.html#RawOperation">RawOperation</a>
-<a href="../../ops/ScalarBinaryOps/index.html#scalar_binary_row">scalar_binary_row</a> binary.I32Add = (codes "i32_add", <a href="../../ops/ScalarBinaryOps/index.html#signed_operation">signed_operation</a> w32 <a href="../../scalar/Numerics/index.html#iadd">iadd</a>)
-<a href="../../ops/ScalarBinaryOps/index.html#scalar_binary_row">scalar_binary_row</a> binary.I32Sub = (codes "i32_sub", <a href="../../ops/ScalarBinaryOps/index.html#signed_operation">signed_operation</a> w32 <a href="../../scalar/Numerics/index.html#isub">isub</a>)
-<a href="../../ops/ScalarBinaryOps/index.html#scalar_binary_row">scalar_binary_row</a> binary.I32Mul = (codes "i32_mul", <a href="../../ops/ScalarBinaryOps/index.html#signed_operation">signed_operation</a> w32 <a href="../../scalar/Numerics/index.html#imul">imul</a>)
-<a href="../../ops/ScalarBinaryOps/index.html#scalar_binary_row">scalar_binary_row</a> binary.I32Bitand = (codes "i32_bitand", <a href="../../ops/ScalarBinaryOps/index.html#signed_operation">signed_operation</a> w32 <a href="../../scalar/Numerics/index.html#iand">iand</a>)
-<a href="../../ops/ScalarBinaryOps/index.html#scalar_binary_row">scalar_binary_row</a> binary.I32Bitor = (codes "i32_bitor", <a href="../../ops/ScalarBinaryOps/index.html#signed_operation">signed_operation</a> w32 <a href="../../scalar/Numerics/index.html#ior">ior</a>)
-<a href="../../ops/ScalarBinaryOps/index.html#scalar_binary_row">scalar_binary_row</a> binary.I32Bitxor = (codes "i32_bitxor", <a href="../../ops/ScalarBinaryOps/index.html#signed_operation">signed_operation</a> w32 <a href="../../scalar/Numerics/index.html#ixor">ixor</a>)
-<a href="../../ops/ScalarBinaryOps/index.html#scalar_binary_row">scalar_binary_row</a> binary.I32Shl = (codes "i32_shl", <a href="../../ops/ScalarBinaryOps/index.html#signed_operation">signed_operation</a> w32 <a href="../../scalar/Numerics/index.html#ishl">ishl</a>)
-<a href="../../ops/ScalarBinaryOps/index.html#scalar_binary_row">scalar_binary_row</a> binary.I32ShrS = (codes "i32_shr_s", <a href="../../ops/ScalarBinaryOps/index.html#signed_operation">signed_operation</a> w32 <a href="../../scalar/Numerics/index.html#ishr_s">ishr_s</a>)
-<a href="../../ops/ScalarBinaryOps/index.html#scalar_binary_row">scalar_binary_row</a> binary.I32ShrU = (codes "i32_shr_u", <a href="../../ops/ScalarBinaryOps/index.html#unsigned_operation">unsigned_operation</a> w32 <a href="../../scalar/Numerics/index.html#ishr_u">ishr_u</a>)
-<a href="../../ops/ScalarBinaryOps/index.html#scalar_binary_row">scalar_binary_row</a> binary.I32Rotl = (codes "i32_rotl", <a href="../../ops/ScalarBinaryOps/index.html#signed_operation">signed_operation</a> w32 <a href="../../scalar/Numerics/index.html#irotl">irotl</a>)
-<a href="../../ops/ScalarBinaryOps/index.html#scalar_binary_row">scalar_binary_row</a> binary.I32Rotr = (codes "i32_rotr", <a href="../../ops/ScalarBinaryOps/index.html#signed_operation">signed_operation</a> w32 <a href="../../scalar/Numerics/index.html#irotr">irotr</a>)
-<a href="../../ops/ScalarBinaryOps/index.html#scalar_binary_row">scalar_binary_row</a> binary.I32DivS = (codes "i32_div_s", <a href="../../ops/ScalarBinaryOps/index.html#signed_partial">signed_partial</a> w32 (<a href="../../scalar/Numerics/index.html#idiv_s">idiv_s</a> w32))
-<a href="../../ops/ScalarBinaryOps/index.html#scalar_binary_row">scalar_binary_row</a> binary.I32DivU = (codes "i32_div_u", <a href="../../ops/ScalarBinaryOps/index.html#unsigned_partial">unsigned_partial</a> w32 <a href="../../scalar/Numerics/index.html#idiv_u">idiv_u</a>)
-<a href="../../ops/ScalarBinaryOps/index.html#scalar_binary_row">scalar_binary_row</a> binary.I32RemS = (codes "i32_rem_s", <a href="../../ops/ScalarBinaryOps/index.html#signed_partial">signed_partial</a> w32 <a href="../../scalar/Numerics/index.html#irem_s">irem_s</a>)
-<a href="../../ops/ScalarBinaryOps/index.html#scalar_binary_row">scalar_binary_row</a> binary.I32RemU = (codes "i32_rem_u", <a href="../../ops/ScalarBinaryOps/index.html#unsigned_partial">unsigned_partial</a> w32 <a href="../../scalar/Numerics/index.html#irem_u">irem_u</a>)
-<a href="../../ops/ScalarBinaryOps/index.html#scalar_binary_row">scalar_binary_row</a> binary.I32Eq = (codes "i32_eq", <a href="../../ops/ScalarBinaryOps/index.html#signed_comparison">signed_comparison</a> w32 <a href="../../scalar/Numerics/index.html#ieq">ieq</a>)
-<a href="../../ops/ScalarBinaryOps/index.html#scalar_binary_row">scalar_binary_row</a> binary.I32Ne = (codes "i32_ne", <a href="../../ops/ScalarBinaryOps/index.html#signed_comparison">signed_comparison</a> w32 <a href="../../scalar/Numerics/index.html#ine">ine</a>)
-<a href="../../ops/ScalarBinaryOps/index.html#scalar_binary_row">scalar_binary_row</a> binary.I32LtS = (codes "i32_lt_s", <a href="../../ops/ScalarBinaryOps/index.html#signed_comparison">signed_comparison</a> w32 <a href="../../scalar/Numerics/index.html#ilt_s">ilt_s</a>)
-<a href="../../ops/ScalarBinaryOps/index.html#scalar_binary_row">scalar_binary_row</a> binary.I32LtU = (codes "i32_lt_u", <a href="../../ops/ScalarBinaryOps/index.html#unsigned_comparison">unsigned_comparison</a> w32 <a href="../../scalar/Numerics/index.html#ilt_u">ilt_u</a>)
-<a href="../../ops/ScalarBinaryOps/index.html#scalar_binary_row">scalar_binary_row</a> binary.I32LeS = (codes "i32_le_s", <a href="../../ops/ScalarBinaryOps/index.html#signed_comparison">signed_comparison</a> w32 <a href="../../scalar/Numerics/index.html#ile_s">ile_s</a>)
-<a href="../../ops/ScalarBinaryOps/index.html#scalar_binary_row">scalar_binary_row</a> binary.I32LeU = (codes "i32_le_u", <a href="../../ops/ScalarBinaryOps/index.html#unsigned_comparison">unsigned_comparison</a> w32 <a href="../../scalar/Numerics/index.html#ile_u">ile_u</a>)
-<a href="../../ops/ScalarBinaryOps/index.html#scalar_binary_row">scalar_binary_row</a> binary.I32GtS = (codes "i32_gt_s", <a href="../../ops/ScalarBinaryOps/index.html#signed_comparison">signed_comparison</a> w32 <a href="../../scalar/Numerics/index.html#igt_s">igt_s</a>)
-<a href="../../ops/ScalarBinaryOps/index.html#scalar_binary_row">scalar_binary_row</a> binary.I32GtU = (codes "i32_gt_u", <a href="../../ops/ScalarBinaryOps/index.html#unsigned_comparison">unsigned_comparison</a> w32 <a href="../../scalar/Numerics/index.html#igt_u">igt_u</a>)
-<a href="../../ops/ScalarBinaryOps/index.html#scalar_binary_row">scalar_binary_row</a> binary.I32GeS = (codes "i32_ge_s", <a href="../../ops/ScalarBinaryOps/index.html#signed_comparison">signed_comparison</a> w32 <a href="../../scalar/Numerics/index.html#ige_s">ige_s</a>)
-<a href="../../ops/ScalarBinaryOps/index.html#scalar_binary_row">scalar_binary_row</a> binary.I32GeU = (codes "i32_ge_u", <a href="../../ops/ScalarBinaryOps/index.html#unsigned_comparison">unsigned_comparison</a> w32 <a href="../../scalar/Numerics/index.html#ige_u">ige_u</a>)
-<a href="../../ops/ScalarBinaryOps/index.html#scalar_binary_row">scalar_binary_row</a> binary.I64Add = (codes "i64_add", <a href="../../ops/ScalarBinaryOps/index.html#signed_operation">signed_operation</a> w64 <a href="../../scalar/Numerics/index.html#iadd">iadd</a>)
-<a href="../../ops/ScalarBinaryOps/index.html#scalar_binary_row">scalar_binary_row</a> binary.I64Sub = (codes "i64_sub", <a href="../../ops/ScalarBinaryOps/index.html#signed_operation">signed_operation</a> w64 <a href="../../scalar/Numerics/index.html#isub">isub</a>)
-<a href="../../ops/ScalarBinaryOps/index.html#scalar_binary_row">scalar_binary_row</a> binary.I64Mul = (codes "i64_mul", <a href="../../ops/ScalarBinaryOps/index.html#signed_operation">signed_operation</a> w64 <a href="../../scalar/Numerics/index.html#imul">imul</a>)
-<a href="../../ops/ScalarBinaryOps/index.html#scalar_binary_row">scalar_binary_row</a> binary.I64Bitand = (codes "i64_bitand", <a href="../../ops/ScalarBinaryOps/index.html#signed_operation">signed_operation</a> w64 <a href="../../scalar/Numerics/index.html#iand">iand</a>)
-<a href="../../ops/ScalarBinaryOps/index.html#scalar_binary_row">scalar_binary_row</a> binary.I64Bitor = (codes "i64_bitor", <a href="../../ops/ScalarBinaryOps/index.html#signed_operation">signed_operation</a> w64 <a href="../../scalar/Numerics/index.html#ior">ior</a>)
-<a href="../../ops/ScalarBinaryOps/index.html#scalar_binary_row">scalar_binary_row</a> binary.I64Bitxor = (codes "i64_bitxor", <a href="../../ops/ScalarBinaryOps/index.html#signed_operation">signed_operation</a> w64 <a href="../../scalar/Numerics/index.html#ixor">ixor</a>)
-<a href="../../ops/ScalarBinaryOps/index.html#scalar_binary_row">scalar_binary_row</a> binary.I64Shl = (codes "i64_shl", <a href="../../ops/ScalarBinaryOps/index.html#signed_operation">signed_operation</a> w64 <a href="../../scalar/Numerics/index.html#ishl">ishl</a>)
-<a href="../../ops/ScalarBinaryOps/index.html#scalar_binary_row">scalar_binary_row</a> binary.I64ShrS = (codes "i64_shr_s", <a href="../../ops/ScalarBinaryOps/index.html#signed_operation">signed_operation</a> w64 <a href="../../scalar/Numerics/index.html#ishr_s">ishr_s</a>)
-<a href="../../ops/ScalarBinaryOps/index.html#scalar_binary_row">scalar_binary_row</a> binary.I64ShrU = (codes "i64_shr_u", <a href="../../ops/ScalarBinaryOps/index.html#unsigned_operation">unsigned_operation</a> w64 <a href="../../scalar/Numerics/index.html#ishr_u">ishr_u</a>)
-<a href="../../ops/ScalarBinaryOps/index.html#scalar_binary_row">scalar_binary_row</a> binary.I64Rotl = (codes "i64_rotl", <a href="../../ops/ScalarBinaryOps/index.html#signed_operation">signed_operation</a> w64 <a href="../../scalar/Numerics/index.html#irotl">irotl</a>)
-<a href="../../ops/ScalarBinaryOps/index.html#scalar_binary_row">scalar_binary_row</a> binary.I64Rotr = (codes "i64_rotr", <a href="../../ops/ScalarBinaryOps/index.html#signed_operation">signed_operation</a> w64 <a href="../../scalar/Numerics/index.html#irotr">irotr</a>)
-<a href="../../ops/ScalarBinaryOps/index.html#scalar_binary_row">scalar_binary_row</a> binary.I64DivS = (codes "i64_div_s", <a href="../../ops/ScalarBinaryOps/index.html#signed_partial">signed_partial</a> w64 (<a href="../../scalar/Numerics/index.html#idiv_s">idiv_s</a> w64))
-<a href="../../ops/ScalarBinaryOps/index.html#scalar_binary_row">scalar_binary_row</a> binary.I64DivU = (codes "i64_div_u", <a href="../../ops/ScalarBinaryOps/index.html#unsigned_partial">unsigned_partial</a> w64 <a href="../../scalar/Numerics/index.html#idiv_u">idiv_u</a>)
-<a href="../../ops/ScalarBinaryOps/index.html#scalar_binary_row">scalar_binary_row</a> binary.I64RemS = (codes "i64_rem_s", <a href="../../ops/ScalarBinaryOps/index.html#signed_partial">signed_partial</a> w64 <a href="../../scalar/Numerics/index.html#irem_s">irem_s</a>)
-<a href="../../ops/ScalarBinaryOps/index.html#scalar_binary_row">scalar_binary_row</a> binary.I64RemU = (codes "i64_rem_u", <a href="../../ops/ScalarBinaryOps/index.html#unsigned_partial">unsigned_partial</a> w64 <a href="../../scalar/Numerics/index.html#irem_u">irem_u</a>)
-<a href="../../ops/ScalarBinaryOps/index.html#scalar_binary_row">scalar_binary_row</a> binary.I64Eq = (codes "i64_eq", <a href="../../ops/ScalarBinaryOps/index.html#signed_comparison">signed_comparison</a> w64 <a href="../../scalar/Numerics/index.html#ieq">ieq</a>)
-<a href="../../ops/ScalarBinaryOps/index.html#scalar_binary_row">scalar_binary_row</a> binary.I64Ne = (codes "i64_ne", <a href="../../ops/ScalarBinaryOps/index.html#signed_comparison">signed_comparison</a> w64 <a href="../../scalar/Numerics/index.html#ine">ine</a>)
-<a href="../../ops/ScalarBinaryOps/index.html#scalar_binary_row">scalar_binary_row</a> binary.I64LtS = (codes "i64_lt_s", <a href="../../ops/ScalarBinaryOps/index.html#signed_comparison">signed_comparison</a> w64 <a href="../../scalar/Numerics/index.html#ilt_s">ilt_s</a>)
-<a href="../../ops/ScalarBinaryOps/index.html#scalar_binary_row">scalar_binary_row</a> binary.I64LtU = (codes "i64_lt_u", <a href="../../ops/ScalarBinaryOps/index.html#unsigned_comparison">unsigned_comparison</a> w64 <a href="../../scalar/Numerics/index.html#ilt_u">ilt_u</a>)
-<a href="../../ops/ScalarBinaryOps/index.html#scalar_binary_row">scalar_binary_row</a> binary.I64LeS = (codes "i64_le_s", <a href="../../ops/ScalarBinaryOps/index.html#signed_comparison">signed_comparison</a> w64 <a href="../../scalar/Numerics/index.html#ile_s">ile_s</a>)
-<a href="../../ops/ScalarBinaryOps/index.html#scalar_binary_row">scalar_binary_row</a> binary.I64LeU = (codes "i64_le_u", <a href="../../ops/ScalarBinaryOps/index.html#unsigned_comparison">unsigned_comparison</a> w64 <a href="../../scalar/Numerics/index.html#ile_u">ile_u</a>)
-<a href="../../ops/ScalarBinaryOps/index.html#scalar_binary_row">scalar_binary_row</a> binary.I64GtS = (codes "i64_gt_s", <a href="../../ops/ScalarBinaryOps/index.html#signed_comparison">signed_comparison</a> w64 <a href="../../scalar/Numerics/index.html#igt_s">igt_s</a>)
-<a href="../../ops/ScalarBinaryOps/index.html#scalar_binary_row">scalar_binary_row</a> binary.I64GtU = (codes "i64_gt_u", <a href="../../ops/ScalarBinaryOps/index.html#unsigned_comparison">unsigned_comparison</a> w64 <a href="../../scalar/Numerics/index.html#igt_u">igt_u</a>)
-<a href="../../ops/ScalarBinaryOps/index.html#scalar_binary_row">scalar_binary_row</a> binary.I64GeS = (codes "i64_ge_s", <a href="../../ops/ScalarBinaryOps/index.html#signed_comparison">signed_comparison</a> w64 <a href="../../scalar/Numerics/index.html#ige_s">ige_s</a>)
-<a href="../../ops/ScalarBinaryOps/index.html#scalar_binary_row">scalar_binary_row</a> binary.I64GeU = (codes "i64_ge_u", <a href="../../ops/ScalarBinaryOps/index.html#unsigned_comparison">unsigned_comparison</a> w64 <a href="../../scalar/Numerics/index.html#ige_u">ige_u</a>)
-<a href="../../ops/ScalarBinaryOps/index.html#scalar_binary_row">scalar_binary_row</a> binary.I64Add128 = (codes "i64_add128", <a href="../../ops/ScalarBinaryOps/index.html#wide_operation">wide_operation</a> <a href="../../scalar/Wide/index.html#add128">add128</a>)
-<a href="../../ops/ScalarBinaryOps/index.html#scalar_binary_row">scalar_binary_row</a> binary.I64Sub128 = (codes "i64_sub128", <a href="../../ops/ScalarBinaryOps/index.html#wide_operation">wide_operation</a> <a href="../../scalar/Wide/index.html#sub128">sub128</a>)
-<a href="../../ops/ScalarBinaryOps/index.html#scalar_binary_row">scalar_binary_row</a> binary.I64MulWideS =
-    (codes "i64_mul_wide_s", λ lhs rhs. Ok (<a href="../../raw/RawVal/index.html#raw_of_vector">raw_of_vector</a> (cast_unsigned w128 (<a href="../../raw/RawVal/index.html#signed_in">signed_in</a> w64 lhs *ℤ <a href="../../raw/RawVal/index.html#signed_in">signed_in</a> w64 rhs))))
-<a href="../../ops/ScalarBinaryOps/index.html#scalar_binary_row">scalar_binary_row</a> binary.I64MulWideU =
-    (codes "i64_mul_wide_u", λ lhs rhs. Ok (<a href="../../raw/RawVal/index.html#raw_of_vector">raw_of_vector</a> (<a href="../../raw/RawVal/index.html#unsigned_in">unsigned_in</a> w64 lhs * <a href="../../raw/RawVal/index.html#unsigned_in">unsigned_in</a> w64 rhs)))
-
--- the operation of each instruction
-abbrev pub <b id="binary_raw">binary_raw</b> : ScalarBinaryOp → <a href="../../ops/ScalarBinaryOps/index.html#RawOperation">RawOperation</a>
-<a href="../../ops/ScalarBinaryOps/index.html#binary_raw">binary_raw</a> op = (<a href="../../ops/ScalarBinaryOps/index.html#scalar_binary_row">scalar_binary_row</a> op).1
-
--- the name of a scalar instruction of two operands
-abbrev pub <b id="scalar_binary_name">scalar_binary_name</b> : ScalarBinaryOp → List ℕ
-<a href="../../ops/ScalarBinaryOps/index.html#scalar_binary_name">scalar_binary_name</a> op = (<a href="../../ops/ScalarBinaryOps/index.html#scalar_binary_row">scalar_binary_row</a> op).0
-</code></pre>
-"####]
-    pub mod ScalarBinaryOps {}
-    #[doc = r####"The scalar instructions of one operand.
-
-<pre><code>use Rattle.std.specs.Prelude.{ℕ, List, codes}
-use Rattle.std.specs.Int.{w8, w16, w32, w64, int_wrap}
-use Rattle.wasmi_raw.specs.declared.raw.RawVal.{RawVal}
-use Rattle.wasmi_raw.specs.RawVal.{<a href="../../raw/RawVal/index.html#raw_of">raw_of</a>, <a href="../../raw/RawVal/index.html#signed_in">signed_in</a>, <a href="../../raw/RawVal/index.html#unsigned_in">unsigned_in</a>}
-use Rattle.wasmi_scalar.specs.Numerics.{<a href="../../scalar/Numerics/index.html#iclz">iclz</a>, <a href="../../scalar/Numerics/index.html#ictz">ictz</a>, <a href="../../scalar/Numerics/index.html#ipopcnt">ipopcnt</a>, <a href="../../scalar/Numerics/index.html#ieqz">ieqz</a>}
-use Rattle.wasmi_ops.specs.RawResults.{<a href="../../ops/RawResults/index.html#signed_raw">signed_raw</a>, <a href="../../ops/RawResults/index.html#bool_raw">bool_raw</a>}
-use Rattle.wasmi_ops.specs.declared.scalar.unary.ScalarUnaryOp.{ScalarUnaryOp}
-use Rattle.wasmi_ops.specs.declared.scalar.unary.ScalarUnaryOp.TheVariants as unary
+<a href="../../ops/ScalarOps/index.html#as_raw">as_raw</a> raw (Ok value) = Ok (raw value)
+<a href="../../ops/ScalarOps/index.html#as_raw">as_raw</a> raw (Err trap) = Err trap
 
 -- each instruction of one raw value: its name, and what it gives
 abbrev pub <b id="scalar_unary_row">scalar_unary_row</b> : ScalarUnaryOp → List ℕ × (RawVal → RawVal)
-<a href="../../ops/ScalarUnaryOps/index.html#scalar_unary_row">scalar_unary_row</a> unary.I32Clz = (codes "i32_clz", λ raw. <a href="../../ops/RawResults/index.html#signed_raw">signed_raw</a> w32 (<a href="../../scalar/Numerics/index.html#iclz">iclz</a> w32 (<a href="../../raw/RawVal/index.html#signed_in">signed_in</a> w32 raw)))
-<a href="../../ops/ScalarUnaryOps/index.html#scalar_unary_row">scalar_unary_row</a> unary.I32Ctz = (codes "i32_ctz", λ raw. <a href="../../ops/RawResults/index.html#signed_raw">signed_raw</a> w32 (<a href="../../scalar/Numerics/index.html#ictz">ictz</a> w32 (<a href="../../raw/RawVal/index.html#signed_in">signed_in</a> w32 raw)))
-<a href="../../ops/ScalarUnaryOps/index.html#scalar_unary_row">scalar_unary_row</a> unary.I32Popcnt = (codes "i32_popcnt", λ raw. <a href="../../ops/RawResults/index.html#signed_raw">signed_raw</a> w32 (<a href="../../scalar/Numerics/index.html#ipopcnt">ipopcnt</a> w32 (<a href="../../raw/RawVal/index.html#signed_in">signed_in</a> w32 raw)))
-<a href="../../ops/ScalarUnaryOps/index.html#scalar_unary_row">scalar_unary_row</a> unary.I32Eqz = (codes "i32_eqz", λ raw. <a href="../../ops/RawResults/index.html#bool_raw">bool_raw</a> (<a href="../../scalar/Numerics/index.html#ieqz">ieqz</a> (<a href="../../raw/RawVal/index.html#signed_in">signed_in</a> w32 raw)))
-<a href="../../ops/ScalarUnaryOps/index.html#scalar_unary_row">scalar_unary_row</a> unary.I64Clz = (codes "i64_clz", λ raw. <a href="../../ops/RawResults/index.html#signed_raw">signed_raw</a> w64 (<a href="../../scalar/Numerics/index.html#iclz">iclz</a> w64 (<a href="../../raw/RawVal/index.html#signed_in">signed_in</a> w64 raw)))
-<a href="../../ops/ScalarUnaryOps/index.html#scalar_unary_row">scalar_unary_row</a> unary.I64Ctz = (codes "i64_ctz", λ raw. <a href="../../ops/RawResults/index.html#signed_raw">signed_raw</a> w64 (<a href="../../scalar/Numerics/index.html#ictz">ictz</a> w64 (<a href="../../raw/RawVal/index.html#signed_in">signed_in</a> w64 raw)))
-<a href="../../ops/ScalarUnaryOps/index.html#scalar_unary_row">scalar_unary_row</a> unary.I64Popcnt = (codes "i64_popcnt", λ raw. <a href="../../ops/RawResults/index.html#signed_raw">signed_raw</a> w64 (<a href="../../scalar/Numerics/index.html#ipopcnt">ipopcnt</a> w64 (<a href="../../raw/RawVal/index.html#signed_in">signed_in</a> w64 raw)))
-<a href="../../ops/ScalarUnaryOps/index.html#scalar_unary_row">scalar_unary_row</a> unary.I64Eqz = (codes "i64_eqz", λ raw. <a href="../../ops/RawResults/index.html#bool_raw">bool_raw</a> (<a href="../../scalar/Numerics/index.html#ieqz">ieqz</a> (<a href="../../raw/RawVal/index.html#signed_in">signed_in</a> w64 raw)))
-<a href="../../ops/ScalarUnaryOps/index.html#scalar_unary_row">scalar_unary_row</a> unary.I32WrapI64 = (codes "i32_wrap_i64", λ raw. <a href="../../ops/RawResults/index.html#signed_raw">signed_raw</a> w32 (int_wrap w32 (<a href="../../raw/RawVal/index.html#signed_in">signed_in</a> w64 raw)))
-<a href="../../ops/ScalarUnaryOps/index.html#scalar_unary_row">scalar_unary_row</a> unary.I64ExtendI32S = (codes "i64_extend_i32_s", λ raw. <a href="../../ops/RawResults/index.html#signed_raw">signed_raw</a> w64 (<a href="../../raw/RawVal/index.html#signed_in">signed_in</a> w32 raw))
-<a href="../../ops/ScalarUnaryOps/index.html#scalar_unary_row">scalar_unary_row</a> unary.I64ExtendI32U = (codes "i64_extend_i32_u", λ raw. <a href="../../raw/RawVal/index.html#raw_of">raw_of</a> (<a href="../../raw/RawVal/index.html#unsigned_in">unsigned_in</a> w32 raw))
-<a href="../../ops/ScalarUnaryOps/index.html#scalar_unary_row">scalar_unary_row</a> unary.I32Extend8S = (codes "i32_extend8_s", λ raw. <a href="../../ops/RawResults/index.html#signed_raw">signed_raw</a> w32 (int_wrap w8 (<a href="../../raw/RawVal/index.html#signed_in">signed_in</a> w32 raw)))
-<a href="../../ops/ScalarUnaryOps/index.html#scalar_unary_row">scalar_unary_row</a> unary.I32Extend16S = (codes "i32_extend16_s", λ raw. <a href="../../ops/RawResults/index.html#signed_raw">signed_raw</a> w32 (int_wrap w16 (<a href="../../raw/RawVal/index.html#signed_in">signed_in</a> w32 raw)))
-<a href="../../ops/ScalarUnaryOps/index.html#scalar_unary_row">scalar_unary_row</a> unary.I64Extend8S = (codes "i64_extend8_s", λ raw. <a href="../../ops/RawResults/index.html#signed_raw">signed_raw</a> w64 (int_wrap w8 (<a href="../../raw/RawVal/index.html#signed_in">signed_in</a> w64 raw)))
-<a href="../../ops/ScalarUnaryOps/index.html#scalar_unary_row">scalar_unary_row</a> unary.I64Extend16S = (codes "i64_extend16_s", λ raw. <a href="../../ops/RawResults/index.html#signed_raw">signed_raw</a> w64 (int_wrap w16 (<a href="../../raw/RawVal/index.html#signed_in">signed_in</a> w64 raw)))
-<a href="../../ops/ScalarUnaryOps/index.html#scalar_unary_row">scalar_unary_row</a> unary.I64Extend32S = (codes "i64_extend32_s", λ raw. <a href="../../ops/RawResults/index.html#signed_raw">signed_raw</a> w64 (int_wrap w32 (<a href="../../raw/RawVal/index.html#signed_in">signed_in</a> w64 raw)))
+<a href="../../ops/ScalarOps/index.html#scalar_unary_row">scalar_unary_row</a> unary.I32Clz = (codes "i32_clz", λ raw. <a href="../../ops/ScalarOps/index.html#signed_raw">signed_raw</a> w32 (<a href="../../scalar/Numerics/index.html#iclz">iclz</a> w32 (<a href="../../raw/RawVal/index.html#signed_in">signed_in</a> w32 raw)))
+<a href="../../ops/ScalarOps/index.html#scalar_unary_row">scalar_unary_row</a> unary.I32Ctz = (codes "i32_ctz", λ raw. <a href="../../ops/ScalarOps/index.html#signed_raw">signed_raw</a> w32 (<a href="../../scalar/Numerics/index.html#ictz">ictz</a> w32 (<a href="../../raw/RawVal/index.html#signed_in">signed_in</a> w32 raw)))
+<a href="../../ops/ScalarOps/index.html#scalar_unary_row">scalar_unary_row</a> unary.I32Popcnt = (codes "i32_popcnt", λ raw. <a href="../../ops/ScalarOps/index.html#signed_raw">signed_raw</a> w32 (<a href="../../scalar/Numerics/index.html#ipopcnt">ipopcnt</a> w32 (<a href="../../raw/RawVal/index.html#signed_in">signed_in</a> w32 raw)))
+<a href="../../ops/ScalarOps/index.html#scalar_unary_row">scalar_unary_row</a> unary.I32Eqz = (codes "i32_eqz", λ raw. <a href="../../ops/ScalarOps/index.html#bool_raw">bool_raw</a> (<a href="../../scalar/Numerics/index.html#ieqz">ieqz</a> (<a href="../../raw/RawVal/index.html#signed_in">signed_in</a> w32 raw)))
+<a href="../../ops/ScalarOps/index.html#scalar_unary_row">scalar_unary_row</a> unary.I64Clz = (codes "i64_clz", λ raw. <a href="../../ops/ScalarOps/index.html#signed_raw">signed_raw</a> w64 (<a href="../../scalar/Numerics/index.html#iclz">iclz</a> w64 (<a href="../../raw/RawVal/index.html#signed_in">signed_in</a> w64 raw)))
+<a href="../../ops/ScalarOps/index.html#scalar_unary_row">scalar_unary_row</a> unary.I64Ctz = (codes "i64_ctz", λ raw. <a href="../../ops/ScalarOps/index.html#signed_raw">signed_raw</a> w64 (<a href="../../scalar/Numerics/index.html#ictz">ictz</a> w64 (<a href="../../raw/RawVal/index.html#signed_in">signed_in</a> w64 raw)))
+<a href="../../ops/ScalarOps/index.html#scalar_unary_row">scalar_unary_row</a> unary.I64Popcnt = (codes "i64_popcnt", λ raw. <a href="../../ops/ScalarOps/index.html#signed_raw">signed_raw</a> w64 (<a href="../../scalar/Numerics/index.html#ipopcnt">ipopcnt</a> w64 (<a href="../../raw/RawVal/index.html#signed_in">signed_in</a> w64 raw)))
+<a href="../../ops/ScalarOps/index.html#scalar_unary_row">scalar_unary_row</a> unary.I64Eqz = (codes "i64_eqz", λ raw. <a href="../../ops/ScalarOps/index.html#bool_raw">bool_raw</a> (<a href="../../scalar/Numerics/index.html#ieqz">ieqz</a> (<a href="../../raw/RawVal/index.html#signed_in">signed_in</a> w64 raw)))
+<a href="../../ops/ScalarOps/index.html#scalar_unary_row">scalar_unary_row</a> unary.I32WrapI64 = (codes "i32_wrap_i64", λ raw. <a href="../../ops/ScalarOps/index.html#signed_raw">signed_raw</a> w32 (int_wrap w32 (<a href="../../raw/RawVal/index.html#signed_in">signed_in</a> w64 raw)))
+<a href="../../ops/ScalarOps/index.html#scalar_unary_row">scalar_unary_row</a> unary.I64ExtendI32S = (codes "i64_extend_i32_s", λ raw. <a href="../../ops/ScalarOps/index.html#signed_raw">signed_raw</a> w64 (<a href="../../raw/RawVal/index.html#signed_in">signed_in</a> w32 raw))
+<a href="../../ops/ScalarOps/index.html#scalar_unary_row">scalar_unary_row</a> unary.I64ExtendI32U = (codes "i64_extend_i32_u", λ raw. <a href="../../raw/RawVal/index.html#raw_of">raw_of</a> (<a href="../../raw/RawVal/index.html#unsigned_in">unsigned_in</a> w32 raw))
+<a href="../../ops/ScalarOps/index.html#scalar_unary_row">scalar_unary_row</a> unary.I32Extend8S = (codes "i32_extend8_s", λ raw. <a href="../../ops/ScalarOps/index.html#signed_raw">signed_raw</a> w32 (int_wrap w8 (<a href="../../raw/RawVal/index.html#signed_in">signed_in</a> w32 raw)))
+<a href="../../ops/ScalarOps/index.html#scalar_unary_row">scalar_unary_row</a> unary.I32Extend16S = (codes "i32_extend16_s", λ raw. <a href="../../ops/ScalarOps/index.html#signed_raw">signed_raw</a> w32 (int_wrap w16 (<a href="../../raw/RawVal/index.html#signed_in">signed_in</a> w32 raw)))
+<a href="../../ops/ScalarOps/index.html#scalar_unary_row">scalar_unary_row</a> unary.I64Extend8S = (codes "i64_extend8_s", λ raw. <a href="../../ops/ScalarOps/index.html#signed_raw">signed_raw</a> w64 (int_wrap w8 (<a href="../../raw/RawVal/index.html#signed_in">signed_in</a> w64 raw)))
+<a href="../../ops/ScalarOps/index.html#scalar_unary_row">scalar_unary_row</a> unary.I64Extend16S = (codes "i64_extend16_s", λ raw. <a href="../../ops/ScalarOps/index.html#signed_raw">signed_raw</a> w64 (int_wrap w16 (<a href="../../raw/RawVal/index.html#signed_in">signed_in</a> w64 raw)))
+<a href="../../ops/ScalarOps/index.html#scalar_unary_row">scalar_unary_row</a> unary.I64Extend32S = (codes "i64_extend32_s", λ raw. <a href="../../ops/ScalarOps/index.html#signed_raw">signed_raw</a> w64 (int_wrap w32 (<a href="../../raw/RawVal/index.html#signed_in">signed_in</a> w64 raw)))
 
 -- what an instruction of one raw value gives
 abbrev pub <b id="unary_raw">unary_raw</b> : ScalarUnaryOp → RawVal → RawVal
-<a href="../../ops/ScalarUnaryOps/index.html#unary_raw">unary_raw</a> op = (<a href="../../ops/ScalarUnaryOps/index.html#scalar_unary_row">scalar_unary_row</a> op).1
+<a href="../../ops/ScalarOps/index.html#unary_raw">unary_raw</a> op = (<a href="../../ops/ScalarOps/index.html#scalar_unary_row">scalar_unary_row</a> op).1
 
 -- the name of a scalar instruction of one operand
 abbrev pub <b id="scalar_unary_name">scalar_unary_name</b> : ScalarUnaryOp → List ℕ
-<a href="../../ops/ScalarUnaryOps/index.html#scalar_unary_name">scalar_unary_name</a> op = (<a href="../../ops/ScalarUnaryOps/index.html#scalar_unary_row">scalar_unary_row</a> op).0
+<a href="../../ops/ScalarOps/index.html#scalar_unary_name">scalar_unary_name</a> op = (<a href="../../ops/ScalarOps/index.html#scalar_unary_row">scalar_unary_row</a> op).0
+
+-- what an instruction of two raw values gives, or its trap
+abbrev pub <b id="RawOperation">RawOperation</b> : Type 0
+<a href="../../ops/ScalarOps/index.html#RawOperation">RawOperation</a> = RawVal → RawVal → Result RawVal TrapCode
+
+-- an operation on two numbers that are read signed in a width
+abbrev pub <b id="signed_operation">signed_operation</b> : Width → (Width → ℤ → ℤ → ℤ) → <a href="../../ops/ScalarOps/index.html#RawOperation">RawOperation</a>
+<a href="../../ops/ScalarOps/index.html#signed_operation">signed_operation</a> w operator lhs rhs = Ok (<a href="../../ops/ScalarOps/index.html#signed_raw">signed_raw</a> w (operator w (<a href="../../raw/RawVal/index.html#signed_in">signed_in</a> w lhs) (<a href="../../raw/RawVal/index.html#signed_in">signed_in</a> w rhs)))
+
+-- the operation on two raw values whose numbers are read unsigned
+abbrev pub <b id="unsigned_operation">unsigned_operation</b> : Width → (Width → ℕ → ℕ → ℕ) → <a href="../../ops/ScalarOps/index.html#RawOperation">RawOperation</a>
+<a href="../../ops/ScalarOps/index.html#unsigned_operation">unsigned_operation</a> w operator lhs rhs = Ok (<a href="../../raw/RawVal/index.html#raw_of">raw_of</a> (operator w (<a href="../../raw/RawVal/index.html#unsigned_in">unsigned_in</a> w lhs) (<a href="../../raw/RawVal/index.html#unsigned_in">unsigned_in</a> w rhs)))
+
+-- an operation on two numbers that are read signed in a width, which may trap
+abbrev pub <b id="signed_partial">signed_partial</b> : Width → (ℤ → ℤ → Result ℤ TrapCode) → <a href="../../ops/ScalarOps/index.html#RawOperation">RawOperation</a>
+<a href="../../ops/ScalarOps/index.html#signed_partial">signed_partial</a> w operator lhs rhs = <a href="../../ops/ScalarOps/index.html#as_raw">as_raw</a> (<a href="../../ops/ScalarOps/index.html#signed_raw">signed_raw</a> w) (operator (<a href="../../raw/RawVal/index.html#signed_in">signed_in</a> w lhs) (<a href="../../raw/RawVal/index.html#signed_in">signed_in</a> w rhs))
+
+-- the operation that may trap, on two raw values whose numbers are read unsigned
+abbrev pub <b id="unsigned_partial">unsigned_partial</b> : Width → (ℕ → ℕ → Result ℕ TrapCode) → <a href="../../ops/ScalarOps/index.html#RawOperation">RawOperation</a>
+<a href="../../ops/ScalarOps/index.html#unsigned_partial">unsigned_partial</a> w operator lhs rhs = <a href="../../ops/ScalarOps/index.html#as_raw">as_raw</a> <a href="../../raw/RawVal/index.html#raw_of">raw_of</a> (operator (<a href="../../raw/RawVal/index.html#unsigned_in">unsigned_in</a> w lhs) (<a href="../../raw/RawVal/index.html#unsigned_in">unsigned_in</a> w rhs))
+
+-- a comparison of two numbers that are read signed in a width
+abbrev pub <b id="signed_comparison">signed_comparison</b> : Width → (ℤ → ℤ → Bool) → <a href="../../ops/ScalarOps/index.html#RawOperation">RawOperation</a>
+<a href="../../ops/ScalarOps/index.html#signed_comparison">signed_comparison</a> w relation lhs rhs = Ok (<a href="../../ops/ScalarOps/index.html#bool_raw">bool_raw</a> (relation (<a href="../../raw/RawVal/index.html#signed_in">signed_in</a> w lhs) (<a href="../../raw/RawVal/index.html#signed_in">signed_in</a> w rhs)))
+
+-- the comparison of two raw values whose numbers are read unsigned
+abbrev pub <b id="unsigned_comparison">unsigned_comparison</b> : Width → (ℕ → ℕ → Bool) → <a href="../../ops/ScalarOps/index.html#RawOperation">RawOperation</a>
+<a href="../../ops/ScalarOps/index.html#unsigned_comparison">unsigned_comparison</a> w relation lhs rhs = Ok (<a href="../../ops/ScalarOps/index.html#bool_raw">bool_raw</a> (relation (<a href="../../raw/RawVal/index.html#unsigned_in">unsigned_in</a> w lhs) (<a href="../../raw/RawVal/index.html#unsigned_in">unsigned_in</a> w rhs)))
+
+-- an operation on two numbers of 128 bits
+abbrev pub <b id="wide_operation">wide_operation</b> : (ℕ → ℕ → ℕ) → <a href="../../ops/ScalarOps/index.html#RawOperation">RawOperation</a>
+<a href="../../ops/ScalarOps/index.html#wide_operation">wide_operation</a> operator lhs rhs = Ok (<a href="../../raw/RawVal/index.html#raw_of_vector">raw_of_vector</a> (operator (<a href="../../raw/RawVal/index.html#vector_in">vector_in</a> lhs) (<a href="../../raw/RawVal/index.html#vector_in">vector_in</a> rhs)))
+
+-- each instruction of two raw values: its name, and its operation
+abbrev pub <b id="scalar_binary_row">scalar_binary_row</b> : ScalarBinaryOp → List ℕ × <a href="../../ops/ScalarOps/index.html#RawOperation">RawOperation</a>
+<a href="../../ops/ScalarOps/index.html#scalar_binary_row">scalar_binary_row</a> binary.I32Add = (codes "i32_add", <a href="../../ops/ScalarOps/index.html#signed_operation">signed_operation</a> w32 <a href="../../scalar/Numerics/index.html#iadd">iadd</a>)
+<a href="../../ops/ScalarOps/index.html#scalar_binary_row">scalar_binary_row</a> binary.I32Sub = (codes "i32_sub", <a href="../../ops/ScalarOps/index.html#signed_operation">signed_operation</a> w32 <a href="../../scalar/Numerics/index.html#isub">isub</a>)
+<a href="../../ops/ScalarOps/index.html#scalar_binary_row">scalar_binary_row</a> binary.I32Mul = (codes "i32_mul", <a href="../../ops/ScalarOps/index.html#signed_operation">signed_operation</a> w32 <a href="../../scalar/Numerics/index.html#imul">imul</a>)
+<a href="../../ops/ScalarOps/index.html#scalar_binary_row">scalar_binary_row</a> binary.I32Bitand = (codes "i32_bitand", <a href="../../ops/ScalarOps/index.html#signed_operation">signed_operation</a> w32 <a href="../../scalar/Numerics/index.html#iand">iand</a>)
+<a href="../../ops/ScalarOps/index.html#scalar_binary_row">scalar_binary_row</a> binary.I32Bitor = (codes "i32_bitor", <a href="../../ops/ScalarOps/index.html#signed_operation">signed_operation</a> w32 <a href="../../scalar/Numerics/index.html#ior">ior</a>)
+<a href="../../ops/ScalarOps/index.html#scalar_binary_row">scalar_binary_row</a> binary.I32Bitxor = (codes "i32_bitxor", <a href="../../ops/ScalarOps/index.html#signed_operation">signed_operation</a> w32 <a href="../../scalar/Numerics/index.html#ixor">ixor</a>)
+<a href="../../ops/ScalarOps/index.html#scalar_binary_row">scalar_binary_row</a> binary.I32Shl = (codes "i32_shl", <a href="../../ops/ScalarOps/index.html#signed_operation">signed_operation</a> w32 <a href="../../scalar/Numerics/index.html#ishl">ishl</a>)
+<a href="../../ops/ScalarOps/index.html#scalar_binary_row">scalar_binary_row</a> binary.I32ShrS = (codes "i32_shr_s", <a href="../../ops/ScalarOps/index.html#signed_operation">signed_operation</a> w32 <a href="../../scalar/Numerics/index.html#ishr_s">ishr_s</a>)
+<a href="../../ops/ScalarOps/index.html#scalar_binary_row">scalar_binary_row</a> binary.I32ShrU = (codes "i32_shr_u", <a href="../../ops/ScalarOps/index.html#unsigned_operation">unsigned_operation</a> w32 <a href="../../scalar/Numerics/index.html#ishr_u">ishr_u</a>)
+<a href="../../ops/ScalarOps/index.html#scalar_binary_row">scalar_binary_row</a> binary.I32Rotl = (codes "i32_rotl", <a href="../../ops/ScalarOps/index.html#signed_operation">signed_operation</a> w32 <a href="../../scalar/Numerics/index.html#irotl">irotl</a>)
+<a href="../../ops/ScalarOps/index.html#scalar_binary_row">scalar_binary_row</a> binary.I32Rotr = (codes "i32_rotr", <a href="../../ops/ScalarOps/index.html#signed_operation">signed_operation</a> w32 <a href="../../scalar/Numerics/index.html#irotr">irotr</a>)
+<a href="../../ops/ScalarOps/index.html#scalar_binary_row">scalar_binary_row</a> binary.I32DivS = (codes "i32_div_s", <a href="../../ops/ScalarOps/index.html#signed_partial">signed_partial</a> w32 (<a href="../../scalar/Numerics/index.html#idiv_s">idiv_s</a> w32))
+<a href="../../ops/ScalarOps/index.html#scalar_binary_row">scalar_binary_row</a> binary.I32DivU = (codes "i32_div_u", <a href="../../ops/ScalarOps/index.html#unsigned_partial">unsigned_partial</a> w32 <a href="../../scalar/Numerics/index.html#idiv_u">idiv_u</a>)
+<a href="../../ops/ScalarOps/index.html#scalar_binary_row">scalar_binary_row</a> binary.I32RemS = (codes "i32_rem_s", <a href="../../ops/ScalarOps/index.html#signed_partial">signed_partial</a> w32 <a href="../../scalar/Numerics/index.html#irem_s">irem_s</a>)
+<a href="../../ops/ScalarOps/index.html#scalar_binary_row">scalar_binary_row</a> binary.I32RemU = (codes "i32_rem_u", <a href="../../ops/ScalarOps/index.html#unsigned_partial">unsigned_partial</a> w32 <a href="../../scalar/Numerics/index.html#irem_u">irem_u</a>)
+<a href="../../ops/ScalarOps/index.html#scalar_binary_row">scalar_binary_row</a> binary.I32Eq = (codes "i32_eq", <a href="../../ops/ScalarOps/index.html#signed_comparison">signed_comparison</a> w32 <a href="../../scalar/Numerics/index.html#ieq">ieq</a>)
+<a href="../../ops/ScalarOps/index.html#scalar_binary_row">scalar_binary_row</a> binary.I32Ne = (codes "i32_ne", <a href="../../ops/ScalarOps/index.html#signed_comparison">signed_comparison</a> w32 <a href="../../scalar/Numerics/index.html#ine">ine</a>)
+<a href="../../ops/ScalarOps/index.html#scalar_binary_row">scalar_binary_row</a> binary.I32LtS = (codes "i32_lt_s", <a href="../../ops/ScalarOps/index.html#signed_comparison">signed_comparison</a> w32 <a href="../../scalar/Numerics/index.html#ilt_s">ilt_s</a>)
+<a href="../../ops/ScalarOps/index.html#scalar_binary_row">scalar_binary_row</a> binary.I32LtU = (codes "i32_lt_u", <a href="../../ops/ScalarOps/index.html#unsigned_comparison">unsigned_comparison</a> w32 <a href="../../scalar/Numerics/index.html#ilt_u">ilt_u</a>)
+<a href="../../ops/ScalarOps/index.html#scalar_binary_row">scalar_binary_row</a> binary.I32LeS = (codes "i32_le_s", <a href="../../ops/ScalarOps/index.html#signed_comparison">signed_comparison</a> w32 <a href="../../scalar/Numerics/index.html#ile_s">ile_s</a>)
+<a href="../../ops/ScalarOps/index.html#scalar_binary_row">scalar_binary_row</a> binary.I32LeU = (codes "i32_le_u", <a href="../../ops/ScalarOps/index.html#unsigned_comparison">unsigned_comparison</a> w32 <a href="../../scalar/Numerics/index.html#ile_u">ile_u</a>)
+<a href="../../ops/ScalarOps/index.html#scalar_binary_row">scalar_binary_row</a> binary.I32GtS = (codes "i32_gt_s", <a href="../../ops/ScalarOps/index.html#signed_comparison">signed_comparison</a> w32 <a href="../../scalar/Numerics/index.html#igt_s">igt_s</a>)
+<a href="../../ops/ScalarOps/index.html#scalar_binary_row">scalar_binary_row</a> binary.I32GtU = (codes "i32_gt_u", <a href="../../ops/ScalarOps/index.html#unsigned_comparison">unsigned_comparison</a> w32 <a href="../../scalar/Numerics/index.html#igt_u">igt_u</a>)
+<a href="../../ops/ScalarOps/index.html#scalar_binary_row">scalar_binary_row</a> binary.I32GeS = (codes "i32_ge_s", <a href="../../ops/ScalarOps/index.html#signed_comparison">signed_comparison</a> w32 <a href="../../scalar/Numerics/index.html#ige_s">ige_s</a>)
+<a href="../../ops/ScalarOps/index.html#scalar_binary_row">scalar_binary_row</a> binary.I32GeU = (codes "i32_ge_u", <a href="../../ops/ScalarOps/index.html#unsigned_comparison">unsigned_comparison</a> w32 <a href="../../scalar/Numerics/index.html#ige_u">ige_u</a>)
+<a href="../../ops/ScalarOps/index.html#scalar_binary_row">scalar_binary_row</a> binary.I64Add = (codes "i64_add", <a href="../../ops/ScalarOps/index.html#signed_operation">signed_operation</a> w64 <a href="../../scalar/Numerics/index.html#iadd">iadd</a>)
+<a href="../../ops/ScalarOps/index.html#scalar_binary_row">scalar_binary_row</a> binary.I64Sub = (codes "i64_sub", <a href="../../ops/ScalarOps/index.html#signed_operation">signed_operation</a> w64 <a href="../../scalar/Numerics/index.html#isub">isub</a>)
+<a href="../../ops/ScalarOps/index.html#scalar_binary_row">scalar_binary_row</a> binary.I64Mul = (codes "i64_mul", <a href="../../ops/ScalarOps/index.html#signed_operation">signed_operation</a> w64 <a href="../../scalar/Numerics/index.html#imul">imul</a>)
+<a href="../../ops/ScalarOps/index.html#scalar_binary_row">scalar_binary_row</a> binary.I64Bitand = (codes "i64_bitand", <a href="../../ops/ScalarOps/index.html#signed_operation">signed_operation</a> w64 <a href="../../scalar/Numerics/index.html#iand">iand</a>)
+<a href="../../ops/ScalarOps/index.html#scalar_binary_row">scalar_binary_row</a> binary.I64Bitor = (codes "i64_bitor", <a href="../../ops/ScalarOps/index.html#signed_operation">signed_operation</a> w64 <a href="../../scalar/Numerics/index.html#ior">ior</a>)
+<a href="../../ops/ScalarOps/index.html#scalar_binary_row">scalar_binary_row</a> binary.I64Bitxor = (codes "i64_bitxor", <a href="../../ops/ScalarOps/index.html#signed_operation">signed_operation</a> w64 <a href="../../scalar/Numerics/index.html#ixor">ixor</a>)
+<a href="../../ops/ScalarOps/index.html#scalar_binary_row">scalar_binary_row</a> binary.I64Shl = (codes "i64_shl", <a href="../../ops/ScalarOps/index.html#signed_operation">signed_operation</a> w64 <a href="../../scalar/Numerics/index.html#ishl">ishl</a>)
+<a href="../../ops/ScalarOps/index.html#scalar_binary_row">scalar_binary_row</a> binary.I64ShrS = (codes "i64_shr_s", <a href="../../ops/ScalarOps/index.html#signed_operation">signed_operation</a> w64 <a href="../../scalar/Numerics/index.html#ishr_s">ishr_s</a>)
+<a href="../../ops/ScalarOps/index.html#scalar_binary_row">scalar_binary_row</a> binary.I64ShrU = (codes "i64_shr_u", <a href="../../ops/ScalarOps/index.html#unsigned_operation">unsigned_operation</a> w64 <a href="../../scalar/Numerics/index.html#ishr_u">ishr_u</a>)
+<a href="../../ops/ScalarOps/index.html#scalar_binary_row">scalar_binary_row</a> binary.I64Rotl = (codes "i64_rotl", <a href="../../ops/ScalarOps/index.html#signed_operation">signed_operation</a> w64 <a href="../../scalar/Numerics/index.html#irotl">irotl</a>)
+<a href="../../ops/ScalarOps/index.html#scalar_binary_row">scalar_binary_row</a> binary.I64Rotr = (codes "i64_rotr", <a href="../../ops/ScalarOps/index.html#signed_operation">signed_operation</a> w64 <a href="../../scalar/Numerics/index.html#irotr">irotr</a>)
+<a href="../../ops/ScalarOps/index.html#scalar_binary_row">scalar_binary_row</a> binary.I64DivS = (codes "i64_div_s", <a href="../../ops/ScalarOps/index.html#signed_partial">signed_partial</a> w64 (<a href="../../scalar/Numerics/index.html#idiv_s">idiv_s</a> w64))
+<a href="../../ops/ScalarOps/index.html#scalar_binary_row">scalar_binary_row</a> binary.I64DivU = (codes "i64_div_u", <a href="../../ops/ScalarOps/index.html#unsigned_partial">unsigned_partial</a> w64 <a href="../../scalar/Numerics/index.html#idiv_u">idiv_u</a>)
+<a href="../../ops/ScalarOps/index.html#scalar_binary_row">scalar_binary_row</a> binary.I64RemS = (codes "i64_rem_s", <a href="../../ops/ScalarOps/index.html#signed_partial">signed_partial</a> w64 <a href="../../scalar/Numerics/index.html#irem_s">irem_s</a>)
+<a href="../../ops/ScalarOps/index.html#scalar_binary_row">scalar_binary_row</a> binary.I64RemU = (codes "i64_rem_u", <a href="../../ops/ScalarOps/index.html#unsigned_partial">unsigned_partial</a> w64 <a href="../../scalar/Numerics/index.html#irem_u">irem_u</a>)
+<a href="../../ops/ScalarOps/index.html#scalar_binary_row">scalar_binary_row</a> binary.I64Eq = (codes "i64_eq", <a href="../../ops/ScalarOps/index.html#signed_comparison">signed_comparison</a> w64 <a href="../../scalar/Numerics/index.html#ieq">ieq</a>)
+<a href="../../ops/ScalarOps/index.html#scalar_binary_row">scalar_binary_row</a> binary.I64Ne = (codes "i64_ne", <a href="../../ops/ScalarOps/index.html#signed_comparison">signed_comparison</a> w64 <a href="../../scalar/Numerics/index.html#ine">ine</a>)
+<a href="../../ops/ScalarOps/index.html#scalar_binary_row">scalar_binary_row</a> binary.I64LtS = (codes "i64_lt_s", <a href="../../ops/ScalarOps/index.html#signed_comparison">signed_comparison</a> w64 <a href="../../scalar/Numerics/index.html#ilt_s">ilt_s</a>)
+<a href="../../ops/ScalarOps/index.html#scalar_binary_row">scalar_binary_row</a> binary.I64LtU = (codes "i64_lt_u", <a href="../../ops/ScalarOps/index.html#unsigned_comparison">unsigned_comparison</a> w64 <a href="../../scalar/Numerics/index.html#ilt_u">ilt_u</a>)
+<a href="../../ops/ScalarOps/index.html#scalar_binary_row">scalar_binary_row</a> binary.I64LeS = (codes "i64_le_s", <a href="../../ops/ScalarOps/index.html#signed_comparison">signed_comparison</a> w64 <a href="../../scalar/Numerics/index.html#ile_s">ile_s</a>)
+<a href="../../ops/ScalarOps/index.html#scalar_binary_row">scalar_binary_row</a> binary.I64LeU = (codes "i64_le_u", <a href="../../ops/ScalarOps/index.html#unsigned_comparison">unsigned_comparison</a> w64 <a href="../../scalar/Numerics/index.html#ile_u">ile_u</a>)
+<a href="../../ops/ScalarOps/index.html#scalar_binary_row">scalar_binary_row</a> binary.I64GtS = (codes "i64_gt_s", <a href="../../ops/ScalarOps/index.html#signed_comparison">signed_comparison</a> w64 <a href="../../scalar/Numerics/index.html#igt_s">igt_s</a>)
+<a href="../../ops/ScalarOps/index.html#scalar_binary_row">scalar_binary_row</a> binary.I64GtU = (codes "i64_gt_u", <a href="../../ops/ScalarOps/index.html#unsigned_comparison">unsigned_comparison</a> w64 <a href="../../scalar/Numerics/index.html#igt_u">igt_u</a>)
+<a href="../../ops/ScalarOps/index.html#scalar_binary_row">scalar_binary_row</a> binary.I64GeS = (codes "i64_ge_s", <a href="../../ops/ScalarOps/index.html#signed_comparison">signed_comparison</a> w64 <a href="../../scalar/Numerics/index.html#ige_s">ige_s</a>)
+<a href="../../ops/ScalarOps/index.html#scalar_binary_row">scalar_binary_row</a> binary.I64GeU = (codes "i64_ge_u", <a href="../../ops/ScalarOps/index.html#unsigned_comparison">unsigned_comparison</a> w64 <a href="../../scalar/Numerics/index.html#ige_u">ige_u</a>)
+<a href="../../ops/ScalarOps/index.html#scalar_binary_row">scalar_binary_row</a> binary.I64Add128 = (codes "i64_add128", <a href="../../ops/ScalarOps/index.html#wide_operation">wide_operation</a> <a href="../../scalar/Numerics/index.html#add128">add128</a>)
+<a href="../../ops/ScalarOps/index.html#scalar_binary_row">scalar_binary_row</a> binary.I64Sub128 = (codes "i64_sub128", <a href="../../ops/ScalarOps/index.html#wide_operation">wide_operation</a> <a href="../../scalar/Numerics/index.html#sub128">sub128</a>)
+<a href="../../ops/ScalarOps/index.html#scalar_binary_row">scalar_binary_row</a> binary.I64MulWideS =
+    (codes "i64_mul_wide_s", λ lhs rhs. Ok (<a href="../../raw/RawVal/index.html#raw_of_vector">raw_of_vector</a> (cast_unsigned w128 (<a href="../../raw/RawVal/index.html#signed_in">signed_in</a> w64 lhs *ℤ <a href="../../raw/RawVal/index.html#signed_in">signed_in</a> w64 rhs))))
+<a href="../../ops/ScalarOps/index.html#scalar_binary_row">scalar_binary_row</a> binary.I64MulWideU =
+    (codes "i64_mul_wide_u", λ lhs rhs. Ok (<a href="../../raw/RawVal/index.html#raw_of_vector">raw_of_vector</a> (<a href="../../raw/RawVal/index.html#unsigned_in">unsigned_in</a> w64 lhs * <a href="../../raw/RawVal/index.html#unsigned_in">unsigned_in</a> w64 rhs)))
+
+-- the operation of each instruction
+abbrev pub <b id="binary_raw">binary_raw</b> : ScalarBinaryOp → <a href="../../ops/ScalarOps/index.html#RawOperation">RawOperation</a>
+<a href="../../ops/ScalarOps/index.html#binary_raw">binary_raw</a> op = (<a href="../../ops/ScalarOps/index.html#scalar_binary_row">scalar_binary_row</a> op).1
+
+-- the name of a scalar instruction of two operands
+abbrev pub <b id="scalar_binary_name">scalar_binary_name</b> : ScalarBinaryOp → List ℕ
+<a href="../../ops/ScalarOps/index.html#scalar_binary_name">scalar_binary_name</a> op = (<a href="../../ops/ScalarOps/index.html#scalar_binary_row">scalar_binary_row</a> op).0
+
+-- what a load from an address in a memory of these bytes gives, or its trap
+abbrev pub <b id="RawLoad">RawLoad</b> : Type 0
+<a href="../../ops/ScalarOps/index.html#RawLoad">RawLoad</a> = List ℕ → ℕ → Result RawVal TrapCode
+
+-- the load of a number of a narrow width, sign-extended to a width
+abbrev pub <b id="sign_extended">sign_extended</b> : Width → Width → <a href="../../ops/ScalarOps/index.html#RawLoad">RawLoad</a>
+<a href="../../ops/ScalarOps/index.html#sign_extended">sign_extended</a> w narrow bytes a = <a href="../../ops/ScalarOps/index.html#as_raw">as_raw</a> (<a href="../../ops/ScalarOps/index.html#signed_raw">signed_raw</a> w) (<a href="../../accesses/LoadStore/index.html#loaded">loaded</a> (bits narrow / 8) (cast_signed narrow) bytes a)
+
+-- the load of a number of a narrow width, zero-extended to a width
+abbrev pub <b id="zero_extended">zero_extended</b> : Width → Width → <a href="../../ops/ScalarOps/index.html#RawLoad">RawLoad</a>
+<a href="../../ops/ScalarOps/index.html#zero_extended">zero_extended</a> w narrow bytes a = <a href="../../ops/ScalarOps/index.html#as_raw">as_raw</a> (<a href="../../ops/ScalarOps/index.html#signed_raw">signed_raw</a> w) (<a href="../../accesses/LoadStore/index.html#loaded">loaded</a> (bits narrow / 8) pos bytes a)
+
+-- the load of a value of a width
+abbrev pub <b id="unextended">unextended</b> : Width → <a href="../../ops/ScalarOps/index.html#RawLoad">RawLoad</a>
+<a href="../../ops/ScalarOps/index.html#unextended">unextended</a> w bytes a = <a href="../../ops/ScalarOps/index.html#as_raw">as_raw</a> <a href="../../raw/RawVal/index.html#raw_of">raw_of</a> (<a href="../../accesses/LoadStore/index.html#loaded">loaded</a> (bits w / 8) (λ number. number) bytes a)
+
+-- each load: its name, and the load
+abbrev pub <b id="load_row">load_row</b> : LoadOp → List ℕ × <a href="../../ops/ScalarOps/index.html#RawLoad">RawLoad</a>
+<a href="../../ops/ScalarOps/index.html#load_row">load_row</a> load.I32Load8S = (codes "i32_load8_s", <a href="../../ops/ScalarOps/index.html#sign_extended">sign_extended</a> w32 w8)
+<a href="../../ops/ScalarOps/index.html#load_row">load_row</a> load.I32Load8U = (codes "i32_load8_u", <a href="../../ops/ScalarOps/index.html#zero_extended">zero_extended</a> w32 w8)
+<a href="../../ops/ScalarOps/index.html#load_row">load_row</a> load.I32Load16S = (codes "i32_load16_s", <a href="../../ops/ScalarOps/index.html#sign_extended">sign_extended</a> w32 w16)
+<a href="../../ops/ScalarOps/index.html#load_row">load_row</a> load.I32Load16U = (codes "i32_load16_u", <a href="../../ops/ScalarOps/index.html#zero_extended">zero_extended</a> w32 w16)
+<a href="../../ops/ScalarOps/index.html#load_row">load_row</a> load.I64Load8S = (codes "i64_load8_s", <a href="../../ops/ScalarOps/index.html#sign_extended">sign_extended</a> w64 w8)
+<a href="../../ops/ScalarOps/index.html#load_row">load_row</a> load.I64Load8U = (codes "i64_load8_u", <a href="../../ops/ScalarOps/index.html#zero_extended">zero_extended</a> w64 w8)
+<a href="../../ops/ScalarOps/index.html#load_row">load_row</a> load.I64Load16S = (codes "i64_load16_s", <a href="../../ops/ScalarOps/index.html#sign_extended">sign_extended</a> w64 w16)
+<a href="../../ops/ScalarOps/index.html#load_row">load_row</a> load.I64Load16U = (codes "i64_load16_u", <a href="../../ops/ScalarOps/index.html#zero_extended">zero_extended</a> w64 w16)
+<a href="../../ops/ScalarOps/index.html#load_row">load_row</a> load.I64Load32S = (codes "i64_load32_s", <a href="../../ops/ScalarOps/index.html#sign_extended">sign_extended</a> w64 w32)
+<a href="../../ops/ScalarOps/index.html#load_row">load_row</a> load.I64Load32U = (codes "i64_load32_u", <a href="../../ops/ScalarOps/index.html#zero_extended">zero_extended</a> w64 w32)
+<a href="../../ops/ScalarOps/index.html#load_row">load_row</a> load.LoadU32 = (codes "load_u32", <a href="../../ops/ScalarOps/index.html#unextended">unextended</a> w32)
+<a href="../../ops/ScalarOps/index.html#load_row">load_row</a> load.LoadU64 = (codes "load_u64", <a href="../../ops/ScalarOps/index.html#unextended">unextended</a> w64)
+
+-- the load of each instruction
+abbrev pub <b id="loaded_raw">loaded_raw</b> : LoadOp → <a href="../../ops/ScalarOps/index.html#RawLoad">RawLoad</a>
+<a href="../../ops/ScalarOps/index.html#loaded_raw">loaded_raw</a> op = (<a href="../../ops/ScalarOps/index.html#load_row">load_row</a> op).1
+
+-- the name of a scalar load
+abbrev pub <b id="load_name">load_name</b> : LoadOp → List ℕ
+<a href="../../ops/ScalarOps/index.html#load_name">load_name</a> op = (<a href="../../ops/ScalarOps/index.html#load_row">load_row</a> op).0
+
+-- each store: its name, and the bytes that it writes, the low ones of the value
+abbrev pub <b id="store_row">store_row</b> : StoreOp → List ℕ × (RawVal → List ℕ)
+<a href="../../ops/ScalarOps/index.html#store_row">store_row</a> store.I32Store8 = (codes "i32_store8", λ value. <a href="../../types/Numbers/index.html#le_bytes">le_bytes</a> 1 (value.lo % 2 ^ 8))
+<a href="../../ops/ScalarOps/index.html#store_row">store_row</a> store.I32Store16 = (codes "i32_store16", λ value. <a href="../../types/Numbers/index.html#le_bytes">le_bytes</a> 2 (value.lo % 2 ^ 16))
+<a href="../../ops/ScalarOps/index.html#store_row">store_row</a> store.I64Store8 = (codes "i64_store8", λ value. <a href="../../types/Numbers/index.html#le_bytes">le_bytes</a> 1 (value.lo % 2 ^ 8))
+<a href="../../ops/ScalarOps/index.html#store_row">store_row</a> store.I64Store16 = (codes "i64_store16", λ value. <a href="../../types/Numbers/index.html#le_bytes">le_bytes</a> 2 (value.lo % 2 ^ 16))
+<a href="../../ops/ScalarOps/index.html#store_row">store_row</a> store.I64Store32 = (codes "i64_store32", λ value. <a href="../../types/Numbers/index.html#le_bytes">le_bytes</a> 4 (value.lo % 2 ^ 32))
+<a href="../../ops/ScalarOps/index.html#store_row">store_row</a> store.Store32 = (codes "store32", λ value. <a href="../../types/Numbers/index.html#le_bytes">le_bytes</a> 4 (value.lo % 2 ^ 32))
+<a href="../../ops/ScalarOps/index.html#store_row">store_row</a> store.Store64 = (codes "store64", λ value. <a href="../../types/Numbers/index.html#le_bytes">le_bytes</a> 8 value.lo)
+
+-- the bytes that a store writes: the low ones of the value
+abbrev pub <b id="stored_bytes">stored_bytes</b> : StoreOp → RawVal → List ℕ
+<a href="../../ops/ScalarOps/index.html#stored_bytes">stored_bytes</a> op = (<a href="../../ops/ScalarOps/index.html#store_row">store_row</a> op).1
+
+-- the name of a scalar store
+abbrev pub <b id="store_name">store_name</b> : StoreOp → List ℕ
+<a href="../../ops/ScalarOps/index.html#store_name">store_name</a> op = (<a href="../../ops/ScalarOps/index.html#store_row">store_row</a> op).0
 </code></pre>
 "####]
-    pub mod ScalarUnaryOps {}
-    #[doc = r####"The shifts of lanes.
+    pub mod ScalarOps {}
+    #[doc = r####"The vector instructions: a row for each, its name and what it gives.
 
-<pre><code>use Rattle.std.specs.Prelude.{ℕ, List, codes}
-use Rattle.wasmi_types.specs.Wrapping.{w8, w16, w32, w64}
-use Rattle.wasmi_simd.specs.WideningTable as widening
+<pre><code>use Rattle.std.specs.Prelude.{ℕ, List, codes, Result}
+use Rattle.wasmi_types.specs.Numbers.{w8, w16, w32, w64, <a href="../../types/Numbers/index.html#le_bytes">le_bytes</a>}
+use Rattle.wasmi_ops.specs.declared.vector.unary.UnaryOp.{UnaryOp}
+use Rattle.wasmi_ops.specs.declared.vector.binary.BinaryOp.{BinaryOp}
+use Rattle.wasmi_ops.specs.declared.vector.ternary.TernaryOp.{TernaryOp}
 use Rattle.wasmi_ops.specs.declared.vector.shift.ShiftOp.{ShiftOp}
-use Rattle.wasmi_ops.specs.declared.vector.shift.ShiftOp.TheVariants as shift
-
--- each shift: its name, and what it gives for a vector and an amount
-abbrev pub <b id="shift_row">shift_row</b> : ShiftOp → List ℕ × (ℕ → ℕ → ℕ)
-<a href="../../ops/ShiftOps/index.html#shift_row">shift_row</a> shift.I8x16Shl = (codes "i8x16_shl", <a href="../../widening/WideningTable/index.html#shl">widening.shl</a> w8)
-<a href="../../ops/ShiftOps/index.html#shift_row">shift_row</a> shift.I8x16ShrS = (codes "i8x16_shr_s", <a href="../../widening/WideningTable/index.html#shr_s">widening.shr_s</a> w8)
-<a href="../../ops/ShiftOps/index.html#shift_row">shift_row</a> shift.I8x16ShrU = (codes "i8x16_shr_u", <a href="../../widening/WideningTable/index.html#shr_u">widening.shr_u</a> w8)
-<a href="../../ops/ShiftOps/index.html#shift_row">shift_row</a> shift.I16x8Shl = (codes "i16x8_shl", <a href="../../widening/WideningTable/index.html#shl">widening.shl</a> w16)
-<a href="../../ops/ShiftOps/index.html#shift_row">shift_row</a> shift.I16x8ShrS = (codes "i16x8_shr_s", <a href="../../widening/WideningTable/index.html#shr_s">widening.shr_s</a> w16)
-<a href="../../ops/ShiftOps/index.html#shift_row">shift_row</a> shift.I16x8ShrU = (codes "i16x8_shr_u", <a href="../../widening/WideningTable/index.html#shr_u">widening.shr_u</a> w16)
-<a href="../../ops/ShiftOps/index.html#shift_row">shift_row</a> shift.I32x4Shl = (codes "i32x4_shl", <a href="../../widening/WideningTable/index.html#shl">widening.shl</a> w32)
-<a href="../../ops/ShiftOps/index.html#shift_row">shift_row</a> shift.I32x4ShrS = (codes "i32x4_shr_s", <a href="../../widening/WideningTable/index.html#shr_s">widening.shr_s</a> w32)
-<a href="../../ops/ShiftOps/index.html#shift_row">shift_row</a> shift.I32x4ShrU = (codes "i32x4_shr_u", <a href="../../widening/WideningTable/index.html#shr_u">widening.shr_u</a> w32)
-<a href="../../ops/ShiftOps/index.html#shift_row">shift_row</a> shift.I64x2Shl = (codes "i64x2_shl", <a href="../../widening/WideningTable/index.html#shl">widening.shl</a> w64)
-<a href="../../ops/ShiftOps/index.html#shift_row">shift_row</a> shift.I64x2ShrS = (codes "i64x2_shr_s", <a href="../../widening/WideningTable/index.html#shr_s">widening.shr_s</a> w64)
-<a href="../../ops/ShiftOps/index.html#shift_row">shift_row</a> shift.I64x2ShrU = (codes "i64x2_shr_u", <a href="../../widening/WideningTable/index.html#shr_u">widening.shr_u</a> w64)
-
--- what a shift of a vector by an amount gives
-abbrev pub <b id="shifted_vector">shifted_vector</b> : ShiftOp → ℕ → ℕ → ℕ
-<a href="../../ops/ShiftOps/index.html#shifted_vector">shifted_vector</a> op = (<a href="../../ops/ShiftOps/index.html#shift_row">shift_row</a> op).1
-
--- the name of a shift of lanes
-abbrev pub <b id="shift_name">shift_name</b> : ShiftOp → List ℕ
-<a href="../../ops/ShiftOps/index.html#shift_name">shift_name</a> op = (<a href="../../ops/ShiftOps/index.html#shift_row">shift_row</a> op).0
-</code></pre>
-"####]
-    pub mod ShiftOps {}
-    #[doc = r####"The vector instructions of three operands.
-
-<pre><code>use Rattle.std.specs.Prelude.{ℕ, List, codes}
+use Rattle.std.specs.Int.{from_bool}
+use Rattle.wasmi_raw.specs.declared.raw.RawVal.{RawVal}
+use Rattle.wasmi_raw.specs.RawVal.{<a href="../../raw/RawVal/index.html#raw_of">raw_of</a>, <a href="../../raw/RawVal/index.html#signed_in">signed_in</a>, <a href="../../raw/RawVal/index.html#unsigned_in">unsigned_in</a>}
+use Rattle.wasmi_ops.specs.declared.vector.test.TestOp.{TestOp}
+use Rattle.wasmi_ops.specs.declared.vector.make.MakeOp.{MakeOp}
+use Rattle.wasmi_types.specs.declared.trap.TrapCode.{TrapCode}
+use Rattle.wasmi_access.specs.LoadStore.{<a href="../../accesses/LoadStore/index.html#loaded">loaded</a>}
+use Rattle.wasmi_lanes.specs.Vector.{<a href="../../lanes/Vector/index.html#lane">lane</a>, <a href="../../lanes/Vector/index.html#splat_of">splat_of</a>, <a href="../../lanes/Vector/index.html#with_lane">with_lane</a>}
+use Rattle.wasmi_ops.specs.declared.vector.access.VectorLoadOp.{VectorLoadOp}
+use Rattle.wasmi_ops.specs.declared.vector.access.LoadLaneOp.{LoadLaneOp}
+use Rattle.wasmi_ops.specs.declared.vector.access.StoreLaneOp.{StoreLaneOp}
 use Rattle.wasmi_lanewise.specs.VectorTable as vector
 use Rattle.wasmi_simd.specs.WideningTable as widening
-use Rattle.wasmi_ops.specs.declared.vector.ternary.TernaryOp.{TernaryOp}
+use Rattle.wasmi_ops.specs.declared.vector.unary.UnaryOp.TheVariants as unary
+use Rattle.wasmi_ops.specs.declared.vector.binary.BinaryOp.TheVariants as binary
 use Rattle.wasmi_ops.specs.declared.vector.ternary.TernaryOp.TheVariants as ternary
+use Rattle.wasmi_ops.specs.declared.vector.shift.ShiftOp.TheVariants as shift
+use Rattle.wasmi_ops.specs.declared.vector.test.TestOp.TheVariants as test
+use Rattle.wasmi_ops.specs.declared.vector.make.MakeOp.TheVariants as make
+use Rattle.wasmi_ops.specs.declared.vector.access.VectorLoadOp.TheVariants as load
+use Rattle.wasmi_ops.specs.declared.vector.access.LoadLaneOp.TheVariants as load_lane
+use Rattle.wasmi_ops.specs.declared.vector.access.StoreLaneOp.TheVariants as store_lane
+
+-- each instruction of one vector: its name, and what it gives
+abbrev pub <b id="unary_row">unary_row</b> : UnaryOp → List ℕ × (ℕ → ℕ)
+<a href="../../ops/VectorOps/index.html#unary_row">unary_row</a> unary.V128Not = (codes "v128_not", <a href="../../lanewise/VectorTable/index.html#v128_not">vector.v128_not</a>)
+<a href="../../ops/VectorOps/index.html#unary_row">unary_row</a> unary.I8x16Neg = (codes "i8x16_neg", <a href="../../lanewise/VectorTable/index.html#neg">vector.neg</a> w8)
+<a href="../../ops/VectorOps/index.html#unary_row">unary_row</a> unary.I16x8Neg = (codes "i16x8_neg", <a href="../../lanewise/VectorTable/index.html#neg">vector.neg</a> w16)
+<a href="../../ops/VectorOps/index.html#unary_row">unary_row</a> unary.I32x4Neg = (codes "i32x4_neg", <a href="../../lanewise/VectorTable/index.html#neg">vector.neg</a> w32)
+<a href="../../ops/VectorOps/index.html#unary_row">unary_row</a> unary.I64x2Neg = (codes "i64x2_neg", <a href="../../lanewise/VectorTable/index.html#neg">vector.neg</a> w64)
+<a href="../../ops/VectorOps/index.html#unary_row">unary_row</a> unary.I8x16Abs = (codes "i8x16_abs", <a href="../../lanewise/VectorTable/index.html#abs">vector.abs</a> w8)
+<a href="../../ops/VectorOps/index.html#unary_row">unary_row</a> unary.I16x8Abs = (codes "i16x8_abs", <a href="../../lanewise/VectorTable/index.html#abs">vector.abs</a> w16)
+<a href="../../ops/VectorOps/index.html#unary_row">unary_row</a> unary.I32x4Abs = (codes "i32x4_abs", <a href="../../lanewise/VectorTable/index.html#abs">vector.abs</a> w32)
+<a href="../../ops/VectorOps/index.html#unary_row">unary_row</a> unary.I64x2Abs = (codes "i64x2_abs", <a href="../../lanewise/VectorTable/index.html#abs">vector.abs</a> w64)
+<a href="../../ops/VectorOps/index.html#unary_row">unary_row</a> unary.I8x16Popcnt = (codes "i8x16_popcnt", <a href="../../lanewise/VectorTable/index.html#popcnt">vector.popcnt</a> w8)
+<a href="../../ops/VectorOps/index.html#unary_row">unary_row</a> unary.I16x8ExtendLowI8x16S = (codes "i16x8_extend_low_i8x16_s", <a href="../../widening/WideningTable/index.html#extend_low_s">widening.extend_low_s</a> w8 w16)
+<a href="../../ops/VectorOps/index.html#unary_row">unary_row</a> unary.I16x8ExtendLowI8x16U = (codes "i16x8_extend_low_i8x16_u", <a href="../../widening/WideningTable/index.html#extend_low_u">widening.extend_low_u</a> w8 w16)
+<a href="../../ops/VectorOps/index.html#unary_row">unary_row</a> unary.I16x8ExtendHighI8x16S = (codes "i16x8_extend_high_i8x16_s", <a href="../../widening/WideningTable/index.html#extend_high_s">widening.extend_high_s</a> w8 w16)
+<a href="../../ops/VectorOps/index.html#unary_row">unary_row</a> unary.I16x8ExtendHighI8x16U = (codes "i16x8_extend_high_i8x16_u", <a href="../../widening/WideningTable/index.html#extend_high_u">widening.extend_high_u</a> w8 w16)
+<a href="../../ops/VectorOps/index.html#unary_row">unary_row</a> unary.I32x4ExtendLowI16x8S = (codes "i32x4_extend_low_i16x8_s", <a href="../../widening/WideningTable/index.html#extend_low_s">widening.extend_low_s</a> w16 w32)
+<a href="../../ops/VectorOps/index.html#unary_row">unary_row</a> unary.I32x4ExtendLowI16x8U = (codes "i32x4_extend_low_i16x8_u", <a href="../../widening/WideningTable/index.html#extend_low_u">widening.extend_low_u</a> w16 w32)
+<a href="../../ops/VectorOps/index.html#unary_row">unary_row</a> unary.I32x4ExtendHighI16x8S = (codes "i32x4_extend_high_i16x8_s", <a href="../../widening/WideningTable/index.html#extend_high_s">widening.extend_high_s</a> w16 w32)
+<a href="../../ops/VectorOps/index.html#unary_row">unary_row</a> unary.I32x4ExtendHighI16x8U = (codes "i32x4_extend_high_i16x8_u", <a href="../../widening/WideningTable/index.html#extend_high_u">widening.extend_high_u</a> w16 w32)
+<a href="../../ops/VectorOps/index.html#unary_row">unary_row</a> unary.I64x2ExtendLowI32x4S = (codes "i64x2_extend_low_i32x4_s", <a href="../../widening/WideningTable/index.html#extend_low_s">widening.extend_low_s</a> w32 w64)
+<a href="../../ops/VectorOps/index.html#unary_row">unary_row</a> unary.I64x2ExtendLowI32x4U = (codes "i64x2_extend_low_i32x4_u", <a href="../../widening/WideningTable/index.html#extend_low_u">widening.extend_low_u</a> w32 w64)
+<a href="../../ops/VectorOps/index.html#unary_row">unary_row</a> unary.I64x2ExtendHighI32x4S = (codes "i64x2_extend_high_i32x4_s", <a href="../../widening/WideningTable/index.html#extend_high_s">widening.extend_high_s</a> w32 w64)
+<a href="../../ops/VectorOps/index.html#unary_row">unary_row</a> unary.I64x2ExtendHighI32x4U = (codes "i64x2_extend_high_i32x4_u", <a href="../../widening/WideningTable/index.html#extend_high_u">widening.extend_high_u</a> w32 w64)
+<a href="../../ops/VectorOps/index.html#unary_row">unary_row</a> unary.I16x8ExtaddPairwiseI8x16S = (codes "i16x8_extadd_pairwise_i8x16_s", <a href="../../widening/WideningTable/index.html#extadd_pairwise_s">widening.extadd_pairwise_s</a> w8 w16)
+<a href="../../ops/VectorOps/index.html#unary_row">unary_row</a> unary.I16x8ExtaddPairwiseI8x16U = (codes "i16x8_extadd_pairwise_i8x16_u", <a href="../../widening/WideningTable/index.html#extadd_pairwise_u">widening.extadd_pairwise_u</a> w8 w16)
+<a href="../../ops/VectorOps/index.html#unary_row">unary_row</a> unary.I32x4ExtaddPairwiseI16x8S = (codes "i32x4_extadd_pairwise_i16x8_s", <a href="../../widening/WideningTable/index.html#extadd_pairwise_s">widening.extadd_pairwise_s</a> w16 w32)
+<a href="../../ops/VectorOps/index.html#unary_row">unary_row</a> unary.I32x4ExtaddPairwiseI16x8U = (codes "i32x4_extadd_pairwise_i16x8_u", <a href="../../widening/WideningTable/index.html#extadd_pairwise_u">widening.extadd_pairwise_u</a> w16 w32)
+
+-- what an instruction of one vector gives
+abbrev pub <b id="unary_vector">unary_vector</b> : UnaryOp → ℕ → ℕ
+<a href="../../ops/VectorOps/index.html#unary_vector">unary_vector</a> op = (<a href="../../ops/VectorOps/index.html#unary_row">unary_row</a> op).1
+
+-- the name of an instruction of one vector
+abbrev pub <b id="unary_name">unary_name</b> : UnaryOp → List ℕ
+<a href="../../ops/VectorOps/index.html#unary_name">unary_name</a> op = (<a href="../../ops/VectorOps/index.html#unary_row">unary_row</a> op).0
+
+-- each instruction of two vectors: its name, and what it gives
+abbrev pub <b id="binary_row">binary_row</b> : BinaryOp → List ℕ × (ℕ → ℕ → ℕ)
+<a href="../../ops/VectorOps/index.html#binary_row">binary_row</a> binary.I8x16Add = (codes "i8x16_add", <a href="../../lanewise/VectorTable/index.html#add">vector.add</a> w8)
+<a href="../../ops/VectorOps/index.html#binary_row">binary_row</a> binary.I16x8Add = (codes "i16x8_add", <a href="../../lanewise/VectorTable/index.html#add">vector.add</a> w16)
+<a href="../../ops/VectorOps/index.html#binary_row">binary_row</a> binary.I32x4Add = (codes "i32x4_add", <a href="../../lanewise/VectorTable/index.html#add">vector.add</a> w32)
+<a href="../../ops/VectorOps/index.html#binary_row">binary_row</a> binary.I64x2Add = (codes "i64x2_add", <a href="../../lanewise/VectorTable/index.html#add">vector.add</a> w64)
+<a href="../../ops/VectorOps/index.html#binary_row">binary_row</a> binary.I8x16Sub = (codes "i8x16_sub", <a href="../../lanewise/VectorTable/index.html#sub">vector.sub</a> w8)
+<a href="../../ops/VectorOps/index.html#binary_row">binary_row</a> binary.I16x8Sub = (codes "i16x8_sub", <a href="../../lanewise/VectorTable/index.html#sub">vector.sub</a> w16)
+<a href="../../ops/VectorOps/index.html#binary_row">binary_row</a> binary.I32x4Sub = (codes "i32x4_sub", <a href="../../lanewise/VectorTable/index.html#sub">vector.sub</a> w32)
+<a href="../../ops/VectorOps/index.html#binary_row">binary_row</a> binary.I64x2Sub = (codes "i64x2_sub", <a href="../../lanewise/VectorTable/index.html#sub">vector.sub</a> w64)
+<a href="../../ops/VectorOps/index.html#binary_row">binary_row</a> binary.I8x16Mul = (codes "i8x16_mul", <a href="../../lanewise/VectorTable/index.html#mul">vector.mul</a> w8)
+<a href="../../ops/VectorOps/index.html#binary_row">binary_row</a> binary.I16x8Mul = (codes "i16x8_mul", <a href="../../lanewise/VectorTable/index.html#mul">vector.mul</a> w16)
+<a href="../../ops/VectorOps/index.html#binary_row">binary_row</a> binary.I32x4Mul = (codes "i32x4_mul", <a href="../../lanewise/VectorTable/index.html#mul">vector.mul</a> w32)
+<a href="../../ops/VectorOps/index.html#binary_row">binary_row</a> binary.I64x2Mul = (codes "i64x2_mul", <a href="../../lanewise/VectorTable/index.html#mul">vector.mul</a> w64)
+<a href="../../ops/VectorOps/index.html#binary_row">binary_row</a> binary.I8x16AddSatS = (codes "i8x16_add_sat_s", <a href="../../lanewise/VectorTable/index.html#add_sat_s">vector.add_sat_s</a> w8)
+<a href="../../ops/VectorOps/index.html#binary_row">binary_row</a> binary.I8x16AddSatU = (codes "i8x16_add_sat_u", <a href="../../lanewise/VectorTable/index.html#add_sat_u">vector.add_sat_u</a> w8)
+<a href="../../ops/VectorOps/index.html#binary_row">binary_row</a> binary.I16x8AddSatS = (codes "i16x8_add_sat_s", <a href="../../lanewise/VectorTable/index.html#add_sat_s">vector.add_sat_s</a> w16)
+<a href="../../ops/VectorOps/index.html#binary_row">binary_row</a> binary.I16x8AddSatU = (codes "i16x8_add_sat_u", <a href="../../lanewise/VectorTable/index.html#add_sat_u">vector.add_sat_u</a> w16)
+<a href="../../ops/VectorOps/index.html#binary_row">binary_row</a> binary.I8x16SubSatS = (codes "i8x16_sub_sat_s", <a href="../../lanewise/VectorTable/index.html#sub_sat_s">vector.sub_sat_s</a> w8)
+<a href="../../ops/VectorOps/index.html#binary_row">binary_row</a> binary.I8x16SubSatU = (codes "i8x16_sub_sat_u", <a href="../../lanewise/VectorTable/index.html#sub_sat_u">vector.sub_sat_u</a> w8)
+<a href="../../ops/VectorOps/index.html#binary_row">binary_row</a> binary.I16x8SubSatS = (codes "i16x8_sub_sat_s", <a href="../../lanewise/VectorTable/index.html#sub_sat_s">vector.sub_sat_s</a> w16)
+<a href="../../ops/VectorOps/index.html#binary_row">binary_row</a> binary.I16x8SubSatU = (codes "i16x8_sub_sat_u", <a href="../../lanewise/VectorTable/index.html#sub_sat_u">vector.sub_sat_u</a> w16)
+<a href="../../ops/VectorOps/index.html#binary_row">binary_row</a> binary.I16x8Q15mulrSatS = (codes "i16x8_q15mulr_sat_s", <a href="../../lanewise/VectorTable/index.html#q15mulr_sat_s">vector.q15mulr_sat_s</a>)
+<a href="../../ops/VectorOps/index.html#binary_row">binary_row</a> binary.I8x16MinS = (codes "i8x16_min_s", <a href="../../lanewise/VectorTable/index.html#min_s">vector.min_s</a> w8)
+<a href="../../ops/VectorOps/index.html#binary_row">binary_row</a> binary.I8x16MinU = (codes "i8x16_min_u", <a href="../../lanewise/VectorTable/index.html#min_u">vector.min_u</a> w8)
+<a href="../../ops/VectorOps/index.html#binary_row">binary_row</a> binary.I16x8MinS = (codes "i16x8_min_s", <a href="../../lanewise/VectorTable/index.html#min_s">vector.min_s</a> w16)
+<a href="../../ops/VectorOps/index.html#binary_row">binary_row</a> binary.I16x8MinU = (codes "i16x8_min_u", <a href="../../lanewise/VectorTable/index.html#min_u">vector.min_u</a> w16)
+<a href="../../ops/VectorOps/index.html#binary_row">binary_row</a> binary.I32x4MinS = (codes "i32x4_min_s", <a href="../../lanewise/VectorTable/index.html#min_s">vector.min_s</a> w32)
+<a href="../../ops/VectorOps/index.html#binary_row">binary_row</a> binary.I32x4MinU = (codes "i32x4_min_u", <a href="../../lanewise/VectorTable/index.html#min_u">vector.min_u</a> w32)
+<a href="../../ops/VectorOps/index.html#binary_row">binary_row</a> binary.I8x16MaxS = (codes "i8x16_max_s", <a href="../../lanewise/VectorTable/index.html#max_s">vector.max_s</a> w8)
+<a href="../../ops/VectorOps/index.html#binary_row">binary_row</a> binary.I8x16MaxU = (codes "i8x16_max_u", <a href="../../lanewise/VectorTable/index.html#max_u">vector.max_u</a> w8)
+<a href="../../ops/VectorOps/index.html#binary_row">binary_row</a> binary.I16x8MaxS = (codes "i16x8_max_s", <a href="../../lanewise/VectorTable/index.html#max_s">vector.max_s</a> w16)
+<a href="../../ops/VectorOps/index.html#binary_row">binary_row</a> binary.I16x8MaxU = (codes "i16x8_max_u", <a href="../../lanewise/VectorTable/index.html#max_u">vector.max_u</a> w16)
+<a href="../../ops/VectorOps/index.html#binary_row">binary_row</a> binary.I32x4MaxS = (codes "i32x4_max_s", <a href="../../lanewise/VectorTable/index.html#max_s">vector.max_s</a> w32)
+<a href="../../ops/VectorOps/index.html#binary_row">binary_row</a> binary.I32x4MaxU = (codes "i32x4_max_u", <a href="../../lanewise/VectorTable/index.html#max_u">vector.max_u</a> w32)
+<a href="../../ops/VectorOps/index.html#binary_row">binary_row</a> binary.I8x16AvgrU = (codes "i8x16_avgr_u", <a href="../../lanewise/VectorTable/index.html#avgr_u">vector.avgr_u</a> w8)
+<a href="../../ops/VectorOps/index.html#binary_row">binary_row</a> binary.I16x8AvgrU = (codes "i16x8_avgr_u", <a href="../../lanewise/VectorTable/index.html#avgr_u">vector.avgr_u</a> w16)
+<a href="../../ops/VectorOps/index.html#binary_row">binary_row</a> binary.V128And = (codes "v128_and", <a href="../../lanewise/VectorTable/index.html#v128_and">vector.v128_and</a>)
+<a href="../../ops/VectorOps/index.html#binary_row">binary_row</a> binary.V128Or = (codes "v128_or", <a href="../../lanewise/VectorTable/index.html#v128_or">vector.v128_or</a>)
+<a href="../../ops/VectorOps/index.html#binary_row">binary_row</a> binary.V128Xor = (codes "v128_xor", <a href="../../lanewise/VectorTable/index.html#v128_xor">vector.v128_xor</a>)
+<a href="../../ops/VectorOps/index.html#binary_row">binary_row</a> binary.V128Andnot = (codes "v128_andnot", <a href="../../lanewise/VectorTable/index.html#v128_andnot">vector.v128_andnot</a>)
+<a href="../../ops/VectorOps/index.html#binary_row">binary_row</a> binary.I8x16Eq = (codes "i8x16_eq", <a href="../../lanewise/VectorTable/index.html#eq">vector.eq</a> w8)
+<a href="../../ops/VectorOps/index.html#binary_row">binary_row</a> binary.I16x8Eq = (codes "i16x8_eq", <a href="../../lanewise/VectorTable/index.html#eq">vector.eq</a> w16)
+<a href="../../ops/VectorOps/index.html#binary_row">binary_row</a> binary.I32x4Eq = (codes "i32x4_eq", <a href="../../lanewise/VectorTable/index.html#eq">vector.eq</a> w32)
+<a href="../../ops/VectorOps/index.html#binary_row">binary_row</a> binary.I64x2Eq = (codes "i64x2_eq", <a href="../../lanewise/VectorTable/index.html#eq">vector.eq</a> w64)
+<a href="../../ops/VectorOps/index.html#binary_row">binary_row</a> binary.I8x16Ne = (codes "i8x16_ne", <a href="../../lanewise/VectorTable/index.html#ne">vector.ne</a> w8)
+<a href="../../ops/VectorOps/index.html#binary_row">binary_row</a> binary.I16x8Ne = (codes "i16x8_ne", <a href="../../lanewise/VectorTable/index.html#ne">vector.ne</a> w16)
+<a href="../../ops/VectorOps/index.html#binary_row">binary_row</a> binary.I32x4Ne = (codes "i32x4_ne", <a href="../../lanewise/VectorTable/index.html#ne">vector.ne</a> w32)
+<a href="../../ops/VectorOps/index.html#binary_row">binary_row</a> binary.I64x2Ne = (codes "i64x2_ne", <a href="../../lanewise/VectorTable/index.html#ne">vector.ne</a> w64)
+<a href="../../ops/VectorOps/index.html#binary_row">binary_row</a> binary.I8x16LtS = (codes "i8x16_lt_s", <a href="../../lanewise/VectorTable/index.html#lt_s">vector.lt_s</a> w8)
+<a href="../../ops/VectorOps/index.html#binary_row">binary_row</a> binary.I16x8LtS = (codes "i16x8_lt_s", <a href="../../lanewise/VectorTable/index.html#lt_s">vector.lt_s</a> w16)
+<a href="../../ops/VectorOps/index.html#binary_row">binary_row</a> binary.I32x4LtS = (codes "i32x4_lt_s", <a href="../../lanewise/VectorTable/index.html#lt_s">vector.lt_s</a> w32)
+<a href="../../ops/VectorOps/index.html#binary_row">binary_row</a> binary.I64x2LtS = (codes "i64x2_lt_s", <a href="../../lanewise/VectorTable/index.html#lt_s">vector.lt_s</a> w64)
+<a href="../../ops/VectorOps/index.html#binary_row">binary_row</a> binary.I8x16LtU = (codes "i8x16_lt_u", <a href="../../lanewise/VectorTable/index.html#lt_u">vector.lt_u</a> w8)
+<a href="../../ops/VectorOps/index.html#binary_row">binary_row</a> binary.I16x8LtU = (codes "i16x8_lt_u", <a href="../../lanewise/VectorTable/index.html#lt_u">vector.lt_u</a> w16)
+<a href="../../ops/VectorOps/index.html#binary_row">binary_row</a> binary.I32x4LtU = (codes "i32x4_lt_u", <a href="../../lanewise/VectorTable/index.html#lt_u">vector.lt_u</a> w32)
+<a href="../../ops/VectorOps/index.html#binary_row">binary_row</a> binary.I8x16LeS = (codes "i8x16_le_s", <a href="../../lanewise/VectorTable/index.html#le_s">vector.le_s</a> w8)
+<a href="../../ops/VectorOps/index.html#binary_row">binary_row</a> binary.I16x8LeS = (codes "i16x8_le_s", <a href="../../lanewise/VectorTable/index.html#le_s">vector.le_s</a> w16)
+<a href="../../ops/VectorOps/index.html#binary_row">binary_row</a> binary.I32x4LeS = (codes "i32x4_le_s", <a href="../../lanewise/VectorTable/index.html#le_s">vector.le_s</a> w32)
+<a href="../../ops/VectorOps/index.html#binary_row">binary_row</a> binary.I64x2LeS = (codes "i64x2_le_s", <a href="../../lanewise/VectorTable/index.html#le_s">vector.le_s</a> w64)
+<a href="../../ops/VectorOps/index.html#binary_row">binary_row</a> binary.I8x16LeU = (codes "i8x16_le_u", <a href="../../lanewise/VectorTable/index.html#le_u">vector.le_u</a> w8)
+<a href="../../ops/VectorOps/index.html#binary_row">binary_row</a> binary.I16x8LeU = (codes "i16x8_le_u", <a href="../../lanewise/VectorTable/index.html#le_u">vector.le_u</a> w16)
+<a href="../../ops/VectorOps/index.html#binary_row">binary_row</a> binary.I32x4LeU = (codes "i32x4_le_u", <a href="../../lanewise/VectorTable/index.html#le_u">vector.le_u</a> w32)
+<a href="../../ops/VectorOps/index.html#binary_row">binary_row</a> binary.I8x16GtS = (codes "i8x16_gt_s", <a href="../../lanewise/VectorTable/index.html#gt_s">vector.gt_s</a> w8)
+<a href="../../ops/VectorOps/index.html#binary_row">binary_row</a> binary.I16x8GtS = (codes "i16x8_gt_s", <a href="../../lanewise/VectorTable/index.html#gt_s">vector.gt_s</a> w16)
+<a href="../../ops/VectorOps/index.html#binary_row">binary_row</a> binary.I32x4GtS = (codes "i32x4_gt_s", <a href="../../lanewise/VectorTable/index.html#gt_s">vector.gt_s</a> w32)
+<a href="../../ops/VectorOps/index.html#binary_row">binary_row</a> binary.I64x2GtS = (codes "i64x2_gt_s", <a href="../../lanewise/VectorTable/index.html#gt_s">vector.gt_s</a> w64)
+<a href="../../ops/VectorOps/index.html#binary_row">binary_row</a> binary.I8x16GtU = (codes "i8x16_gt_u", <a href="../../lanewise/VectorTable/index.html#gt_u">vector.gt_u</a> w8)
+<a href="../../ops/VectorOps/index.html#binary_row">binary_row</a> binary.I16x8GtU = (codes "i16x8_gt_u", <a href="../../lanewise/VectorTable/index.html#gt_u">vector.gt_u</a> w16)
+<a href="../../ops/VectorOps/index.html#binary_row">binary_row</a> binary.I32x4GtU = (codes "i32x4_gt_u", <a href="../../lanewise/VectorTable/index.html#gt_u">vector.gt_u</a> w32)
+<a href="../../ops/VectorOps/index.html#binary_row">binary_row</a> binary.I8x16GeS = (codes "i8x16_ge_s", <a href="../../lanewise/VectorTable/index.html#ge_s">vector.ge_s</a> w8)
+<a href="../../ops/VectorOps/index.html#binary_row">binary_row</a> binary.I16x8GeS = (codes "i16x8_ge_s", <a href="../../lanewise/VectorTable/index.html#ge_s">vector.ge_s</a> w16)
+<a href="../../ops/VectorOps/index.html#binary_row">binary_row</a> binary.I32x4GeS = (codes "i32x4_ge_s", <a href="../../lanewise/VectorTable/index.html#ge_s">vector.ge_s</a> w32)
+<a href="../../ops/VectorOps/index.html#binary_row">binary_row</a> binary.I64x2GeS = (codes "i64x2_ge_s", <a href="../../lanewise/VectorTable/index.html#ge_s">vector.ge_s</a> w64)
+<a href="../../ops/VectorOps/index.html#binary_row">binary_row</a> binary.I8x16GeU = (codes "i8x16_ge_u", <a href="../../lanewise/VectorTable/index.html#ge_u">vector.ge_u</a> w8)
+<a href="../../ops/VectorOps/index.html#binary_row">binary_row</a> binary.I16x8GeU = (codes "i16x8_ge_u", <a href="../../lanewise/VectorTable/index.html#ge_u">vector.ge_u</a> w16)
+<a href="../../ops/VectorOps/index.html#binary_row">binary_row</a> binary.I32x4GeU = (codes "i32x4_ge_u", <a href="../../lanewise/VectorTable/index.html#ge_u">vector.ge_u</a> w32)
+<a href="../../ops/VectorOps/index.html#binary_row">binary_row</a> binary.I8x16Swizzle = (codes "i8x16_swizzle", <a href="../../lanewise/VectorTable/index.html#swizzle">vector.swizzle</a>)
+<a href="../../ops/VectorOps/index.html#binary_row">binary_row</a> binary.I16x8ExtmulLowI8x16S = (codes "i16x8_extmul_low_i8x16_s", <a href="../../widening/WideningTable/index.html#extmul_low_s">widening.extmul_low_s</a> w8 w16)
+<a href="../../ops/VectorOps/index.html#binary_row">binary_row</a> binary.I16x8ExtmulLowI8x16U = (codes "i16x8_extmul_low_i8x16_u", <a href="../../widening/WideningTable/index.html#extmul_low_u">widening.extmul_low_u</a> w8 w16)
+<a href="../../ops/VectorOps/index.html#binary_row">binary_row</a> binary.I16x8ExtmulHighI8x16S = (codes "i16x8_extmul_high_i8x16_s", <a href="../../widening/WideningTable/index.html#extmul_high_s">widening.extmul_high_s</a> w8 w16)
+<a href="../../ops/VectorOps/index.html#binary_row">binary_row</a> binary.I16x8ExtmulHighI8x16U = (codes "i16x8_extmul_high_i8x16_u", <a href="../../widening/WideningTable/index.html#extmul_high_u">widening.extmul_high_u</a> w8 w16)
+<a href="../../ops/VectorOps/index.html#binary_row">binary_row</a> binary.I32x4ExtmulLowI16x8S = (codes "i32x4_extmul_low_i16x8_s", <a href="../../widening/WideningTable/index.html#extmul_low_s">widening.extmul_low_s</a> w16 w32)
+<a href="../../ops/VectorOps/index.html#binary_row">binary_row</a> binary.I32x4ExtmulLowI16x8U = (codes "i32x4_extmul_low_i16x8_u", <a href="../../widening/WideningTable/index.html#extmul_low_u">widening.extmul_low_u</a> w16 w32)
+<a href="../../ops/VectorOps/index.html#binary_row">binary_row</a> binary.I32x4ExtmulHighI16x8S = (codes "i32x4_extmul_high_i16x8_s", <a href="../../widening/WideningTable/index.html#extmul_high_s">widening.extmul_high_s</a> w16 w32)
+<a href="../../ops/VectorOps/index.html#binary_row">binary_row</a> binary.I32x4ExtmulHighI16x8U = (codes "i32x4_extmul_high_i16x8_u", <a href="../../widening/WideningTable/index.html#extmul_high_u">widening.extmul_high_u</a> w16 w32)
+<a href="../../ops/VectorOps/index.html#binary_row">binary_row</a> binary.I64x2ExtmulLowI32x4S = (codes "i64x2_extmul_low_i32x4_s", <a href="../../widening/WideningTable/index.html#extmul_low_s">widening.extmul_low_s</a> w32 w64)
+<a href="../../ops/VectorOps/index.html#binary_row">binary_row</a> binary.I64x2ExtmulLowI32x4U = (codes "i64x2_extmul_low_i32x4_u", <a href="../../widening/WideningTable/index.html#extmul_low_u">widening.extmul_low_u</a> w32 w64)
+<a href="../../ops/VectorOps/index.html#binary_row">binary_row</a> binary.I64x2ExtmulHighI32x4S = (codes "i64x2_extmul_high_i32x4_s", <a href="../../widening/WideningTable/index.html#extmul_high_s">widening.extmul_high_s</a> w32 w64)
+<a href="../../ops/VectorOps/index.html#binary_row">binary_row</a> binary.I64x2ExtmulHighI32x4U = (codes "i64x2_extmul_high_i32x4_u", <a href="../../widening/WideningTable/index.html#extmul_high_u">widening.extmul_high_u</a> w32 w64)
+<a href="../../ops/VectorOps/index.html#binary_row">binary_row</a> binary.I8x16NarrowI16x8S = (codes "i8x16_narrow_i16x8_s", <a href="../../widening/WideningTable/index.html#narrow_s">widening.narrow_s</a> w16 w8)
+<a href="../../ops/VectorOps/index.html#binary_row">binary_row</a> binary.I8x16NarrowI16x8U = (codes "i8x16_narrow_i16x8_u", <a href="../../widening/WideningTable/index.html#narrow_u">widening.narrow_u</a> w16 w8)
+<a href="../../ops/VectorOps/index.html#binary_row">binary_row</a> binary.I16x8NarrowI32x4S = (codes "i16x8_narrow_i32x4_s", <a href="../../widening/WideningTable/index.html#narrow_s">widening.narrow_s</a> w32 w16)
+<a href="../../ops/VectorOps/index.html#binary_row">binary_row</a> binary.I16x8NarrowI32x4U = (codes "i16x8_narrow_i32x4_u", <a href="../../widening/WideningTable/index.html#narrow_u">widening.narrow_u</a> w32 w16)
+<a href="../../ops/VectorOps/index.html#binary_row">binary_row</a> binary.I32x4DotI16x8S = (codes "i32x4_dot_i16x8_s", <a href="../../widening/WideningTable/index.html#dot_s">widening.dot_s</a> w16 w32)
+<a href="../../ops/VectorOps/index.html#binary_row">binary_row</a> binary.I16x8RelaxedDotI8x16I7x16S = (codes "i16x8_relaxed_dot_i8x16_i7x16_s", <a href="../../widening/WideningTable/index.html#relaxed_dot_s">widening.relaxed_dot_s</a>)
+<a href="../../ops/VectorOps/index.html#binary_row">binary_row</a> binary.I8x16RelaxedSwizzle = (codes "i8x16_relaxed_swizzle", <a href="../../widening/WideningTable/index.html#relaxed_swizzle">widening.relaxed_swizzle</a>)
+<a href="../../ops/VectorOps/index.html#binary_row">binary_row</a> binary.I16x8RelaxedQ15mulrS = (codes "i16x8_relaxed_q15mulr_s", <a href="../../widening/WideningTable/index.html#relaxed_q15mulr_s">widening.relaxed_q15mulr_s</a>)
+
+-- what an instruction of two vectors gives
+abbrev pub <b id="binary_vector">binary_vector</b> : BinaryOp → ℕ → ℕ → ℕ
+<a href="../../ops/VectorOps/index.html#binary_vector">binary_vector</a> op = (<a href="../../ops/VectorOps/index.html#binary_row">binary_row</a> op).1
+
+-- the name of an instruction of two vectors
+abbrev pub <b id="binary_name">binary_name</b> : BinaryOp → List ℕ
+<a href="../../ops/VectorOps/index.html#binary_name">binary_name</a> op = (<a href="../../ops/VectorOps/index.html#binary_row">binary_row</a> op).0
 
 -- each instruction of three vectors: its name, and what it gives
 abbrev pub <b id="ternary_row">ternary_row</b> : TernaryOp → List ℕ × (ℕ → ℕ → ℕ → ℕ)
-<a href="../../ops/TernaryOps/index.html#ternary_row">ternary_row</a> ternary.V128Bitselect = (codes "v128_bitselect", <a href="../../lanewise/VectorTable/index.html#v128_bitselect">vector.v128_bitselect</a>)
-<a href="../../ops/TernaryOps/index.html#ternary_row">ternary_row</a> ternary.I8x16RelaxedLaneselect = (codes "i8x16_relaxed_laneselect", <a href="../../widening/WideningTable/index.html#relaxed_laneselect">widening.relaxed_laneselect</a>)
-<a href="../../ops/TernaryOps/index.html#ternary_row">ternary_row</a> ternary.I16x8RelaxedLaneselect = (codes "i16x8_relaxed_laneselect", <a href="../../widening/WideningTable/index.html#relaxed_laneselect">widening.relaxed_laneselect</a>)
-<a href="../../ops/TernaryOps/index.html#ternary_row">ternary_row</a> ternary.I32x4RelaxedLaneselect = (codes "i32x4_relaxed_laneselect", <a href="../../widening/WideningTable/index.html#relaxed_laneselect">widening.relaxed_laneselect</a>)
-<a href="../../ops/TernaryOps/index.html#ternary_row">ternary_row</a> ternary.I64x2RelaxedLaneselect = (codes "i64x2_relaxed_laneselect", <a href="../../widening/WideningTable/index.html#relaxed_laneselect">widening.relaxed_laneselect</a>)
-<a href="../../ops/TernaryOps/index.html#ternary_row">ternary_row</a> ternary.I32x4RelaxedDotI8x16I7x16AddS =
+<a href="../../ops/VectorOps/index.html#ternary_row">ternary_row</a> ternary.V128Bitselect = (codes "v128_bitselect", <a href="../../lanewise/VectorTable/index.html#v128_bitselect">vector.v128_bitselect</a>)
+<a href="../../ops/VectorOps/index.html#ternary_row">ternary_row</a> ternary.I8x16RelaxedLaneselect = (codes "i8x16_relaxed_laneselect", <a href="../../widening/WideningTable/index.html#relaxed_laneselect">widening.relaxed_laneselect</a>)
+<a href="../../ops/VectorOps/index.html#ternary_row">ternary_row</a> ternary.I16x8RelaxedLaneselect = (codes "i16x8_relaxed_laneselect", <a href="../../widening/WideningTable/index.html#relaxed_laneselect">widening.relaxed_laneselect</a>)
+<a href="../../ops/VectorOps/index.html#ternary_row">ternary_row</a> ternary.I32x4RelaxedLaneselect = (codes "i32x4_relaxed_laneselect", <a href="../../widening/WideningTable/index.html#relaxed_laneselect">widening.relaxed_laneselect</a>)
+<a href="../../ops/VectorOps/index.html#ternary_row">ternary_row</a> ternary.I64x2RelaxedLaneselect = (codes "i64x2_relaxed_laneselect", <a href="../../widening/WideningTable/index.html#relaxed_laneselect">widening.relaxed_laneselect</a>)
+<a href="../../ops/VectorOps/index.html#ternary_row">ternary_row</a> ternary.I32x4RelaxedDotI8x16I7x16AddS =
     (codes "i32x4_relaxed_dot_i8x16_i7x16_add_s", <a href="../../widening/WideningTable/index.html#relaxed_dot_add_s">widening.relaxed_dot_add_s</a>)
 
 -- what an instruction of three vectors gives
 abbrev pub <b id="ternary_vector">ternary_vector</b> : TernaryOp → ℕ → ℕ → ℕ → ℕ
-<a href="../../ops/TernaryOps/index.html#ternary_vector">ternary_vector</a> op = (<a href="../../ops/TernaryOps/index.html#ternary_row">ternary_row</a> op).1
+<a href="../../ops/VectorOps/index.html#ternary_vector">ternary_vector</a> op = (<a href="../../ops/VectorOps/index.html#ternary_row">ternary_row</a> op).1
 
 -- the name of an instruction of three vectors
 abbrev pub <b id="ternary_name">ternary_name</b> : TernaryOp → List ℕ
-<a href="../../ops/TernaryOps/index.html#ternary_name">ternary_name</a> op = (<a href="../../ops/TernaryOps/index.html#ternary_row">ternary_row</a> op).0
-</code></pre>
-"####]
-    pub mod TernaryOps {}
-    #[doc = r####"The tests of vectors.
+<a href="../../ops/VectorOps/index.html#ternary_name">ternary_name</a> op = (<a href="../../ops/VectorOps/index.html#ternary_row">ternary_row</a> op).0
 
-<pre><code>use Rattle.std.specs.Prelude.{ℕ, List, codes}
-use Rattle.std.specs.Int.{from_bool}
-use Rattle.wasmi_types.specs.Wrapping.{w8, w16, w32, w64}
-use Rattle.wasmi_simd.specs.WideningTable as widening
-use Rattle.wasmi_raw.specs.declared.raw.RawVal.{RawVal}
-use Rattle.wasmi_raw.specs.RawVal.{<a href="../../raw/RawVal/index.html#raw_of">raw_of</a>}
-use Rattle.wasmi_ops.specs.declared.vector.test.TestOp.{TestOp}
-use Rattle.wasmi_ops.specs.declared.vector.test.TestOp.TheVariants as test
+-- each shift: its name, and what it gives for a vector and an amount
+abbrev pub <b id="shift_row">shift_row</b> : ShiftOp → List ℕ × (ℕ → ℕ → ℕ)
+<a href="../../ops/VectorOps/index.html#shift_row">shift_row</a> shift.I8x16Shl = (codes "i8x16_shl", <a href="../../widening/WideningTable/index.html#shl">widening.shl</a> w8)
+<a href="../../ops/VectorOps/index.html#shift_row">shift_row</a> shift.I8x16ShrS = (codes "i8x16_shr_s", <a href="../../widening/WideningTable/index.html#shr_s">widening.shr_s</a> w8)
+<a href="../../ops/VectorOps/index.html#shift_row">shift_row</a> shift.I8x16ShrU = (codes "i8x16_shr_u", <a href="../../widening/WideningTable/index.html#shr_u">widening.shr_u</a> w8)
+<a href="../../ops/VectorOps/index.html#shift_row">shift_row</a> shift.I16x8Shl = (codes "i16x8_shl", <a href="../../widening/WideningTable/index.html#shl">widening.shl</a> w16)
+<a href="../../ops/VectorOps/index.html#shift_row">shift_row</a> shift.I16x8ShrS = (codes "i16x8_shr_s", <a href="../../widening/WideningTable/index.html#shr_s">widening.shr_s</a> w16)
+<a href="../../ops/VectorOps/index.html#shift_row">shift_row</a> shift.I16x8ShrU = (codes "i16x8_shr_u", <a href="../../widening/WideningTable/index.html#shr_u">widening.shr_u</a> w16)
+<a href="../../ops/VectorOps/index.html#shift_row">shift_row</a> shift.I32x4Shl = (codes "i32x4_shl", <a href="../../widening/WideningTable/index.html#shl">widening.shl</a> w32)
+<a href="../../ops/VectorOps/index.html#shift_row">shift_row</a> shift.I32x4ShrS = (codes "i32x4_shr_s", <a href="../../widening/WideningTable/index.html#shr_s">widening.shr_s</a> w32)
+<a href="../../ops/VectorOps/index.html#shift_row">shift_row</a> shift.I32x4ShrU = (codes "i32x4_shr_u", <a href="../../widening/WideningTable/index.html#shr_u">widening.shr_u</a> w32)
+<a href="../../ops/VectorOps/index.html#shift_row">shift_row</a> shift.I64x2Shl = (codes "i64x2_shl", <a href="../../widening/WideningTable/index.html#shl">widening.shl</a> w64)
+<a href="../../ops/VectorOps/index.html#shift_row">shift_row</a> shift.I64x2ShrS = (codes "i64x2_shr_s", <a href="../../widening/WideningTable/index.html#shr_s">widening.shr_s</a> w64)
+<a href="../../ops/VectorOps/index.html#shift_row">shift_row</a> shift.I64x2ShrU = (codes "i64x2_shr_u", <a href="../../widening/WideningTable/index.html#shr_u">widening.shr_u</a> w64)
+
+-- what a shift of a vector by an amount gives
+abbrev pub <b id="shifted_vector">shifted_vector</b> : ShiftOp → ℕ → ℕ → ℕ
+<a href="../../ops/VectorOps/index.html#shifted_vector">shifted_vector</a> op = (<a href="../../ops/VectorOps/index.html#shift_row">shift_row</a> op).1
+
+-- the name of a shift of lanes
+abbrev pub <b id="shift_name">shift_name</b> : ShiftOp → List ℕ
+<a href="../../ops/VectorOps/index.html#shift_name">shift_name</a> op = (<a href="../../ops/VectorOps/index.html#shift_row">shift_row</a> op).0
 
 -- each test: its name, and the Boolean or the mask that it gives, as a raw value
 abbrev pub <b id="test_row">test_row</b> : TestOp → List ℕ × (ℕ → RawVal)
-<a href="../../ops/TestOps/index.html#test_row">test_row</a> test.I8x16AllTrue = (codes "i8x16_all_true", λ a. <a href="../../raw/RawVal/index.html#raw_of">raw_of</a> (from_bool (<a href="../../widening/WideningTable/index.html#all_true">widening.all_true</a> w8 a)))
-<a href="../../ops/TestOps/index.html#test_row">test_row</a> test.I16x8AllTrue = (codes "i16x8_all_true", λ a. <a href="../../raw/RawVal/index.html#raw_of">raw_of</a> (from_bool (<a href="../../widening/WideningTable/index.html#all_true">widening.all_true</a> w16 a)))
-<a href="../../ops/TestOps/index.html#test_row">test_row</a> test.I32x4AllTrue = (codes "i32x4_all_true", λ a. <a href="../../raw/RawVal/index.html#raw_of">raw_of</a> (from_bool (<a href="../../widening/WideningTable/index.html#all_true">widening.all_true</a> w32 a)))
-<a href="../../ops/TestOps/index.html#test_row">test_row</a> test.I64x2AllTrue = (codes "i64x2_all_true", λ a. <a href="../../raw/RawVal/index.html#raw_of">raw_of</a> (from_bool (<a href="../../widening/WideningTable/index.html#all_true">widening.all_true</a> w64 a)))
-<a href="../../ops/TestOps/index.html#test_row">test_row</a> test.V128AnyTrue = (codes "v128_any_true", λ a. <a href="../../raw/RawVal/index.html#raw_of">raw_of</a> (from_bool (<a href="../../widening/WideningTable/index.html#any_true">widening.any_true</a> a)))
-<a href="../../ops/TestOps/index.html#test_row">test_row</a> test.I8x16Bitmask = (codes "i8x16_bitmask", λ a. <a href="../../raw/RawVal/index.html#raw_of">raw_of</a> (<a href="../../widening/WideningTable/index.html#bitmask">widening.bitmask</a> w8 a))
-<a href="../../ops/TestOps/index.html#test_row">test_row</a> test.I16x8Bitmask = (codes "i16x8_bitmask", λ a. <a href="../../raw/RawVal/index.html#raw_of">raw_of</a> (<a href="../../widening/WideningTable/index.html#bitmask">widening.bitmask</a> w16 a))
-<a href="../../ops/TestOps/index.html#test_row">test_row</a> test.I32x4Bitmask = (codes "i32x4_bitmask", λ a. <a href="../../raw/RawVal/index.html#raw_of">raw_of</a> (<a href="../../widening/WideningTable/index.html#bitmask">widening.bitmask</a> w32 a))
-<a href="../../ops/TestOps/index.html#test_row">test_row</a> test.I64x2Bitmask = (codes "i64x2_bitmask", λ a. <a href="../../raw/RawVal/index.html#raw_of">raw_of</a> (<a href="../../widening/WideningTable/index.html#bitmask">widening.bitmask</a> w64 a))
+<a href="../../ops/VectorOps/index.html#test_row">test_row</a> test.I8x16AllTrue = (codes "i8x16_all_true", λ a. <a href="../../raw/RawVal/index.html#raw_of">raw_of</a> (from_bool (<a href="../../widening/WideningTable/index.html#all_true">widening.all_true</a> w8 a)))
+<a href="../../ops/VectorOps/index.html#test_row">test_row</a> test.I16x8AllTrue = (codes "i16x8_all_true", λ a. <a href="../../raw/RawVal/index.html#raw_of">raw_of</a> (from_bool (<a href="../../widening/WideningTable/index.html#all_true">widening.all_true</a> w16 a)))
+<a href="../../ops/VectorOps/index.html#test_row">test_row</a> test.I32x4AllTrue = (codes "i32x4_all_true", λ a. <a href="../../raw/RawVal/index.html#raw_of">raw_of</a> (from_bool (<a href="../../widening/WideningTable/index.html#all_true">widening.all_true</a> w32 a)))
+<a href="../../ops/VectorOps/index.html#test_row">test_row</a> test.I64x2AllTrue = (codes "i64x2_all_true", λ a. <a href="../../raw/RawVal/index.html#raw_of">raw_of</a> (from_bool (<a href="../../widening/WideningTable/index.html#all_true">widening.all_true</a> w64 a)))
+<a href="../../ops/VectorOps/index.html#test_row">test_row</a> test.V128AnyTrue = (codes "v128_any_true", λ a. <a href="../../raw/RawVal/index.html#raw_of">raw_of</a> (from_bool (<a href="../../widening/WideningTable/index.html#any_true">widening.any_true</a> a)))
+<a href="../../ops/VectorOps/index.html#test_row">test_row</a> test.I8x16Bitmask = (codes "i8x16_bitmask", λ a. <a href="../../raw/RawVal/index.html#raw_of">raw_of</a> (<a href="../../widening/WideningTable/index.html#bitmask">widening.bitmask</a> w8 a))
+<a href="../../ops/VectorOps/index.html#test_row">test_row</a> test.I16x8Bitmask = (codes "i16x8_bitmask", λ a. <a href="../../raw/RawVal/index.html#raw_of">raw_of</a> (<a href="../../widening/WideningTable/index.html#bitmask">widening.bitmask</a> w16 a))
+<a href="../../ops/VectorOps/index.html#test_row">test_row</a> test.I32x4Bitmask = (codes "i32x4_bitmask", λ a. <a href="../../raw/RawVal/index.html#raw_of">raw_of</a> (<a href="../../widening/WideningTable/index.html#bitmask">widening.bitmask</a> w32 a))
+<a href="../../ops/VectorOps/index.html#test_row">test_row</a> test.I64x2Bitmask = (codes "i64x2_bitmask", λ a. <a href="../../raw/RawVal/index.html#raw_of">raw_of</a> (<a href="../../widening/WideningTable/index.html#bitmask">widening.bitmask</a> w64 a))
 
 -- the Boolean or the mask that a test of a vector gives, as a raw value
 abbrev pub <b id="tested_raw">tested_raw</b> : TestOp → ℕ → RawVal
-<a href="../../ops/TestOps/index.html#tested_raw">tested_raw</a> op = (<a href="../../ops/TestOps/index.html#test_row">test_row</a> op).1
+<a href="../../ops/VectorOps/index.html#tested_raw">tested_raw</a> op = (<a href="../../ops/VectorOps/index.html#test_row">test_row</a> op).1
 
 -- the name of a test of a vector, or of its mask
 abbrev pub <b id="test_name">test_name</b> : TestOp → List ℕ
-<a href="../../ops/TestOps/index.html#test_name">test_name</a> op = (<a href="../../ops/TestOps/index.html#test_row">test_row</a> op).0
-</code></pre>
-"####]
-    pub mod TestOps {}
-    #[doc = r####"The vector instructions of one operand.
+<a href="../../ops/VectorOps/index.html#test_name">test_name</a> op = (<a href="../../ops/VectorOps/index.html#test_row">test_row</a> op).0
 
-<pre><code>use Rattle.std.specs.Prelude.{ℕ, List, codes}
-use Rattle.wasmi_types.specs.Wrapping.{w8, w16, w32, w64}
-use Rattle.wasmi_lanewise.specs.VectorTable as vector
-use Rattle.wasmi_simd.specs.WideningTable as widening
-use Rattle.wasmi_ops.specs.declared.vector.unary.UnaryOp.{UnaryOp}
-use Rattle.wasmi_ops.specs.declared.vector.unary.UnaryOp.TheVariants as unary
+-- each instruction that makes a vector of an item: its name, and the vector for an item in a raw value
+abbrev pub <b id="make_row">make_row</b> : MakeOp → List ℕ × (RawVal → ℕ)
+<a href="../../ops/VectorOps/index.html#make_row">make_row</a> make.I8x16Splat = (codes "i8x16_splat", λ raw. <a href="../../lanewise/VectorTable/index.html#splat">vector.splat</a> w8 (<a href="../../raw/RawVal/index.html#signed_in">signed_in</a> w8 raw))
+<a href="../../ops/VectorOps/index.html#make_row">make_row</a> make.I16x8Splat = (codes "i16x8_splat", λ raw. <a href="../../lanewise/VectorTable/index.html#splat">vector.splat</a> w16 (<a href="../../raw/RawVal/index.html#signed_in">signed_in</a> w16 raw))
+<a href="../../ops/VectorOps/index.html#make_row">make_row</a> make.I32x4Splat = (codes "i32x4_splat", λ raw. <a href="../../lanewise/VectorTable/index.html#splat">vector.splat</a> w32 (<a href="../../raw/RawVal/index.html#signed_in">signed_in</a> w32 raw))
+<a href="../../ops/VectorOps/index.html#make_row">make_row</a> make.I64x2Splat = (codes "i64x2_splat", λ raw. <a href="../../lanewise/VectorTable/index.html#splat">vector.splat</a> w64 (<a href="../../raw/RawVal/index.html#signed_in">signed_in</a> w64 raw))
+<a href="../../ops/VectorOps/index.html#make_row">make_row</a> make.V128Widen8x8S = (codes "v128_widen8x8_s", λ raw. <a href="../../widening/WideningTable/index.html#widen_s">widening.widen_s</a> w8 w16 (<a href="../../raw/RawVal/index.html#unsigned_in">unsigned_in</a> w64 raw))
+<a href="../../ops/VectorOps/index.html#make_row">make_row</a> make.V128Widen8x8U = (codes "v128_widen8x8_u", λ raw. <a href="../../widening/WideningTable/index.html#widen_u">widening.widen_u</a> w8 w16 (<a href="../../raw/RawVal/index.html#unsigned_in">unsigned_in</a> w64 raw))
+<a href="../../ops/VectorOps/index.html#make_row">make_row</a> make.V128Widen16x4S = (codes "v128_widen16x4_s", λ raw. <a href="../../widening/WideningTable/index.html#widen_s">widening.widen_s</a> w16 w32 (<a href="../../raw/RawVal/index.html#unsigned_in">unsigned_in</a> w64 raw))
+<a href="../../ops/VectorOps/index.html#make_row">make_row</a> make.V128Widen16x4U = (codes "v128_widen16x4_u", λ raw. <a href="../../widening/WideningTable/index.html#widen_u">widening.widen_u</a> w16 w32 (<a href="../../raw/RawVal/index.html#unsigned_in">unsigned_in</a> w64 raw))
+<a href="../../ops/VectorOps/index.html#make_row">make_row</a> make.V128Widen32x2S = (codes "v128_widen32x2_s", λ raw. <a href="../../widening/WideningTable/index.html#widen_s">widening.widen_s</a> w32 w64 (<a href="../../raw/RawVal/index.html#unsigned_in">unsigned_in</a> w64 raw))
+<a href="../../ops/VectorOps/index.html#make_row">make_row</a> make.V128Widen32x2U = (codes "v128_widen32x2_u", λ raw. <a href="../../widening/WideningTable/index.html#widen_u">widening.widen_u</a> w32 w64 (<a href="../../raw/RawVal/index.html#unsigned_in">unsigned_in</a> w64 raw))
+<a href="../../ops/VectorOps/index.html#make_row">make_row</a> make.V128Low32Zero = (codes "v128_low32_zero", λ raw. <a href="../../widening/WideningTable/index.html#low_zero">widening.low_zero</a> w32 (<a href="../../raw/RawVal/index.html#unsigned_in">unsigned_in</a> w32 raw))
+<a href="../../ops/VectorOps/index.html#make_row">make_row</a> make.V128Low64Zero = (codes "v128_low64_zero", λ raw. <a href="../../widening/WideningTable/index.html#low_zero">widening.low_zero</a> w64 (<a href="../../raw/RawVal/index.html#unsigned_in">unsigned_in</a> w64 raw))
 
--- each instruction of one vector: its name, and what it gives
-abbrev pub <b id="unary_row">unary_row</b> : UnaryOp → List ℕ × (ℕ → ℕ)
-<a href="../../ops/UnaryOps/index.html#unary_row">unary_row</a> unary.V128Not = (codes "v128_not", <a href="../../lanewise/VectorTable/index.html#v128_not">vector.v128_not</a>)
-<a href="../../ops/UnaryOps/index.html#unary_row">unary_row</a> unary.I8x16Neg = (codes "i8x16_neg", <a href="../../lanewise/VectorTable/index.html#neg">vector.neg</a> w8)
-<a href="../../ops/UnaryOps/index.html#unary_row">unary_row</a> unary.I16x8Neg = (codes "i16x8_neg", <a href="../../lanewise/VectorTable/index.html#neg">vector.neg</a> w16)
-<a href="../../ops/UnaryOps/index.html#unary_row">unary_row</a> unary.I32x4Neg = (codes "i32x4_neg", <a href="../../lanewise/VectorTable/index.html#neg">vector.neg</a> w32)
-<a href="../../ops/UnaryOps/index.html#unary_row">unary_row</a> unary.I64x2Neg = (codes "i64x2_neg", <a href="../../lanewise/VectorTable/index.html#neg">vector.neg</a> w64)
-<a href="../../ops/UnaryOps/index.html#unary_row">unary_row</a> unary.I8x16Abs = (codes "i8x16_abs", <a href="../../lanewise/VectorTable/index.html#abs">vector.abs</a> w8)
-<a href="../../ops/UnaryOps/index.html#unary_row">unary_row</a> unary.I16x8Abs = (codes "i16x8_abs", <a href="../../lanewise/VectorTable/index.html#abs">vector.abs</a> w16)
-<a href="../../ops/UnaryOps/index.html#unary_row">unary_row</a> unary.I32x4Abs = (codes "i32x4_abs", <a href="../../lanewise/VectorTable/index.html#abs">vector.abs</a> w32)
-<a href="../../ops/UnaryOps/index.html#unary_row">unary_row</a> unary.I64x2Abs = (codes "i64x2_abs", <a href="../../lanewise/VectorTable/index.html#abs">vector.abs</a> w64)
-<a href="../../ops/UnaryOps/index.html#unary_row">unary_row</a> unary.I8x16Popcnt = (codes "i8x16_popcnt", <a href="../../lanewise/VectorTable/index.html#popcnt">vector.popcnt</a> w8)
-<a href="../../ops/UnaryOps/index.html#unary_row">unary_row</a> unary.I16x8ExtendLowI8x16S = (codes "i16x8_extend_low_i8x16_s", <a href="../../widening/WideningTable/index.html#extend_low_s">widening.extend_low_s</a> w8 w16)
-<a href="../../ops/UnaryOps/index.html#unary_row">unary_row</a> unary.I16x8ExtendLowI8x16U = (codes "i16x8_extend_low_i8x16_u", <a href="../../widening/WideningTable/index.html#extend_low_u">widening.extend_low_u</a> w8 w16)
-<a href="../../ops/UnaryOps/index.html#unary_row">unary_row</a> unary.I16x8ExtendHighI8x16S = (codes "i16x8_extend_high_i8x16_s", <a href="../../widening/WideningTable/index.html#extend_high_s">widening.extend_high_s</a> w8 w16)
-<a href="../../ops/UnaryOps/index.html#unary_row">unary_row</a> unary.I16x8ExtendHighI8x16U = (codes "i16x8_extend_high_i8x16_u", <a href="../../widening/WideningTable/index.html#extend_high_u">widening.extend_high_u</a> w8 w16)
-<a href="../../ops/UnaryOps/index.html#unary_row">unary_row</a> unary.I32x4ExtendLowI16x8S = (codes "i32x4_extend_low_i16x8_s", <a href="../../widening/WideningTable/index.html#extend_low_s">widening.extend_low_s</a> w16 w32)
-<a href="../../ops/UnaryOps/index.html#unary_row">unary_row</a> unary.I32x4ExtendLowI16x8U = (codes "i32x4_extend_low_i16x8_u", <a href="../../widening/WideningTable/index.html#extend_low_u">widening.extend_low_u</a> w16 w32)
-<a href="../../ops/UnaryOps/index.html#unary_row">unary_row</a> unary.I32x4ExtendHighI16x8S = (codes "i32x4_extend_high_i16x8_s", <a href="../../widening/WideningTable/index.html#extend_high_s">widening.extend_high_s</a> w16 w32)
-<a href="../../ops/UnaryOps/index.html#unary_row">unary_row</a> unary.I32x4ExtendHighI16x8U = (codes "i32x4_extend_high_i16x8_u", <a href="../../widening/WideningTable/index.html#extend_high_u">widening.extend_high_u</a> w16 w32)
-<a href="../../ops/UnaryOps/index.html#unary_row">unary_row</a> unary.I64x2ExtendLowI32x4S = (codes "i64x2_extend_low_i32x4_s", <a href="../../widening/WideningTable/index.html#extend_low_s">widening.extend_low_s</a> w32 w64)
-<a href="../../ops/UnaryOps/index.html#unary_row">unary_row</a> unary.I64x2ExtendLowI32x4U = (codes "i64x2_extend_low_i32x4_u", <a href="../../widening/WideningTable/index.html#extend_low_u">widening.extend_low_u</a> w32 w64)
-<a href="../../ops/UnaryOps/index.html#unary_row">unary_row</a> unary.I64x2ExtendHighI32x4S = (codes "i64x2_extend_high_i32x4_s", <a href="../../widening/WideningTable/index.html#extend_high_s">widening.extend_high_s</a> w32 w64)
-<a href="../../ops/UnaryOps/index.html#unary_row">unary_row</a> unary.I64x2ExtendHighI32x4U = (codes "i64x2_extend_high_i32x4_u", <a href="../../widening/WideningTable/index.html#extend_high_u">widening.extend_high_u</a> w32 w64)
-<a href="../../ops/UnaryOps/index.html#unary_row">unary_row</a> unary.I16x8ExtaddPairwiseI8x16S = (codes "i16x8_extadd_pairwise_i8x16_s", <a href="../../widening/WideningTable/index.html#extadd_pairwise_s">widening.extadd_pairwise_s</a> w8 w16)
-<a href="../../ops/UnaryOps/index.html#unary_row">unary_row</a> unary.I16x8ExtaddPairwiseI8x16U = (codes "i16x8_extadd_pairwise_i8x16_u", <a href="../../widening/WideningTable/index.html#extadd_pairwise_u">widening.extadd_pairwise_u</a> w8 w16)
-<a href="../../ops/UnaryOps/index.html#unary_row">unary_row</a> unary.I32x4ExtaddPairwiseI16x8S = (codes "i32x4_extadd_pairwise_i16x8_s", <a href="../../widening/WideningTable/index.html#extadd_pairwise_s">widening.extadd_pairwise_s</a> w16 w32)
-<a href="../../ops/UnaryOps/index.html#unary_row">unary_row</a> unary.I32x4ExtaddPairwiseI16x8U = (codes "i32x4_extadd_pairwise_i16x8_u", <a href="../../widening/WideningTable/index.html#extadd_pairwise_u">widening.extadd_pairwise_u</a> w16 w32)
+-- the vector that an instruction makes of an item in a raw value
+abbrev pub <b id="made_vector">made_vector</b> : MakeOp → RawVal → ℕ
+<a href="../../ops/VectorOps/index.html#made_vector">made_vector</a> op = (<a href="../../ops/VectorOps/index.html#make_row">make_row</a> op).1
 
--- what an instruction of one vector gives
-abbrev pub <b id="unary_vector">unary_vector</b> : UnaryOp → ℕ → ℕ
-<a href="../../ops/UnaryOps/index.html#unary_vector">unary_vector</a> op = (<a href="../../ops/UnaryOps/index.html#unary_row">unary_row</a> op).1
-
--- the name of an instruction of one vector
-abbrev pub <b id="unary_name">unary_name</b> : UnaryOp → List ℕ
-<a href="../../ops/UnaryOps/index.html#unary_name">unary_name</a> op = (<a href="../../ops/UnaryOps/index.html#unary_row">unary_row</a> op).0
-</code></pre>
-"####]
-    pub mod UnaryOps {}
-    #[doc = r####"The loads and stores of vectors.
-
-<pre><code>use Rattle.std.specs.Prelude.{ℕ, List, Result, codes}
-use Rattle.wasmi_types.specs.Wrapping.{w8, w16, w32, w64}
-use Rattle.wasmi_simd.specs.WideningTable as widening
-use Rattle.wasmi_types.specs.Bytes.{<a href="../../types/Bytes/index.html#le_bytes">le_bytes</a>}
-use Rattle.wasmi_types.specs.declared.trap.TrapCode.{TrapCode}
-use Rattle.wasmi_access.specs.LoadStore.{<a href="../../accesses/LoadStore/index.html#loaded">loaded</a>}
-use Rattle.wasmi_lanes.specs.Lane.{<a href="../../lanes/Lane/index.html#lane">lane</a>}
-use Rattle.wasmi_lanes.specs.Vector.{<a href="../../lanes/Vector/index.html#splat_of">splat_of</a>, <a href="../../lanes/Vector/index.html#with_lane">with_lane</a>}
-use Rattle.wasmi_ops.specs.declared.vector.access.VectorLoadOp.{VectorLoadOp}
-use Rattle.wasmi_ops.specs.declared.vector.access.VectorLoadOp.TheVariants as load
-use Rattle.wasmi_ops.specs.declared.vector.access.LoadLaneOp.{LoadLaneOp}
-use Rattle.wasmi_ops.specs.declared.vector.access.LoadLaneOp.TheVariants as load_lane
-use Rattle.wasmi_ops.specs.declared.vector.access.StoreLaneOp.{StoreLaneOp}
-use Rattle.wasmi_ops.specs.declared.vector.access.StoreLaneOp.TheVariants as store_lane
+-- the name of what makes a vector of an item
+abbrev pub <b id="make_name">make_name</b> : MakeOp → List ℕ
+<a href="../../ops/VectorOps/index.html#make_name">make_name</a> op = (<a href="../../ops/VectorOps/index.html#make_row">make_row</a> op).0
 
 -- each load of a vector: its name, and the vector that it gives from an address, or the trap
 abbrev pub <b id="vector_load_row">vector_load_row</b> : VectorLoadOp → List ℕ × (List ℕ → ℕ → Result ℕ TrapCode)
-<a href="../../ops/VectorAccessOps/index.html#vector_load_row">vector_load_row</a> load.V128Load = (codes "v128_load", <a href="../../accesses/LoadStore/index.html#loaded">loaded</a> 16 (λ n. n))
-<a href="../../ops/VectorAccessOps/index.html#vector_load_row">vector_load_row</a> load.V128Load8x8S = (codes "v128_load8x8_s", <a href="../../accesses/LoadStore/index.html#loaded">loaded</a> 8 (<a href="../../widening/WideningTable/index.html#widen_s">widening.widen_s</a> w8 w16))
-<a href="../../ops/VectorAccessOps/index.html#vector_load_row">vector_load_row</a> load.V128Load8x8U = (codes "v128_load8x8_u", <a href="../../accesses/LoadStore/index.html#loaded">loaded</a> 8 (<a href="../../widening/WideningTable/index.html#widen_u">widening.widen_u</a> w8 w16))
-<a href="../../ops/VectorAccessOps/index.html#vector_load_row">vector_load_row</a> load.V128Load16x4S = (codes "v128_load16x4_s", <a href="../../accesses/LoadStore/index.html#loaded">loaded</a> 8 (<a href="../../widening/WideningTable/index.html#widen_s">widening.widen_s</a> w16 w32))
-<a href="../../ops/VectorAccessOps/index.html#vector_load_row">vector_load_row</a> load.V128Load16x4U = (codes "v128_load16x4_u", <a href="../../accesses/LoadStore/index.html#loaded">loaded</a> 8 (<a href="../../widening/WideningTable/index.html#widen_u">widening.widen_u</a> w16 w32))
-<a href="../../ops/VectorAccessOps/index.html#vector_load_row">vector_load_row</a> load.V128Load32x2S = (codes "v128_load32x2_s", <a href="../../accesses/LoadStore/index.html#loaded">loaded</a> 8 (<a href="../../widening/WideningTable/index.html#widen_s">widening.widen_s</a> w32 w64))
-<a href="../../ops/VectorAccessOps/index.html#vector_load_row">vector_load_row</a> load.V128Load32x2U = (codes "v128_load32x2_u", <a href="../../accesses/LoadStore/index.html#loaded">loaded</a> 8 (<a href="../../widening/WideningTable/index.html#widen_u">widening.widen_u</a> w32 w64))
-<a href="../../ops/VectorAccessOps/index.html#vector_load_row">vector_load_row</a> load.V128Load8Splat = (codes "v128_load8_splat", <a href="../../accesses/LoadStore/index.html#loaded">loaded</a> 1 (<a href="../../lanes/Vector/index.html#splat_of">splat_of</a> w8))
-<a href="../../ops/VectorAccessOps/index.html#vector_load_row">vector_load_row</a> load.V128Load16Splat = (codes "v128_load16_splat", <a href="../../accesses/LoadStore/index.html#loaded">loaded</a> 2 (<a href="../../lanes/Vector/index.html#splat_of">splat_of</a> w16))
-<a href="../../ops/VectorAccessOps/index.html#vector_load_row">vector_load_row</a> load.V128Load32Splat = (codes "v128_load32_splat", <a href="../../accesses/LoadStore/index.html#loaded">loaded</a> 4 (<a href="../../lanes/Vector/index.html#splat_of">splat_of</a> w32))
-<a href="../../ops/VectorAccessOps/index.html#vector_load_row">vector_load_row</a> load.V128Load64Splat = (codes "v128_load64_splat", <a href="../../accesses/LoadStore/index.html#loaded">loaded</a> 8 (<a href="../../lanes/Vector/index.html#splat_of">splat_of</a> w64))
-<a href="../../ops/VectorAccessOps/index.html#vector_load_row">vector_load_row</a> load.V128Load32Zero = (codes "v128_load32_zero", <a href="../../accesses/LoadStore/index.html#loaded">loaded</a> 4 (<a href="../../widening/WideningTable/index.html#low_zero">widening.low_zero</a> w32))
-<a href="../../ops/VectorAccessOps/index.html#vector_load_row">vector_load_row</a> load.V128Load64Zero = (codes "v128_load64_zero", <a href="../../accesses/LoadStore/index.html#loaded">loaded</a> 8 (<a href="../../widening/WideningTable/index.html#low_zero">widening.low_zero</a> w64))
+<a href="../../ops/VectorOps/index.html#vector_load_row">vector_load_row</a> load.V128Load = (codes "v128_load", <a href="../../accesses/LoadStore/index.html#loaded">loaded</a> 16 (λ n. n))
+<a href="../../ops/VectorOps/index.html#vector_load_row">vector_load_row</a> load.V128Load8x8S = (codes "v128_load8x8_s", <a href="../../accesses/LoadStore/index.html#loaded">loaded</a> 8 (<a href="../../widening/WideningTable/index.html#widen_s">widening.widen_s</a> w8 w16))
+<a href="../../ops/VectorOps/index.html#vector_load_row">vector_load_row</a> load.V128Load8x8U = (codes "v128_load8x8_u", <a href="../../accesses/LoadStore/index.html#loaded">loaded</a> 8 (<a href="../../widening/WideningTable/index.html#widen_u">widening.widen_u</a> w8 w16))
+<a href="../../ops/VectorOps/index.html#vector_load_row">vector_load_row</a> load.V128Load16x4S = (codes "v128_load16x4_s", <a href="../../accesses/LoadStore/index.html#loaded">loaded</a> 8 (<a href="../../widening/WideningTable/index.html#widen_s">widening.widen_s</a> w16 w32))
+<a href="../../ops/VectorOps/index.html#vector_load_row">vector_load_row</a> load.V128Load16x4U = (codes "v128_load16x4_u", <a href="../../accesses/LoadStore/index.html#loaded">loaded</a> 8 (<a href="../../widening/WideningTable/index.html#widen_u">widening.widen_u</a> w16 w32))
+<a href="../../ops/VectorOps/index.html#vector_load_row">vector_load_row</a> load.V128Load32x2S = (codes "v128_load32x2_s", <a href="../../accesses/LoadStore/index.html#loaded">loaded</a> 8 (<a href="../../widening/WideningTable/index.html#widen_s">widening.widen_s</a> w32 w64))
+<a href="../../ops/VectorOps/index.html#vector_load_row">vector_load_row</a> load.V128Load32x2U = (codes "v128_load32x2_u", <a href="../../accesses/LoadStore/index.html#loaded">loaded</a> 8 (<a href="../../widening/WideningTable/index.html#widen_u">widening.widen_u</a> w32 w64))
+<a href="../../ops/VectorOps/index.html#vector_load_row">vector_load_row</a> load.V128Load8Splat = (codes "v128_load8_splat", <a href="../../accesses/LoadStore/index.html#loaded">loaded</a> 1 (<a href="../../lanes/Vector/index.html#splat_of">splat_of</a> w8))
+<a href="../../ops/VectorOps/index.html#vector_load_row">vector_load_row</a> load.V128Load16Splat = (codes "v128_load16_splat", <a href="../../accesses/LoadStore/index.html#loaded">loaded</a> 2 (<a href="../../lanes/Vector/index.html#splat_of">splat_of</a> w16))
+<a href="../../ops/VectorOps/index.html#vector_load_row">vector_load_row</a> load.V128Load32Splat = (codes "v128_load32_splat", <a href="../../accesses/LoadStore/index.html#loaded">loaded</a> 4 (<a href="../../lanes/Vector/index.html#splat_of">splat_of</a> w32))
+<a href="../../ops/VectorOps/index.html#vector_load_row">vector_load_row</a> load.V128Load64Splat = (codes "v128_load64_splat", <a href="../../accesses/LoadStore/index.html#loaded">loaded</a> 8 (<a href="../../lanes/Vector/index.html#splat_of">splat_of</a> w64))
+<a href="../../ops/VectorOps/index.html#vector_load_row">vector_load_row</a> load.V128Load32Zero = (codes "v128_load32_zero", <a href="../../accesses/LoadStore/index.html#loaded">loaded</a> 4 (<a href="../../widening/WideningTable/index.html#low_zero">widening.low_zero</a> w32))
+<a href="../../ops/VectorOps/index.html#vector_load_row">vector_load_row</a> load.V128Load64Zero = (codes "v128_load64_zero", <a href="../../accesses/LoadStore/index.html#loaded">loaded</a> 8 (<a href="../../widening/WideningTable/index.html#low_zero">widening.low_zero</a> w64))
 
 -- the vector that a load from an address gives, or the trap
 abbrev pub <b id="loaded_vector">loaded_vector</b> : VectorLoadOp → List ℕ → ℕ → Result ℕ TrapCode
-<a href="../../ops/VectorAccessOps/index.html#loaded_vector">loaded_vector</a> op = (<a href="../../ops/VectorAccessOps/index.html#vector_load_row">vector_load_row</a> op).1
+<a href="../../ops/VectorOps/index.html#loaded_vector">loaded_vector</a> op = (<a href="../../ops/VectorOps/index.html#vector_load_row">vector_load_row</a> op).1
 
 -- the name of a load of a vector
 abbrev pub <b id="vector_load_name">vector_load_name</b> : VectorLoadOp → List ℕ
-<a href="../../ops/VectorAccessOps/index.html#vector_load_name">vector_load_name</a> op = (<a href="../../ops/VectorAccessOps/index.html#vector_load_row">vector_load_row</a> op).0
+<a href="../../ops/VectorOps/index.html#vector_load_name">vector_load_name</a> op = (<a href="../../ops/VectorOps/index.html#vector_load_row">vector_load_row</a> op).0
 
 -- the vector with a lane that is loaded from an address, or the trap
 abbrev pub <b id="loaded_lane">loaded_lane</b> : LoadLaneOp → ℕ → List ℕ → ℕ → Result ℕ TrapCode
-<a href="../../ops/VectorAccessOps/index.html#loaded_lane">loaded_lane</a> (load_lane.V128Load8Lane index) vector bytes a = <a href="../../accesses/LoadStore/index.html#loaded">loaded</a> 1 (<a href="../../lanes/Vector/index.html#with_lane">with_lane</a> w8 vector index) bytes a
-<a href="../../ops/VectorAccessOps/index.html#loaded_lane">loaded_lane</a> (load_lane.V128Load16Lane index) vector bytes a = <a href="../../accesses/LoadStore/index.html#loaded">loaded</a> 2 (<a href="../../lanes/Vector/index.html#with_lane">with_lane</a> w16 vector index) bytes a
-<a href="../../ops/VectorAccessOps/index.html#loaded_lane">loaded_lane</a> (load_lane.V128Load32Lane index) vector bytes a = <a href="../../accesses/LoadStore/index.html#loaded">loaded</a> 4 (<a href="../../lanes/Vector/index.html#with_lane">with_lane</a> w32 vector index) bytes a
-<a href="../../ops/VectorAccessOps/index.html#loaded_lane">loaded_lane</a> (load_lane.V128Load64Lane index) vector bytes a = <a href="../../accesses/LoadStore/index.html#loaded">loaded</a> 8 (<a href="../../lanes/Vector/index.html#with_lane">with_lane</a> w64 vector index) bytes a
+<a href="../../ops/VectorOps/index.html#loaded_lane">loaded_lane</a> (load_lane.V128Load8Lane index) vector bytes a = <a href="../../accesses/LoadStore/index.html#loaded">loaded</a> 1 (<a href="../../lanes/Vector/index.html#with_lane">with_lane</a> w8 vector index) bytes a
+<a href="../../ops/VectorOps/index.html#loaded_lane">loaded_lane</a> (load_lane.V128Load16Lane index) vector bytes a = <a href="../../accesses/LoadStore/index.html#loaded">loaded</a> 2 (<a href="../../lanes/Vector/index.html#with_lane">with_lane</a> w16 vector index) bytes a
+<a href="../../ops/VectorOps/index.html#loaded_lane">loaded_lane</a> (load_lane.V128Load32Lane index) vector bytes a = <a href="../../accesses/LoadStore/index.html#loaded">loaded</a> 4 (<a href="../../lanes/Vector/index.html#with_lane">with_lane</a> w32 vector index) bytes a
+<a href="../../ops/VectorOps/index.html#loaded_lane">loaded_lane</a> (load_lane.V128Load64Lane index) vector bytes a = <a href="../../accesses/LoadStore/index.html#loaded">loaded</a> 8 (<a href="../../lanes/Vector/index.html#with_lane">with_lane</a> w64 vector index) bytes a
 
 -- the bytes that a store of a lane writes
 abbrev pub <b id="stored_lane">stored_lane</b> : StoreLaneOp → ℕ → List ℕ
-<a href="../../ops/VectorAccessOps/index.html#stored_lane">stored_lane</a> (store_lane.V128Store8Lane index) vector = <a href="../../types/Bytes/index.html#le_bytes">le_bytes</a> 1 (<a href="../../lanes/Lane/index.html#lane">lane</a> w8 vector index)
-<a href="../../ops/VectorAccessOps/index.html#stored_lane">stored_lane</a> (store_lane.V128Store16Lane index) vector = <a href="../../types/Bytes/index.html#le_bytes">le_bytes</a> 2 (<a href="../../lanes/Lane/index.html#lane">lane</a> w16 vector index)
-<a href="../../ops/VectorAccessOps/index.html#stored_lane">stored_lane</a> (store_lane.V128Store32Lane index) vector = <a href="../../types/Bytes/index.html#le_bytes">le_bytes</a> 4 (<a href="../../lanes/Lane/index.html#lane">lane</a> w32 vector index)
-<a href="../../ops/VectorAccessOps/index.html#stored_lane">stored_lane</a> (store_lane.V128Store64Lane index) vector = <a href="../../types/Bytes/index.html#le_bytes">le_bytes</a> 8 (<a href="../../lanes/Lane/index.html#lane">lane</a> w64 vector index)
+<a href="../../ops/VectorOps/index.html#stored_lane">stored_lane</a> (store_lane.V128Store8Lane index) vector = <a href="../../types/Numbers/index.html#le_bytes">le_bytes</a> 1 (<a href="../../lanes/Vector/index.html#lane">lane</a> w8 vector index)
+<a href="../../ops/VectorOps/index.html#stored_lane">stored_lane</a> (store_lane.V128Store16Lane index) vector = <a href="../../types/Numbers/index.html#le_bytes">le_bytes</a> 2 (<a href="../../lanes/Vector/index.html#lane">lane</a> w16 vector index)
+<a href="../../ops/VectorOps/index.html#stored_lane">stored_lane</a> (store_lane.V128Store32Lane index) vector = <a href="../../types/Numbers/index.html#le_bytes">le_bytes</a> 4 (<a href="../../lanes/Vector/index.html#lane">lane</a> w32 vector index)
+<a href="../../ops/VectorOps/index.html#stored_lane">stored_lane</a> (store_lane.V128Store64Lane index) vector = <a href="../../types/Numbers/index.html#le_bytes">le_bytes</a> 8 (<a href="../../lanes/Vector/index.html#lane">lane</a> w64 vector index)
 </code></pre>
 "####]
-    pub mod VectorAccessOps {}
+    pub mod VectorOps {}
 }
 /// Definitions of `wasmi_meter`.
 pub mod meter {
-    #[doc = r####"Amounts of what machines hold, of each kind.
-
-<pre><code>use Rattle.std.specs.Prelude.{ℕ}
-use Rattle.wasmi_meter.specs.declared.amounts.Amounts.{Amounts}
-use Rattle.wasmi_meter.specs.declared.limiter.Kind.{Kind}
-use Rattle.wasmi_meter.specs.declared.limiter.Kind.TheVariants.{Bytes, Elements}
-
--- the amount of a kind
-abbrev pub <b id="amount_of">amount_of</b> : Amounts → Kind → ℕ
-<a href="../../meter/Amounts/index.html#amount_of">amount_of</a> amounts Bytes = amounts.bytes
-<a href="../../meter/Amounts/index.html#amount_of">amount_of</a> amounts Elements = amounts.elements
-
--- the amounts with another one of a kind
-abbrev pub <b id="with_amount">with_amount</b> : Amounts → Kind → ℕ → Amounts
-<a href="../../meter/Amounts/index.html#with_amount">with_amount</a> amounts Bytes n = record amounts { bytes = n }
-<a href="../../meter/Amounts/index.html#with_amount">with_amount</a> amounts Elements n = record amounts { elements = n }
-
--- nothing of either kind
-abbrev pub <b id="nothing">nothing</b> : Amounts
-<a href="../../meter/Amounts/index.html#nothing">nothing</a> = record { bytes = 0; elements = 0 }
-
--- the amounts by kind
-abbrev pub <b id="amounts_of">amounts_of</b> : (Kind → ℕ) → Amounts
-<a href="../../meter/Amounts/index.html#amounts_of">amounts_of</a> amount = record { bytes = amount Bytes; elements = amount Elements }
-</code></pre>
-"####]
-    pub mod Amounts {}
     #[doc = r####"A limiter that answers from a list.
 
 <pre><code>use Rattle.std.specs.Prelude.{◌≡◌, List, Ok, Err, true, false, drop, slice_index_or}
@@ -2341,10 +2139,9 @@ use Rattle.wasmi_meter.specs.declared.amounts.Amounts.{Amounts}
 use Rattle.wasmi_meter.specs.declared.any_limiter.AnyLimiter.{AnyLimiter}
 use Rattle.wasmi_meter.specs.declared.any_limiter.AnyLimiter.TheVariants as limiter
 use Rattle.wasmi_meter.specs.declared.quota.Quota.{Quota}
-use Rattle.wasmi_meter.specs.Amounts.{<a href="../../meter/Amounts/index.html#amounts_of">amounts_of</a>}
+use Rattle.wasmi_meter.specs.Capped.{<a href="../../meter/Capped/index.html#amounts_of">amounts_of</a>, <a href="../../meter/Capped/index.html#cap_of">cap_of</a>, <a href="../../meter/Capped/index.html#quota_rules">quota_rules</a>}
 use Rattle.wasmi_meter.specs.AnswerList.{<a href="../../meter/AnswerList/index.html#AnswersAhead">AnswersAhead</a>, <a href="../../meter/AnswerList/index.html#answer_list_rules">answer_list_rules</a>}
 use Rattle.wasmi_meter.specs.Limiter.{<a href="../../meter/Limiter/index.html#Question">Question</a>, <a href="../../meter/Limiter/index.html#Answer">Answer</a>, <a href="../../meter/Limiter/index.html#Failure">Failure</a>, <a href="../../meter/Limiter/index.html#NoticeAnswer">NoticeAnswer</a>, <a href="../../meter/Limiter/index.html#Rules">Rules</a>}
-use Rattle.wasmi_meter.specs.Quota.{<a href="../../meter/Quota/index.html#cap_of">cap_of</a>, <a href="../../meter/Quota/index.html#quota_rules">quota_rules</a>}
 
 -- A question is answered as a limiter of its kind answers it, and the kind stays.
 abbrev pub <b id="AskedByKind">AskedByKind</b> : AnyLimiter → <a href="../../meter/Limiter/index.html#Question">Question</a> → <a href="../../meter/Limiter/index.html#Answer">Answer</a> → AnyLimiter → Type 0
@@ -2374,7 +2171,7 @@ abbrev pub <b id="quota_of">quota_of</b> : AnyLimiter → Option Quota
 
 -- the caps of such a limiter, if it is a quota
 abbrev pub <b id="caps_of">caps_of</b> : AnyLimiter → Option Amounts
-<a href="../../meter/AnyLimiter/index.html#caps_of">caps_of</a> l = option_map (λ quota. <a href="../../meter/Amounts/index.html#amounts_of">amounts_of</a> (<a href="../../meter/Quota/index.html#cap_of">cap_of</a> quota)) (<a href="../../meter/AnyLimiter/index.html#quota_of">quota_of</a> l)
+<a href="../../meter/AnyLimiter/index.html#caps_of">caps_of</a> l = option_map (λ quota. <a href="../../meter/Capped/index.html#amounts_of">amounts_of</a> (<a href="../../meter/Capped/index.html#cap_of">cap_of</a> quota)) (<a href="../../meter/AnyLimiter/index.html#quota_of">quota_of</a> l)
 </code></pre>
 "####]
     pub mod AnyLimiter {}
@@ -2511,13 +2308,75 @@ pub record <b id="Attempt">Attempt</b> {V E S : Type 0} (rules : <a href="../../
 </code></pre>
 "####]
     pub mod Attempt {}
-    #[doc = r####"The rules of limiters with caps, over what each of them holds and may hold.
+    #[doc = r####"What limiters with caps hold and may hold, their rules, and those of a quota.
 
-<pre><code>use Rattle.std.specs.Prelude.{◌≡◌, ℕ, ◌+◌, ◌-◌, ◌≤◌, Bool, Ok}
-use Rattle.wasmi_meter.specs.declared.holdings.Holdings.{Holdings}
+<pre><code>use Rattle.std.specs.Prelude.{ℕ, ◌≡◌, ◌+◌, ◌-◌, ◌≤◌, ◌&lt;◌, Option, Some, None, Ok, Err, Bool, true, false}
+use Rattle.wasmi_meter.specs.declared.amounts.Amounts.{Amounts}
 use Rattle.wasmi_meter.specs.declared.limiter.Kind.{Kind}
+use Rattle.wasmi_meter.specs.declared.limiter.Kind.TheVariants.{Bytes, Elements}
+use Rattle.wasmi_meter.specs.declared.holdings.Holdings.{Holdings}
 use Rattle.wasmi_meter.specs.Limiter.{<a href="../../meter/Limiter/index.html#Question">Question</a>, <a href="../../meter/Limiter/index.html#Answer">Answer</a>, <a href="../../meter/Limiter/index.html#Failure">Failure</a>, <a href="../../meter/Limiter/index.html#NoticeAnswer">NoticeAnswer</a>, <a href="../../meter/Limiter/index.html#kind_of">kind_of</a>, <a href="../../meter/Limiter/index.html#Rules">Rules</a>}
-use Rattle.wasmi_meter.specs.Holdings.{<a href="../../meter/Holdings/index.html#amount_held">amount_held</a>, <a href="../../meter/Holdings/index.html#without_last">without_last</a>, <a href="../../meter/Holdings/index.html#Takes">Takes</a>}
+use Rattle.wasmi_meter.specs.declared.quota.Quota.{Quota}
+
+-- the amount of a kind
+abbrev pub <b id="amount_of">amount_of</b> : Amounts → Kind → ℕ
+<a href="../../meter/Capped/index.html#amount_of">amount_of</a> amounts Bytes = amounts.bytes
+<a href="../../meter/Capped/index.html#amount_of">amount_of</a> amounts Elements = amounts.elements
+
+-- the amounts with another one of a kind
+abbrev pub <b id="with_amount">with_amount</b> : Amounts → Kind → ℕ → Amounts
+<a href="../../meter/Capped/index.html#with_amount">with_amount</a> amounts Bytes n = record amounts { <a href="../../meter/Capped/index.html#bytes">bytes</a> = n }
+<a href="../../meter/Capped/index.html#with_amount">with_amount</a> amounts Elements n = record amounts { <a href="../../meter/Capped/index.html#elements">elements</a> = n }
+
+-- nothing of either kind
+abbrev pub <b id="nothing">nothing</b> : Amounts
+<a href="../../meter/Capped/index.html#nothing">nothing</a> = record { <a href="../../meter/Capped/index.html#bytes">bytes</a> = 0; <a href="../../meter/Capped/index.html#elements">elements</a> = 0 }
+
+-- the amounts by kind
+abbrev pub <b id="amounts_of">amounts_of</b> : (Kind → ℕ) → Amounts
+<a href="../../meter/Capped/index.html#amounts_of">amounts_of</a> amount = record { <a href="../../meter/Capped/index.html#bytes">bytes</a> = amount Bytes; <a href="../../meter/Capped/index.html#elements">elements</a> = amount Elements }
+
+-- what is held of a kind
+abbrev pub <b id="amount_held">amount_held</b> : Holdings → Kind → ℕ
+<a href="../../meter/Capped/index.html#amount_held">amount_held</a> h kind = <a href="../../meter/Capped/index.html#amount_of">amount_of</a> h.held kind
+
+-- n more of a kind
+abbrev pub <b id="with_more">with_more</b> : Holdings → Kind → ℕ → Holdings
+<a href="../../meter/Capped/index.html#with_more">with_more</a> h kind n = record { held = <a href="../../meter/Capped/index.html#with_amount">with_amount</a> h.held kind (<a href="../../meter/Capped/index.html#amount_held">amount_held</a> h kind + n); last = Some (kind, n) }
+
+-- a notice of a kind takes back the last difference of that kind, once; with nothing of that kind to take back, all
+-- stays
+abbrev pub <b id="without_last_of">without_last_of</b> : Kind → Holdings → Option (Kind × ℕ) → Holdings
+<a href="../../meter/Capped/index.html#without_last_of">without_last_of</a> Bytes h (Some (Bytes, n)) =
+    record { held = <a href="../../meter/Capped/index.html#with_amount">with_amount</a> h.held Bytes (h.held.<a href="../../meter/Capped/index.html#bytes">bytes</a> - n); last = None }
+<a href="../../meter/Capped/index.html#without_last_of">without_last_of</a> Elements h (Some (Elements, n)) =
+    record { held = <a href="../../meter/Capped/index.html#with_amount">with_amount</a> h.held Elements (h.held.<a href="../../meter/Capped/index.html#elements">elements</a> - n); last = None }
+<a href="../../meter/Capped/index.html#without_last_of">without_last_of</a> kind h last = h
+
+-- what is held after a notice of a kind
+abbrev pub <b id="without_last">without_last</b> : Kind → Holdings → Holdings
+<a href="../../meter/Capped/index.html#without_last">without_last</a> kind h = <a href="../../meter/Capped/index.html#without_last_of">without_last_of</a> kind h h.last
+
+-- so many more of a kind are taken exactly where they stay, with what is held and what others hold, within the cap, and
+-- nothing changes otherwise
+pub record <b id="Takes">Takes</b> (<a href="../../meter/Capped/index.html#others">others</a> <a href="../../meter/Capped/index.html#cap">cap</a> : ℕ) (h : Holdings) (kind : Kind) (n : ℕ) (taken : Bool) (h&#x27; : Holdings) : Type 0 where
+  pub <b id="within">within</b> : <a href="../../meter/Capped/index.html#others">others</a> + <a href="../../meter/Capped/index.html#amount_held">amount_held</a> h kind + n ≤ <a href="../../meter/Capped/index.html#cap">cap</a> → (taken ≡ true) × (h&#x27; ≡ <a href="../../meter/Capped/index.html#with_more">with_more</a> h kind n)
+  pub <b id="above">above</b> : <a href="../../meter/Capped/index.html#cap">cap</a> &lt; <a href="../../meter/Capped/index.html#others">others</a> + <a href="../../meter/Capped/index.html#amount_held">amount_held</a> h kind + n → (taken ≡ false) × (h&#x27; ≡ h)
+
+-- as much is held of each kind
+pub record <b id="HoldsTheSame">HoldsTheSame</b> (h h&#x27; : Holdings) : Type 0 where
+  pub <b id="bytes">bytes</b> : h&#x27;.held.bytes ≡ h.held.<a href="../../meter/Capped/index.html#bytes">bytes</a>
+  pub <b id="elements">elements</b> : h&#x27;.held.elements ≡ h.held.<a href="../../meter/Capped/index.html#elements">elements</a>
+
+-- a permission adds the difference that was asked for, and another answer keeps what is held
+abbrev pub <b id="Reserves">Reserves</b> : <a href="../../meter/Limiter/index.html#Question">Question</a> → <a href="../../meter/Limiter/index.html#Answer">Answer</a> → Holdings → Holdings → Type 0
+<a href="../../meter/Capped/index.html#Reserves">Reserves</a> q (Ok true) h h&#x27; = h&#x27; ≡ <a href="../../meter/Capped/index.html#with_more">with_more</a> h q.kind (q.desired - q.current)
+<a href="../../meter/Capped/index.html#Reserves">Reserves</a> q (Ok false) h h&#x27; = <a href="../../meter/Capped/index.html#HoldsTheSame">HoldsTheSame</a> h h&#x27;
+<a href="../../meter/Capped/index.html#Reserves">Reserves</a> q (Err error) h h&#x27; = <a href="../../meter/Capped/index.html#HoldsTheSame">HoldsTheSame</a> h h&#x27;
+
+-- a notice takes back the last difference of its kind, once, and changes nothing that is held otherwise
+abbrev pub <b id="GivesBack">GivesBack</b> : Kind → Holdings → Holdings → Type 0
+<a href="../../meter/Capped/index.html#GivesBack">GivesBack</a> kind h h&#x27; = h&#x27; ≡ <a href="../../meter/Capped/index.html#without_last">without_last</a> kind h
 
 -- limiters with caps: what one holds, the same one with other holdings, what others hold of a kind beside it, and the
 -- most that all of them together may hold of a kind
@@ -2530,7 +2389,7 @@ pub record <b id="Capped">Capped</b> (L : Type 0) : Type 0 where
 module _ {L : Type 0} (c : <a href="../../meter/Capped/index.html#Capped">Capped</a> L) where
   -- what all together hold of a kind
   abbrev pub <b id="held_together">held_together</b> : L → Kind → ℕ
-  <a href="../../meter/Capped/index.html#held_together">held_together</a> l kind = c.others l kind + <a href="../../meter/Holdings/index.html#amount_held">amount_held</a> (c.holdings l) kind
+  <a href="../../meter/Capped/index.html#held_together">held_together</a> l kind = c.others l kind + <a href="../../meter/Capped/index.html#amount_held">amount_held</a> (c.holdings l) kind
 
   -- all together hold no more of a kind than its cap
   abbrev pub <b id="IsWithin">IsWithin</b> : L → Type 0
@@ -2538,7 +2397,7 @@ module _ {L : Type 0} (c : <a href="../../meter/Capped/index.html#Capped">Capped
 
   -- so many more of a kind are taken, or not, and all but the holdings stays
   pub record <b id="HoldsMore">HoldsMore</b> (l : L) (kind : Kind) (n : ℕ) (taken : Bool) (l&#x27; : L) : Type 0 where
-    pub <b id="takes">takes</b> : <a href="../../meter/Holdings/index.html#Takes">Takes</a> (c.others l kind) (c.cap l kind) (c.holdings l) kind n taken (c.holdings l&#x27;)
+    pub <b id="takes">takes</b> : <a href="../../meter/Capped/index.html#Takes">Takes</a> (c.others l kind) (c.cap l kind) (c.holdings l) kind n taken (c.holdings l&#x27;)
     pub <b id="rest">rest</b> : l&#x27; ≡ c.with_holdings l (c.holdings l&#x27;)
 
   -- a question is answered by whether the difference is taken
@@ -2548,12 +2407,41 @@ module _ {L : Type 0} (c : <a href="../../meter/Capped/index.html#Capped">Capped
   -- a notice is accepted, gives back what was taken last, if that is of its kind, and keeps all but the holdings
   pub record <b id="Noticed">Noticed</b> (l : L) (failure : <a href="../../meter/Limiter/index.html#Failure">Failure</a>) (notice_answer : <a href="../../meter/Limiter/index.html#NoticeAnswer">NoticeAnswer</a>) (l&#x27; : L) : Type 0 where
     pub <b id="accepts">accepts</b> : notice_answer ≡ Ok tt
-    pub <b id="gives_back">gives_back</b> : c.holdings l&#x27; ≡ <a href="../../meter/Holdings/index.html#without_last">without_last</a> (<a href="../../meter/Limiter/index.html#kind_of">kind_of</a> failure) (c.holdings l)
+    pub <b id="gives_back">gives_back</b> : c.holdings l&#x27; ≡ <a href="../../meter/Capped/index.html#without_last">without_last</a> (<a href="../../meter/Limiter/index.html#kind_of">kind_of</a> failure) (c.holdings l)
     pub <b id="rest">rest</b> : l&#x27; ≡ c.with_holdings l (c.holdings l&#x27;)
 
   -- the rules of such limiters
   abbrev pub <b id="capped_rules">capped_rules</b> : <a href="../../meter/Limiter/index.html#Rules">Rules</a> L
   <a href="../../meter/Capped/index.html#capped_rules">capped_rules</a> = record { asked = <a href="../../meter/Capped/index.html#Asked">Asked</a>; noticed = <a href="../../meter/Capped/index.html#Noticed">Noticed</a> }
+
+-- what a quota holds
+abbrev pub <b id="holdings">holdings</b> : Quota → Holdings
+<a href="../../meter/Capped/index.html#holdings">holdings</a> quota = quota.holdings
+
+-- the most that it may hold of a kind
+abbrev pub <b id="cap_of">cap_of</b> : Quota → Kind → ℕ
+<a href="../../meter/Capped/index.html#cap_of">cap_of</a> quota kind = <a href="../../meter/Capped/index.html#amount_of">amount_of</a> quota.caps kind
+
+-- quotas as limiters with caps
+abbrev pub <b id="capped_quota">capped_quota</b> : <a href="../../meter/Capped/index.html#Capped">Capped</a> Quota
+<a href="../../meter/Capped/index.html#capped_quota">capped_quota</a> = record {
+  <a href="../../meter/Capped/index.html#holdings">holdings</a> = <a href="../../meter/Capped/index.html#holdings">holdings</a>;
+  <a href="../../meter/Capped/index.html#with_holdings">with_holdings</a> = λ quota h. record quota { <a href="../../meter/Capped/index.html#holdings">holdings</a> = h };
+  <a href="../../meter/Capped/index.html#others">others</a> = λ quota kind. 0;
+  <a href="../../meter/Capped/index.html#cap">cap</a> = <a href="../../meter/Capped/index.html#cap_of">cap_of</a>;
+}
+
+-- no more of a kind is held than its cap
+abbrev pub <b id="IsWithinCaps">IsWithinCaps</b> : Quota → Type 0
+<a href="../../meter/Capped/index.html#IsWithinCaps">IsWithinCaps</a> = <a href="../../meter/Capped/index.html#IsWithin">IsWithin</a> <a href="../../meter/Capped/index.html#capped_quota">capped_quota</a>
+
+-- the caps stay
+abbrev pub <b id="SameCaps">SameCaps</b> : Quota → Quota → Type 0
+<a href="../../meter/Capped/index.html#SameCaps">SameCaps</a> quota quota&#x27; = (kind : Kind) → <a href="../../meter/Capped/index.html#cap_of">cap_of</a> quota&#x27; kind ≡ <a href="../../meter/Capped/index.html#cap_of">cap_of</a> quota kind
+
+-- the rules of a quota
+abbrev pub <b id="quota_rules">quota_rules</b> : <a href="../../meter/Limiter/index.html#Rules">Rules</a> Quota
+<a href="../../meter/Capped/index.html#quota_rules">quota_rules</a> = <a href="../../meter/Capped/index.html#capped_rules">capped_rules</a> <a href="../../meter/Capped/index.html#capped_quota">capped_quota</a>
 </code></pre>
 "####]
     pub mod Capped {}
@@ -2563,22 +2451,21 @@ module _ {L : Type 0} (c : <a href="../../meter/Capped/index.html#Capped">Capped
 use Rattle.std.proofs.Common.{◌∙◌, inl, inr, ap}
 use Rattle.std.proofs.lemmas.Bool.{cases_lt}
 use Rattle.wasmi_meter.specs.declared.holdings.Holdings.{Holdings}
-use Rattle.wasmi_meter.specs.Capped.{<a href="../../meter/Capped/index.html#Capped">Capped</a>, <a href="../../meter/Capped/index.html#held_together">held_together</a>, <a href="../../meter/Capped/index.html#Asked">Asked</a>, <a href="../../meter/Capped/index.html#Noticed">Noticed</a>}
-use Rattle.wasmi_meter.specs.Holdings.{<a href="../../meter/Holdings/index.html#with_more">with_more</a>, <a href="../../meter/Holdings/index.html#Reserves">Reserves</a>, <a href="../../meter/Holdings/index.html#GivesBack">GivesBack</a>}
+use Rattle.wasmi_meter.specs.Capped.{<a href="../../meter/Capped/index.html#Capped">Capped</a>, <a href="../../meter/Capped/index.html#held_together">held_together</a>, <a href="../../meter/Capped/index.html#Asked">Asked</a>, <a href="../../meter/Capped/index.html#Noticed">Noticed</a>, <a href="../../meter/Capped/index.html#with_more">with_more</a>, <a href="../../meter/Capped/index.html#Reserves">Reserves</a>, <a href="../../meter/Capped/index.html#GivesBack">GivesBack</a>}
 use Rattle.wasmi_meter.specs.Limiter.{<a href="../../meter/Limiter/index.html#Question">Question</a>, <a href="../../meter/Limiter/index.html#Answer">Answer</a>, <a href="../../meter/Limiter/index.html#Failure">Failure</a>, <a href="../../meter/Limiter/index.html#NoticeAnswer">NoticeAnswer</a>, <a href="../../meter/Limiter/index.html#kind_of">kind_of</a>}
 
 reserves_taken : (q : <a href="../../meter/Limiter/index.html#Question">Question</a>) (answer : <a href="../../meter/Limiter/index.html#Answer">Answer</a>) (h h&#x27; : Holdings) → answer ≡ Ok true
-    → h&#x27; ≡ <a href="../../meter/Holdings/index.html#with_more">with_more</a> h q.kind (q.desired - q.current) → <a href="../../meter/Holdings/index.html#Reserves">Reserves</a> q answer h h&#x27;
+    → h&#x27; ≡ <a href="../../meter/Capped/index.html#with_more">with_more</a> h q.kind (q.desired - q.current) → <a href="../../meter/Capped/index.html#Reserves">Reserves</a> q answer h h&#x27;
 reserves_taken q answer h h&#x27; permitted more = rw permitted more
 
-reserves_kept : (q : <a href="../../meter/Limiter/index.html#Question">Question</a>) (answer : <a href="../../meter/Limiter/index.html#Answer">Answer</a>) (h h&#x27; : Holdings) → answer ≡ Ok false → h&#x27; ≡ h → <a href="../../meter/Holdings/index.html#Reserves">Reserves</a> q answer h h&#x27;
+reserves_kept : (q : <a href="../../meter/Limiter/index.html#Question">Question</a>) (answer : <a href="../../meter/Limiter/index.html#Answer">Answer</a>) (h h&#x27; : Holdings) → answer ≡ Ok false → h&#x27; ≡ h → <a href="../../meter/Capped/index.html#Reserves">Reserves</a> q answer h h&#x27;
 reserves_kept q answer h h&#x27; denied same =
     rw denied (record
     { bytes = ap (λ (x : Holdings). x.held.bytes) same; elements = ap (λ (x : Holdings). x.held.elements) same })
 
 module _ {L : Type 0} (c : <a href="../../meter/Capped/index.html#Capped">Capped</a> L) where
   pub <b id="asked_reserves">asked_reserves</b> : (l l&#x27; : L) (q : <a href="../../meter/Limiter/index.html#Question">Question</a>) (answer : <a href="../../meter/Limiter/index.html#Answer">Answer</a>) → <a href="../../meter/Capped/index.html#Asked">Asked</a> c l q answer l&#x27;
-      → <a href="../../meter/Holdings/index.html#Reserves">Reserves</a> q answer (c.holdings l) (c.holdings l&#x27;)
+      → <a href="../../meter/Capped/index.html#Reserves">Reserves</a> q answer (c.holdings l) (c.holdings l&#x27;)
   <a href="../../meter/CappedProofs/index.html#asked_reserves">asked_reserves</a> l l&#x27; q answer (taken, answered, more) =
       elim (cases_lt (c.cap l q.kind) (<a href="../../meter/Capped/index.html#held_together">held_together</a> c l q.kind + (q.desired - q.current))) [
         | inl above ↦ let none = more.takes.above above in
@@ -2588,98 +2475,12 @@ module _ {L : Type 0} (c : <a href="../../meter/Capped/index.html#Capped">Capped
       ]
 
   pub <b id="noticed_gives_back">noticed_gives_back</b> : (l l&#x27; : L) (failure : <a href="../../meter/Limiter/index.html#Failure">Failure</a>) (notice_answer : <a href="../../meter/Limiter/index.html#NoticeAnswer">NoticeAnswer</a>)
-      → <a href="../../meter/Capped/index.html#Noticed">Noticed</a> c l failure notice_answer l&#x27; → <a href="../../meter/Holdings/index.html#GivesBack">GivesBack</a> (<a href="../../meter/Limiter/index.html#kind_of">kind_of</a> failure) (c.holdings l) (c.holdings l&#x27;)
+      → <a href="../../meter/Capped/index.html#Noticed">Noticed</a> c l failure notice_answer l&#x27; → <a href="../../meter/Capped/index.html#GivesBack">GivesBack</a> (<a href="../../meter/Limiter/index.html#kind_of">kind_of</a> failure) (c.holdings l) (c.holdings l&#x27;)
   <a href="../../meter/CappedProofs/index.html#noticed_gives_back">noticed_gives_back</a> l l&#x27; failure notice_answer noticed = noticed.gives_back
 </code></pre>
 "####]
     pub mod CappedProofs {}
-    #[doc = r####"What work costs in fuel.
-
-<pre><code>use Rattle.std.specs.Prelude.{◌≡◌, ℕ, ◌*◌, ◌/◌, ◌-◌, ◌^◌, min, nat_eq, if◌then◌else◌}
-use Rattle.std.specs.Fn.{Once, FnOnceReturnsAt}
-use Rattle.std.specs.Option.{unwrap_or}
-use Rattle.std.specs.Borrow.{Bor}
-use Rattle.wasmi_meter.specs.declared.fuel.CustomFuelCosts.{CustomFuelCosts}
-use Rattle.wasmi_meter.specs.declared.fuel.FuelCostsProvider.{FuelCostsProvider}
-
--- the costs that stand where none are chosen
-abbrev pub <b id="default_costs">default_costs</b> : CustomFuelCosts
-<a href="../../meter/Costs/index.html#default_costs">default_costs</a> = record { bytes_copied_per_fuel = 64; fuel_per_bytes_translated = 7; fuel_per_bytes_validated = 2 }
-
--- the costs that are chosen, or the default ones
-abbrev pub <b id="costs_of">costs_of</b> : FuelCostsProvider → CustomFuelCosts
-<a href="../../meter/Costs/index.html#costs_of">costs_of</a> provider = unwrap_or provider.custom <a href="../../meter/Costs/index.html#default_costs">default_costs</a>
-
--- f, called with a provider of these costs, returns the amount
-abbrev pub <b id="Computes">Computes</b> : {F : Type 0} → Once F (Bor FuelCostsProvider × Unit {0}) ℕ → F → CustomFuelCosts → ℕ → Type 0
-<a href="../../meter/Costs/index.html#Computes">Computes</a> call f costs amount =
-    (provider : FuelCostsProvider) × (<a href="../../meter/Costs/index.html#costs_of">costs_of</a> provider ≡ costs) × FnOnceReturnsAt call f provider amount
-
--- a product cut at the greatest number of 64 bits
-abbrev pub <b id="cut_product">cut_product</b> : ℕ → ℕ → ℕ
-<a href="../../meter/Costs/index.html#cut_product">cut_product</a> x y = min (x * y) (2 ^ 64 - 1)
-
--- the fuel for copying so many values of so many bytes each
-abbrev pub <b id="copy_cost">copy_cost</b> : CustomFuelCosts → ℕ → ℕ → ℕ
-<a href="../../meter/Costs/index.html#copy_cost">copy_cost</a> costs values size =
-    if nat_eq costs.bytes_copied_per_fuel 0 then 2 ^ 64 - 1 else <a href="../../meter/Costs/index.html#cut_product">cut_product</a> values size / costs.bytes_copied_per_fuel
-</code></pre>
-"####]
-    pub mod Costs {}
-    #[doc = r####"What a limiter holds that counts its permissions.
-
-<pre><code>use Rattle.std.specs.Prelude.{◌≡◌, ℕ, ◌+◌, ◌-◌, ◌≤◌, ◌&lt;◌, Option, Some, None, Ok, Err, Bool, true, false}
-use Rattle.wasmi_meter.specs.declared.holdings.Holdings.{Holdings}
-use Rattle.wasmi_meter.specs.declared.limiter.Kind.{Kind}
-use Rattle.wasmi_meter.specs.declared.limiter.Kind.TheVariants.{Bytes, Elements}
-use Rattle.wasmi_meter.specs.Amounts.{<a href="../../meter/Amounts/index.html#amount_of">amount_of</a>, <a href="../../meter/Amounts/index.html#with_amount">with_amount</a>}
-use Rattle.wasmi_meter.specs.Limiter.{<a href="../../meter/Limiter/index.html#Question">Question</a>, <a href="../../meter/Limiter/index.html#Answer">Answer</a>}
-
--- what is held of a kind
-abbrev pub <b id="amount_held">amount_held</b> : Holdings → Kind → ℕ
-<a href="../../meter/Holdings/index.html#amount_held">amount_held</a> h kind = <a href="../../meter/Amounts/index.html#amount_of">amount_of</a> h.held kind
-
--- n more of a kind
-abbrev pub <b id="with_more">with_more</b> : Holdings → Kind → ℕ → Holdings
-<a href="../../meter/Holdings/index.html#with_more">with_more</a> h kind n = record { held = <a href="../../meter/Amounts/index.html#with_amount">with_amount</a> h.held kind (<a href="../../meter/Holdings/index.html#amount_held">amount_held</a> h kind + n); last = Some (kind, n) }
-
--- a notice of a kind takes back the last difference of that kind, once; with nothing of that kind to take back, all
--- stays
-abbrev pub <b id="without_last_of">without_last_of</b> : Kind → Holdings → Option (Kind × ℕ) → Holdings
-<a href="../../meter/Holdings/index.html#without_last_of">without_last_of</a> Bytes h (Some (Bytes, n)) =
-    record { held = <a href="../../meter/Amounts/index.html#with_amount">with_amount</a> h.held Bytes (h.held.<a href="../../meter/Holdings/index.html#bytes">bytes</a> - n); last = None }
-<a href="../../meter/Holdings/index.html#without_last_of">without_last_of</a> Elements h (Some (Elements, n)) =
-    record { held = <a href="../../meter/Amounts/index.html#with_amount">with_amount</a> h.held Elements (h.held.<a href="../../meter/Holdings/index.html#elements">elements</a> - n); last = None }
-<a href="../../meter/Holdings/index.html#without_last_of">without_last_of</a> kind h last = h
-
--- what is held after a notice of a kind
-abbrev pub <b id="without_last">without_last</b> : Kind → Holdings → Holdings
-<a href="../../meter/Holdings/index.html#without_last">without_last</a> kind h = <a href="../../meter/Holdings/index.html#without_last_of">without_last_of</a> kind h h.last
-
--- so many more of a kind are taken exactly where they stay, with what is held and what others hold, within the cap, and
--- nothing changes otherwise
-pub record <b id="Takes">Takes</b> (others cap : ℕ) (h : Holdings) (kind : Kind) (n : ℕ) (taken : Bool) (h&#x27; : Holdings) : Type 0 where
-  pub <b id="within">within</b> : others + <a href="../../meter/Holdings/index.html#amount_held">amount_held</a> h kind + n ≤ cap → (taken ≡ true) × (h&#x27; ≡ <a href="../../meter/Holdings/index.html#with_more">with_more</a> h kind n)
-  pub <b id="above">above</b> : cap &lt; others + <a href="../../meter/Holdings/index.html#amount_held">amount_held</a> h kind + n → (taken ≡ false) × (h&#x27; ≡ h)
-
--- as much is held of each kind
-pub record <b id="HoldsTheSame">HoldsTheSame</b> (h h&#x27; : Holdings) : Type 0 where
-  pub <b id="bytes">bytes</b> : h&#x27;.held.bytes ≡ h.held.<a href="../../meter/Holdings/index.html#bytes">bytes</a>
-  pub <b id="elements">elements</b> : h&#x27;.held.elements ≡ h.held.<a href="../../meter/Holdings/index.html#elements">elements</a>
-
--- a permission adds the difference that was asked for, and another answer keeps what is held
-abbrev pub <b id="Reserves">Reserves</b> : <a href="../../meter/Limiter/index.html#Question">Question</a> → <a href="../../meter/Limiter/index.html#Answer">Answer</a> → Holdings → Holdings → Type 0
-<a href="../../meter/Holdings/index.html#Reserves">Reserves</a> q (Ok true) h h&#x27; = h&#x27; ≡ <a href="../../meter/Holdings/index.html#with_more">with_more</a> h q.kind (q.desired - q.current)
-<a href="../../meter/Holdings/index.html#Reserves">Reserves</a> q (Ok false) h h&#x27; = <a href="../../meter/Holdings/index.html#HoldsTheSame">HoldsTheSame</a> h h&#x27;
-<a href="../../meter/Holdings/index.html#Reserves">Reserves</a> q (Err error) h h&#x27; = <a href="../../meter/Holdings/index.html#HoldsTheSame">HoldsTheSame</a> h h&#x27;
-
--- a notice takes back the last difference of its kind, once, and changes nothing that is held otherwise
-abbrev pub <b id="GivesBack">GivesBack</b> : Kind → Holdings → Holdings → Type 0
-<a href="../../meter/Holdings/index.html#GivesBack">GivesBack</a> kind h h&#x27; = h&#x27; ≡ <a href="../../meter/Holdings/index.html#without_last">without_last</a> kind h
-</code></pre>
-"####]
-    pub mod Holdings {}
-    #[doc = r####"What a limiter is asked and told, and a limiter that may be absent.
+    #[doc = r####"What a limiter is asked and told, a limiter that may be absent, and a reference to one.
 
 <pre><code>use Rattle.std.specs.Prelude.{◌≡◌, ℕ, Option, Some, None, Result, Ok, Err, Bool, true, false}
 use Rattle.wasmi_meter.specs.declared.limiter.Kind.{Kind}
@@ -2687,6 +2488,10 @@ use Rattle.wasmi_meter.specs.declared.limiter.Kind.TheVariants.{Bytes, Elements}
 use Rattle.wasmi_meter.specs.declared.error.LimiterError.{LimiterError}
 use Rattle.wasmi_meter.specs.declared.error.MemoryError.{MemoryError}
 use Rattle.wasmi_meter.specs.declared.error.TableError.{TableError}
+use Rattle.std.specs.Option.{option_copied_mut}
+use Rattle.std.specs.Borrow.{MutBor, LendsIf, Fml, RattleType}
+use Rattle.wasmi_meter.specs.declared.limiter_ref.LimiterRef.{LimiterRef}
+use Rattle.wasmi_meter.specs.contracts.limiter_ref.LimiterRef.{the_row}
 
 -- May this grow from current to desired, where maximum is the most that its type allows?
 pub record <b id="Question">Question</b> : Type 0 where
@@ -2748,65 +2553,57 @@ abbrev pub <b id="NoticedIf">NoticedIf</b> : {S : Type 0} → <a href="../../met
 -- the rules of a limiter that may be absent
 abbrev pub <b id="optional_rules">optional_rules</b> : {S : Type 0} → <a href="../../meter/Limiter/index.html#Rules">Rules</a> S → <a href="../../meter/Limiter/index.html#Rules">Rules</a> (Option S)
 <a href="../../meter/Limiter/index.html#optional_rules">optional_rules</a> rules = record { <a href="../../meter/Limiter/index.html#asked">asked</a> = <a href="../../meter/Limiter/index.html#AskedIf">AskedIf</a> rules; <a href="../../meter/Limiter/index.html#noticed">noticed</a> = <a href="../../meter/Limiter/index.html#NoticedIf">NoticedIf</a> rules }
-</code></pre>
-"####]
-    pub mod Limiter {}
-    #[doc = r####"What a reference to a limiter leads to.
-
-<pre><code>use Rattle.std.specs.Prelude.{◌≡◌, Option, Some, None}
-use Rattle.std.specs.Option.{option_copied_mut}
-use Rattle.std.specs.Borrow.{MutBor, LendsIf, Fml, RattleType}
-use Rattle.wasmi_meter.specs.declared.limiter_ref.LimiterRef.{LimiterRef}
-use Rattle.wasmi_meter.specs.contracts.limiter_ref.LimiterRef.{the_row}
 
 -- what is lent, if anything
 abbrev pub <b id="loan">loan</b> : {R : Type 0} → LimiterRef R → Option R
-<a href="../../meter/LimiterRef/index.html#loan">loan</a> r = r.limiter
+<a href="../../meter/Limiter/index.html#loan">loan</a> r = r.limiter
 
 -- the present value of the limiter that is lent, or none
 abbrev pub <b id="lent_limiter">lent_limiter</b> : {L : Type 0} → LimiterRef (MutBor L) → Option L
-<a href="../../meter/LimiterRef/index.html#lent_limiter">lent_limiter</a> r = option_copied_mut r.limiter
+<a href="../../meter/Limiter/index.html#lent_limiter">lent_limiter</a> r = option_copied_mut r.limiter
 
 -- one loan before and after a call: both absent, or under one name
 abbrev pub <b id="SameLoan">SameLoan</b> : {L : Type 0} → Option (MutBor L) → Option (MutBor L) → Type 0
-<a href="../../meter/LimiterRef/index.html#SameLoan">SameLoan</a> None None = Unit {0}
-<a href="../../meter/LimiterRef/index.html#SameLoan">SameLoan</a> None (Some r&#x27;) = ⊥
-<a href="../../meter/LimiterRef/index.html#SameLoan">SameLoan</a> (Some r) None = ⊥
-<a href="../../meter/LimiterRef/index.html#SameLoan">SameLoan</a> (Some r) (Some r&#x27;) = r&#x27;.ghost_name ≡ r.ghost_name
+<a href="../../meter/Limiter/index.html#SameLoan">SameLoan</a> None None = Unit {0}
+<a href="../../meter/Limiter/index.html#SameLoan">SameLoan</a> None (Some r&#x27;) = ⊥
+<a href="../../meter/Limiter/index.html#SameLoan">SameLoan</a> (Some r) None = ⊥
+<a href="../../meter/Limiter/index.html#SameLoan">SameLoan</a> (Some r) (Some r&#x27;) = r&#x27;.ghost_name ≡ r.ghost_name
 
 -- r&#x27; leads to what r leads to
 abbrev pub <b id="KeepsLoan">KeepsLoan</b> : {L : Type 0} → LimiterRef (MutBor L) → LimiterRef (MutBor L) → Type 0
-<a href="../../meter/LimiterRef/index.html#KeepsLoan">KeepsLoan</a> r r&#x27; = <a href="../../meter/LimiterRef/index.html#SameLoan">SameLoan</a> r.limiter r&#x27;.limiter
+<a href="../../meter/Limiter/index.html#KeepsLoan">KeepsLoan</a> r r&#x27; = <a href="../../meter/Limiter/index.html#SameLoan">SameLoan</a> r.limiter r&#x27;.limiter
 
 -- what a reference shows, if there is one
 abbrev pub <b id="shown_of">shown_of</b> : {R L : Type 0} → (R → L) → Option R → Option L
-<a href="../../meter/LimiterRef/index.html#shown_of">shown_of</a> shown None = None
-<a href="../../meter/LimiterRef/index.html#shown_of">shown_of</a> shown (Some r) = Some (shown r)
+<a href="../../meter/Limiter/index.html#shown_of">shown_of</a> shown None = None
+<a href="../../meter/Limiter/index.html#shown_of">shown_of</a> shown (Some r) = Some (shown r)
 
 -- the reference, whose limiter is l now
 abbrev pub <b id="ending_with">ending_with</b> : {R L : Type 0} → (R → L → R) → Option R → L → Option R
-<a href="../../meter/LimiterRef/index.html#ending_with">ending_with</a> last None l = None
-<a href="../../meter/LimiterRef/index.html#ending_with">ending_with</a> last (Some r) l = Some (last r l)
+<a href="../../meter/Limiter/index.html#ending_with">ending_with</a> last None l = None
+<a href="../../meter/Limiter/index.html#ending_with">ending_with</a> last (Some r) l = Some (last r l)
 
 -- r lends the limiter out of s, and s ends with the last value that was written through it
 abbrev pub <b id="LendsLimiter">LendsLimiter</b> : (R L : RattleType) → (R.Denot → L.Denot → R.Denot) → MutBor (LimiterRef R.Denot)
     → Option (MutBor L.Denot) → Fml
-<a href="../../meter/LimiterRef/index.html#LendsLimiter">LendsLimiter</a> R L last s r =
-    LendsIf (the_row R) L s r (λ l. record s.now { limiter = <a href="../../meter/LimiterRef/index.html#ending_with">ending_with</a> last s.now.limiter l }) s.now
+<a href="../../meter/Limiter/index.html#LendsLimiter">LendsLimiter</a> R L last s r =
+    LendsIf (the_row R) L s r (λ l. record s.now { limiter = <a href="../../meter/Limiter/index.html#ending_with">ending_with</a> last s.now.limiter l }) s.now
 </code></pre>
 "####]
-    pub mod LimiterRef {}
-    #[doc = r####"Fuel: what is left, and what is taken of it.
+    pub mod Limiter {}
+    #[doc = r####"What work costs in fuel: what is left, and what is taken of it.
 
-<pre><code>use Rattle.std.specs.Prelude.{◌≡◌, ◌⊎◌, ℕ, ◌-◌, ◌≤◌, ◌&lt;◌, is_some, if◌then◌else◌, Option, Some, None, Result, Ok, Err}
+<pre><code>use Rattle.std.specs.Prelude.{◌≡◌, ◌⊎◌, ℕ, ◌-◌, ◌≤◌, ◌&lt;◌, is_some, if◌then◌else◌, Option, Some, None, Result, Ok, Err, ◌*◌, ◌/◌, ◌^◌, min, nat_eq}
 use Rattle.std.proofs.Common.{inl, inr}
-use Rattle.std.specs.Borrow.{MutBor}
+use Rattle.std.specs.Borrow.{MutBor, Bor}
 use Rattle.std.specs.Option.{option_copied_mut, option_map, unwrap_or}
 use Rattle.wasmi_meter.specs.declared.fuel.FuelError.{FuelError}
 use Rattle.wasmi_meter.specs.declared.fuel.FuelError.TheVariants.{OutOfFuel}
 use Rattle.wasmi_meter.specs.declared.fuel.CustomFuelCosts.{CustomFuelCosts}
-use Rattle.wasmi_meter.specs.declared.fuel.FuelError.TheVariants as fuel
 use Rattle.wasmi_meter.specs.declared.error.TableError.{TableError}
+use Rattle.std.specs.Fn.{Once, FnOnceReturnsAt}
+use Rattle.wasmi_meter.specs.declared.fuel.FuelCostsProvider.{FuelCostsProvider}
+use Rattle.wasmi_meter.specs.declared.fuel.FuelError.TheVariants as fuel
 use Rattle.wasmi_meter.specs.declared.error.TableError.TheVariants as table
 
 -- a meter is off, or on with an amount left, at these costs
@@ -2856,50 +2653,31 @@ abbrev pub <b id="Charges">Charges</b> : <a href="../../meter/Meter/index.html#M
 abbrev pub <b id="IsOfFuel">IsOfFuel</b> : FuelError → Result TableError FuelError → Type 0
 <a href="../../meter/Meter/index.html#IsOfFuel">IsOfFuel</a> (fuel.OutOfFuel required) answer = answer ≡ Ok (table.OutOfFuel required)
 <a href="../../meter/Meter/index.html#IsOfFuel">IsOfFuel</a> fuel.FuelMeteringDisabled answer = answer ≡ Err fuel.FuelMeteringDisabled
+
+-- the costs that stand where none are chosen
+abbrev pub <b id="default_costs">default_costs</b> : CustomFuelCosts
+<a href="../../meter/Meter/index.html#default_costs">default_costs</a> = record { bytes_copied_per_fuel = 64; fuel_per_bytes_translated = 7; fuel_per_bytes_validated = 2 }
+
+-- the costs that are chosen, or the default ones
+abbrev pub <b id="costs_of">costs_of</b> : FuelCostsProvider → CustomFuelCosts
+<a href="../../meter/Meter/index.html#costs_of">costs_of</a> provider = unwrap_or provider.custom <a href="../../meter/Meter/index.html#default_costs">default_costs</a>
+
+-- f, called with a provider of these costs, returns the amount
+abbrev pub <b id="Computes">Computes</b> : {F : Type 0} → Once F (Bor FuelCostsProvider × Unit {0}) ℕ → F → CustomFuelCosts → ℕ → Type 0
+<a href="../../meter/Meter/index.html#Computes">Computes</a> call f <a href="../../meter/Meter/index.html#costs">costs</a> amount =
+    (provider : FuelCostsProvider) × (<a href="../../meter/Meter/index.html#costs_of">costs_of</a> provider ≡ <a href="../../meter/Meter/index.html#costs">costs</a>) × FnOnceReturnsAt call f provider amount
+
+-- a product cut at the greatest number of 64 bits
+abbrev pub <b id="cut_product">cut_product</b> : ℕ → ℕ → ℕ
+<a href="../../meter/Meter/index.html#cut_product">cut_product</a> x y = min (x * y) (2 ^ 64 - 1)
+
+-- the fuel for copying so many values of so many bytes each
+abbrev pub <b id="copy_cost">copy_cost</b> : CustomFuelCosts → ℕ → ℕ → ℕ
+<a href="../../meter/Meter/index.html#copy_cost">copy_cost</a> <a href="../../meter/Meter/index.html#costs">costs</a> values size =
+    if nat_eq costs.bytes_copied_per_fuel 0 then 2 ^ 64 - 1 else <a href="../../meter/Meter/index.html#cut_product">cut_product</a> values size / costs.bytes_copied_per_fuel
 </code></pre>
 "####]
     pub mod Meter {}
-    #[doc = r####"A quota's rules: those of limiters with caps, where no others hold anything.
-
-<pre><code>use Rattle.std.specs.Prelude.{◌≡◌, ℕ}
-use Rattle.wasmi_meter.specs.declared.holdings.Holdings.{Holdings}
-use Rattle.wasmi_meter.specs.declared.limiter.Kind.{Kind}
-use Rattle.wasmi_meter.specs.declared.quota.Quota.{Quota}
-use Rattle.wasmi_meter.specs.Amounts.{<a href="../../meter/Amounts/index.html#amount_of">amount_of</a>}
-use Rattle.wasmi_meter.specs.Capped.{<a href="../../meter/Capped/index.html#Capped">Capped</a>, <a href="../../meter/Capped/index.html#IsWithin">IsWithin</a>, <a href="../../meter/Capped/index.html#capped_rules">capped_rules</a>}
-use Rattle.wasmi_meter.specs.Limiter.{<a href="../../meter/Limiter/index.html#Rules">Rules</a>}
-
--- what a quota holds
-abbrev pub <b id="holdings">holdings</b> : Quota → Holdings
-<a href="../../meter/Quota/index.html#holdings">holdings</a> quota = quota.holdings
-
--- the most that it may hold of a kind
-abbrev pub <b id="cap_of">cap_of</b> : Quota → Kind → ℕ
-<a href="../../meter/Quota/index.html#cap_of">cap_of</a> quota kind = <a href="../../meter/Amounts/index.html#amount_of">amount_of</a> quota.caps kind
-
--- quotas as limiters with caps
-abbrev pub <b id="capped_quota">capped_quota</b> : <a href="../../meter/Capped/index.html#Capped">Capped</a> Quota
-<a href="../../meter/Quota/index.html#capped_quota">capped_quota</a> = record {
-  <a href="../../meter/Quota/index.html#holdings">holdings</a> = <a href="../../meter/Quota/index.html#holdings">holdings</a>;
-  with_holdings = λ quota h. record quota { <a href="../../meter/Quota/index.html#holdings">holdings</a> = h };
-  others = λ quota kind. 0;
-  cap = <a href="../../meter/Quota/index.html#cap_of">cap_of</a>;
-}
-
--- no more of a kind is held than its cap
-abbrev pub <b id="IsWithinCaps">IsWithinCaps</b> : Quota → Type 0
-<a href="../../meter/Quota/index.html#IsWithinCaps">IsWithinCaps</a> = <a href="../../meter/Capped/index.html#IsWithin">IsWithin</a> <a href="../../meter/Quota/index.html#capped_quota">capped_quota</a>
-
--- the caps stay
-abbrev pub <b id="SameCaps">SameCaps</b> : Quota → Quota → Type 0
-<a href="../../meter/Quota/index.html#SameCaps">SameCaps</a> quota quota&#x27; = (kind : Kind) → <a href="../../meter/Quota/index.html#cap_of">cap_of</a> quota&#x27; kind ≡ <a href="../../meter/Quota/index.html#cap_of">cap_of</a> quota kind
-
--- the rules of a quota
-abbrev pub <b id="quota_rules">quota_rules</b> : <a href="../../meter/Limiter/index.html#Rules">Rules</a> Quota
-<a href="../../meter/Quota/index.html#quota_rules">quota_rules</a> = <a href="../../meter/Capped/index.html#capped_rules">capped_rules</a> <a href="../../meter/Quota/index.html#capped_quota">capped_quota</a>
-</code></pre>
-"####]
-    pub mod Quota {}
     #[doc = r####"What the errors of fuel meters, limiters, linear memories and tables print.
 
 <pre><code>use Rattle.std.specs.Prelude.{ℕ, List, ◌++◌, codes}
@@ -3041,51 +2819,16 @@ module _ {Region : Type 0} where
 </code></pre>
 "####]
     pub mod Buffer {}
-    #[doc = r####"What the bulk instructions write over a part of a list (core specification, memory.fill, memory.copy, memory.init and table.fill, table.copy, table.init), and what they take of a meter for bytes.
+    #[doc = r####"Making and growing a memory or a table, as an attempt with its answer, and what the bulk instructions write and take.
 
-<pre><code>use Rattle.std.specs.Prelude.{◌≡◌, ℕ, List, replicate, MatchBool, Option, Some, None, Result, Ok, Err}
+<pre><code>use Rattle.std.specs.Prelude.{◌≡◌, ◌&lt;◌, ◌⊎◌, ℕ, Option, None, Result, Ok, List, replicate, MatchBool, Some, Err}
+use Rattle.wasmi_meter.specs.Limiter.{<a href="../../meter/Limiter/index.html#Question">Question</a>, <a href="../../meter/Limiter/index.html#Rules">Rules</a>}
+use Rattle.wasmi_meter.specs.Meter.{<a href="../../meter/Meter/index.html#Meter">Meter</a>, <a href="../../meter/Meter/index.html#copy_cost">copy_cost</a>, <a href="../../meter/Meter/index.html#meter_after">meter_after</a>}
+use Rattle.wasmi_meter.specs.Attempt.{<a href="../../meter/Attempt/index.html#MeteredValue">MeteredValue</a>, <a href="../../meter/Attempt/index.html#alone">alone</a>, <a href="../../meter/Attempt/index.html#Request">Request</a>, <a href="../../meter/Attempt/index.html#AttemptOutcome">AttemptOutcome</a>, <a href="../../meter/Attempt/index.html#Attempt">Attempt</a>, <a href="../../meter/Attempt/index.html#answer_of">answer_of</a>, <a href="../../meter/Attempt/index.html#optional_due">optional_due</a>, <a href="../../meter/Attempt/index.html#covers">covers</a>}
 use Rattle.std.specs.Option.{option_map, option_and_then}
 use Rattle.wasmi_types.specs.Access.{<a href="../../types/Access/index.html#at">at</a>, <a href="../../types/Access/index.html#overwrite">overwrite</a>}
 use Rattle.wasmi_meter.specs.declared.error.MemoryError.{MemoryError}
 use Rattle.wasmi_meter.specs.declared.error.MemoryError.TheVariants.{OutOfBoundsAccess, OutOfFuel}
-use Rattle.wasmi_meter.specs.Attempt.{<a href="../../meter/Attempt/index.html#MeteredValue">MeteredValue</a>, <a href="../../meter/Attempt/index.html#optional_due">optional_due</a>, <a href="../../meter/Attempt/index.html#covers">covers</a>}
-use Rattle.wasmi_meter.specs.Costs.{<a href="../../meter/Costs/index.html#copy_cost">copy_cost</a>}
-use Rattle.wasmi_meter.specs.Meter.{<a href="../../meter/Meter/index.html#Meter">Meter</a>, <a href="../../meter/Meter/index.html#meter_after">meter_after</a>}
-use Rattle.wasmi_store.specs.Growth.{<a href="../../store/Growth/index.html#metered">metered</a>}
-
--- items of which so many, from dst on, are each filled with a value, or none where they end too early
-abbrev pub <b id="filled">filled</b> : {A : Type 0} → List A → ℕ → A → ℕ → Option (List A)
-<a href="../../store/Bulk/index.html#filled">filled</a> items dst value len = <a href="../../types/Access/index.html#overwrite">overwrite</a> items dst (replicate len value)
-
--- items whose part from dst on is written over by so many items of a list from src on, or none where a list ends too
--- early
-abbrev pub <b id="copied">copied</b> : {A : Type 0} → List A → ℕ → List A → ℕ → ℕ → Option (List A)
-<a href="../../store/Bulk/index.html#copied">copied</a> items dst source src len = option_and_then (λ part. <a href="../../types/Access/index.html#overwrite">overwrite</a> items dst part) (<a href="../../types/Access/index.html#at">at</a> source src len)
-
--- the fuel that is due for writing so many bytes
-abbrev pub <b id="bytes_due">bytes_due</b> : Option <a href="../../meter/Meter/index.html#Meter">Meter</a> → ℕ → ℕ
-<a href="../../store/Bulk/index.html#bytes_due">bytes_due</a> meter len = <a href="../../meter/Attempt/index.html#optional_due">optional_due</a> meter (Some (λ costs. <a href="../../meter/Costs/index.html#copy_cost">copy_cost</a> costs len 1))
-
--- bytes with their meter, if there is one
-abbrev pub <b id="MeteredBytes">MeteredBytes</b> : Type 0
-<a href="../../store/Bulk/index.html#MeteredBytes">MeteredBytes</a> = <a href="../../meter/Attempt/index.html#MeteredValue">MeteredValue</a> (List ℕ) (Unit {0})
-
--- A bulk instruction writes so many bytes, by what the bytes become, or none where a range ends past its list. That is
--- tested first, then the fuel; an instruction that is refused writes and takes nothing.
-abbrev pub <b id="BulkWrites">BulkWrites</b> : Option (List ℕ) → ℕ → <a href="../../store/Bulk/index.html#MeteredBytes">MeteredBytes</a> → Result (Unit {0}) MemoryError → <a href="../../store/Bulk/index.html#MeteredBytes">MeteredBytes</a> → Type 0
-<a href="../../store/Bulk/index.html#BulkWrites">BulkWrites</a> None len s result s&#x27; = (result ≡ Err OutOfBoundsAccess) × (s&#x27; ≡ s)
-<a href="../../store/Bulk/index.html#BulkWrites">BulkWrites</a> (Some bytes) len s result s&#x27; = let amount = <a href="../../store/Bulk/index.html#bytes_due">bytes_due</a> s.meter len in MatchBool (<a href="../../meter/Attempt/index.html#covers">covers</a> s.meter amount)
-    ((result ≡ Ok tt) × (s&#x27; ≡ <a href="../../store/Growth/index.html#metered">metered</a> bytes (option_map (λ m. <a href="../../meter/Meter/index.html#meter_after">meter_after</a> m amount) s.meter)))
-    ((result ≡ Err (OutOfFuel amount)) × (s&#x27; ≡ s))
-</code></pre>
-"####]
-    pub mod Bulk {}
-    #[doc = r####"Making and growing a memory or a table, as an attempt with its answer.
-
-<pre><code>use Rattle.std.specs.Prelude.{◌≡◌, ◌&lt;◌, ◌⊎◌, ℕ, Option, None, Result, Ok}
-use Rattle.wasmi_meter.specs.Limiter.{<a href="../../meter/Limiter/index.html#Question">Question</a>, <a href="../../meter/Limiter/index.html#Rules">Rules</a>}
-use Rattle.wasmi_meter.specs.Meter.{<a href="../../meter/Meter/index.html#Meter">Meter</a>}
-use Rattle.wasmi_meter.specs.Attempt.{<a href="../../meter/Attempt/index.html#MeteredValue">MeteredValue</a>, <a href="../../meter/Attempt/index.html#alone">alone</a>, <a href="../../meter/Attempt/index.html#Request">Request</a>, <a href="../../meter/Attempt/index.html#AttemptOutcome">AttemptOutcome</a>, <a href="../../meter/Attempt/index.html#Attempt">Attempt</a>, <a href="../../meter/Attempt/index.html#answer_of">answer_of</a>}
 
 -- a value with its meter, if there is one, and its limiter
 abbrev pub <b id="metered_value">metered_value</b> : {V S : Type 0} → V → Option <a href="../../meter/Meter/index.html#Meter">Meter</a> → S → <a href="../../meter/Attempt/index.html#MeteredValue">MeteredValue</a> V S
@@ -3135,47 +2878,139 @@ pub record <b id="GrowsBySome">GrowsBySome</b> {V E S : Type 0} (rules : <a href
 abbrev pub <b id="Grows">Grows</b> : {V E S : Type 0} → <a href="../../meter/Limiter/index.html#Rules">Rules</a> S → <a href="../../store/Growth/index.html#Growth">Growth</a> V E → <a href="../../meter/Attempt/index.html#MeteredValue">MeteredValue</a> V S → Result ℕ E → ℕ → <a href="../../meter/Attempt/index.html#MeteredValue">MeteredValue</a> V S
     → Type 0
 <a href="../../store/Growth/index.html#Grows">Grows</a> rules g s result charge s&#x27; = <a href="../../store/Growth/index.html#GrowsByNone">GrowsByNone</a> g s result charge s&#x27; ⊎ <a href="../../store/Growth/index.html#GrowsBySome">GrowsBySome</a> rules g s result charge s&#x27;
+
+-- items of which so many, from dst on, are each filled with a value, or none where they end too early
+abbrev pub <b id="filled">filled</b> : {A : Type 0} → List A → ℕ → A → ℕ → Option (List A)
+<a href="../../store/Growth/index.html#filled">filled</a> items dst value len = <a href="../../types/Access/index.html#overwrite">overwrite</a> items dst (replicate len value)
+
+-- items whose part from dst on is written over by so many items of a list from src on, or none where a list ends too
+-- early
+abbrev pub <b id="copied">copied</b> : {A : Type 0} → List A → ℕ → List A → ℕ → ℕ → Option (List A)
+<a href="../../store/Growth/index.html#copied">copied</a> items dst source src len = option_and_then (λ part. <a href="../../types/Access/index.html#overwrite">overwrite</a> items dst part) (<a href="../../types/Access/index.html#at">at</a> source src len)
+
+-- the fuel that is due for writing so many bytes
+abbrev pub <b id="bytes_due">bytes_due</b> : Option <a href="../../meter/Meter/index.html#Meter">Meter</a> → ℕ → ℕ
+<a href="../../store/Growth/index.html#bytes_due">bytes_due</a> meter len = <a href="../../meter/Attempt/index.html#optional_due">optional_due</a> meter (Some (λ costs. <a href="../../meter/Meter/index.html#copy_cost">copy_cost</a> costs len 1))
+
+-- bytes with their meter, if there is one
+abbrev pub <b id="MeteredBytes">MeteredBytes</b> : Type 0
+<a href="../../store/Growth/index.html#MeteredBytes">MeteredBytes</a> = <a href="../../meter/Attempt/index.html#MeteredValue">MeteredValue</a> (List ℕ) (Unit {0})
+
+-- A bulk instruction writes so many bytes, by what the bytes become, or none where a range ends past its list. That is
+-- tested first, then the fuel; an instruction that is refused writes and takes nothing.
+abbrev pub <b id="BulkWrites">BulkWrites</b> : Option (List ℕ) → ℕ → <a href="../../store/Growth/index.html#MeteredBytes">MeteredBytes</a> → Result (Unit {0}) MemoryError → <a href="../../store/Growth/index.html#MeteredBytes">MeteredBytes</a> → Type 0
+<a href="../../store/Growth/index.html#BulkWrites">BulkWrites</a> None len s result s&#x27; = (result ≡ Err OutOfBoundsAccess) × (s&#x27; ≡ s)
+<a href="../../store/Growth/index.html#BulkWrites">BulkWrites</a> (Some bytes) len s result s&#x27; = let <a href="../../store/Growth/index.html#amount">amount</a> = <a href="../../store/Growth/index.html#bytes_due">bytes_due</a> s.meter len in MatchBool (<a href="../../meter/Attempt/index.html#covers">covers</a> s.meter <a href="../../store/Growth/index.html#amount">amount</a>)
+    ((result ≡ Ok tt) × (s&#x27; ≡ <a href="../../store/Growth/index.html#metered">metered</a> bytes (option_map (λ m. <a href="../../meter/Meter/index.html#meter_after">meter_after</a> m <a href="../../store/Growth/index.html#amount">amount</a>) s.meter)))
+    ((result ≡ Err (OutOfFuel <a href="../../store/Growth/index.html#amount">amount</a>)) × (s&#x27; ≡ s))
 </code></pre>
 "####]
     pub mod Growth {}
-    #[doc = r####"The limits of memory and table types (core specification, limits and import matching).
+    #[doc = r####"Linear memories: their types, making one, growing it, reading and writing (core specification, memory types and memory instances; the memory64 and custom-page-sizes proposals).
 
-<pre><code>use Rattle.std.specs.Prelude.{◌≤◌, ℕ, Option, Some, None}
-
--- an optional maximum is no looser than another
-abbrev pub <b id="IsNoLooser">IsNoLooser</b> : Option ℕ → Option ℕ → Type 0
-<a href="../../store/Limits/index.html#IsNoLooser">IsNoLooser</a> own None = Unit {0}
-<a href="../../store/Limits/index.html#IsNoLooser">IsNoLooser</a> None (Some most) = ⊥
-<a href="../../store/Limits/index.html#IsNoLooser">IsNoLooser</a> (Some maximum) (Some most) = maximum ≤ most
-</code></pre>
-"####]
-    pub mod Limits {}
-    #[doc = r####"Linear memories: making one, growing it, reading and writing (core specification, memory instances).
-
-<pre><code>use Rattle.std.specs.Prelude.{◌≡◌, ◌+◌, ◌*◌, ◌/◌, ◌%◌, ◌≤◌, ◌^◌, ℕ, List, length, nat_lt, true, if◌then◌else◌, Option, Some, None, Result, Ok, Err}
+<pre><code>use Rattle.std.specs.Prelude.{◌≤◌, ℕ, Option, Some, None, ◌≡◌, ◌*◌, ◌/◌, ◌-◌, ◌^◌, Bool, true, ◌&amp;&amp;◌, nat_le, nat_lt, nat_eq, min, if◌then◌else◌, ◌+◌, ◌%◌, List, length, Result, Ok, Err}
+use Rattle.std.specs.Option.{option_map, option_map_or, ForSome}
+use Rattle.wasmi_types.specs.declared.index_ty.IndexType.{IndexType}
+use Rattle.wasmi_types.specs.declared.index_ty.IndexType.TheVariants.{I32}
+use Rattle.wasmi_types.specs.Value.{<a href="../../types/Value/index.html#address_bits">address_bits</a>}
+use Rattle.wasmi_store.specs.declared.memory.ty.PageSize.{PageSize}
+use Rattle.wasmi_store.specs.declared.memory.ty.PageSize.TheVariants.{Byte, Wasm}
 use Rattle.wasmi_types.specs.Access.{<a href="../../types/Access/index.html#overwrite">overwrite</a>}
 use Rattle.wasmi_meter.specs.declared.error.MemoryError.{MemoryError}
 use Rattle.wasmi_meter.specs.declared.error.MemoryError.TheVariants.{OutOfBoundsGrowth, OutOfBoundsAccess, ResourceLimiterDeniedAllocation, MinimumSizeOverflow, InvalidStaticBufferSize, OutOfFuel}
 use Rattle.wasmi_meter.specs.declared.limiter.Kind.TheVariants.{Bytes}
 use Rattle.wasmi_meter.specs.Limiter.{<a href="../../meter/Limiter/index.html#MemoryFailure">MemoryFailure</a>, <a href="../../meter/Limiter/index.html#Question">Question</a>, <a href="../../meter/Limiter/index.html#Rules">Rules</a>}
-use Rattle.wasmi_meter.specs.Costs.{<a href="../../meter/Costs/index.html#copy_cost">copy_cost</a>}
+use Rattle.wasmi_meter.specs.Meter.{<a href="../../meter/Meter/index.html#copy_cost">copy_cost</a>}
 use Rattle.wasmi_meter.specs.Attempt.{<a href="../../meter/Attempt/index.html#MeteredValue">MeteredValue</a>, <a href="../../meter/Attempt/index.html#Request">Request</a>}
 use Rattle.wasmi_store.specs.Buffer.{<a href="../../store/Buffer/index.html#BufferValue">BufferValue</a>, <a href="../../store/Buffer/index.html#Room">Room</a>, <a href="../../store/Buffer/index.html#Owned">Owned</a>, <a href="../../store/Buffer/index.html#fits_room">fits_room</a>, <a href="../../store/Buffer/index.html#LacksMemory">LacksMemory</a>, <a href="../../store/Buffer/index.html#zeros_in">zeros_in</a>, <a href="../../store/Buffer/index.html#with_zeros">with_zeros</a>}
 use Rattle.wasmi_store.specs.Growth.{<a href="../../store/Growth/index.html#WithCharge">WithCharge</a>, <a href="../../store/Growth/index.html#Makes">Makes</a>, <a href="../../store/Growth/index.html#Grows">Grows</a>}
-use Rattle.wasmi_store.specs.MemoryType.{<a href="../../store/MemoryType/index.html#MemoryTypeValue">MemoryTypeValue</a>, <a href="../../store/MemoryType/index.html#IsValid">IsValid</a>, <a href="../../store/MemoryType/index.html#page_bytes">page_bytes</a>, <a href="../../store/MemoryType/index.html#minimum_bytes">minimum_bytes</a>, <a href="../../store/MemoryType/index.html#maximum_bytes">maximum_bytes</a>, <a href="../../store/MemoryType/index.html#in_bounds">in_bounds</a>}
+
+-- an optional maximum is no looser than another
+abbrev pub <b id="IsNoLooser">IsNoLooser</b> : Option ℕ → Option ℕ → Type 0
+<a href="../../store/Memory/index.html#IsNoLooser">IsNoLooser</a> own None = Unit {0}
+<a href="../../store/Memory/index.html#IsNoLooser">IsNoLooser</a> None (Some most) = ⊥
+<a href="../../store/Memory/index.html#IsNoLooser">IsNoLooser</a> (Some <a href="../../store/Memory/index.html#maximum">maximum</a>) (Some most) = <a href="../../store/Memory/index.html#maximum">maximum</a> ≤ most
+
+-- a memory type: its address type, its page size, and its limits in pages
+pub record <b id="MemoryTypeValue">MemoryTypeValue</b> : Type 0 where
+  pub <b id="index">index</b> : IndexType
+  pub <b id="page">page</b> : PageSize
+  pub <b id="minimum">minimum</b> : ℕ
+  pub <b id="maximum">maximum</b> : Option ℕ
+
+-- the bytes of a page, and the power of two that they are
+abbrev pub <b id="page_bytes">page_bytes</b> : PageSize → ℕ
+<a href="../../store/Memory/index.html#page_bytes">page_bytes</a> Byte = 1
+<a href="../../store/Memory/index.html#page_bytes">page_bytes</a> Wasm = 65536
+
+-- the logarithm of the page size in bytes
+abbrev pub <b id="page_log2">page_log2</b> : PageSize → ℕ
+<a href="../../store/Memory/index.html#page_log2">page_log2</a> Byte = 0
+<a href="../../store/Memory/index.html#page_log2">page_log2</a> Wasm = 16
+
+-- the page size of so many bytes as this power of two, if there is one
+abbrev pub <b id="page_of_log2">page_of_log2</b> : ℕ → Option PageSize
+<a href="../../store/Memory/index.html#page_of_log2">page_of_log2</a> log2 = if nat_eq log2 0 then Some Byte else (if nat_eq log2 16 then Some Wasm else None)
+
+-- the greatest number of pages of any memory of an address type and a page size
+abbrev pub <b id="greatest_pages">greatest_pages</b> : <a href="../../store/Memory/index.html#MemoryTypeValue">MemoryTypeValue</a> → ℕ
+<a href="../../store/Memory/index.html#greatest_pages">greatest_pages</a> <a href="../../store/Memory/index.html#ty">ty</a> = 2 ^ <a href="../../types/Value/index.html#address_bits">address_bits</a> ty.index / <a href="../../store/Memory/index.html#page_bytes">page_bytes</a> ty.page
+
+-- the minimum and the maximum in bytes; the maximum is cut at the greatest number of 64 bits
+abbrev pub <b id="minimum_bytes">minimum_bytes</b> : <a href="../../store/Memory/index.html#MemoryTypeValue">MemoryTypeValue</a> → ℕ
+<a href="../../store/Memory/index.html#minimum_bytes">minimum_bytes</a> <a href="../../store/Memory/index.html#ty">ty</a> = ty.minimum * <a href="../../store/Memory/index.html#page_bytes">page_bytes</a> ty.page
+
+-- the maximum in bytes, at most 2^64 - 1
+abbrev pub <b id="maximum_bytes">maximum_bytes</b> : <a href="../../store/Memory/index.html#MemoryTypeValue">MemoryTypeValue</a> → Option ℕ
+<a href="../../store/Memory/index.html#maximum_bytes">maximum_bytes</a> <a href="../../store/Memory/index.html#ty">ty</a> = option_map (λ pages. min (pages * <a href="../../store/Memory/index.html#page_bytes">page_bytes</a> ty.page) (2 ^ 64 - 1)) ty.maximum
+
+-- the limits are within what the address type reaches, the minimum not above the maximum
+pub record <b id="IsValid">IsValid</b> (<a href="../../store/Memory/index.html#ty">ty</a> : <a href="../../store/Memory/index.html#MemoryTypeValue">MemoryTypeValue</a>) : Type 0 where
+  pub <b id="minimum">minimum</b> : ty.minimum ≤ <a href="../../store/Memory/index.html#greatest_pages">greatest_pages</a> <a href="../../store/Memory/index.html#ty">ty</a>
+  pub <b id="maximum">maximum</b> : ForSome ty.maximum (λ <a href="../../store/Memory/index.html#maximum">maximum</a>. (ty.minimum ≤ <a href="../../store/Memory/index.html#maximum">maximum</a>) × (<a href="../../store/Memory/index.html#maximum">maximum</a> ≤ <a href="../../store/Memory/index.html#greatest_pages">greatest_pages</a> <a href="../../store/Memory/index.html#ty">ty</a>))
+
+-- whether a memory of the type may have so many pages: as many as it can address, and no more than its maximum
+abbrev pub <b id="in_bounds">in_bounds</b> : <a href="../../store/Memory/index.html#MemoryTypeValue">MemoryTypeValue</a> → ℕ → Bool
+<a href="../../store/Memory/index.html#in_bounds">in_bounds</a> <a href="../../store/Memory/index.html#ty">ty</a> pages =
+    nat_le pages (<a href="../../store/Memory/index.html#greatest_pages">greatest_pages</a> <a href="../../store/Memory/index.html#ty">ty</a>) &amp;&amp; option_map_or (λ <a href="../../store/Memory/index.html#maximum">maximum</a>. nat_le pages <a href="../../store/Memory/index.html#maximum">maximum</a>) ty.maximum true &amp;&amp; nat_lt
+    (pages * <a href="../../store/Memory/index.html#page_bytes">page_bytes</a> ty.page) (2 ^ 64)
+
+-- a memory of type a may be given where one of type b is asked for (core specification, import matching)
+pub record <b id="IsSubtype">IsSubtype</b> (a b : <a href="../../store/Memory/index.html#MemoryTypeValue">MemoryTypeValue</a>) : Type 0 where
+  pub <b id="index">index</b> : a.index ≡ b.index
+  pub <b id="page">page</b> : a.page ≡ b.page
+  pub <b id="minimum">minimum</b> : b.minimum ≤ a.minimum
+  pub <b id="maximum">maximum</b> : <a href="../../store/Memory/index.html#IsNoLooser">IsNoLooser</a> a.maximum b.maximum
+
+-- what a builder was told: as a memory type, with the page size as a power of two
+pub record <b id="Settings">Settings</b> : Type 0 where
+  pub <b id="index">index</b> : IndexType
+  pub <b id="page_size_log2">page_size_log2</b> : ℕ
+  pub <b id="minimum">minimum</b> : ℕ
+  pub <b id="maximum">maximum</b> : Option ℕ
+
+-- what a builder begins with
+abbrev pub <b id="default_settings">default_settings</b> : <a href="../../store/Memory/index.html#Settings">Settings</a>
+<a href="../../store/Memory/index.html#default_settings">default_settings</a> = record { <a href="../../store/Memory/index.html#index">index</a> = I32; <a href="../../store/Memory/index.html#page_size_log2">page_size_log2</a> = 16; <a href="../../store/Memory/index.html#minimum">minimum</a> = 0; <a href="../../store/Memory/index.html#maximum">maximum</a> = None }
+
+-- the type that the settings name, if there is a page of that size
+abbrev pub <b id="named_type">named_type</b> : <a href="../../store/Memory/index.html#Settings">Settings</a> → Option <a href="../../store/Memory/index.html#MemoryTypeValue">MemoryTypeValue</a>
+<a href="../../store/Memory/index.html#named_type">named_type</a> s =
+    option_map (λ <a href="../../store/Memory/index.html#page">page</a>. record { <a href="../../store/Memory/index.html#index">index</a> = s.index; <a href="../../store/Memory/index.html#page">page</a> = <a href="../../store/Memory/index.html#page">page</a>; <a href="../../store/Memory/index.html#minimum">minimum</a> = s.minimum; <a href="../../store/Memory/index.html#maximum">maximum</a> = s.maximum })
+    (<a href="../../store/Memory/index.html#page_of_log2">page_of_log2</a> s.page_size_log2)
 
 -- a memory: its type, its bytes, and the room that these may grow into
 pub record <b id="MemoryValue">MemoryValue</b> : Type 0 where
-  pub <b id="ty">ty</b> : <a href="../../store/MemoryType/index.html#MemoryTypeValue">MemoryTypeValue</a>
+  pub <b id="ty">ty</b> : <a href="../../store/Memory/index.html#MemoryTypeValue">MemoryTypeValue</a>
   pub <b id="bytes">bytes</b> : List ℕ
   pub <b id="room">room</b> : <a href="../../store/Buffer/index.html#Room">Room</a>
 
 -- the size of a memory in pages
 abbrev pub <b id="pages_of">pages_of</b> : <a href="../../store/Memory/index.html#MemoryValue">MemoryValue</a> → ℕ
-<a href="../../store/Memory/index.html#pages_of">pages_of</a> x = length x.bytes / <a href="../../store/MemoryType/index.html#page_bytes">page_bytes</a> x.ty.page
+<a href="../../store/Memory/index.html#pages_of">pages_of</a> x = length x.bytes / <a href="../../store/Memory/index.html#page_bytes">page_bytes</a> x.ty.<a href="../../store/Memory/index.html#page">page</a>
 
 -- the memory of a type whose bytes are a buffer&#x27;s
-abbrev pub <b id="memory_of">memory_of</b> : <a href="../../store/MemoryType/index.html#MemoryTypeValue">MemoryTypeValue</a> → <a href="../../store/Buffer/index.html#BufferValue">BufferValue</a> → <a href="../../store/Memory/index.html#MemoryValue">MemoryValue</a>
+abbrev pub <b id="memory_of">memory_of</b> : <a href="../../store/Memory/index.html#MemoryTypeValue">MemoryTypeValue</a> → <a href="../../store/Buffer/index.html#BufferValue">BufferValue</a> → <a href="../../store/Memory/index.html#MemoryValue">MemoryValue</a>
 <a href="../../store/Memory/index.html#memory_of">memory_of</a> <a href="../../store/Memory/index.html#ty">ty</a> b = record { <a href="../../store/Memory/index.html#ty">ty</a> = <a href="../../store/Memory/index.html#ty">ty</a>; <a href="../../store/Memory/index.html#bytes">bytes</a> = b.bytes; <a href="../../store/Memory/index.html#room">room</a> = b.room }
 
 -- the buffer of its bytes
@@ -3183,38 +3018,38 @@ abbrev pub <b id="buffer_of">buffer_of</b> : <a href="../../store/Memory/index.h
 <a href="../../store/Memory/index.html#buffer_of">buffer_of</a> x = record { <a href="../../store/Memory/index.html#bytes">bytes</a> = x.bytes; <a href="../../store/Memory/index.html#room">room</a> = x.room }
 
 -- a new memory of zeros in a room, at the minimum of its type
-abbrev pub <b id="new_memory">new_memory</b> : <a href="../../store/Buffer/index.html#Room">Room</a> → <a href="../../store/MemoryType/index.html#MemoryTypeValue">MemoryTypeValue</a> → <a href="../../store/Memory/index.html#MemoryValue">MemoryValue</a>
-<a href="../../store/Memory/index.html#new_memory">new_memory</a> <a href="../../store/Memory/index.html#room">room</a> <a href="../../store/Memory/index.html#ty">ty</a> = <a href="../../store/Memory/index.html#memory_of">memory_of</a> <a href="../../store/Memory/index.html#ty">ty</a> (<a href="../../store/Buffer/index.html#zeros_in">zeros_in</a> <a href="../../store/Memory/index.html#room">room</a> (<a href="../../store/MemoryType/index.html#minimum_bytes">minimum_bytes</a> <a href="../../store/Memory/index.html#ty">ty</a>))
+abbrev pub <b id="new_memory">new_memory</b> : <a href="../../store/Buffer/index.html#Room">Room</a> → <a href="../../store/Memory/index.html#MemoryTypeValue">MemoryTypeValue</a> → <a href="../../store/Memory/index.html#MemoryValue">MemoryValue</a>
+<a href="../../store/Memory/index.html#new_memory">new_memory</a> <a href="../../store/Memory/index.html#room">room</a> <a href="../../store/Memory/index.html#ty">ty</a> = <a href="../../store/Memory/index.html#memory_of">memory_of</a> <a href="../../store/Memory/index.html#ty">ty</a> (<a href="../../store/Buffer/index.html#zeros_in">zeros_in</a> <a href="../../store/Memory/index.html#room">room</a> (<a href="../../store/Memory/index.html#minimum_bytes">minimum_bytes</a> <a href="../../store/Memory/index.html#ty">ty</a>))
 
 -- so many bytes are whole pages, as many as the type allows
-pub record <b id="IsSized">IsSized</b> (<a href="../../store/Memory/index.html#ty">ty</a> : <a href="../../store/MemoryType/index.html#MemoryTypeValue">MemoryTypeValue</a>) (size : ℕ) : Type 0 where
-  pub <b id="whole">whole</b> : size % <a href="../../store/MemoryType/index.html#page_bytes">page_bytes</a> ty.page ≡ 0
-  pub <b id="minimum">minimum</b> : ty.minimum ≤ size / <a href="../../store/MemoryType/index.html#page_bytes">page_bytes</a> ty.page
-  pub <b id="within">within</b> : <a href="../../store/MemoryType/index.html#in_bounds">in_bounds</a> <a href="../../store/Memory/index.html#ty">ty</a> (size / <a href="../../store/MemoryType/index.html#page_bytes">page_bytes</a> ty.page) ≡ true
+pub record <b id="IsSized">IsSized</b> (<a href="../../store/Memory/index.html#ty">ty</a> : <a href="../../store/Memory/index.html#MemoryTypeValue">MemoryTypeValue</a>) (size : ℕ) : Type 0 where
+  pub <b id="whole">whole</b> : size % <a href="../../store/Memory/index.html#page_bytes">page_bytes</a> ty.page ≡ 0
+  pub <b id="minimum">minimum</b> : ty.minimum ≤ size / <a href="../../store/Memory/index.html#page_bytes">page_bytes</a> ty.page
+  pub <b id="within">within</b> : <a href="../../store/Memory/index.html#in_bounds">in_bounds</a> <a href="../../store/Memory/index.html#ty">ty</a> (size / <a href="../../store/Memory/index.html#page_bytes">page_bytes</a> ty.page) ≡ true
 
 -- a memory of a valid type has as many whole pages as that allows (core specification, validity of memory instances)
 pub record <b id="IsValidMemory">IsValidMemory</b> (x : <a href="../../store/Memory/index.html#MemoryValue">MemoryValue</a>) : Type 0 where
-  pub <b id="type">type</b> : <a href="../../store/MemoryType/index.html#IsValid">IsValid</a> x.ty
+  pub <b id="type">type</b> : <a href="../../store/Memory/index.html#IsValid">IsValid</a> x.ty
   pub <b id="sized">sized</b> : <a href="../../store/Memory/index.html#IsSized">IsSized</a> x.ty (length x.bytes)
 
 -- a memory&#x27;s type with the present size as the minimum
-abbrev pub <b id="dynamic_type">dynamic_type</b> : <a href="../../store/Memory/index.html#MemoryValue">MemoryValue</a> → <a href="../../store/MemoryType/index.html#MemoryTypeValue">MemoryTypeValue</a>
+abbrev pub <b id="dynamic_type">dynamic_type</b> : <a href="../../store/Memory/index.html#MemoryValue">MemoryValue</a> → <a href="../../store/Memory/index.html#MemoryTypeValue">MemoryTypeValue</a>
 <a href="../../store/Memory/index.html#dynamic_type">dynamic_type</a> x = record x.ty { <a href="../../store/Memory/index.html#minimum">minimum</a> = <a href="../../store/Memory/index.html#pages_of">pages_of</a> x }
 
 -- may a memory get from so many bytes to so many, where its type allows at most so many?
 abbrev pub <b id="size_question">size_question</b> : ℕ → ℕ → Option ℕ → <a href="../../meter/Limiter/index.html#Question">Question</a>
-<a href="../../store/Memory/index.html#size_question">size_question</a> current desired maximum =
-    record { kind = Bytes; current = current; desired = desired; maximum = maximum }
+<a href="../../store/Memory/index.html#size_question">size_question</a> current desired <a href="../../store/Memory/index.html#maximum">maximum</a> =
+    record { kind = Bytes; current = current; desired = desired; <a href="../../store/Memory/index.html#maximum">maximum</a> = <a href="../../store/Memory/index.html#maximum">maximum</a> }
 
 -- what is asked where a memory of a type is made in a room, and the causes of a refusal; it costs no fuel
-abbrev pub <b id="creation_of">creation_of</b> : <a href="../../store/Buffer/index.html#Room">Room</a> → <a href="../../store/MemoryType/index.html#MemoryTypeValue">MemoryTypeValue</a> → <a href="../../meter/Attempt/index.html#Request">Request</a> (Unit {0}) MemoryError
+abbrev pub <b id="creation_of">creation_of</b> : <a href="../../store/Buffer/index.html#Room">Room</a> → <a href="../../store/Memory/index.html#MemoryTypeValue">MemoryTypeValue</a> → <a href="../../meter/Attempt/index.html#Request">Request</a> (Unit {0}) MemoryError
 <a href="../../store/Memory/index.html#creation_of">creation_of</a> <a href="../../store/Memory/index.html#room">room</a> <a href="../../store/Memory/index.html#ty">ty</a> = record {
-  early = if nat_lt (<a href="../../store/MemoryType/index.html#minimum_bytes">minimum_bytes</a> <a href="../../store/Memory/index.html#ty">ty</a>) (2 ^ 64) then None else Some MinimumSizeOverflow;
-  question = <a href="../../store/Memory/index.html#size_question">size_question</a> 0 (<a href="../../store/MemoryType/index.html#minimum_bytes">minimum_bytes</a> <a href="../../store/Memory/index.html#ty">ty</a>) (<a href="../../store/MemoryType/index.html#maximum_bytes">maximum_bytes</a> <a href="../../store/Memory/index.html#ty">ty</a>);
+  early = if nat_lt (<a href="../../store/Memory/index.html#minimum_bytes">minimum_bytes</a> <a href="../../store/Memory/index.html#ty">ty</a>) (2 ^ 64) then None else Some MinimumSizeOverflow;
+  question = <a href="../../store/Memory/index.html#size_question">size_question</a> 0 (<a href="../../store/Memory/index.html#minimum_bytes">minimum_bytes</a> <a href="../../store/Memory/index.html#ty">ty</a>) (<a href="../../store/Memory/index.html#maximum_bytes">maximum_bytes</a> <a href="../../store/Memory/index.html#ty">ty</a>);
   denial = ResourceLimiterDeniedAllocation;
   refusal = ResourceLimiterDeniedAllocation;
   notice = <a href="../../meter/Limiter/index.html#MemoryFailure">MemoryFailure</a>;
-  late = if <a href="../../store/Buffer/index.html#fits_room">fits_room</a> <a href="../../store/Memory/index.html#room">room</a> (<a href="../../store/MemoryType/index.html#minimum_bytes">minimum_bytes</a> <a href="../../store/Memory/index.html#ty">ty</a>) then None else Some InvalidStaticBufferSize;
+  late = if <a href="../../store/Buffer/index.html#fits_room">fits_room</a> <a href="../../store/Memory/index.html#room">room</a> (<a href="../../store/Memory/index.html#minimum_bytes">minimum_bytes</a> <a href="../../store/Memory/index.html#ty">ty</a>) then None else Some InvalidStaticBufferSize;
   price = None;
   unpaid = OutOfFuel;
   refuses = <a href="../../store/Buffer/index.html#LacksMemory">LacksMemory</a> <a href="../../store/Memory/index.html#room">room</a>;
@@ -3224,28 +3059,28 @@ abbrev pub <b id="creation_of">creation_of</b> : <a href="../../store/Buffer/ind
 -- what is asked and paid where a memory grows by so many pages, and the causes of a refusal: a short region before want
 -- of fuel
 abbrev pub <b id="growth_of">growth_of</b> : <a href="../../store/Memory/index.html#MemoryValue">MemoryValue</a> → ℕ → <a href="../../meter/Attempt/index.html#Request">Request</a> <a href="../../store/Memory/index.html#MemoryValue">MemoryValue</a> MemoryError
-<a href="../../store/Memory/index.html#growth_of">growth_of</a> x pages = let added = pages * <a href="../../store/MemoryType/index.html#page_bytes">page_bytes</a> x.ty.page in record {
-  early = if <a href="../../store/MemoryType/index.html#in_bounds">in_bounds</a> x.ty (<a href="../../store/Memory/index.html#pages_of">pages_of</a> x + pages) then None else Some OutOfBoundsGrowth;
-  question = <a href="../../store/Memory/index.html#size_question">size_question</a> (length x.bytes) (length x.bytes + added) (<a href="../../store/MemoryType/index.html#maximum_bytes">maximum_bytes</a> x.ty);
+<a href="../../store/Memory/index.html#growth_of">growth_of</a> x pages = let added = pages * <a href="../../store/Memory/index.html#page_bytes">page_bytes</a> x.ty.<a href="../../store/Memory/index.html#page">page</a> in record {
+  early = if <a href="../../store/Memory/index.html#in_bounds">in_bounds</a> x.ty (<a href="../../store/Memory/index.html#pages_of">pages_of</a> x + pages) then None else Some OutOfBoundsGrowth;
+  question = <a href="../../store/Memory/index.html#size_question">size_question</a> (length x.bytes) (length x.bytes + added) (<a href="../../store/Memory/index.html#maximum_bytes">maximum_bytes</a> x.ty);
   denial = OutOfBoundsGrowth;
   refusal = ResourceLimiterDeniedAllocation;
   notice = <a href="../../meter/Limiter/index.html#MemoryFailure">MemoryFailure</a>;
   late = if <a href="../../store/Buffer/index.html#fits_room">fits_room</a> x.room added then None else Some InvalidStaticBufferSize;
-  price = Some (λ costs. <a href="../../meter/Costs/index.html#copy_cost">copy_cost</a> costs added 1);
+  price = Some (λ costs. <a href="../../meter/Meter/index.html#copy_cost">copy_cost</a> costs added 1);
   unpaid = OutOfFuel;
   refuses = <a href="../../store/Buffer/index.html#LacksMemory">LacksMemory</a> x.room;
   grown = <a href="../../store/Memory/index.html#memory_of">memory_of</a> x.ty (<a href="../../store/Buffer/index.html#with_zeros">with_zeros</a> (<a href="../../store/Memory/index.html#buffer_of">buffer_of</a> x) added);
 }
 
 -- a memory of a type is made in a room
-abbrev pub <b id="MakesMemory">MakesMemory</b> : {S : Type 0} → <a href="../../meter/Limiter/index.html#Rules">Rules</a> S → <a href="../../store/Buffer/index.html#Room">Room</a> → <a href="../../store/MemoryType/index.html#MemoryTypeValue">MemoryTypeValue</a> → S → Result <a href="../../store/Memory/index.html#MemoryValue">MemoryValue</a> MemoryError → S
+abbrev pub <b id="MakesMemory">MakesMemory</b> : {S : Type 0} → <a href="../../meter/Limiter/index.html#Rules">Rules</a> S → <a href="../../store/Buffer/index.html#Room">Room</a> → <a href="../../store/Memory/index.html#MemoryTypeValue">MemoryTypeValue</a> → S → Result <a href="../../store/Memory/index.html#MemoryValue">MemoryValue</a> MemoryError → S
     → Type 0
 <a href="../../store/Memory/index.html#MakesMemory">MakesMemory</a> rules <a href="../../store/Memory/index.html#room">room</a> <a href="../../store/Memory/index.html#ty">ty</a> l result l&#x27; = <a href="../../store/Growth/index.html#Makes">Makes</a> rules (<a href="../../store/Memory/index.html#creation_of">creation_of</a> <a href="../../store/Memory/index.html#room">room</a> <a href="../../store/Memory/index.html#ty">ty</a>) (<a href="../../store/Memory/index.html#new_memory">new_memory</a> <a href="../../store/Memory/index.html#room">room</a> <a href="../../store/Memory/index.html#ty">ty</a>) l result l&#x27;
 
 -- the minimum of a type is permitted in bytes, or an error ends the making of a memory, whatever its room
-abbrev pub <b id="PermitsMinimum">PermitsMinimum</b> : {S : Type 0} → <a href="../../meter/Limiter/index.html#Rules">Rules</a> S → <a href="../../store/MemoryType/index.html#MemoryTypeValue">MemoryTypeValue</a> → S → Result ℕ MemoryError → S → Type 0
+abbrev pub <b id="PermitsMinimum">PermitsMinimum</b> : {S : Type 0} → <a href="../../meter/Limiter/index.html#Rules">Rules</a> S → <a href="../../store/Memory/index.html#MemoryTypeValue">MemoryTypeValue</a> → S → Result ℕ MemoryError → S → Type 0
 <a href="../../store/Memory/index.html#PermitsMinimum">PermitsMinimum</a> rules <a href="../../store/Memory/index.html#ty">ty</a> l (Ok size) l&#x27; =
-    (size ≡ <a href="../../store/MemoryType/index.html#minimum_bytes">minimum_bytes</a> <a href="../../store/Memory/index.html#ty">ty</a>) × (nat_lt (<a href="../../store/MemoryType/index.html#minimum_bytes">minimum_bytes</a> <a href="../../store/Memory/index.html#ty">ty</a>) (2 ^ 64) ≡ true)
+    (size ≡ <a href="../../store/Memory/index.html#minimum_bytes">minimum_bytes</a> <a href="../../store/Memory/index.html#ty">ty</a>) × (nat_lt (<a href="../../store/Memory/index.html#minimum_bytes">minimum_bytes</a> <a href="../../store/Memory/index.html#ty">ty</a>) (2 ^ 64) ≡ true)
     × rules.asked l (<a href="../../store/Memory/index.html#creation_of">creation_of</a> <a href="../../store/Buffer/index.html#Owned">Owned</a> <a href="../../store/Memory/index.html#ty">ty</a>).question (Ok true) l&#x27;
 <a href="../../store/Memory/index.html#PermitsMinimum">PermitsMinimum</a> rules <a href="../../store/Memory/index.html#ty">ty</a> l (Err error) l&#x27; = (<a href="../../store/Memory/index.html#room">room</a> : <a href="../../store/Buffer/index.html#Room">Room</a>) → <a href="../../store/Memory/index.html#MakesMemory">MakesMemory</a> rules <a href="../../store/Memory/index.html#room">room</a> <a href="../../store/Memory/index.html#ty">ty</a> l (Err error) l&#x27;
 
@@ -3275,93 +3110,12 @@ pub record <b id="KeepsPlace">KeepsPlace</b> (x x&#x27; : <a href="../../store/M
 </code></pre>
 "####]
     pub mod Memory {}
-    #[doc = r####"The types of linear memories (core specification, memory types; the memory64 and custom-page-sizes proposals).
-
-<pre><code>use Rattle.std.specs.Prelude.{◌≡◌, ◌*◌, ◌/◌, ◌-◌, ◌^◌, ◌≤◌, ℕ, Bool, true, ◌&amp;&amp;◌, nat_le, nat_lt, nat_eq, min, if◌then◌else◌, Option, Some, None}
-use Rattle.std.specs.Option.{option_map, option_map_or, ForSome}
-use Rattle.wasmi_types.specs.declared.index_ty.IndexType.{IndexType}
-use Rattle.wasmi_types.specs.declared.index_ty.IndexType.TheVariants.{I32}
-use Rattle.wasmi_types.specs.IndexType.{<a href="../../types/IndexType/index.html#address_bits">address_bits</a>}
-use Rattle.wasmi_store.specs.Limits.{<a href="../../store/Limits/index.html#IsNoLooser">IsNoLooser</a>}
-use Rattle.wasmi_store.specs.declared.memory.ty.PageSize.{PageSize}
-use Rattle.wasmi_store.specs.declared.memory.ty.PageSize.TheVariants.{Byte, Wasm}
-
--- a memory type: its address type, its page size, and its limits in pages
-pub record <b id="MemoryTypeValue">MemoryTypeValue</b> : Type 0 where
-  pub <b id="index">index</b> : IndexType
-  pub <b id="page">page</b> : PageSize
-  pub <b id="minimum">minimum</b> : ℕ
-  pub <b id="maximum">maximum</b> : Option ℕ
-
--- the bytes of a page, and the power of two that they are
-abbrev pub <b id="page_bytes">page_bytes</b> : PageSize → ℕ
-<a href="../../store/MemoryType/index.html#page_bytes">page_bytes</a> Byte = 1
-<a href="../../store/MemoryType/index.html#page_bytes">page_bytes</a> Wasm = 65536
-
--- the logarithm of the page size in bytes
-abbrev pub <b id="page_log2">page_log2</b> : PageSize → ℕ
-<a href="../../store/MemoryType/index.html#page_log2">page_log2</a> Byte = 0
-<a href="../../store/MemoryType/index.html#page_log2">page_log2</a> Wasm = 16
-
--- the page size of so many bytes as this power of two, if there is one
-abbrev pub <b id="page_of_log2">page_of_log2</b> : ℕ → Option PageSize
-<a href="../../store/MemoryType/index.html#page_of_log2">page_of_log2</a> log2 = if nat_eq log2 0 then Some Byte else (if nat_eq log2 16 then Some Wasm else None)
-
--- the greatest number of pages of any memory of an address type and a page size
-abbrev pub <b id="greatest_pages">greatest_pages</b> : <a href="../../store/MemoryType/index.html#MemoryTypeValue">MemoryTypeValue</a> → ℕ
-<a href="../../store/MemoryType/index.html#greatest_pages">greatest_pages</a> ty = 2 ^ <a href="../../types/IndexType/index.html#address_bits">address_bits</a> ty.index / <a href="../../store/MemoryType/index.html#page_bytes">page_bytes</a> ty.page
-
--- the minimum and the maximum in bytes; the maximum is cut at the greatest number of 64 bits
-abbrev pub <b id="minimum_bytes">minimum_bytes</b> : <a href="../../store/MemoryType/index.html#MemoryTypeValue">MemoryTypeValue</a> → ℕ
-<a href="../../store/MemoryType/index.html#minimum_bytes">minimum_bytes</a> ty = ty.minimum * <a href="../../store/MemoryType/index.html#page_bytes">page_bytes</a> ty.page
-
--- the maximum in bytes, at most 2^64 - 1
-abbrev pub <b id="maximum_bytes">maximum_bytes</b> : <a href="../../store/MemoryType/index.html#MemoryTypeValue">MemoryTypeValue</a> → Option ℕ
-<a href="../../store/MemoryType/index.html#maximum_bytes">maximum_bytes</a> ty = option_map (λ pages. min (pages * <a href="../../store/MemoryType/index.html#page_bytes">page_bytes</a> ty.page) (2 ^ 64 - 1)) ty.maximum
-
--- the limits are within what the address type reaches, the minimum not above the maximum
-pub record <b id="IsValid">IsValid</b> (ty : <a href="../../store/MemoryType/index.html#MemoryTypeValue">MemoryTypeValue</a>) : Type 0 where
-  pub <b id="minimum">minimum</b> : ty.minimum ≤ <a href="../../store/MemoryType/index.html#greatest_pages">greatest_pages</a> ty
-  pub <b id="maximum">maximum</b> : ForSome ty.maximum (λ <a href="../../store/MemoryType/index.html#maximum">maximum</a>. (ty.minimum ≤ <a href="../../store/MemoryType/index.html#maximum">maximum</a>) × (<a href="../../store/MemoryType/index.html#maximum">maximum</a> ≤ <a href="../../store/MemoryType/index.html#greatest_pages">greatest_pages</a> ty))
-
--- whether a memory of the type may have so many pages: as many as it can address, and no more than its maximum
-abbrev pub <b id="in_bounds">in_bounds</b> : <a href="../../store/MemoryType/index.html#MemoryTypeValue">MemoryTypeValue</a> → ℕ → Bool
-<a href="../../store/MemoryType/index.html#in_bounds">in_bounds</a> ty pages =
-    nat_le pages (<a href="../../store/MemoryType/index.html#greatest_pages">greatest_pages</a> ty) &amp;&amp; option_map_or (λ <a href="../../store/MemoryType/index.html#maximum">maximum</a>. nat_le pages <a href="../../store/MemoryType/index.html#maximum">maximum</a>) ty.maximum true &amp;&amp; nat_lt
-    (pages * <a href="../../store/MemoryType/index.html#page_bytes">page_bytes</a> ty.page) (2 ^ 64)
-
--- a memory of type a may be given where one of type b is asked for (core specification, import matching)
-pub record <b id="IsSubtype">IsSubtype</b> (a b : <a href="../../store/MemoryType/index.html#MemoryTypeValue">MemoryTypeValue</a>) : Type 0 where
-  pub <b id="index">index</b> : a.index ≡ b.index
-  pub <b id="page">page</b> : a.page ≡ b.page
-  pub <b id="minimum">minimum</b> : b.minimum ≤ a.minimum
-  pub <b id="maximum">maximum</b> : <a href="../../store/Limits/index.html#IsNoLooser">IsNoLooser</a> a.maximum b.maximum
-
--- what a builder was told: as a memory type, with the page size as a power of two
-pub record <b id="Settings">Settings</b> : Type 0 where
-  pub <b id="index">index</b> : IndexType
-  pub <b id="page_size_log2">page_size_log2</b> : ℕ
-  pub <b id="minimum">minimum</b> : ℕ
-  pub <b id="maximum">maximum</b> : Option ℕ
-
--- what a builder begins with
-abbrev pub <b id="default_settings">default_settings</b> : <a href="../../store/MemoryType/index.html#Settings">Settings</a>
-<a href="../../store/MemoryType/index.html#default_settings">default_settings</a> = record { <a href="../../store/MemoryType/index.html#index">index</a> = I32; <a href="../../store/MemoryType/index.html#page_size_log2">page_size_log2</a> = 16; <a href="../../store/MemoryType/index.html#minimum">minimum</a> = 0; <a href="../../store/MemoryType/index.html#maximum">maximum</a> = None }
-
--- the type that the settings name, if there is a page of that size
-abbrev pub <b id="named_type">named_type</b> : <a href="../../store/MemoryType/index.html#Settings">Settings</a> → Option <a href="../../store/MemoryType/index.html#MemoryTypeValue">MemoryTypeValue</a>
-<a href="../../store/MemoryType/index.html#named_type">named_type</a> s =
-    option_map (λ <a href="../../store/MemoryType/index.html#page">page</a>. record { <a href="../../store/MemoryType/index.html#index">index</a> = s.index; <a href="../../store/MemoryType/index.html#page">page</a> = <a href="../../store/MemoryType/index.html#page">page</a>; <a href="../../store/MemoryType/index.html#minimum">minimum</a> = s.minimum; <a href="../../store/MemoryType/index.html#maximum">maximum</a> = s.maximum })
-    (<a href="../../store/MemoryType/index.html#page_of_log2">page_of_log2</a> s.page_size_log2)
-</code></pre>
-"####]
-    pub mod MemoryType {}
     #[doc = r####"Element segments (core specification, element instances), and how one is read of an iterator.
 
 <pre><code>use Rattle.std.specs.Prelude.{◌≡◌, ◌^◌, ◌-◌, ◌&lt;◌, ◌≤◌, ℕ, List, [], length, Option, Result, Ok, Err, codes}
 use Rattle.std.specs.Iterator.{Yields}
 use Rattle.wasmi_types.specs.declared.value.RefType.{RefType}
-use Rattle.wasmi_types.specs.Iteration.{<a href="../../types/Iteration/index.html#ReadsAll">ReadsAll</a>, <a href="../../types/Iteration/index.html#ReadsTooMany">ReadsTooMany</a>}
+use Rattle.wasmi_types.specs.Reading.{<a href="../../types/Reading/index.html#ReadsAll">ReadsAll</a>, <a href="../../types/Reading/index.html#ReadsTooMany">ReadsTooMany</a>}
 use Rattle.wasmi_store.specs.declared.table.element.ElementSegmentRef.{ElementSegmentRef}
 use Rattle.wasmi_store.specs.declared.table.element.SegmentError.{SegmentError}
 use Rattle.wasmi_store.specs.declared.table.element.SegmentError.TheVariants.{TooManyItems, OutOfSystemMemory}
@@ -3398,12 +3152,12 @@ module _ {I : Type 0} (steps : I → Option ℕ → I → Type 0) where
 
   -- why no segment was read
   abbrev pub <b id="IsRefusal">IsRefusal</b> : I → SegmentError → I → Type 0
-  <a href="../../store/Segment/index.html#IsRefusal">IsRefusal</a> s TooManyItems t = <a href="../../types/Iteration/index.html#ReadsTooMany">ReadsTooMany</a> <a href="../../store/Segment/index.html#most_items">most_items</a> steps s t
+  <a href="../../store/Segment/index.html#IsRefusal">IsRefusal</a> s TooManyItems t = <a href="../../types/Reading/index.html#ReadsTooMany">ReadsTooMany</a> <a href="../../store/Segment/index.html#most_items">most_items</a> steps s t
   <a href="../../store/Segment/index.html#IsRefusal">IsRefusal</a> s OutOfSystemMemory t = <a href="../../store/Segment/index.html#IsOutOfMemory">IsOutOfMemory</a> s t
 
   -- the answer after calls from s to t: the segment of all items that came, or the refusal
   abbrev pub <b id="IsReading">IsReading</b> : I → RefType → Result <a href="../../store/Segment/index.html#SegmentValue">SegmentValue</a> SegmentError → I → Type 0
-  <a href="../../store/Segment/index.html#IsReading">IsReading</a> s <a href="../../store/Segment/index.html#ty">ty</a> (Ok segment) t = (segment.ty ≡ <a href="../../store/Segment/index.html#ty">ty</a>) × <a href="../../types/Iteration/index.html#ReadsAll">ReadsAll</a> <a href="../../store/Segment/index.html#most_items">most_items</a> steps s segment.items t
+  <a href="../../store/Segment/index.html#IsReading">IsReading</a> s <a href="../../store/Segment/index.html#ty">ty</a> (Ok segment) t = (segment.ty ≡ <a href="../../store/Segment/index.html#ty">ty</a>) × <a href="../../types/Reading/index.html#ReadsAll">ReadsAll</a> <a href="../../store/Segment/index.html#most_items">most_items</a> steps s segment.items t
   <a href="../../store/Segment/index.html#IsReading">IsReading</a> s <a href="../../store/Segment/index.html#ty">ty</a> (Err error) t = <a href="../../store/Segment/index.html#IsRefusal">IsRefusal</a> s error t
 
 -- the answer after reading the iterator that x becomes
@@ -3421,33 +3175,68 @@ abbrev pub <b id="segment_error_text">segment_error_text</b> : SegmentError → 
 </code></pre>
 "####]
     pub mod Segment {}
-    #[doc = r####"Tables: making one, growing it, reading and writing its elements (core specification, table instances).
+    #[doc = r####"Tables: their types, making one, growing it, reading and writing its elements (core specification, table types and table instances).
 
-<pre><code>use Rattle.std.specs.Prelude.{◌≡◌, ◌+◌, ◌≤◌, ℕ, Bool, true, false, List, [], ◌∷◌, ◌++◌, length, replicate, nat_eq, if◌then◌else◌, MatchBool, MatchOption, Option, Some, None, Result, Ok, Err, slice_get}
-use Rattle.std.specs.Option.{option_map}
-use Rattle.wasmi_types.specs.Access.{<a href="../../types/Access/index.html#overwrite">overwrite</a>}
+<pre><code>use Rattle.std.specs.Prelude.{◌≡◌, ◌^◌, ◌≤◌, ◌&lt;◌, ℕ, Bool, true, false, nat_le, nat_lt, Option, ◌+◌, List, [], ◌∷◌, ◌++◌, length, replicate, nat_eq, if◌then◌else◌, MatchBool, MatchOption, Some, None, Result, Ok, Err, slice_get}
+use Rattle.std.specs.Option.{option_map_or, ForSome, option_map}
 use Rattle.wasmi_types.specs.declared.value.RefType.{RefType}
+use Rattle.wasmi_types.specs.declared.value.RefType.TheVariants.{Func, Extern}
+use Rattle.wasmi_types.specs.declared.index_ty.IndexType.{IndexType}
+use Rattle.wasmi_types.specs.Value.{<a href="../../types/Value/index.html#address_bits">address_bits</a>}
+use Rattle.wasmi_store.specs.Memory.{<a href="../../store/Memory/index.html#IsNoLooser">IsNoLooser</a>}
+use Rattle.wasmi_types.specs.Access.{<a href="../../types/Access/index.html#overwrite">overwrite</a>}
 use Rattle.wasmi_typed.specs.declared.typed_ref.TypedRawRef.{TypedRawRef}
 use Rattle.wasmi_meter.specs.declared.fuel.CustomFuelCosts.{CustomFuelCosts}
 use Rattle.wasmi_meter.specs.declared.error.TableError.{TableError}
 use Rattle.wasmi_meter.specs.declared.error.TableError.TheVariants.{OutOfSystemMemory, ResourceLimiterDeniedAllocation, GrowOutOfBounds, InitOutOfBounds, FillOutOfBounds, SetOutOfBounds, CopyOutOfBounds, ElementTypeMismatch, OutOfFuel}
 use Rattle.wasmi_meter.specs.declared.limiter.Kind.TheVariants.{Elements}
 use Rattle.wasmi_meter.specs.Limiter.{<a href="../../meter/Limiter/index.html#TableFailure">TableFailure</a>, <a href="../../meter/Limiter/index.html#Rules">Rules</a>}
-use Rattle.wasmi_meter.specs.Costs.{<a href="../../meter/Costs/index.html#copy_cost">copy_cost</a>}
-use Rattle.wasmi_meter.specs.Meter.{<a href="../../meter/Meter/index.html#meter_after">meter_after</a>}
+use Rattle.wasmi_meter.specs.Meter.{<a href="../../meter/Meter/index.html#copy_cost">copy_cost</a>, <a href="../../meter/Meter/index.html#meter_after">meter_after</a>}
 use Rattle.wasmi_meter.specs.Attempt.{<a href="../../meter/Attempt/index.html#MeteredValue">MeteredValue</a>, <a href="../../meter/Attempt/index.html#Request">Request</a>, <a href="../../meter/Attempt/index.html#optional_due">optional_due</a>, <a href="../../meter/Attempt/index.html#covers">covers</a>}
-use Rattle.wasmi_store.specs.Bulk.{<a href="../../store/Bulk/index.html#filled">filled</a>, <a href="../../store/Bulk/index.html#copied">copied</a>}
-use Rattle.wasmi_store.specs.Growth.{<a href="../../store/Growth/index.html#WithCharge">WithCharge</a>, <a href="../../store/Growth/index.html#Makes">Makes</a>, <a href="../../store/Growth/index.html#Grows">Grows</a>, <a href="../../store/Growth/index.html#metered">metered</a>}
+use Rattle.wasmi_store.specs.Growth.{<a href="../../store/Growth/index.html#filled">filled</a>, <a href="../../store/Growth/index.html#copied">copied</a>, <a href="../../store/Growth/index.html#WithCharge">WithCharge</a>, <a href="../../store/Growth/index.html#Makes">Makes</a>, <a href="../../store/Growth/index.html#Grows">Grows</a>, <a href="../../store/Growth/index.html#metered">metered</a>}
 use Rattle.wasmi_store.specs.Segment.{<a href="../../store/Segment/index.html#SegmentValue">SegmentValue</a>}
-use Rattle.wasmi_store.specs.TableType.{<a href="../../store/TableType/index.html#TableTypeValue">TableTypeValue</a>, <a href="../../store/TableType/index.html#IsValid">IsValid</a>, <a href="../../store/TableType/index.html#is_indexable">is_indexable</a>, <a href="../../store/TableType/index.html#is_within_maximum">is_within_maximum</a>, <a href="../../store/TableType/index.html#same_type">same_type</a>}
+
+-- a table type: its index type, the type of its elements, and its limits in elements
+pub record <b id="TableTypeValue">TableTypeValue</b> : Type 0 where
+  pub <b id="index">index</b> : IndexType
+  pub <b id="element">element</b> : RefType
+  pub <b id="minimum">minimum</b> : ℕ
+  pub <b id="maximum">maximum</b> : Option ℕ
+
+-- whether a table of the type may have so many elements: fewer than there are indices
+abbrev pub <b id="is_indexable">is_indexable</b> : <a href="../../store/Table/index.html#TableTypeValue">TableTypeValue</a> → ℕ → Bool
+<a href="../../store/Table/index.html#is_indexable">is_indexable</a> <a href="../../store/Table/index.html#ty">ty</a> size = nat_lt size (2 ^ <a href="../../types/Value/index.html#address_bits">address_bits</a> ty.index)
+
+-- whether so many elements are no more than the maximum, if there is one
+abbrev pub <b id="is_within_maximum">is_within_maximum</b> : <a href="../../store/Table/index.html#TableTypeValue">TableTypeValue</a> → ℕ → Bool
+<a href="../../store/Table/index.html#is_within_maximum">is_within_maximum</a> <a href="../../store/Table/index.html#ty">ty</a> size = option_map_or (λ <a href="../../store/Table/index.html#maximum">maximum</a>. nat_le size <a href="../../store/Table/index.html#maximum">maximum</a>) ty.maximum true
+
+-- the limits are below the number of indices, the minimum not above the maximum
+pub record <b id="IsValid">IsValid</b> (<a href="../../store/Table/index.html#ty">ty</a> : <a href="../../store/Table/index.html#TableTypeValue">TableTypeValue</a>) : Type 0 where
+  pub <b id="minimum">minimum</b> : ty.minimum &lt; 2 ^ <a href="../../types/Value/index.html#address_bits">address_bits</a> ty.index
+  pub <b id="maximum">maximum</b> : ForSome ty.maximum (λ <a href="../../store/Table/index.html#maximum">maximum</a>. (ty.minimum ≤ <a href="../../store/Table/index.html#maximum">maximum</a>) × (<a href="../../store/Table/index.html#maximum">maximum</a> &lt; 2 ^ <a href="../../types/Value/index.html#address_bits">address_bits</a> ty.index))
+
+-- whether two reference types are the same
+abbrev pub <b id="same_type">same_type</b> : RefType → RefType → Bool
+<a href="../../store/Table/index.html#same_type">same_type</a> Func Func = true
+<a href="../../store/Table/index.html#same_type">same_type</a> Extern Extern = true
+<a href="../../store/Table/index.html#same_type">same_type</a> Func Extern = false
+<a href="../../store/Table/index.html#same_type">same_type</a> Extern Func = false
+
+-- a table of type a may be given where one of type b is asked for (core specification, import matching)
+pub record <b id="IsSubtype">IsSubtype</b> (a b : <a href="../../store/Table/index.html#TableTypeValue">TableTypeValue</a>) : Type 0 where
+  pub <b id="index">index</b> : a.index ≡ b.index
+  pub <b id="element">element</b> : a.element ≡ b.element
+  pub <b id="minimum">minimum</b> : b.minimum ≤ a.minimum
+  pub <b id="maximum">maximum</b> : <a href="../../store/Memory/index.html#IsNoLooser">IsNoLooser</a> a.maximum b.maximum
 
 -- a table: its type, and its elements, each a reference or 0 for null
 pub record <b id="TableValue">TableValue</b> : Type 0 where
-  pub <b id="ty">ty</b> : <a href="../../store/TableType/index.html#TableTypeValue">TableTypeValue</a>
+  pub <b id="ty">ty</b> : <a href="../../store/Table/index.html#TableTypeValue">TableTypeValue</a>
   pub <b id="elements">elements</b> : List ℕ
 
 -- the table of a type with these elements
-abbrev pub <b id="table_of">table_of</b> : <a href="../../store/TableType/index.html#TableTypeValue">TableTypeValue</a> → List ℕ → <a href="../../store/Table/index.html#TableValue">TableValue</a>
+abbrev pub <b id="table_of">table_of</b> : <a href="../../store/Table/index.html#TableTypeValue">TableTypeValue</a> → List ℕ → <a href="../../store/Table/index.html#TableValue">TableValue</a>
 <a href="../../store/Table/index.html#table_of">table_of</a> <a href="../../store/Table/index.html#ty">ty</a> <a href="../../store/Table/index.html#elements">elements</a> = record { <a href="../../store/Table/index.html#ty">ty</a> = <a href="../../store/Table/index.html#ty">ty</a>; <a href="../../store/Table/index.html#elements">elements</a> = <a href="../../store/Table/index.html#elements">elements</a> }
 
 -- how many elements a table has
@@ -3455,22 +3244,22 @@ abbrev pub <b id="size_of">size_of</b> : <a href="../../store/Table/index.html#T
 <a href="../../store/Table/index.html#size_of">size_of</a> x = length x.elements
 
 -- so many elements are as many as the type allows
-pub record <b id="IsSized">IsSized</b> (<a href="../../store/Table/index.html#ty">ty</a> : <a href="../../store/TableType/index.html#TableTypeValue">TableTypeValue</a>) (size : ℕ) : Type 0 where
+pub record <b id="IsSized">IsSized</b> (<a href="../../store/Table/index.html#ty">ty</a> : <a href="../../store/Table/index.html#TableTypeValue">TableTypeValue</a>) (size : ℕ) : Type 0 where
   pub <b id="minimum">minimum</b> : ty.minimum ≤ size
-  pub <b id="indexable">indexable</b> : <a href="../../store/TableType/index.html#is_indexable">is_indexable</a> <a href="../../store/Table/index.html#ty">ty</a> size ≡ true
-  pub <b id="within">within</b> : <a href="../../store/TableType/index.html#is_within_maximum">is_within_maximum</a> <a href="../../store/Table/index.html#ty">ty</a> size ≡ true
+  pub <b id="indexable">indexable</b> : <a href="../../store/Table/index.html#is_indexable">is_indexable</a> <a href="../../store/Table/index.html#ty">ty</a> size ≡ true
+  pub <b id="within">within</b> : <a href="../../store/Table/index.html#is_within_maximum">is_within_maximum</a> <a href="../../store/Table/index.html#ty">ty</a> size ≡ true
 
 -- a table of a valid type has as many elements as that allows (core specification, validity of table instances)
 pub record <b id="IsValidTable">IsValidTable</b> (x : <a href="../../store/Table/index.html#TableValue">TableValue</a>) : Type 0 where
-  pub <b id="type">type</b> : <a href="../../store/TableType/index.html#IsValid">IsValid</a> x.ty
+  pub <b id="type">type</b> : <a href="../../store/Table/index.html#IsValid">IsValid</a> x.ty
   pub <b id="sized">sized</b> : <a href="../../store/Table/index.html#IsSized">IsSized</a> x.ty (<a href="../../store/Table/index.html#size_of">size_of</a> x)
 
 -- a table&#x27;s type with the present size as the minimum
-abbrev pub <b id="dynamic_type">dynamic_type</b> : <a href="../../store/Table/index.html#TableValue">TableValue</a> → <a href="../../store/TableType/index.html#TableTypeValue">TableTypeValue</a>
+abbrev pub <b id="dynamic_type">dynamic_type</b> : <a href="../../store/Table/index.html#TableValue">TableValue</a> → <a href="../../store/Table/index.html#TableTypeValue">TableTypeValue</a>
 <a href="../../store/Table/index.html#dynamic_type">dynamic_type</a> x = record x.ty { <a href="../../store/Table/index.html#minimum">minimum</a> = <a href="../../store/Table/index.html#size_of">size_of</a> x }
 
 -- a new table at the minimum of its type, with one reference in each place
-abbrev pub <b id="new_table">new_table</b> : <a href="../../store/TableType/index.html#TableTypeValue">TableTypeValue</a> → ℕ → <a href="../../store/Table/index.html#TableValue">TableValue</a>
+abbrev pub <b id="new_table">new_table</b> : <a href="../../store/Table/index.html#TableTypeValue">TableTypeValue</a> → ℕ → <a href="../../store/Table/index.html#TableValue">TableValue</a>
 <a href="../../store/Table/index.html#new_table">new_table</a> <a href="../../store/Table/index.html#ty">ty</a> reference = record { <a href="../../store/Table/index.html#ty">ty</a> = <a href="../../store/Table/index.html#ty">ty</a>; <a href="../../store/Table/index.html#elements">elements</a> = replicate ty.minimum reference }
 
 -- the table with n more elements
@@ -3479,13 +3268,13 @@ abbrev pub <b id="with_added">with_added</b> : <a href="../../store/Table/index.
 
 -- the fuel for so many elements, of 4 bytes each
 abbrev pub <b id="element_price">element_price</b> : ℕ → CustomFuelCosts → ℕ
-<a href="../../store/Table/index.html#element_price">element_price</a> n costs = <a href="../../meter/Costs/index.html#copy_cost">copy_cost</a> costs n 4
+<a href="../../store/Table/index.html#element_price">element_price</a> n costs = <a href="../../meter/Meter/index.html#copy_cost">copy_cost</a> costs n 4
 
 -- what is asked where a table of a type is made of a reference, and the causes of a refusal; it costs no fuel
-abbrev pub <b id="creation_of">creation_of</b> : <a href="../../store/TableType/index.html#TableTypeValue">TableTypeValue</a> → RefType → <a href="../../meter/Attempt/index.html#Request">Request</a> (Unit {0}) TableError
+abbrev pub <b id="creation_of">creation_of</b> : <a href="../../store/Table/index.html#TableTypeValue">TableTypeValue</a> → RefType → <a href="../../meter/Attempt/index.html#Request">Request</a> (Unit {0}) TableError
 <a href="../../store/Table/index.html#creation_of">creation_of</a> <a href="../../store/Table/index.html#ty">ty</a> init = record {
-  early = if <a href="../../store/TableType/index.html#same_type">same_type</a> ty.element init then None else Some ElementTypeMismatch;
-  question = record { kind = Elements; current = 0; desired = ty.minimum; maximum = ty.maximum };
+  early = if <a href="../../store/Table/index.html#same_type">same_type</a> ty.element init then None else Some ElementTypeMismatch;
+  question = record { kind = Elements; current = 0; desired = ty.minimum; <a href="../../store/Table/index.html#maximum">maximum</a> = ty.maximum };
   denial = ResourceLimiterDeniedAllocation;
   refusal = ResourceLimiterDeniedAllocation;
   notice = <a href="../../meter/Limiter/index.html#TableFailure">TableFailure</a>;
@@ -3500,12 +3289,12 @@ abbrev pub <b id="creation_of">creation_of</b> : <a href="../../store/TableType/
 -- the permission
 abbrev pub <b id="growth_of">growth_of</b> : <a href="../../store/Table/index.html#TableValue">TableValue</a> → ℕ → ℕ → <a href="../../meter/Attempt/index.html#Request">Request</a> <a href="../../store/Table/index.html#TableValue">TableValue</a> TableError
 <a href="../../store/Table/index.html#growth_of">growth_of</a> x n reference = record {
-  early = if <a href="../../store/TableType/index.html#is_indexable">is_indexable</a> x.ty (<a href="../../store/Table/index.html#size_of">size_of</a> x + n) then None else Some GrowOutOfBounds;
-  question = record { kind = Elements; current = <a href="../../store/Table/index.html#size_of">size_of</a> x; desired = <a href="../../store/Table/index.html#size_of">size_of</a> x + n; maximum = x.ty.maximum };
+  early = if <a href="../../store/Table/index.html#is_indexable">is_indexable</a> x.ty (<a href="../../store/Table/index.html#size_of">size_of</a> x + n) then None else Some GrowOutOfBounds;
+  question = record { kind = Elements; current = <a href="../../store/Table/index.html#size_of">size_of</a> x; desired = <a href="../../store/Table/index.html#size_of">size_of</a> x + n; <a href="../../store/Table/index.html#maximum">maximum</a> = x.ty.<a href="../../store/Table/index.html#maximum">maximum</a> };
   denial = GrowOutOfBounds;
   refusal = ResourceLimiterDeniedAllocation;
   notice = <a href="../../meter/Limiter/index.html#TableFailure">TableFailure</a>;
-  late = if <a href="../../store/TableType/index.html#is_within_maximum">is_within_maximum</a> x.ty (<a href="../../store/Table/index.html#size_of">size_of</a> x + n) then None else Some GrowOutOfBounds;
+  late = if <a href="../../store/Table/index.html#is_within_maximum">is_within_maximum</a> x.ty (<a href="../../store/Table/index.html#size_of">size_of</a> x + n) then None else Some GrowOutOfBounds;
   price = Some (<a href="../../store/Table/index.html#element_price">element_price</a> n);
   unpaid = OutOfFuel;
   refuses = λ cause. cause ≡ OutOfSystemMemory;
@@ -3513,7 +3302,7 @@ abbrev pub <b id="growth_of">growth_of</b> : <a href="../../store/Table/index.ht
 }
 
 -- a table of a type is made of a reference
-abbrev pub <b id="MakesTable">MakesTable</b> : {S : Type 0} → <a href="../../meter/Limiter/index.html#Rules">Rules</a> S → <a href="../../store/TableType/index.html#TableTypeValue">TableTypeValue</a> → TypedRawRef → S → Result <a href="../../store/Table/index.html#TableValue">TableValue</a> TableError → S
+abbrev pub <b id="MakesTable">MakesTable</b> : {S : Type 0} → <a href="../../meter/Limiter/index.html#Rules">Rules</a> S → <a href="../../store/Table/index.html#TableTypeValue">TableTypeValue</a> → TypedRawRef → S → Result <a href="../../store/Table/index.html#TableValue">TableValue</a> TableError → S
     → Type 0
 <a href="../../store/Table/index.html#MakesTable">MakesTable</a> rules <a href="../../store/Table/index.html#ty">ty</a> init l <a href="../../store/Table/index.html#result">result</a> l&#x27; = <a href="../../store/Growth/index.html#Makes">Makes</a> rules (<a href="../../store/Table/index.html#creation_of">creation_of</a> <a href="../../store/Table/index.html#ty">ty</a> init.ty) (<a href="../../store/Table/index.html#new_table">new_table</a> <a href="../../store/Table/index.html#ty">ty</a> init.raw) l <a href="../../store/Table/index.html#result">result</a> l&#x27;
 
@@ -3528,7 +3317,7 @@ abbrev pub <b id="GrowsTableRawCharging">GrowsTableRawCharging</b> : {S : Type 0
 -- it is another, nothing is touched
 abbrev pub <b id="GrowsTableCharging">GrowsTableCharging</b> : {S : Type 0} → <a href="../../meter/Limiter/index.html#Rules">Rules</a> S → ℕ → TypedRawRef → <a href="../../meter/Attempt/index.html#MeteredValue">MeteredValue</a> <a href="../../store/Table/index.html#TableValue">TableValue</a> S
     → Result ℕ TableError → ℕ → <a href="../../meter/Attempt/index.html#MeteredValue">MeteredValue</a> <a href="../../store/Table/index.html#TableValue">TableValue</a> S → Type 0
-<a href="../../store/Table/index.html#GrowsTableCharging">GrowsTableCharging</a> rules n init s <a href="../../store/Table/index.html#result">result</a> <a href="../../store/Table/index.html#charge">charge</a> s&#x27; = MatchBool (<a href="../../store/TableType/index.html#same_type">same_type</a> s.value.ty.element init.ty)
+<a href="../../store/Table/index.html#GrowsTableCharging">GrowsTableCharging</a> rules n init s <a href="../../store/Table/index.html#result">result</a> <a href="../../store/Table/index.html#charge">charge</a> s&#x27; = MatchBool (<a href="../../store/Table/index.html#same_type">same_type</a> s.value.ty.element init.ty)
     (<a href="../../store/Table/index.html#GrowsTableRawCharging">GrowsTableRawCharging</a> rules n init.raw s <a href="../../store/Table/index.html#result">result</a> <a href="../../store/Table/index.html#charge">charge</a> s&#x27;)
     ((<a href="../../store/Table/index.html#result">result</a> ≡ Err ElementTypeMismatch) × (<a href="../../store/Table/index.html#charge">charge</a> ≡ 0) × (s&#x27; ≡ s))
 
@@ -3544,19 +3333,19 @@ abbrev pub <b id="GrowsTable">GrowsTable</b> : {S : Type 0} → <a href="../../m
 
 -- the element at an index with its type, or none past the end
 abbrev pub <b id="element_at">element_at</b> : <a href="../../store/Table/index.html#TableValue">TableValue</a> → ℕ → Option TypedRawRef
-<a href="../../store/Table/index.html#element_at">element_at</a> x index =
-    option_map (λ reference. record { raw = reference; <a href="../../store/Table/index.html#ty">ty</a> = x.ty.element }) (slice_get x.elements index)
+<a href="../../store/Table/index.html#element_at">element_at</a> x <a href="../../store/Table/index.html#index">index</a> =
+    option_map (λ reference. record { raw = reference; <a href="../../store/Table/index.html#ty">ty</a> = x.ty.<a href="../../store/Table/index.html#element">element</a> }) (slice_get x.elements <a href="../../store/Table/index.html#index">index</a>)
 
 -- the element at an index is set to a reference; past the end it is refused, and the table stays
 abbrev pub <b id="SetsTableRaw">SetsTableRaw</b> : ℕ → ℕ → <a href="../../store/Table/index.html#TableValue">TableValue</a> → Result (Unit {0}) TableError → <a href="../../store/Table/index.html#TableValue">TableValue</a> → Type 0
-<a href="../../store/Table/index.html#SetsTableRaw">SetsTableRaw</a> index reference x <a href="../../store/Table/index.html#result">result</a> x&#x27; = MatchOption (<a href="../../types/Access/index.html#overwrite">overwrite</a> x.elements index (reference ∷ []))
+<a href="../../store/Table/index.html#SetsTableRaw">SetsTableRaw</a> <a href="../../store/Table/index.html#index">index</a> reference x <a href="../../store/Table/index.html#result">result</a> x&#x27; = MatchOption (<a href="../../types/Access/index.html#overwrite">overwrite</a> x.elements <a href="../../store/Table/index.html#index">index</a> (reference ∷ []))
     ((<a href="../../store/Table/index.html#result">result</a> ≡ Err SetOutOfBounds) × (x&#x27; ≡ x))
     (λ <a href="../../store/Table/index.html#elements">elements</a>. (<a href="../../store/Table/index.html#result">result</a> ≡ Ok tt) × (x&#x27; ≡ record x { <a href="../../store/Table/index.html#elements">elements</a> = <a href="../../store/Table/index.html#elements">elements</a> }))
 
 -- the element at an index is set to a reference that has a type, which is tested first
 abbrev pub <b id="SetsTable">SetsTable</b> : ℕ → TypedRawRef → <a href="../../store/Table/index.html#TableValue">TableValue</a> → Result (Unit {0}) TableError → <a href="../../store/Table/index.html#TableValue">TableValue</a> → Type 0
-<a href="../../store/Table/index.html#SetsTable">SetsTable</a> index <a href="../../store/Table/index.html#value">value</a> x <a href="../../store/Table/index.html#result">result</a> x&#x27; = MatchBool (<a href="../../store/TableType/index.html#same_type">same_type</a> x.ty.element value.ty)
-    (<a href="../../store/Table/index.html#SetsTableRaw">SetsTableRaw</a> index value.raw x <a href="../../store/Table/index.html#result">result</a> x&#x27;)
+<a href="../../store/Table/index.html#SetsTable">SetsTable</a> <a href="../../store/Table/index.html#index">index</a> <a href="../../store/Table/index.html#value">value</a> x <a href="../../store/Table/index.html#result">result</a> x&#x27; = MatchBool (<a href="../../store/Table/index.html#same_type">same_type</a> x.ty.<a href="../../store/Table/index.html#element">element</a> value.ty)
+    (<a href="../../store/Table/index.html#SetsTableRaw">SetsTableRaw</a> <a href="../../store/Table/index.html#index">index</a> value.raw x <a href="../../store/Table/index.html#result">result</a> x&#x27;)
     ((<a href="../../store/Table/index.html#result">result</a> ≡ Err ElementTypeMismatch) × (x&#x27; ≡ x))
 
 -- A call that writes over a part of a table: whether the types are the same; the elements afterwards, or none where a
@@ -3572,7 +3361,7 @@ abbrev pub <b id="raw_filling_of">raw_filling_of</b> : ℕ → ℕ → ℕ → <
 <a href="../../store/Table/index.html#raw_filling_of">raw_filling_of</a> dst reference len x =
     record {
       <a href="../../store/Table/index.html#typed">typed</a> = true;
-      <a href="../../store/Table/index.html#written">written</a> = <a href="../../store/Bulk/index.html#filled">filled</a> x.elements dst reference len;
+      <a href="../../store/Table/index.html#written">written</a> = <a href="../../store/Growth/index.html#filled">filled</a> x.elements dst reference len;
       <a href="../../store/Table/index.html#outside">outside</a> = FillOutOfBounds;
       <a href="../../store/Table/index.html#paid">paid</a> = Some len;
     }
@@ -3580,14 +3369,14 @@ abbrev pub <b id="raw_filling_of">raw_filling_of</b> : ℕ → ℕ → ℕ → <
 -- so many elements from dst on are filled with a reference, whose type is tested
 abbrev pub <b id="filling_of">filling_of</b> : ℕ → TypedRawRef → ℕ → <a href="../../store/Table/index.html#TableValue">TableValue</a> → <a href="../../store/Table/index.html#TableWrite">TableWrite</a>
 <a href="../../store/Table/index.html#filling_of">filling_of</a> dst <a href="../../store/Table/index.html#value">value</a> len x =
-    record (<a href="../../store/Table/index.html#raw_filling_of">raw_filling_of</a> dst value.raw len x) { <a href="../../store/Table/index.html#typed">typed</a> = <a href="../../store/TableType/index.html#same_type">same_type</a> x.ty.element value.ty }
+    record (<a href="../../store/Table/index.html#raw_filling_of">raw_filling_of</a> dst value.raw len x) { <a href="../../store/Table/index.html#typed">typed</a> = <a href="../../store/Table/index.html#same_type">same_type</a> x.ty.<a href="../../store/Table/index.html#element">element</a> value.ty }
 
 -- so many elements from src on of a table, perhaps the same one, are copied over those from dst on
 abbrev pub <b id="copy_of">copy_of</b> : ℕ → ℕ → ℕ → <a href="../../store/Table/index.html#TableValue">TableValue</a> → <a href="../../store/Table/index.html#TableValue">TableValue</a> → <a href="../../store/Table/index.html#TableWrite">TableWrite</a>
 <a href="../../store/Table/index.html#copy_of">copy_of</a> dst src len source x =
     record {
-      <a href="../../store/Table/index.html#typed">typed</a> = <a href="../../store/TableType/index.html#same_type">same_type</a> x.ty.element source.ty.element;
-      <a href="../../store/Table/index.html#written">written</a> = <a href="../../store/Bulk/index.html#copied">copied</a> x.elements dst source.elements src len;
+      <a href="../../store/Table/index.html#typed">typed</a> = <a href="../../store/Table/index.html#same_type">same_type</a> x.ty.<a href="../../store/Table/index.html#element">element</a> source.ty.<a href="../../store/Table/index.html#element">element</a>;
+      <a href="../../store/Table/index.html#written">written</a> = <a href="../../store/Growth/index.html#copied">copied</a> x.elements dst source.elements src len;
       <a href="../../store/Table/index.html#outside">outside</a> = CopyOutOfBounds;
       <a href="../../store/Table/index.html#paid">paid</a> = Some len;
     }
@@ -3596,8 +3385,8 @@ abbrev pub <b id="copy_of">copy_of</b> : ℕ → ℕ → ℕ → <a href="../../
 abbrev pub <b id="initialization_of">initialization_of</b> : ℕ → ℕ → ℕ → <a href="../../store/Segment/index.html#SegmentValue">SegmentValue</a> → <a href="../../store/Table/index.html#TableValue">TableValue</a> → <a href="../../store/Table/index.html#TableWrite">TableWrite</a>
 <a href="../../store/Table/index.html#initialization_of">initialization_of</a> dst src len segment x =
     record {
-      <a href="../../store/Table/index.html#typed">typed</a> = <a href="../../store/TableType/index.html#same_type">same_type</a> x.ty.element segment.ty;
-      <a href="../../store/Table/index.html#written">written</a> = <a href="../../store/Bulk/index.html#copied">copied</a> x.elements dst segment.items src len;
+      <a href="../../store/Table/index.html#typed">typed</a> = <a href="../../store/Table/index.html#same_type">same_type</a> x.ty.<a href="../../store/Table/index.html#element">element</a> segment.ty;
+      <a href="../../store/Table/index.html#written">written</a> = <a href="../../store/Growth/index.html#copied">copied</a> x.elements dst segment.items src len;
       <a href="../../store/Table/index.html#outside">outside</a> = InitOutOfBounds;
       <a href="../../store/Table/index.html#paid">paid</a> = if nat_eq len 0 then None else Some len;
     }
@@ -3660,62 +3449,19 @@ abbrev pub <b id="WritesElements">WritesElements</b> : {A : Type 0} → Option (
 </code></pre>
 "####]
     pub mod Table {}
-    #[doc = r####"The types of tables (core specification, table types; the memory64 proposal).
-
-<pre><code>use Rattle.std.specs.Prelude.{◌≡◌, ◌^◌, ◌≤◌, ◌&lt;◌, ℕ, Bool, true, false, nat_le, nat_lt, Option}
-use Rattle.std.specs.Option.{option_map_or, ForSome}
-use Rattle.wasmi_types.specs.declared.value.RefType.{RefType}
-use Rattle.wasmi_types.specs.declared.value.RefType.TheVariants.{Func, Extern}
-use Rattle.wasmi_types.specs.declared.index_ty.IndexType.{IndexType}
-use Rattle.wasmi_types.specs.IndexType.{<a href="../../types/IndexType/index.html#address_bits">address_bits</a>}
-use Rattle.wasmi_store.specs.Limits.{<a href="../../store/Limits/index.html#IsNoLooser">IsNoLooser</a>}
-
--- a table type: its index type, the type of its elements, and its limits in elements
-pub record <b id="TableTypeValue">TableTypeValue</b> : Type 0 where
-  pub <b id="index">index</b> : IndexType
-  pub <b id="element">element</b> : RefType
-  pub <b id="minimum">minimum</b> : ℕ
-  pub <b id="maximum">maximum</b> : Option ℕ
-
--- whether a table of the type may have so many elements: fewer than there are indices
-abbrev pub <b id="is_indexable">is_indexable</b> : <a href="../../store/TableType/index.html#TableTypeValue">TableTypeValue</a> → ℕ → Bool
-<a href="../../store/TableType/index.html#is_indexable">is_indexable</a> ty size = nat_lt size (2 ^ <a href="../../types/IndexType/index.html#address_bits">address_bits</a> ty.index)
-
--- whether so many elements are no more than the maximum, if there is one
-abbrev pub <b id="is_within_maximum">is_within_maximum</b> : <a href="../../store/TableType/index.html#TableTypeValue">TableTypeValue</a> → ℕ → Bool
-<a href="../../store/TableType/index.html#is_within_maximum">is_within_maximum</a> ty size = option_map_or (λ <a href="../../store/TableType/index.html#maximum">maximum</a>. nat_le size <a href="../../store/TableType/index.html#maximum">maximum</a>) ty.maximum true
-
--- the limits are below the number of indices, the minimum not above the maximum
-pub record <b id="IsValid">IsValid</b> (ty : <a href="../../store/TableType/index.html#TableTypeValue">TableTypeValue</a>) : Type 0 where
-  pub <b id="minimum">minimum</b> : ty.minimum &lt; 2 ^ <a href="../../types/IndexType/index.html#address_bits">address_bits</a> ty.index
-  pub <b id="maximum">maximum</b> : ForSome ty.maximum (λ <a href="../../store/TableType/index.html#maximum">maximum</a>. (ty.minimum ≤ <a href="../../store/TableType/index.html#maximum">maximum</a>) × (<a href="../../store/TableType/index.html#maximum">maximum</a> &lt; 2 ^ <a href="../../types/IndexType/index.html#address_bits">address_bits</a> ty.index))
-
--- whether two reference types are the same
-abbrev pub <b id="same_type">same_type</b> : RefType → RefType → Bool
-<a href="../../store/TableType/index.html#same_type">same_type</a> Func Func = true
-<a href="../../store/TableType/index.html#same_type">same_type</a> Extern Extern = true
-<a href="../../store/TableType/index.html#same_type">same_type</a> Func Extern = false
-<a href="../../store/TableType/index.html#same_type">same_type</a> Extern Func = false
-
--- a table of type a may be given where one of type b is asked for (core specification, import matching)
-pub record <b id="IsSubtype">IsSubtype</b> (a b : <a href="../../store/TableType/index.html#TableTypeValue">TableTypeValue</a>) : Type 0 where
-  pub <b id="index">index</b> : a.index ≡ b.index
-  pub <b id="element">element</b> : a.element ≡ b.element
-  pub <b id="minimum">minimum</b> : b.minimum ≤ a.minimum
-  pub <b id="maximum">maximum</b> : <a href="../../store/Limits/index.html#IsNoLooser">IsNoLooser</a> a.maximum b.maximum
-</code></pre>
-"####]
-    pub mod TableType {}
 }
 /// Definitions of `wasmi_core`.
 pub mod machine {
-    #[doc = r####"What a meter was given, and what was taken of it.
+    #[doc = r####"What a meter was given, what was taken of it, and what was written for that.
 
-<pre><code>use Rattle.std.specs.Prelude.{◌≡◌, ◌+◌, ◌≤◌, ℕ, Some, List, fold, sum_by}
+<pre><code>use Rattle.std.specs.Prelude.{◌≡◌, ◌+◌, ◌≤◌, ℕ, Some, List, fold, sum_by, ◌-◌, ◌*◌, ◌&lt;◌, Bool, true, false, ◌&amp;&amp;◌, if◌then◌else◌, count_by}
 use Rattle.wasmi_meter.specs.Meter.{<a href="../../meter/Meter/index.html#Meter">Meter</a>, <a href="../../meter/Meter/index.html#amount_left">amount_left</a>, <a href="../../meter/Meter/index.html#meter_after">meter_after</a>, <a href="../../meter/Meter/index.html#meter_set">meter_set</a>}
 use Rattle.wasmi_core.specs.declared.calls.Call.{Call}
 use Rattle.wasmi_core.specs.declared.calls.Call.TheVariants.{SetFuel}
-use Rattle.wasmi_core.specs.World.{<a href="../../machine/World/index.html#Turn">Turn</a>}
+use Rattle.wasmi_core.specs.State.{<a href="../../machine/State/index.html#Turn">Turn</a>}
+use Rattle.wasmi_core.specs.declared.calls.Reply.{Reply}
+use Rattle.wasmi_core.specs.declared.calls.Reply.TheVariants.{Done, Number}
+use Rattle.wasmi_core.specs.Steps.{<a href="../../machine/Steps/index.html#is_charged">is_charged</a>}
 
 -- the fuel that was set last, or that was left at first, and the sum of the charges since then
 pub record <b id="Account">Account</b> : Type 0 where
@@ -3732,7 +3478,7 @@ abbrev pub <b id="charged_by">charged_by</b> : <a href="../../machine/Account/in
 <a href="../../machine/Account/index.html#charged_by">charged_by</a> account call charge = record { <a href="../../machine/Account/index.html#granted">granted</a> = account.granted; <a href="../../machine/Account/index.html#charged">charged</a> = account.charged + charge }
 
 -- an account after turns
-abbrev pub <b id="account_after">account_after</b> : <a href="../../machine/Account/index.html#Account">Account</a> → List <a href="../../machine/World/index.html#Turn">Turn</a> → <a href="../../machine/Account/index.html#Account">Account</a>
+abbrev pub <b id="account_after">account_after</b> : <a href="../../machine/Account/index.html#Account">Account</a> → List <a href="../../machine/State/index.html#Turn">Turn</a> → <a href="../../machine/Account/index.html#Account">Account</a>
 <a href="../../machine/Account/index.html#account_after">account_after</a> account turns = fold (λ a turn. <a href="../../machine/Account/index.html#charged_by">charged_by</a> a turn.call turn.charge) account turns
 
 -- metering is on, and what is left and what was charged are what was granted
@@ -3754,21 +3500,72 @@ abbrev pub <b id="SetsNoFuel">SetsNoFuel</b> : Call → Type 0
 <a href="../../machine/Account/index.html#SetsNoFuel">SetsNoFuel</a> call = Unit {0}
 
 -- what turns were charged
-abbrev pub <b id="charges">charges</b> : List <a href="../../machine/World/index.html#Turn">Turn</a> → ℕ
+abbrev pub <b id="charges">charges</b> : List <a href="../../machine/State/index.html#Turn">Turn</a> → ℕ
 <a href="../../machine/Account/index.html#charges">charges</a> turns = sum_by (λ turn. turn.charge) turns
+
+-- whether a reply accepts a call that is charged for what it writes
+abbrev pub <b id="is_accepted">is_accepted</b> : Reply → Bool
+<a href="../../machine/Account/index.html#is_accepted">is_accepted</a> Done = true
+<a href="../../machine/Account/index.html#is_accepted">is_accepted</a> (Number size) = true
+<a href="../../machine/Account/index.html#is_accepted">is_accepted</a> reply = false
+
+-- whether a call with this reply is charged for what it writes, and was accepted
+abbrev pub <b id="has_written">has_written</b> : Call → Reply → Bool
+<a href="../../machine/Account/index.html#has_written">has_written</a> call reply = <a href="../../machine/Steps/index.html#is_charged">is_charged</a> call &amp;&amp; <a href="../../machine/Account/index.html#is_accepted">is_accepted</a> reply
+
+-- how many turns have written
+abbrev pub <b id="writing_turns">writing_turns</b> : List <a href="../../machine/State/index.html#Turn">Turn</a> → ℕ
+<a href="../../machine/Account/index.html#writing_turns">writing_turns</a> turns = count_by (λ turn. <a href="../../machine/Account/index.html#has_written">has_written</a> turn.call turn.reply) turns
+
+-- what the turns that have written were charged
+abbrev pub <b id="charges_for_writing">charges_for_writing</b> : List <a href="../../machine/State/index.html#Turn">Turn</a> → ℕ
+<a href="../../machine/Account/index.html#charges_for_writing">charges_for_writing</a> turns = sum_by (λ turn. if <a href="../../machine/Account/index.html#has_written">has_written</a> turn.call turn.reply then turn.charge else 0) turns
+
+-- how many bytes turns have written
+abbrev pub <b id="bytes_written">bytes_written</b> : List <a href="../../machine/State/index.html#Turn">Turn</a> → ℕ
+<a href="../../machine/Account/index.html#bytes_written">bytes_written</a> turns = sum_by (λ turn. turn.written) turns
+
+-- the amount to which a call sets the fuel, or 0
+abbrev pub <b id="amount_set">amount_set</b> : Call → ℕ
+<a href="../../machine/Account/index.html#amount_set">amount_set</a> (SetFuel fuel) = fuel
+<a href="../../machine/Account/index.html#amount_set">amount_set</a> call = 0
+
+-- the sum of all amounts to which turns have set the fuel
+abbrev pub <b id="amounts_set">amounts_set</b> : List <a href="../../machine/State/index.html#Turn">Turn</a> → ℕ
+<a href="../../machine/Account/index.html#amounts_set">amounts_set</a> turns = sum_by (λ turn. <a href="../../machine/Account/index.html#amount_set">amount_set</a> turn.call) turns
+
+-- at a rate of so many bytes a fuel, no more is written than what was charged pays for, and less than a fuel&#x27;s worth
+-- beyond it in each turn; and no more than all the fuel that there was
+pub record <b id="IsBounded">IsBounded</b> (rate fuel : ℕ) (turns : List <a href="../../machine/State/index.html#Turn">Turn</a>) : Type 0 where
+  pub <b id="by_charges">by_charges</b> : <a href="../../machine/Account/index.html#bytes_written">bytes_written</a> turns ≤ rate * <a href="../../machine/Account/index.html#charges_for_writing">charges_for_writing</a> turns + <a href="../../machine/Account/index.html#writing_turns">writing_turns</a> turns * (rate - 1)
+  pub <b id="by_fuel">by_fuel</b> : <a href="../../machine/Account/index.html#bytes_written">bytes_written</a> turns ≤ rate * (fuel + <a href="../../machine/Account/index.html#amounts_set">amounts_set</a> turns) + <a href="../../machine/Account/index.html#writing_turns">writing_turns</a> turns * (rate - 1)
+
+-- what was left before is what is left after turns and what they were charged; at a rate above 0, no more is written
+-- than what was spent pays for, and less than a fuel&#x27;s worth beyond it in each turn
+pub record <b id="IsSpent">IsSpent</b> (rate before after : ℕ) (turns : List <a href="../../machine/State/index.html#Turn">Turn</a>) : Type 0 where
+  pub <b id="charged">charged</b> : after + <a href="../../machine/Account/index.html#charges">charges</a> turns ≡ before
+  pub <b id="written">written</b> : 0 &lt; rate → <a href="../../machine/Account/index.html#bytes_written">bytes_written</a> turns ≤ rate * (before - after) + <a href="../../machine/Account/index.html#writing_turns">writing_turns</a> turns * (rate - 1)
 </code></pre>
 "####]
     pub mod Account {}
-    #[doc = r####"Deterministic limiters, and runs in which nothing says out of memory.
+    #[doc = r####"Limiters in runs: deterministic ones, permissions, kinds, and runs in which nothing says out of memory.
 
-<pre><code>use Rattle.std.specs.Prelude.{◌≡◌, List, [], ◌∷◌, Ok, Option, Some, None}
-use Rattle.wasmi_meter.specs.declared.error.MemoryError.TheVariants as memory
-use Rattle.wasmi_meter.specs.declared.error.TableError.TheVariants as table
-use Rattle.wasmi_meter.specs.Limiter.{<a href="../../meter/Limiter/index.html#Question">Question</a>, <a href="../../meter/Limiter/index.html#Answer">Answer</a>, <a href="../../meter/Limiter/index.html#Failure">Failure</a>, <a href="../../meter/Limiter/index.html#MemoryFailure">MemoryFailure</a>, <a href="../../meter/Limiter/index.html#TableFailure">TableFailure</a>, <a href="../../meter/Limiter/index.html#NoticeAnswer">NoticeAnswer</a>, <a href="../../meter/Limiter/index.html#Rules">Rules</a>}
-use Rattle.wasmi_store.specs.declared.<a href="../../store/TableType/index.html#element">table.element</a>.SegmentError.TheVariants as segment
+<pre><code>use Rattle.std.specs.Prelude.{◌≡◌, List, [], ◌∷◌, Ok, Option, Some, None, true}
+use Rattle.wasmi_meter.specs.Limiter.{<a href="../../meter/Limiter/index.html#Question">Question</a>, <a href="../../meter/Limiter/index.html#Answer">Answer</a>, <a href="../../meter/Limiter/index.html#Failure">Failure</a>, <a href="../../meter/Limiter/index.html#MemoryFailure">MemoryFailure</a>, <a href="../../meter/Limiter/index.html#TableFailure">TableFailure</a>, <a href="../../meter/Limiter/index.html#NoticeAnswer">NoticeAnswer</a>, <a href="../../meter/Limiter/index.html#Rules">Rules</a>, <a href="../../meter/Limiter/index.html#optional_rules">optional_rules</a>}
 use Rattle.wasmi_core.specs.declared.calls.Reply.{Reply}
 use Rattle.wasmi_core.specs.declared.calls.Reply.TheVariants.{Memory, Table, Segment, NoRoom}
-use Rattle.wasmi_core.specs.World.{<a href="../../machine/World/index.html#Turn">Turn</a>}
+use Rattle.wasmi_core.specs.State.{<a href="../../machine/State/index.html#Turn">Turn</a>, <a href="../../machine/State/index.html#State">State</a>, <a href="../../machine/State/index.html#World">World</a>, <a href="../../machine/State/index.html#world">world</a>}
+use Rattle.wasmi_meter.specs.declared.any_limiter.AnyLimiter.{AnyLimiter}
+use Rattle.wasmi_meter.specs.declared.quota.Quota.{Quota}
+use Rattle.wasmi_meter.specs.AnswerList.{<a href="../../meter/AnswerList/index.html#AnswersAhead">AnswersAhead</a>, <a href="../../meter/AnswerList/index.html#answer_list_rules">answer_list_rules</a>}
+use Rattle.wasmi_meter.specs.AnyLimiter.{<a href="../../meter/AnyLimiter/index.html#any_limiter_rules">any_limiter_rules</a>}
+use Rattle.wasmi_meter.specs.Capped.{<a href="../../meter/Capped/index.html#quota_rules">quota_rules</a>}
+use Rattle.wasmi_core.specs.Steps.{<a href="../../machine/Steps/index.html#Run">Run</a>, <a href="../../machine/Steps/index.html#IsRunOf">IsRunOf</a>, <a href="../../machine/Steps/index.html#RepliesWith">RepliesWith</a>}
+use Rattle.wasmi_core.specs.declared.calls.Call.{Call}
+use Rattle.wasmi_meter.specs.declared.error.MemoryError.TheVariants as memory
+use Rattle.wasmi_meter.specs.declared.error.TableError.TheVariants as table
+use Rattle.wasmi_store.specs.declared.<a href="../../store/Table/index.html#element">table.element</a>.SegmentError.TheVariants as segment
+use Rattle.wasmi_meter.specs.declared.any_limiter.AnyLimiter.TheVariants as limiter
 
 -- each question and each notice has one answer, and leaves one state
 pub record <b id="IsDeterministic">IsDeterministic</b> {S : Type 0} (rules : <a href="../../meter/Limiter/index.html#Rules">Rules</a> S) : Type 0 where
@@ -3820,9 +3617,56 @@ abbrev pub <b id="IsNotOutOfMemory">IsNotOutOfMemory</b> : Reply → Type 0
 <a href="../../machine/Determinism/index.html#IsNotOutOfMemory">IsNotOutOfMemory</a> reply = Unit {0}
 
 -- no reply of the turns says out of memory
-abbrev pub <b id="AreNotOutOfMemory">AreNotOutOfMemory</b> : List <a href="../../machine/World/index.html#Turn">Turn</a> → Type 0
+abbrev pub <b id="AreNotOutOfMemory">AreNotOutOfMemory</b> : List <a href="../../machine/State/index.html#Turn">Turn</a> → Type 0
 <a href="../../machine/Determinism/index.html#AreNotOutOfMemory">AreNotOutOfMemory</a> [] = Unit {0}
 <a href="../../machine/Determinism/index.html#AreNotOutOfMemory">AreNotOutOfMemory</a> (turn ∷ turns) = <a href="../../machine/Determinism/index.html#IsNotOutOfMemory">IsNotOutOfMemory</a> turn.reply × <a href="../../machine/Determinism/index.html#AreNotOutOfMemory">AreNotOutOfMemory</a> turns
+
+-- the rules by which each question is permitted
+abbrev pub <b id="permitting">permitting</b> : {S : Type 0} → <a href="../../meter/Limiter/index.html#Rules">Rules</a> S → <a href="../../meter/Limiter/index.html#Rules">Rules</a> S
+<a href="../../machine/Determinism/index.html#permitting">permitting</a> rules =
+    record {
+      <a href="../../machine/Determinism/index.html#asked">asked</a> = λ l question answer l&#x27;. (answer ≡ Ok true)
+          × rules.asked l question answer l&#x27;;
+      <a href="../../machine/Determinism/index.html#noticed">noticed</a> = rules.noticed;
+    }
+
+-- the reply reports no denial, and is no error by which a denial is reported
+abbrev pub <b id="TellsNoDenial">TellsNoDenial</b> : Reply → Type 0
+<a href="../../machine/Determinism/index.html#TellsNoDenial">TellsNoDenial</a> (Memory memory.OutOfBoundsGrowth) = ⊥
+<a href="../../machine/Determinism/index.html#TellsNoDenial">TellsNoDenial</a> (Memory memory.ResourceLimiterDeniedAllocation) = ⊥
+<a href="../../machine/Determinism/index.html#TellsNoDenial">TellsNoDenial</a> (Table table.GrowOutOfBounds) = ⊥
+<a href="../../machine/Determinism/index.html#TellsNoDenial">TellsNoDenial</a> (Table table.ResourceLimiterDeniedAllocation) = ⊥
+<a href="../../machine/Determinism/index.html#TellsNoDenial">TellsNoDenial</a> reply = Unit {0}
+
+module _ (Relates : (L : Type 0) → <a href="../../meter/Limiter/index.html#Rules">Rules</a> L → <a href="../../machine/State/index.html#World">World</a> L → <a href="../../machine/State/index.html#World">World</a> L → Type 0) where
+  -- Two machines, each with a limiter of one kind, are related by the rules of that kind: without a limiter, under its
+  -- quota or under its list of answers.
+  abbrev pub <b id="RelatesByKind">RelatesByKind</b> : <a href="../../machine/State/index.html#State">State</a> → AnyLimiter → <a href="../../machine/State/index.html#State">State</a> → AnyLimiter → Type 0
+  <a href="../../machine/Determinism/index.html#RelatesByKind">RelatesByKind</a> s limiter.Unlimited s&#x27; l&#x27; = (l&#x27; ≡ limiter.Unlimited)
+      × Relates (Option Quota) (<a href="../../meter/Limiter/index.html#optional_rules">optional_rules</a> <a href="../../meter/Capped/index.html#quota_rules">quota_rules</a>) (<a href="../../machine/State/index.html#world">world</a> s None) (<a href="../../machine/State/index.html#world">world</a> s&#x27; None)
+  <a href="../../machine/Determinism/index.html#RelatesByKind">RelatesByKind</a> s (limiter.Quota quota) s&#x27; l&#x27; = (quota&#x27; : Quota) × (l&#x27; ≡ limiter.Quota quota&#x27;)
+      × Relates (Option Quota) (<a href="../../meter/Limiter/index.html#optional_rules">optional_rules</a> <a href="../../meter/Capped/index.html#quota_rules">quota_rules</a>) (<a href="../../machine/State/index.html#world">world</a> s (Some quota)) (<a href="../../machine/State/index.html#world">world</a> s&#x27; (Some quota&#x27;))
+  <a href="../../machine/Determinism/index.html#RelatesByKind">RelatesByKind</a> s (limiter.Answers list) s&#x27; l&#x27; = (list&#x27; : <a href="../../meter/AnswerList/index.html#AnswersAhead">AnswersAhead</a>) × (l&#x27; ≡ limiter.Answers list&#x27;)
+      × Relates (Option <a href="../../meter/AnswerList/index.html#AnswersAhead">AnswersAhead</a>) (<a href="../../meter/Limiter/index.html#optional_rules">optional_rules</a> <a href="../../meter/AnswerList/index.html#answer_list_rules">answer_list_rules</a>) (<a href="../../machine/State/index.html#world">world</a> s (Some list)) (<a href="../../machine/State/index.html#world">world</a> s&#x27; (Some list&#x27;))
+
+  -- what the rules of such limiters relate, the rules of its kind do, and the kind stays
+  abbrev pub <b id="KindStays">KindStays</b> : Type 0
+  <a href="../../machine/Determinism/index.html#KindStays">KindStays</a> = (s : <a href="../../machine/State/index.html#State">State</a>) (l : AnyLimiter) (s&#x27; : <a href="../../machine/State/index.html#State">State</a>) (l&#x27; : AnyLimiter)
+      → Relates (Option AnyLimiter) (<a href="../../meter/Limiter/index.html#optional_rules">optional_rules</a> <a href="../../meter/AnyLimiter/index.html#any_limiter_rules">any_limiter_rules</a>) (<a href="../../machine/State/index.html#world">world</a> s (Some l)) (<a href="../../machine/State/index.html#world">world</a> s&#x27; (Some l&#x27;))
+      → <a href="../../machine/Determinism/index.html#RelatesByKind">RelatesByKind</a> s l s&#x27; l&#x27;
+
+-- a run under such a limiter is one by the rules of its kind
+abbrev pub <b id="RunsKeepKind">RunsKeepKind</b> : Type 0
+<a href="../../machine/Determinism/index.html#RunsKeepKind">RunsKeepKind</a> = (turns : List <a href="../../machine/State/index.html#Turn">Turn</a>) → <a href="../../machine/Determinism/index.html#KindStays">KindStays</a> (λ L rules w w&#x27;. <a href="../../machine/Steps/index.html#Run">Run</a> rules w turns w&#x27;)
+
+-- a run of calls with these replies under such a limiter is one by the rules of its kind
+abbrev pub <b id="RunsOfCallsKeepKind">RunsOfCallsKeepKind</b> : Type 0
+<a href="../../machine/Determinism/index.html#RunsOfCallsKeepKind">RunsOfCallsKeepKind</a> = (calls : List Call) (replies : List Reply)
+    → <a href="../../machine/Determinism/index.html#KindStays">KindStays</a> (λ L rules w w&#x27;. <a href="../../machine/Steps/index.html#IsRunOf">IsRunOf</a> rules calls w replies w&#x27;)
+
+-- a reply to a call under such a limiter is one by the rules of its kind
+abbrev pub <b id="RepliesKeepKind">RepliesKeepKind</b> : Type 0
+<a href="../../machine/Determinism/index.html#RepliesKeepKind">RepliesKeepKind</a> = (call : Call) (reply : Reply) → <a href="../../machine/Determinism/index.html#KindStays">KindStays</a> (λ L rules w w&#x27;. <a href="../../machine/Steps/index.html#RepliesWith">RepliesWith</a> rules call w reply w&#x27;)
 </code></pre>
 "####]
     pub mod Determinism {}
@@ -3836,8 +3680,7 @@ use Rattle.wasmi_core.specs.declared.calls.Reply.{Reply}
 use Rattle.wasmi_core.specs.declared.calls.Reply.TheVariants.{Done, Made, NoSuch, NoRoom}
 use Rattle.wasmi_core.specs.declared.slots.Slot.{Slot}
 use Rattle.wasmi_core.specs.declared.slots.Slot.TheVariants.{Live, Gone}
-use Rattle.wasmi_core.specs.State.{<a href="../../machine/State/index.html#State">State</a>, <a href="../../machine/State/index.html#live_at">live_at</a>}
-use Rattle.wasmi_core.specs.World.{<a href="../../machine/World/index.html#World">World</a>, <a href="../../machine/World/index.html#world">world</a>, <a href="../../machine/World/index.html#Turn">Turn</a>, <a href="../../machine/World/index.html#IsFree">IsFree</a>}
+use Rattle.wasmi_core.specs.State.{<a href="../../machine/State/index.html#State">State</a>, <a href="../../machine/State/index.html#live_at">live_at</a>, <a href="../../machine/State/index.html#World">World</a>, <a href="../../machine/State/index.html#world">world</a>, <a href="../../machine/State/index.html#Turn">Turn</a>, <a href="../../machine/State/index.html#IsFree">IsFree</a>}
 
 -- the reply to a call that returns a value or is refused
 abbrev pub <b id="reply_of">reply_of</b> : {T E : Type 0} → (T → Reply) → (E → Reply) → Result T E → Reply
@@ -3898,27 +3741,27 @@ pub record <b id="ChangesPart">ChangesPart</b> {A : Type 0} (with_part : A → <
   pub <b id="effect">effect</b> : Effect reply <a href="../../machine/Effects/index.html#part">part</a>
   pub <b id="after">after</b> : s&#x27; ≡ with_part <a href="../../machine/Effects/index.html#part">part</a>
 
-module _ {S : Type 0} (w : <a href="../../machine/World/index.html#World">World</a> S) (turn : <a href="../../machine/World/index.html#Turn">Turn</a>) (w&#x27; : <a href="../../machine/World/index.html#World">World</a> S) where
+module _ {S : Type 0} (w : <a href="../../machine/State/index.html#World">World</a> S) (turn : <a href="../../machine/State/index.html#Turn">Turn</a>) (w&#x27; : <a href="../../machine/State/index.html#World">World</a> S) where
   -- a turn that changes nothing but what its reply tells
   pub record <b id="OnlyReplies">OnlyReplies</b> (Effect : Reply → Type 0) : Type 0 where
-    pub <b id="free">free</b> : <a href="../../machine/World/index.html#IsFree">IsFree</a> turn
+    pub <b id="free">free</b> : <a href="../../machine/State/index.html#IsFree">IsFree</a> turn
     pub <b id="effect">effect</b> : Effect turn.reply
     pub <b id="after">after</b> : w&#x27; ≡ w
 
   -- a turn that changes the state, without a charge and without the limiter
   pub record <b id="Changes">Changes</b> (Effect : Reply → <a href="../../machine/State/index.html#State">State</a> → Type 0) : Type 0 where
-    pub <b id="free">free</b> : <a href="../../machine/World/index.html#IsFree">IsFree</a> turn
+    pub <b id="free">free</b> : <a href="../../machine/State/index.html#IsFree">IsFree</a> turn
     pub <b id="machine">machine</b> : <a href="../../machine/State/index.html#State">State</a>
     pub <b id="effect">effect</b> : Effect turn.reply <a href="../../machine/Effects/index.html#machine">machine</a>
     pub <b id="after">after</b> : w&#x27; ≡ record w { state = <a href="../../machine/Effects/index.html#machine">machine</a> }
 
   -- a turn that makes something under the limiter, without a charge
   pub record <b id="Asks">Asks</b> {A : Type 0} (with_part : A → <a href="../../machine/State/index.html#State">State</a>) (Effect : S → Reply → A → S → Type 0) : Type 0 where
-    pub <b id="free">free</b> : <a href="../../machine/World/index.html#IsFree">IsFree</a> turn
+    pub <b id="free">free</b> : <a href="../../machine/State/index.html#IsFree">IsFree</a> turn
     pub <b id="part">part</b> : A
     pub <b id="limiter">limiter</b> : S
     pub <b id="effect">effect</b> : Effect w.limiter turn.reply <a href="../../machine/Effects/index.html#part">part</a> <a href="../../machine/Effects/index.html#limiter">limiter</a>
-    pub <b id="after">after</b> : w&#x27; ≡ <a href="../../machine/World/index.html#world">world</a> (with_part <a href="../../machine/Effects/index.html#part">part</a>) <a href="../../machine/Effects/index.html#limiter">limiter</a>
+    pub <b id="after">after</b> : w&#x27; ≡ <a href="../../machine/State/index.html#world">world</a> (with_part <a href="../../machine/Effects/index.html#part">part</a>) <a href="../../machine/Effects/index.html#limiter">limiter</a>
 
   -- a turn that acts on one part of the state, with a charge, and with the bytes that it has written by its reply
   pub record <b id="ActsMetered">ActsMetered</b> {A : Type 0} (old : A) (with_part : A → <a href="../../machine/State/index.html#State">State</a>)
@@ -3929,7 +3772,7 @@ module _ {S : Type 0} (w : <a href="../../machine/World/index.html#World">World<
     pub <b id="effect">effect</b> : Effect (<a href="../../store/Growth/index.html#metered_value">metered_value</a> old (Some w.state.<a href="../../machine/Effects/index.html#meter">meter</a>) w.limiter) turn.reply turn.charge
         (<a href="../../store/Growth/index.html#metered_value">metered_value</a> <a href="../../machine/Effects/index.html#part">part</a> (Some <a href="../../machine/Effects/index.html#meter">meter</a>) <a href="../../machine/Effects/index.html#limiter">limiter</a>)
     pub <b id="wrote">wrote</b> : turn.written ≡ bytes turn.reply
-    pub <b id="after">after</b> : w&#x27; ≡ <a href="../../machine/World/index.html#world">world</a> (record (with_part <a href="../../machine/Effects/index.html#part">part</a>) { <a href="../../machine/Effects/index.html#meter">meter</a> = <a href="../../machine/Effects/index.html#meter">meter</a> }) <a href="../../machine/Effects/index.html#limiter">limiter</a>
+    pub <b id="after">after</b> : w&#x27; ≡ <a href="../../machine/State/index.html#world">world</a> (record (with_part <a href="../../machine/Effects/index.html#part">part</a>) { <a href="../../machine/Effects/index.html#meter">meter</a> = <a href="../../machine/Effects/index.html#meter">meter</a> }) <a href="../../machine/Effects/index.html#limiter">limiter</a>
 
   -- a turn that acts on one part of the state, with a charge, and with the bytes that it has written by its reply, and
   -- does not reach the limiter
@@ -3953,23 +3796,19 @@ use Rattle.wasmi_meter.specs.declared.limiter.Kind.TheVariants.{Bytes, Elements}
 use Rattle.wasmi_meter.specs.declared.error.MemoryError.TheVariants as memory_error
 use Rattle.wasmi_meter.specs.declared.error.TableError.TheVariants as table_error
 use Rattle.wasmi_meter.specs.Limiter.{<a href="../../meter/Limiter/index.html#Question">Question</a>, <a href="../../meter/Limiter/index.html#Answer">Answer</a>, <a href="../../meter/Limiter/index.html#IsDenial">IsDenial</a>, <a href="../../meter/Limiter/index.html#Failure">Failure</a>, <a href="../../meter/Limiter/index.html#MemoryFailure">MemoryFailure</a>, <a href="../../meter/Limiter/index.html#TableFailure">TableFailure</a>, <a href="../../meter/Limiter/index.html#kind_of">kind_of</a>, <a href="../../meter/Limiter/index.html#NoticeAnswer">NoticeAnswer</a>, <a href="../../meter/Limiter/index.html#Rules">Rules</a>}
-use Rattle.wasmi_meter.specs.Costs.{<a href="../../meter/Costs/index.html#copy_cost">copy_cost</a>}
-use Rattle.wasmi_meter.specs.Meter.{<a href="../../meter/Meter/index.html#Meter">Meter</a>, <a href="../../meter/Meter/index.html#due">due</a>}
+use Rattle.wasmi_meter.specs.Meter.{<a href="../../meter/Meter/index.html#copy_cost">copy_cost</a>, <a href="../../meter/Meter/index.html#Meter">Meter</a>, <a href="../../meter/Meter/index.html#due">due</a>}
 use Rattle.wasmi_meter.specs.Attempt.{<a href="../../meter/Attempt/index.html#Request">Request</a>, <a href="../../meter/Attempt/index.html#optional_due">optional_due</a>}
 use Rattle.wasmi_store.specs.Buffer.{<a href="../../store/Buffer/index.html#Owned">Owned</a>, <a href="../../store/Buffer/index.html#Lent">Lent</a>}
 use Rattle.wasmi_typed.specs.declared.typed_ref.TypedRawRef.{TypedRawRef}
 use Rattle.wasmi_store.specs.Memory as memory
 use Rattle.wasmi_store.specs.Table as table
-use Rattle.wasmi_store.specs.Table.{<a href="../../store/Table/index.html#TableValue">TableValue</a>}
-use Rattle.wasmi_store.specs.TableType.{<a href="../../store/TableType/index.html#same_type">same_type</a>}
+use Rattle.wasmi_store.specs.Table.{<a href="../../store/Table/index.html#TableValue">TableValue</a>, <a href="../../store/Table/index.html#same_type">same_type</a>}
 use Rattle.wasmi_core.specs.declared.calls.Call.{Call}
 use Rattle.wasmi_core.specs.declared.calls.Call.TheVariants.{NewMemory, NewLentMemory, GrowMemory, NewTable, GrowTable, InitTable, CopyTable, FillTable}
 use Rattle.wasmi_core.specs.declared.calls.Reply.{Reply}
 use Rattle.wasmi_core.specs.declared.calls.Reply.TheVariants.{Done, Memory, Table, NoRoom}
-use Rattle.wasmi_core.specs.State.{<a href="../../machine/State/index.html#State">State</a>, <a href="../../machine/State/index.html#live_at">live_at</a>}
-use Rattle.wasmi_core.specs.World.{<a href="../../machine/World/index.html#World">World</a>, <a href="../../machine/World/index.html#Turn">Turn</a>, <a href="../../machine/World/index.html#IsRefusal">IsRefusal</a>}
+use Rattle.wasmi_core.specs.State.{<a href="../../machine/State/index.html#State">State</a>, <a href="../../machine/State/index.html#live_at">live_at</a>, <a href="../../machine/State/index.html#World">World</a>, <a href="../../machine/State/index.html#Turn">Turn</a>, <a href="../../machine/State/index.html#IsRefusal">IsRefusal</a>, <a href="../../machine/State/index.html#sizes">sizes</a>}
 use Rattle.wasmi_core.specs.Account.{<a href="../../machine/Account/index.html#ChangesMeter">ChangesMeter</a>}
-use Rattle.wasmi_core.specs.Totals.{<a href="../../machine/Totals/index.html#sizes">sizes</a>}
 
 -- nothing; a question and its denial; a permission alone; or a permission and the notice that what it permitted failed,
 -- with the answer to it
@@ -3998,7 +3837,7 @@ abbrev pub <b id="growth_question">growth_question</b> : {V E : Type 0} → ℕ 
 -- what a growth of a table by references of a type asks: nothing where its elements have another
 abbrev pub <b id="table_growth_question">table_growth_question</b> : ℕ → TypedRawRef → <a href="../../store/Table/index.html#TableValue">TableValue</a> → Option <a href="../../meter/Limiter/index.html#Question">Question</a>
 <a href="../../machine/Exchange/index.html#table_growth_question">table_growth_question</a> n init x =
-    if <a href="../../store/TableType/index.html#same_type">same_type</a> x.ty.element init.ty then <a href="../../machine/Exchange/index.html#growth_question">growth_question</a> n (<a href="../../store/Table/index.html#growth_of">table.growth_of</a> x n init.raw) else None
+    if <a href="../../store/Table/index.html#same_type">same_type</a> x.ty.element init.ty then <a href="../../machine/Exchange/index.html#growth_question">growth_question</a> n (<a href="../../store/Table/index.html#growth_of">table.growth_of</a> x n init.raw) else None
 
 -- what a call asks of the limiter in a state, if it asks something
 abbrev pub <b id="question_of">question_of</b> : <a href="../../machine/State/index.html#State">State</a> → Call → Option <a href="../../meter/Limiter/index.html#Question">Question</a>
@@ -4027,8 +3866,8 @@ abbrev pub <b id="failed_reply">failed_reply</b> : <a href="../../meter/Limiter/
 -- the reply to an exchange: a denial is a refusal, a permission that stands is none, and a failure is told
 abbrev pub <b id="RepliesTo">RepliesTo</b> : <a href="../../machine/Exchange/index.html#Exchange">Exchange</a> → Reply → Type 0
 <a href="../../machine/Exchange/index.html#RepliesTo">RepliesTo</a> <a href="../../machine/Exchange/index.html#Nothing">Nothing</a> reply = Unit {0}
-<a href="../../machine/Exchange/index.html#RepliesTo">RepliesTo</a> (<a href="../../machine/Exchange/index.html#Denial">Denial</a> question answer) reply = <a href="../../machine/World/index.html#IsRefusal">IsRefusal</a> reply
-<a href="../../machine/Exchange/index.html#RepliesTo">RepliesTo</a> (<a href="../../machine/Exchange/index.html#Permission">Permission</a> question) reply = <a href="../../machine/World/index.html#IsRefusal">IsRefusal</a> reply → ⊥
+<a href="../../machine/Exchange/index.html#RepliesTo">RepliesTo</a> (<a href="../../machine/Exchange/index.html#Denial">Denial</a> question answer) reply = <a href="../../machine/State/index.html#IsRefusal">IsRefusal</a> reply
+<a href="../../machine/Exchange/index.html#RepliesTo">RepliesTo</a> (<a href="../../machine/Exchange/index.html#Permission">Permission</a> question) reply = <a href="../../machine/State/index.html#IsRefusal">IsRefusal</a> reply → ⊥
 <a href="../../machine/Exchange/index.html#RepliesTo">RepliesTo</a> (<a href="../../machine/Exchange/index.html#Notice">Notice</a> question failure notice_answer) reply = reply ≡ <a href="../../machine/Exchange/index.html#failed_reply">failed_reply</a> failure notice_answer
 
 -- where a call makes something grow: nowhere, at a new index, or at one that is there
@@ -4049,23 +3888,23 @@ abbrev pub <b id="place_of">place_of</b> : Call → <a href="../../machine/Excha
 
 -- the size in a place has grown as a question asks: a new one from 0, or another from what it was
 abbrev pub <b id="GrowsAsAsked">GrowsAsAsked</b> : <a href="../../machine/Exchange/index.html#Place">Place</a> → <a href="../../meter/Limiter/index.html#Question">Question</a> → List ℕ → List ℕ → Type 0
-<a href="../../machine/Exchange/index.html#GrowsAsAsked">GrowsAsAsked</a> <a href="../../machine/Exchange/index.html#Nowhere">Nowhere</a> q <a href="../../machine/Totals/index.html#sizes">sizes</a> sizes&#x27; = ⊥
-<a href="../../machine/Exchange/index.html#GrowsAsAsked">GrowsAsAsked</a> <a href="../../machine/Exchange/index.html#New">New</a> q <a href="../../machine/Totals/index.html#sizes">sizes</a> sizes&#x27; = (q.current ≡ 0) × (sizes&#x27; ≡ <a href="../../machine/Totals/index.html#sizes">sizes</a> ++ q.desired ∷ [])
-<a href="../../machine/Exchange/index.html#GrowsAsAsked">GrowsAsAsked</a> (<a href="../../machine/Exchange/index.html#At">At</a> k) q <a href="../../machine/Totals/index.html#sizes">sizes</a> sizes&#x27; =
-    (q.current ≤ q.desired) × (slice_get <a href="../../machine/Totals/index.html#sizes">sizes</a> k ≡ Some q.current) × (sizes&#x27; ≡ slice_set <a href="../../machine/Totals/index.html#sizes">sizes</a> k q.desired)
+<a href="../../machine/Exchange/index.html#GrowsAsAsked">GrowsAsAsked</a> <a href="../../machine/Exchange/index.html#Nowhere">Nowhere</a> q <a href="../../machine/State/index.html#sizes">sizes</a> sizes&#x27; = ⊥
+<a href="../../machine/Exchange/index.html#GrowsAsAsked">GrowsAsAsked</a> <a href="../../machine/Exchange/index.html#New">New</a> q <a href="../../machine/State/index.html#sizes">sizes</a> sizes&#x27; = (q.current ≡ 0) × (sizes&#x27; ≡ <a href="../../machine/State/index.html#sizes">sizes</a> ++ q.desired ∷ [])
+<a href="../../machine/Exchange/index.html#GrowsAsAsked">GrowsAsAsked</a> (<a href="../../machine/Exchange/index.html#At">At</a> k) q <a href="../../machine/State/index.html#sizes">sizes</a> sizes&#x27; =
+    (q.current ≤ q.desired) × (slice_get <a href="../../machine/State/index.html#sizes">sizes</a> k ≡ Some q.current) × (sizes&#x27; ≡ slice_set <a href="../../machine/State/index.html#sizes">sizes</a> k q.desired)
 
 -- no size has changed
 abbrev pub <b id="NothingGrows">NothingGrows</b> : (Kind → List ℕ) → (Kind → List ℕ) → Type 0
-<a href="../../machine/Exchange/index.html#NothingGrows">NothingGrows</a> <a href="../../machine/Totals/index.html#sizes">sizes</a> sizes&#x27; = (kind : Kind) → sizes&#x27; kind ≡ <a href="../../machine/Totals/index.html#sizes">sizes</a> kind
+<a href="../../machine/Exchange/index.html#NothingGrows">NothingGrows</a> <a href="../../machine/State/index.html#sizes">sizes</a> sizes&#x27; = (kind : Kind) → sizes&#x27; kind ≡ <a href="../../machine/State/index.html#sizes">sizes</a> kind
 
 -- what has grown by an exchange: after a permission that stands, the size in the place, as was asked; else nothing
 abbrev pub <b id="GrowsBy">GrowsBy</b> : <a href="../../machine/Exchange/index.html#Place">Place</a> → <a href="../../machine/Exchange/index.html#Exchange">Exchange</a> → (Kind → List ℕ) → (Kind → List ℕ) → Type 0
-<a href="../../machine/Exchange/index.html#GrowsBy">GrowsBy</a> place <a href="../../machine/Exchange/index.html#Nothing">Nothing</a> <a href="../../machine/Totals/index.html#sizes">sizes</a> sizes&#x27; = <a href="../../machine/Exchange/index.html#NothingGrows">NothingGrows</a> <a href="../../machine/Totals/index.html#sizes">sizes</a> sizes&#x27;
-<a href="../../machine/Exchange/index.html#GrowsBy">GrowsBy</a> place (<a href="../../machine/Exchange/index.html#Denial">Denial</a> question answer) <a href="../../machine/Totals/index.html#sizes">sizes</a> sizes&#x27; = <a href="../../machine/Exchange/index.html#NothingGrows">NothingGrows</a> <a href="../../machine/Totals/index.html#sizes">sizes</a> sizes&#x27;
-<a href="../../machine/Exchange/index.html#GrowsBy">GrowsBy</a> place (<a href="../../machine/Exchange/index.html#Permission">Permission</a> question) <a href="../../machine/Totals/index.html#sizes">sizes</a> sizes&#x27; =
-    <a href="../../machine/Exchange/index.html#GrowsAsAsked">GrowsAsAsked</a> place question (<a href="../../machine/Totals/index.html#sizes">sizes</a> question.kind) (sizes&#x27; question.kind)
-    × ((kind : Kind) → kind ≢ question.kind → sizes&#x27; kind ≡ <a href="../../machine/Totals/index.html#sizes">sizes</a> kind)
-<a href="../../machine/Exchange/index.html#GrowsBy">GrowsBy</a> place (<a href="../../machine/Exchange/index.html#Notice">Notice</a> question failure notice_answer) <a href="../../machine/Totals/index.html#sizes">sizes</a> sizes&#x27; = <a href="../../machine/Exchange/index.html#NothingGrows">NothingGrows</a> <a href="../../machine/Totals/index.html#sizes">sizes</a> sizes&#x27;
+<a href="../../machine/Exchange/index.html#GrowsBy">GrowsBy</a> place <a href="../../machine/Exchange/index.html#Nothing">Nothing</a> <a href="../../machine/State/index.html#sizes">sizes</a> sizes&#x27; = <a href="../../machine/Exchange/index.html#NothingGrows">NothingGrows</a> <a href="../../machine/State/index.html#sizes">sizes</a> sizes&#x27;
+<a href="../../machine/Exchange/index.html#GrowsBy">GrowsBy</a> place (<a href="../../machine/Exchange/index.html#Denial">Denial</a> question answer) <a href="../../machine/State/index.html#sizes">sizes</a> sizes&#x27; = <a href="../../machine/Exchange/index.html#NothingGrows">NothingGrows</a> <a href="../../machine/State/index.html#sizes">sizes</a> sizes&#x27;
+<a href="../../machine/Exchange/index.html#GrowsBy">GrowsBy</a> place (<a href="../../machine/Exchange/index.html#Permission">Permission</a> question) <a href="../../machine/State/index.html#sizes">sizes</a> sizes&#x27; =
+    <a href="../../machine/Exchange/index.html#GrowsAsAsked">GrowsAsAsked</a> place question (<a href="../../machine/State/index.html#sizes">sizes</a> question.kind) (sizes&#x27; question.kind)
+    × ((kind : Kind) → kind ≢ question.kind → sizes&#x27; kind ≡ <a href="../../machine/State/index.html#sizes">sizes</a> kind)
+<a href="../../machine/Exchange/index.html#GrowsBy">GrowsBy</a> place (<a href="../../machine/Exchange/index.html#Notice">Notice</a> question failure notice_answer) <a href="../../machine/State/index.html#sizes">sizes</a> sizes&#x27; = <a href="../../machine/Exchange/index.html#NothingGrows">NothingGrows</a> <a href="../../machine/State/index.html#sizes">sizes</a> sizes&#x27;
 
 -- the bytes of one of a kind, as they are paid for
 abbrev pub <b id="bytes_of_one">bytes_of_one</b> : Kind → ℕ
@@ -4074,7 +3913,7 @@ abbrev pub <b id="bytes_of_one">bytes_of_one</b> : Kind → ℕ
 
 -- what a meter is due for the growth that a question asks for
 abbrev pub <b id="growth_due">growth_due</b> : <a href="../../meter/Meter/index.html#Meter">Meter</a> → <a href="../../meter/Limiter/index.html#Question">Question</a> → ℕ
-<a href="../../machine/Exchange/index.html#growth_due">growth_due</a> m q = <a href="../../meter/Meter/index.html#due">due</a> m (λ costs. <a href="../../meter/Costs/index.html#copy_cost">copy_cost</a> costs (q.desired - q.current) (<a href="../../machine/Exchange/index.html#bytes_of_one">bytes_of_one</a> q.kind))
+<a href="../../machine/Exchange/index.html#growth_due">growth_due</a> m q = <a href="../../meter/Meter/index.html#due">due</a> m (λ costs. <a href="../../meter/Meter/index.html#copy_cost">copy_cost</a> costs (q.desired - q.current) (<a href="../../machine/Exchange/index.html#bytes_of_one">bytes_of_one</a> q.kind))
 
 -- what is charged of a price for a growth that failed: memory is refused after it was paid, and each other cause is
 -- found before
@@ -4111,12 +3950,12 @@ abbrev pub <b id="charge_at">charge_at</b> : <a href="../../machine/Exchange/ind
 
 -- what passes between a machine and its limiter in a turn, from one world to the next: what is asked is the question of
 -- the call, a size has grown by it, and the charge is what it allows and is taken of the meter
-pub record <b id="Exchanges">Exchanges</b> {S : Type 0} (rules : <a href="../../meter/Limiter/index.html#Rules">Rules</a> S) (w : <a href="../../machine/World/index.html#World">World</a> S) (turn : <a href="../../machine/World/index.html#Turn">Turn</a>) (w&#x27; : <a href="../../machine/World/index.html#World">World</a> S) : Type 0 where
+pub record <b id="Exchanges">Exchanges</b> {S : Type 0} (rules : <a href="../../meter/Limiter/index.html#Rules">Rules</a> S) (w : <a href="../../machine/State/index.html#World">World</a> S) (turn : <a href="../../machine/State/index.html#Turn">Turn</a>) (w&#x27; : <a href="../../machine/State/index.html#World">World</a> S) : Type 0 where
   pub <b id="exchange">exchange</b> : <a href="../../machine/Exchange/index.html#Exchange">Exchange</a>
   pub <b id="asks">asks</b> : <a href="../../machine/Exchange/index.html#AsksFor">AsksFor</a> (<a href="../../machine/Exchange/index.html#question_of">question_of</a> w.state turn.call) <a href="../../machine/Exchange/index.html#exchange">exchange</a> turn.reply
   pub <b id="passes">passes</b> : <a href="../../machine/Exchange/index.html#Passes">Passes</a> rules w.limiter <a href="../../machine/Exchange/index.html#exchange">exchange</a> w&#x27;.limiter
   pub <b id="replies">replies</b> : <a href="../../machine/Exchange/index.html#RepliesTo">RepliesTo</a> <a href="../../machine/Exchange/index.html#exchange">exchange</a> turn.reply
-  pub <b id="grows">grows</b> : <a href="../../machine/Exchange/index.html#GrowsBy">GrowsBy</a> (<a href="../../machine/Exchange/index.html#place_of">place_of</a> turn.call) <a href="../../machine/Exchange/index.html#exchange">exchange</a> (<a href="../../machine/Totals/index.html#sizes">sizes</a> w.state) (<a href="../../machine/Totals/index.html#sizes">sizes</a> w&#x27;.state)
+  pub <b id="grows">grows</b> : <a href="../../machine/Exchange/index.html#GrowsBy">GrowsBy</a> (<a href="../../machine/Exchange/index.html#place_of">place_of</a> turn.call) <a href="../../machine/Exchange/index.html#exchange">exchange</a> (<a href="../../machine/State/index.html#sizes">sizes</a> w.state) (<a href="../../machine/State/index.html#sizes">sizes</a> w&#x27;.state)
   pub <b id="charged">charged</b> : turn.charge
       ≡ <a href="../../machine/Exchange/index.html#charge_at">charge_at</a> (<a href="../../machine/Exchange/index.html#place_of">place_of</a> turn.call) <a href="../../machine/Exchange/index.html#exchange">exchange</a> w.state.<a href="../../machine/Exchange/index.html#meter">meter</a> (<a href="../../machine/Exchange/index.html#writing_charge">writing_charge</a> w.state.<a href="../../machine/Exchange/index.html#meter">meter</a> (<a href="../../machine/Exchange/index.html#elements_paid">elements_paid</a> turn.call)
       turn.reply)
@@ -4124,28 +3963,6 @@ pub record <b id="Exchanges">Exchanges</b> {S : Type 0} (rules : <a href="../../
 </code></pre>
 "####]
     pub mod Exchange {}
-    #[doc = r####"The calls on the meter.
-
-<pre><code>use Rattle.std.specs.Prelude.{◌≡◌, ℕ, if◌then◌else◌, is_some}
-use Rattle.std.specs.Option.{option_map_or}
-use Rattle.wasmi_meter.specs.declared.fuel.FuelError.TheVariants.{FuelMeteringDisabled}
-use Rattle.wasmi_meter.specs.Meter.{<a href="../../meter/Meter/index.html#Meter">Meter</a>, <a href="../../meter/Meter/index.html#meter_set">meter_set</a>}
-use Rattle.wasmi_core.specs.declared.calls.Reply.{Reply}
-use Rattle.wasmi_core.specs.declared.calls.Reply.TheVariants.{Done, Number, Fuel}
-use Rattle.wasmi_core.specs.State.{<a href="../../machine/State/index.html#State">State</a>}
-
--- the fuel that is left is set, where the meter is on
-abbrev pub <b id="SetsFuel">SetsFuel</b> : ℕ → <a href="../../machine/State/index.html#State">State</a> → Reply → <a href="../../machine/State/index.html#State">State</a> → Type 0
-<a href="../../machine/FuelEffects/index.html#SetsFuel">SetsFuel</a> fuel s reply s&#x27; =
-    (reply ≡ (if is_some s.meter.left then Done else Fuel FuelMeteringDisabled))
-    × (s&#x27; ≡ record s { meter = <a href="../../meter/Meter/index.html#meter_set">meter_set</a> s.meter fuel })
-
--- the fuel that is left is asked for
-abbrev pub <b id="get_fuel_reply">get_fuel_reply</b> : <a href="../../meter/Meter/index.html#Meter">Meter</a> → Reply
-<a href="../../machine/FuelEffects/index.html#get_fuel_reply">get_fuel_reply</a> m = option_map_or (λ left. Number left) m.left (Fuel FuelMeteringDisabled)
-</code></pre>
-"####]
-    pub mod FuelEffects {}
     #[doc = r####"What holds of all turns and runs of a machine.
 
 <pre><code><a href="../../machine/Laws/index.html#use">use</a> Rattle.std.specs.Prelude.{◌≡◌, ◌⊎◌, ◌&lt;◌, ◌≤◌, ◌+◌, ◌*◌, ◌++◌, ℕ, true, Option, Some, Result, Ok, List, length, map, All}
@@ -4154,27 +3971,20 @@ abbrev pub <b id="get_fuel_reply">get_fuel_reply</b> : <a href="../../meter/Mete
 <a href="../../machine/Laws/index.html#use">use</a> Rattle.wasmi_meter.specs.Attempt.{<a href="../../meter/Attempt/index.html#MeteredValue">MeteredValue</a>, <a href="../../meter/Attempt/index.html#optional_due">optional_due</a>, <a href="../../meter/Attempt/index.html#covers">covers</a>}
 <a href="../../machine/Laws/index.html#use">use</a> Rattle.wasmi_meter.specs.declared.error.MemoryError.{MemoryError}
 <a href="../../machine/Laws/index.html#use">use</a> Rattle.wasmi_meter.specs.declared.quota.Quota.{Quota}
-<a href="../../machine/Laws/index.html#use">use</a> Rattle.wasmi_meter.specs.Quota.{<a href="../../meter/Quota/index.html#SameCaps">SameCaps</a>, <a href="../../meter/Quota/index.html#IsWithinCaps">IsWithinCaps</a>, <a href="../../meter/Quota/index.html#quota_rules">quota_rules</a>}
+<a href="../../machine/Laws/index.html#use">use</a> Rattle.wasmi_meter.specs.Capped.{<a href="../../meter/Capped/index.html#SameCaps">SameCaps</a>, <a href="../../meter/Capped/index.html#IsWithinCaps">IsWithinCaps</a>, <a href="../../meter/Capped/index.html#quota_rules">quota_rules</a>}
 <a href="../../machine/Laws/index.html#use">use</a> Rattle.wasmi_store.specs.Buffer.{<a href="../../store/Buffer/index.html#Lent">Lent</a>, <a href="../../store/Buffer/index.html#fits_room">fits_room</a>}
-<a href="../../machine/Laws/index.html#use">use</a> Rattle.wasmi_store.specs.MemoryType.{<a href="../../store/MemoryType/index.html#MemoryTypeValue">MemoryTypeValue</a>, <a href="../../store/MemoryType/index.html#page_bytes">page_bytes</a>, <a href="../../store/MemoryType/index.html#minimum_bytes">minimum_bytes</a>, <a href="../../store/MemoryType/index.html#in_bounds">in_bounds</a>}
-<a href="../../machine/Laws/index.html#use">use</a> Rattle.wasmi_store.specs.Memory.{<a href="../../store/Memory/index.html#MemoryValue">MemoryValue</a>, <a href="../../store/Memory/index.html#pages_of">pages_of</a>, <a href="../../store/Memory/index.html#growth_of">growth_of</a>, <a href="../../store/Memory/index.html#GrowsMemory">GrowsMemory</a>}
+<a href="../../machine/Laws/index.html#use">use</a> Rattle.wasmi_store.specs.Memory.{<a href="../../store/Memory/index.html#MemoryTypeValue">MemoryTypeValue</a>, <a href="../../store/Memory/index.html#page_bytes">page_bytes</a>, <a href="../../store/Memory/index.html#minimum_bytes">minimum_bytes</a>, <a href="../../store/Memory/index.html#in_bounds">in_bounds</a>, <a href="../../store/Memory/index.html#MemoryValue">MemoryValue</a>, <a href="../../store/Memory/index.html#pages_of">pages_of</a>, <a href="../../store/Memory/index.html#growth_of">growth_of</a>, <a href="../../store/Memory/index.html#GrowsMemory">GrowsMemory</a>}
 <a href="../../machine/Laws/index.html#use">use</a> Rattle.wasmi_core.specs.declared.calls.Call.{Call}
 <a href="../../machine/Laws/index.html#use">use</a> Rattle.wasmi_core.specs.declared.calls.Call.TheVariants.{NewMemory, NewLentMemory}
 <a href="../../machine/Laws/index.html#use">use</a> Rattle.wasmi_core.specs.declared.calls.Reply.{Reply}
-<a href="../../machine/Laws/index.html#use">use</a> Rattle.wasmi_core.specs.State.{<a href="../../machine/State/index.html#State">State</a>}
-<a href="../../machine/Laws/index.html#use">use</a> Rattle.wasmi_core.specs.World.{<a href="../../machine/World/index.html#World">World</a>, <a href="../../machine/World/index.html#Turn">Turn</a>, <a href="../../machine/World/index.html#world">world</a>}
-pub <b id="use">use</b> Rattle.wasmi_core.specs.World.{<a href="../../machine/World/index.html#IsRefusal">IsRefusal</a>}
-<a href="../../machine/Laws/index.html#use">use</a> Rattle.wasmi_core.specs.Steps.{<a href="../../machine/Steps/index.html#Step">Step</a>}
-<a href="../../machine/Laws/index.html#use">use</a> Rattle.wasmi_core.specs.Runs.{<a href="../../machine/Runs/index.html#Sequence">Sequence</a>, <a href="../../machine/Runs/index.html#Run">Run</a>, <a href="../../machine/Runs/index.html#IsRunOf">IsRunOf</a>}
-<a href="../../machine/Laws/index.html#use">use</a> Rattle.wasmi_core.specs.Account.{<a href="../../machine/Account/index.html#opened">opened</a>, <a href="../../machine/Account/index.html#account_after">account_after</a>, <a href="../../machine/Account/index.html#Balances">Balances</a>, <a href="../../machine/Account/index.html#PaysCharge">PaysCharge</a>, <a href="../../machine/Account/index.html#SetsNoFuel">SetsNoFuel</a>}
+<a href="../../machine/Laws/index.html#use">use</a> Rattle.wasmi_core.specs.State.{<a href="../../machine/State/index.html#State">State</a>, <a href="../../machine/State/index.html#World">World</a>, <a href="../../machine/State/index.html#Turn">Turn</a>, <a href="../../machine/State/index.html#world">world</a>, <a href="../../machine/State/index.html#IsValid">IsValid</a>, <a href="../../machine/State/index.html#IsValidCall">IsValidCall</a>, <a href="../../machine/State/index.html#HoldsTotals">HoldsTotals</a>}
+pub <b id="use">use</b> Rattle.wasmi_core.specs.State.{<a href="../../machine/State/index.html#IsRefusal">IsRefusal</a>}
+<a href="../../machine/Laws/index.html#use">use</a> Rattle.wasmi_core.specs.Steps.{<a href="../../machine/Steps/index.html#Step">Step</a>, <a href="../../machine/Steps/index.html#Sequence">Sequence</a>, <a href="../../machine/Steps/index.html#Run">Run</a>, <a href="../../machine/Steps/index.html#IsRunOf">IsRunOf</a>}
+<a href="../../machine/Laws/index.html#use">use</a> Rattle.wasmi_core.specs.Account.{<a href="../../machine/Account/index.html#opened">opened</a>, <a href="../../machine/Account/index.html#account_after">account_after</a>, <a href="../../machine/Account/index.html#Balances">Balances</a>, <a href="../../machine/Account/index.html#PaysCharge">PaysCharge</a>, <a href="../../machine/Account/index.html#SetsNoFuel">SetsNoFuel</a>, <a href="../../machine/Account/index.html#IsBounded">IsBounded</a>, <a href="../../machine/Account/index.html#IsSpent">IsSpent</a>}
 <a href="../../machine/Laws/index.html#use">use</a> Rattle.wasmi_core.specs.Exchange.{<a href="../../machine/Exchange/index.html#Notice">Notice</a>, <a href="../../machine/Exchange/index.html#Passes">Passes</a>, <a href="../../machine/Exchange/index.html#At">At</a>, <a href="../../machine/Exchange/index.html#place_of">place_of</a>, <a href="../../machine/Exchange/index.html#question_of">question_of</a>, <a href="../../machine/Exchange/index.html#failed_reply">failed_reply</a>, <a href="../../machine/Exchange/index.html#growth_due">growth_due</a>, <a href="../../machine/Exchange/index.html#Exchanges">Exchanges</a>}
 <a href="../../machine/Laws/index.html#use">use</a> Rattle.wasmi_core.specs.MemoryEffects.{<a href="../../machine/MemoryEffects/index.html#spare_after">spare_after</a>}
-<a href="../../machine/Laws/index.html#use">use</a> Rattle.wasmi_core.specs.Determinism.{<a href="../../machine/Determinism/index.html#IsDeterministic">IsDeterministic</a>, <a href="../../machine/Determinism/index.html#AcceptsNotices">AcceptsNotices</a>, <a href="../../machine/Determinism/index.html#IsOtherFailure">IsOtherFailure</a>, <a href="../../machine/Determinism/index.html#never_out_of_memory">never_out_of_memory</a>, <a href="../../machine/Determinism/index.html#IsNotOutOfMemory">IsNotOutOfMemory</a>, <a href="../../machine/Determinism/index.html#AreNotOutOfMemory">AreNotOutOfMemory</a>}
+<a href="../../machine/Laws/index.html#use">use</a> Rattle.wasmi_core.specs.Determinism.{<a href="../../machine/Determinism/index.html#IsDeterministic">IsDeterministic</a>, <a href="../../machine/Determinism/index.html#AcceptsNotices">AcceptsNotices</a>, <a href="../../machine/Determinism/index.html#IsOtherFailure">IsOtherFailure</a>, <a href="../../machine/Determinism/index.html#never_out_of_memory">never_out_of_memory</a>, <a href="../../machine/Determinism/index.html#IsNotOutOfMemory">IsNotOutOfMemory</a>, <a href="../../machine/Determinism/index.html#AreNotOutOfMemory">AreNotOutOfMemory</a>, <a href="../../machine/Determinism/index.html#permitting">permitting</a>, <a href="../../machine/Determinism/index.html#TellsNoDenial">TellsNoDenial</a>}
 <a href="../../machine/Laws/index.html#use">use</a> Rattle.wasmi_core.specs.LentMemory.{<a href="../../machine/LentMemory/index.html#owned_world">owned_world</a>, <a href="../../machine/LentMemory/index.html#unlent_world">unlent_world</a>, <a href="../../machine/LentMemory/index.html#RunInRegions">RunInRegions</a>}
-<a href="../../machine/Laws/index.html#use">use</a> Rattle.wasmi_core.specs.Writing.{<a href="../../machine/Writing/index.html#IsBounded">IsBounded</a>, <a href="../../machine/Writing/index.html#IsSpent">IsSpent</a>}
-<a href="../../machine/Laws/index.html#use">use</a> Rattle.wasmi_core.specs.Permission.{<a href="../../machine/Permission/index.html#permitting">permitting</a>, <a href="../../machine/Permission/index.html#TellsNoDenial">TellsNoDenial</a>}
-<a href="../../machine/Laws/index.html#use">use</a> Rattle.wasmi_core.specs.Validity.{<a href="../../machine/Validity/index.html#IsValid">IsValid</a>, <a href="../../machine/Validity/index.html#IsValidCall">IsValidCall</a>}
-<a href="../../machine/Laws/index.html#use">use</a> Rattle.wasmi_core.specs.Totals.{<a href="../../machine/Totals/index.html#HoldsTotals">HoldsTotals</a>}
 
 -- all but the meter and the spare region is the same
 pub record <b id="SameContents">SameContents</b> (s s&#x27; : <a href="../../machine/State/index.html#State">State</a>) : Type 0 where
@@ -4191,7 +4001,7 @@ abbrev pub <b id="KeepsSpare">KeepsSpare</b> : Call → Reply → <a href="../..
 
 -- a growth fails after its charge: it was permitted and charged, and then memory was refused, of which the limiter was
 -- notified; the meter has its price less
-pub record <b id="FailsAfterCharge">FailsAfterCharge</b> {S : Type 0} (rules : <a href="../../meter/Limiter/index.html#Rules">Rules</a> S) (w : <a href="../../machine/World/index.html#World">World</a> S) (turn : <a href="../../machine/World/index.html#Turn">Turn</a>) (w&#x27; : <a href="../../machine/World/index.html#World">World</a> S) : Type 0 where
+pub record <b id="FailsAfterCharge">FailsAfterCharge</b> {S : Type 0} (rules : <a href="../../meter/Limiter/index.html#Rules">Rules</a> S) (w : <a href="../../machine/State/index.html#World">World</a> S) (turn : <a href="../../machine/State/index.html#Turn">Turn</a>) (w&#x27; : <a href="../../machine/State/index.html#World">World</a> S) : Type 0 where
   pub <b id="index">index</b> : ℕ
   pub <b id="grows">grows</b> : <a href="../../machine/Exchange/index.html#place_of">place_of</a> turn.call ≡ <a href="../../machine/Exchange/index.html#At">At</a> <a href="../../machine/Laws/index.html#index">index</a>
   pub <b id="question">question</b> : <a href="../../meter/Limiter/index.html#Question">Question</a>
@@ -4204,11 +4014,11 @@ pub record <b id="FailsAfterCharge">FailsAfterCharge</b> {S : Type 0} (rules : <
   pub <b id="meter">meter</b> : <a href="../../machine/Account/index.html#PaysCharge">PaysCharge</a> w.state.<a href="../../machine/Laws/index.html#meter">meter</a> (<a href="../../machine/Exchange/index.html#growth_due">growth_due</a> w.state.<a href="../../machine/Laws/index.html#meter">meter</a> <a href="../../machine/Laws/index.html#question">question</a>) w&#x27;.state.meter
 
 -- the meter stays, unless a growth fails after its charge
-abbrev pub <b id="KeepsMeter">KeepsMeter</b> : {S : Type 0} → <a href="../../meter/Limiter/index.html#Rules">Rules</a> S → <a href="../../machine/World/index.html#World">World</a> S → <a href="../../machine/World/index.html#Turn">Turn</a> → <a href="../../machine/World/index.html#World">World</a> S → Type 0
+abbrev pub <b id="KeepsMeter">KeepsMeter</b> : {S : Type 0} → <a href="../../meter/Limiter/index.html#Rules">Rules</a> S → <a href="../../machine/State/index.html#World">World</a> S → <a href="../../machine/State/index.html#Turn">Turn</a> → <a href="../../machine/State/index.html#World">World</a> S → Type 0
 <a href="../../machine/Laws/index.html#KeepsMeter">KeepsMeter</a> rules w turn w&#x27; = (w&#x27;.state.meter ≡ w.state.<a href="../../machine/Laws/index.html#meter">meter</a>) ⊎ <a href="../../machine/Laws/index.html#FailsAfterCharge">FailsAfterCharge</a> rules w turn w&#x27;
 
 -- what a refused turn keeps
-pub record <b id="Keeps">Keeps</b> {S : Type 0} (rules : <a href="../../meter/Limiter/index.html#Rules">Rules</a> S) (w : <a href="../../machine/World/index.html#World">World</a> S) (turn : <a href="../../machine/World/index.html#Turn">Turn</a>) (w&#x27; : <a href="../../machine/World/index.html#World">World</a> S) : Type 0 where
+pub record <b id="Keeps">Keeps</b> {S : Type 0} (rules : <a href="../../meter/Limiter/index.html#Rules">Rules</a> S) (w : <a href="../../machine/State/index.html#World">World</a> S) (turn : <a href="../../machine/State/index.html#Turn">Turn</a>) (w&#x27; : <a href="../../machine/State/index.html#World">World</a> S) : Type 0 where
   pub <b id="contents">contents</b> : <a href="../../machine/Laws/index.html#SameContents">SameContents</a> w.state w&#x27;.state
   pub <b id="spare">spare</b> : <a href="../../machine/Laws/index.html#KeepsSpare">KeepsSpare</a> turn.call turn.reply w.state w&#x27;.state
   pub <b id="meter">meter</b> : <a href="../../machine/Laws/index.html#KeepsMeter">KeepsMeter</a> rules w turn w&#x27;
@@ -4218,92 +4028,92 @@ module _ {S : Type 0} (rules : <a href="../../meter/Limiter/index.html#Rules">Ru
   -- the spare region, unless a memory was to be made in it
   abbrev pub <b id="RefusalsKeepContents">RefusalsKeepContents</b> : Type 0
   <a href="../../machine/Laws/index.html#RefusalsKeepContents">RefusalsKeepContents</a> =
-      (w : <a href="../../machine/World/index.html#World">World</a> S) (turn : <a href="../../machine/World/index.html#Turn">Turn</a>) (w&#x27; : <a href="../../machine/World/index.html#World">World</a> S) → <a href="../../machine/Steps/index.html#Step">Step</a> rules w turn w&#x27; → <a href="../../machine/World/index.html#IsRefusal">IsRefusal</a> turn.reply → <a href="../../machine/Laws/index.html#Keeps">Keeps</a> rules w turn w&#x27;
+      (w : <a href="../../machine/State/index.html#World">World</a> S) (turn : <a href="../../machine/State/index.html#Turn">Turn</a>) (w&#x27; : <a href="../../machine/State/index.html#World">World</a> S) → <a href="../../machine/Steps/index.html#Step">Step</a> rules w turn w&#x27; → <a href="../../machine/State/index.html#IsRefusal">IsRefusal</a> turn.reply → <a href="../../machine/Laws/index.html#Keeps">Keeps</a> rules w turn w&#x27;
 
   -- in a run each turn that is refused keeps what a refused turn keeps (`Keeps`)
   abbrev pub <b id="RefusalsInRunsKeepContents">RefusalsInRunsKeepContents</b> : Type 0
-  <a href="../../machine/Laws/index.html#RefusalsInRunsKeepContents">RefusalsInRunsKeepContents</a> = (w : <a href="../../machine/World/index.html#World">World</a> S) (turns : List <a href="../../machine/World/index.html#Turn">Turn</a>) (w&#x27; : <a href="../../machine/World/index.html#World">World</a> S) → <a href="../../machine/Runs/index.html#Run">Run</a> rules w turns w&#x27;
-      → <a href="../../machine/Runs/index.html#Sequence">Sequence</a> (λ v turn v&#x27;. <a href="../../machine/Steps/index.html#Step">Step</a> rules v turn v&#x27; × (<a href="../../machine/World/index.html#IsRefusal">IsRefusal</a> turn.reply → <a href="../../machine/Laws/index.html#Keeps">Keeps</a> rules v turn v&#x27;)) w turns w&#x27;
+  <a href="../../machine/Laws/index.html#RefusalsInRunsKeepContents">RefusalsInRunsKeepContents</a> = (w : <a href="../../machine/State/index.html#World">World</a> S) (turns : List <a href="../../machine/State/index.html#Turn">Turn</a>) (w&#x27; : <a href="../../machine/State/index.html#World">World</a> S) → <a href="../../machine/Steps/index.html#Run">Run</a> rules w turns w&#x27;
+      → <a href="../../machine/Steps/index.html#Sequence">Sequence</a> (λ v turn v&#x27;. <a href="../../machine/Steps/index.html#Step">Step</a> rules v turn v&#x27; × (<a href="../../machine/State/index.html#IsRefusal">IsRefusal</a> turn.reply → <a href="../../machine/Laws/index.html#Keeps">Keeps</a> rules v turn v&#x27;)) w turns w&#x27;
 
   -- a run in which each turn is refused keeps the contents
   abbrev pub <b id="RefusedRunsKeepContents">RefusedRunsKeepContents</b> : Type 0
   <a href="../../machine/Laws/index.html#RefusedRunsKeepContents">RefusedRunsKeepContents</a> =
-      (w : <a href="../../machine/World/index.html#World">World</a> S) (turns : List <a href="../../machine/World/index.html#Turn">Turn</a>) (w&#x27; : <a href="../../machine/World/index.html#World">World</a> S) → <a href="../../machine/Runs/index.html#Run">Run</a> rules w turns w&#x27; → All <a href="../../machine/World/index.html#IsRefusal">IsRefusal</a> (map Turn.reply turns)
+      (w : <a href="../../machine/State/index.html#World">World</a> S) (turns : List <a href="../../machine/State/index.html#Turn">Turn</a>) (w&#x27; : <a href="../../machine/State/index.html#World">World</a> S) → <a href="../../machine/Steps/index.html#Run">Run</a> rules w turns w&#x27; → All <a href="../../machine/State/index.html#IsRefusal">IsRefusal</a> (map Turn.reply turns)
       → <a href="../../machine/Laws/index.html#SameContents">SameContents</a> w.state w&#x27;.state
 
   -- in each turn the limiter is asked what the call asks, or nothing if it asks nothing; a permission is followed by
   -- exactly the growth that was asked for, or by just one notice, and a denial by neither; a growth is charged only
   -- after a permission, and then its price; what is charged is taken from the meter
   abbrev pub <b id="GrowsAsPermitted">GrowsAsPermitted</b> : Type 0
-  <a href="../../machine/Laws/index.html#GrowsAsPermitted">GrowsAsPermitted</a> = (w : <a href="../../machine/World/index.html#World">World</a> S) (turn : <a href="../../machine/World/index.html#Turn">Turn</a>) (w&#x27; : <a href="../../machine/World/index.html#World">World</a> S) → <a href="../../machine/Steps/index.html#Step">Step</a> rules w turn w&#x27; → <a href="../../machine/Exchange/index.html#Exchanges">Exchanges</a> rules w turn w&#x27;
+  <a href="../../machine/Laws/index.html#GrowsAsPermitted">GrowsAsPermitted</a> = (w : <a href="../../machine/State/index.html#World">World</a> S) (turn : <a href="../../machine/State/index.html#Turn">Turn</a>) (w&#x27; : <a href="../../machine/State/index.html#World">World</a> S) → <a href="../../machine/Steps/index.html#Step">Step</a> rules w turn w&#x27; → <a href="../../machine/Exchange/index.html#Exchanges">Exchanges</a> rules w turn w&#x27;
 
   -- in a run each turn asks, grows and is charged as a step does (`Exchanges`)
   abbrev pub <b id="RunsGrowAsPermitted">RunsGrowAsPermitted</b> : Type 0
   <a href="../../machine/Laws/index.html#RunsGrowAsPermitted">RunsGrowAsPermitted</a> =
-      (w : <a href="../../machine/World/index.html#World">World</a> S) (turns : List <a href="../../machine/World/index.html#Turn">Turn</a>) (w&#x27; : <a href="../../machine/World/index.html#World">World</a> S) → <a href="../../machine/Runs/index.html#Run">Run</a> rules w turns w&#x27;
-      → <a href="../../machine/Runs/index.html#Sequence">Sequence</a> (λ v turn v&#x27;. <a href="../../machine/Steps/index.html#Step">Step</a> rules v turn v&#x27; × <a href="../../machine/Exchange/index.html#Exchanges">Exchanges</a> rules v turn v&#x27;) w turns w&#x27;
+      (w : <a href="../../machine/State/index.html#World">World</a> S) (turns : List <a href="../../machine/State/index.html#Turn">Turn</a>) (w&#x27; : <a href="../../machine/State/index.html#World">World</a> S) → <a href="../../machine/Steps/index.html#Run">Run</a> rules w turns w&#x27;
+      → <a href="../../machine/Steps/index.html#Sequence">Sequence</a> (λ v turn v&#x27;. <a href="../../machine/Steps/index.html#Step">Step</a> rules v turn v&#x27; × <a href="../../machine/Exchange/index.html#Exchanges">Exchanges</a> rules v turn v&#x27;) w turns w&#x27;
 
   -- a run in which no reply reports a denial is one in which each question was permitted
   abbrev pub <b id="RepliesPermit">RepliesPermit</b> : Type 0
   <a href="../../machine/Laws/index.html#RepliesPermit">RepliesPermit</a> =
-      (w : <a href="../../machine/World/index.html#World">World</a> S) (turns : List <a href="../../machine/World/index.html#Turn">Turn</a>) (w&#x27; : <a href="../../machine/World/index.html#World">World</a> S) → All <a href="../../machine/Permission/index.html#TellsNoDenial">TellsNoDenial</a> (map Turn.reply turns) → <a href="../../machine/Runs/index.html#Run">Run</a> rules w turns w&#x27;
-      → <a href="../../machine/Runs/index.html#Run">Run</a> (<a href="../../machine/Permission/index.html#permitting">permitting</a> rules) w turns w&#x27;
+      (w : <a href="../../machine/State/index.html#World">World</a> S) (turns : List <a href="../../machine/State/index.html#Turn">Turn</a>) (w&#x27; : <a href="../../machine/State/index.html#World">World</a> S) → All <a href="../../machine/Determinism/index.html#TellsNoDenial">TellsNoDenial</a> (map Turn.reply turns) → <a href="../../machine/Steps/index.html#Run">Run</a> rules w turns w&#x27;
+      → <a href="../../machine/Steps/index.html#Run">Run</a> (<a href="../../machine/Determinism/index.html#permitting">permitting</a> rules) w turns w&#x27;
 
   -- a run of calls whose types are valid leads from a valid state to a valid one
   abbrev pub <b id="RunsKeepValidity">RunsKeepValidity</b> : Type 0
   <a href="../../machine/Laws/index.html#RunsKeepValidity">RunsKeepValidity</a> =
-      (w : <a href="../../machine/World/index.html#World">World</a> S) (turns : List <a href="../../machine/World/index.html#Turn">Turn</a>) (w&#x27; : <a href="../../machine/World/index.html#World">World</a> S) → <a href="../../machine/Validity/index.html#IsValid">IsValid</a> w.state → All <a href="../../machine/Validity/index.html#IsValidCall">IsValidCall</a> (map Turn.call turns)
-      → <a href="../../machine/Runs/index.html#Run">Run</a> rules w turns w&#x27; → <a href="../../machine/Validity/index.html#IsValid">IsValid</a> w&#x27;.state
+      (w : <a href="../../machine/State/index.html#World">World</a> S) (turns : List <a href="../../machine/State/index.html#Turn">Turn</a>) (w&#x27; : <a href="../../machine/State/index.html#World">World</a> S) → <a href="../../machine/State/index.html#IsValid">IsValid</a> w.state → All <a href="../../machine/State/index.html#IsValidCall">IsValidCall</a> (map Turn.call turns)
+      → <a href="../../machine/Steps/index.html#Run">Run</a> rules w turns w&#x27; → <a href="../../machine/State/index.html#IsValid">IsValid</a> w&#x27;.state
 
   -- while metering is on, what is left and the charges since the fuel was set last, or since the start, are what was
   -- set then, or left at the start
   abbrev pub <b id="FuelBalances">FuelBalances</b> : Type 0
-  <a href="../../machine/Laws/index.html#FuelBalances">FuelBalances</a> = (w : <a href="../../machine/World/index.html#World">World</a> S) (left : ℕ) → w.state.meter.left ≡ Some left
-      → (turns : List <a href="../../machine/World/index.html#Turn">Turn</a>) (w&#x27; : <a href="../../machine/World/index.html#World">World</a> S) → <a href="../../machine/Runs/index.html#Run">Run</a> rules w turns w&#x27;
+  <a href="../../machine/Laws/index.html#FuelBalances">FuelBalances</a> = (w : <a href="../../machine/State/index.html#World">World</a> S) (left : ℕ) → w.state.meter.left ≡ Some left
+      → (turns : List <a href="../../machine/State/index.html#Turn">Turn</a>) (w&#x27; : <a href="../../machine/State/index.html#World">World</a> S) → <a href="../../machine/Steps/index.html#Run">Run</a> rules w turns w&#x27;
       → <a href="../../machine/Account/index.html#Balances">Balances</a> (<a href="../../machine/Account/index.html#account_after">account_after</a> (<a href="../../machine/Account/index.html#opened">opened</a> left) turns) w&#x27;.state.meter
 
   -- while metering is on at a rate above 0, the bytes that a run writes by growing and copying are bounded by the fuel
   -- that is charged for them, and so by all the fuel that there was
   abbrev pub <b id="FuelBoundsWriting">FuelBoundsWriting</b> : Type 0
   <a href="../../machine/Laws/index.html#FuelBoundsWriting">FuelBoundsWriting</a> =
-      (w : <a href="../../machine/World/index.html#World">World</a> S) (left : ℕ) → w.state.meter.left ≡ Some left → 0 &lt; w.state.meter.costs.bytes_copied_per_fuel
-      → (turns : List <a href="../../machine/World/index.html#Turn">Turn</a>) (w&#x27; : <a href="../../machine/World/index.html#World">World</a> S) → <a href="../../machine/Runs/index.html#Run">Run</a> rules w turns w&#x27;
-      → <a href="../../machine/Writing/index.html#IsBounded">IsBounded</a> w.state.meter.costs.bytes_copied_per_fuel left turns
+      (w : <a href="../../machine/State/index.html#World">World</a> S) (left : ℕ) → w.state.meter.left ≡ Some left → 0 &lt; w.state.meter.costs.bytes_copied_per_fuel
+      → (turns : List <a href="../../machine/State/index.html#Turn">Turn</a>) (w&#x27; : <a href="../../machine/State/index.html#World">World</a> S) → <a href="../../machine/Steps/index.html#Run">Run</a> rules w turns w&#x27;
+      → <a href="../../machine/Account/index.html#IsBounded">IsBounded</a> w.state.meter.costs.bytes_copied_per_fuel left turns
 
   -- while metering is on, what calls that don&#x27;t set the fuel were charged is what was left before and isn&#x27;t left after,
   -- and it bounds what they have written
   abbrev pub <b id="ChargesAreSpent">ChargesAreSpent</b> : Type 0
   <a href="../../machine/Laws/index.html#ChargesAreSpent">ChargesAreSpent</a> =
-      (w : <a href="../../machine/World/index.html#World">World</a> S) (left : ℕ) → w.state.meter.left ≡ Some left → (turns : List <a href="../../machine/World/index.html#Turn">Turn</a>) (w&#x27; : <a href="../../machine/World/index.html#World">World</a> S)
-      → <a href="../../machine/Runs/index.html#Run">Run</a> rules w turns w&#x27; → All <a href="../../machine/Account/index.html#SetsNoFuel">SetsNoFuel</a> (map Turn.call turns)
+      (w : <a href="../../machine/State/index.html#World">World</a> S) (left : ℕ) → w.state.meter.left ≡ Some left → (turns : List <a href="../../machine/State/index.html#Turn">Turn</a>) (w&#x27; : <a href="../../machine/State/index.html#World">World</a> S)
+      → <a href="../../machine/Steps/index.html#Run">Run</a> rules w turns w&#x27; → All <a href="../../machine/Account/index.html#SetsNoFuel">SetsNoFuel</a> (map Turn.call turns)
       → (left&#x27; : ℕ) × (w&#x27;.state.meter.left ≡ Some left&#x27;)
-      × <a href="../../machine/Writing/index.html#IsSpent">IsSpent</a> w.state.meter.costs.bytes_copied_per_fuel left left&#x27; turns
+      × <a href="../../machine/Account/index.html#IsSpent">IsSpent</a> w.state.meter.costs.bytes_copied_per_fuel left left&#x27; turns
 
   -- turns of a run, and those of a run from where it ends, are one run
   abbrev pub <b id="RunsJoin">RunsJoin</b> : Type 0
-  <a href="../../machine/Laws/index.html#RunsJoin">RunsJoin</a> = (u : <a href="../../machine/World/index.html#World">World</a> S) (turns : List <a href="../../machine/World/index.html#Turn">Turn</a>) (v : <a href="../../machine/World/index.html#World">World</a> S) (turns&#x27; : List <a href="../../machine/World/index.html#Turn">Turn</a>) (w : <a href="../../machine/World/index.html#World">World</a> S) → <a href="../../machine/Runs/index.html#Run">Run</a> rules u turns v
-      → <a href="../../machine/Runs/index.html#Run">Run</a> rules v turns&#x27; w → <a href="../../machine/Runs/index.html#Run">Run</a> rules u (turns ++ turns&#x27;) w
+  <a href="../../machine/Laws/index.html#RunsJoin">RunsJoin</a> = (u : <a href="../../machine/State/index.html#World">World</a> S) (turns : List <a href="../../machine/State/index.html#Turn">Turn</a>) (v : <a href="../../machine/State/index.html#World">World</a> S) (turns&#x27; : List <a href="../../machine/State/index.html#Turn">Turn</a>) (w : <a href="../../machine/State/index.html#World">World</a> S) → <a href="../../machine/Steps/index.html#Run">Run</a> rules u turns v
+      → <a href="../../machine/Steps/index.html#Run">Run</a> rules v turns&#x27; w → <a href="../../machine/Steps/index.html#Run">Run</a> rules u (turns ++ turns&#x27;) w
 
   -- a run of calls, and a run of calls from where it ends, are a run of all these calls, with the replies in turn
   abbrev pub <b id="RunsOfCallsJoin">RunsOfCallsJoin</b> : Type 0
   <a href="../../machine/Laws/index.html#RunsOfCallsJoin">RunsOfCallsJoin</a> =
-      (calls calls&#x27; : List Call) (u v w : <a href="../../machine/World/index.html#World">World</a> S) (<a href="../../machine/Laws/index.html#replies">replies</a> replies&#x27; : List Reply) → <a href="../../machine/Runs/index.html#IsRunOf">IsRunOf</a> rules calls u <a href="../../machine/Laws/index.html#replies">replies</a> v
-      → <a href="../../machine/Runs/index.html#IsRunOf">IsRunOf</a> rules calls&#x27; v replies&#x27; w
-      → <a href="../../machine/Runs/index.html#IsRunOf">IsRunOf</a> rules (calls ++ calls&#x27;) u (<a href="../../machine/Laws/index.html#replies">replies</a> ++ replies&#x27;) w
+      (calls calls&#x27; : List Call) (u v w : <a href="../../machine/State/index.html#World">World</a> S) (<a href="../../machine/Laws/index.html#replies">replies</a> replies&#x27; : List Reply) → <a href="../../machine/Steps/index.html#IsRunOf">IsRunOf</a> rules calls u <a href="../../machine/Laws/index.html#replies">replies</a> v
+      → <a href="../../machine/Steps/index.html#IsRunOf">IsRunOf</a> rules calls&#x27; v replies&#x27; w
+      → <a href="../../machine/Steps/index.html#IsRunOf">IsRunOf</a> rules (calls ++ calls&#x27;) u (<a href="../../machine/Laws/index.html#replies">replies</a> ++ replies&#x27;) w
 
 module _ {S : Type 0} (rules : <a href="../../meter/Limiter/index.html#Rules">Rules</a> S) where
   -- a run that makes no memory in a region and grows none past its own is a run of the same machine with memories of
   -- their own
   abbrev pub <b id="LentRunsAreOwned">LentRunsAreOwned</b> : Type 0
   <a href="../../machine/Laws/index.html#LentRunsAreOwned">LentRunsAreOwned</a> =
-      (w : <a href="../../machine/World/index.html#World">World</a> S) (turns : List <a href="../../machine/World/index.html#Turn">Turn</a>) (w&#x27; : <a href="../../machine/World/index.html#World">World</a> S) → <a href="../../machine/LentMemory/index.html#RunInRegions">RunInRegions</a> rules w turns w&#x27;
-      → <a href="../../machine/Runs/index.html#Run">Run</a> rules (<a href="../../machine/LentMemory/index.html#owned_world">owned_world</a> w) turns (<a href="../../machine/LentMemory/index.html#owned_world">owned_world</a> w&#x27;)
+      (w : <a href="../../machine/State/index.html#World">World</a> S) (turns : List <a href="../../machine/State/index.html#Turn">Turn</a>) (w&#x27; : <a href="../../machine/State/index.html#World">World</a> S) → <a href="../../machine/LentMemory/index.html#RunInRegions">RunInRegions</a> rules w turns w&#x27;
+      → <a href="../../machine/Steps/index.html#Run">Run</a> rules (<a href="../../machine/LentMemory/index.html#owned_world">owned_world</a> w) turns (<a href="../../machine/LentMemory/index.html#owned_world">owned_world</a> w&#x27;)
 
   -- a creation in a spare region of at least the minimum is a creation of a memory of its own
   abbrev pub <b id="LentCreationsAreOwned">LentCreationsAreOwned</b> : Type 0
   <a href="../../machine/Laws/index.html#LentCreationsAreOwned">LentCreationsAreOwned</a> =
-      (w : <a href="../../machine/World/index.html#World">World</a> S) (turn : <a href="../../machine/World/index.html#Turn">Turn</a>) (w&#x27; : <a href="../../machine/World/index.html#World">World</a> S) (ty : <a href="../../store/MemoryType/index.html#MemoryTypeValue">MemoryTypeValue</a>) (region : List ℕ) → turn.call ≡ NewLentMemory ty
-      → w.state.<a href="../../machine/Laws/index.html#spare">spare</a> ≡ Some region → <a href="../../store/MemoryType/index.html#minimum_bytes">minimum_bytes</a> ty ≤ length region
+      (w : <a href="../../machine/State/index.html#World">World</a> S) (turn : <a href="../../machine/State/index.html#Turn">Turn</a>) (w&#x27; : <a href="../../machine/State/index.html#World">World</a> S) (ty : <a href="../../store/Memory/index.html#MemoryTypeValue">MemoryTypeValue</a>) (region : List ℕ) → turn.call ≡ NewLentMemory ty
+      → w.state.<a href="../../machine/Laws/index.html#spare">spare</a> ≡ Some region → <a href="../../store/Memory/index.html#minimum_bytes">minimum_bytes</a> ty ≤ length region
       → <a href="../../machine/Steps/index.html#Step">Step</a> rules w turn w&#x27; → <a href="../../machine/Steps/index.html#Step">Step</a> rules (<a href="../../machine/LentMemory/index.html#unlent_world">unlent_world</a> w) (record turn { call = NewMemory ty }) (<a href="../../machine/LentMemory/index.html#unlent_world">unlent_world</a> w&#x27;)
 
   -- a growth of a lent memory that its type and its region have place for, and that can be paid, is refused by the
@@ -4311,8 +4121,8 @@ module _ {S : Type 0} (rules : <a href="../../meter/Limiter/index.html#Rules">Ru
   abbrev pub <b id="LentGrowthsSucceed">LentGrowthsSucceed</b> : Type 0
   <a href="../../machine/Laws/index.html#LentGrowthsSucceed">LentGrowthsSucceed</a> =
       (pages : ℕ) (s : <a href="../../meter/Attempt/index.html#MeteredValue">MeteredValue</a> <a href="../../store/Memory/index.html#MemoryValue">MemoryValue</a> S) (rest : List ℕ) → s.value.room ≡ <a href="../../store/Buffer/index.html#Lent">Lent</a> rest
-      → <a href="../../store/MemoryType/index.html#in_bounds">in_bounds</a> s.value.ty (<a href="../../store/Memory/index.html#pages_of">pages_of</a> s.value + pages) ≡ true
-      → <a href="../../store/Buffer/index.html#fits_room">fits_room</a> s.value.room (pages * <a href="../../store/MemoryType/index.html#page_bytes">page_bytes</a> s.value.ty.page) ≡ true
+      → <a href="../../store/Memory/index.html#in_bounds">in_bounds</a> s.value.ty (<a href="../../store/Memory/index.html#pages_of">pages_of</a> s.value + pages) ≡ true
+      → <a href="../../store/Buffer/index.html#fits_room">fits_room</a> s.value.room (pages * <a href="../../store/Memory/index.html#page_bytes">page_bytes</a> s.value.ty.page) ≡ true
       → <a href="../../meter/Attempt/index.html#covers">covers</a> s.meter (<a href="../../meter/Attempt/index.html#optional_due">optional_due</a> s.meter (<a href="../../store/Memory/index.html#growth_of">growth_of</a> s.value pages).price) ≡ true
       → (result : Result ℕ MemoryError) (s&#x27; : <a href="../../meter/Attempt/index.html#MeteredValue">MeteredValue</a> <a href="../../store/Memory/index.html#MemoryValue">MemoryValue</a> S) → <a href="../../store/Memory/index.html#GrowsMemory">GrowsMemory</a> rules pages s result s&#x27;
       → (result ≡ Ok (<a href="../../store/Memory/index.html#pages_of">pages_of</a> s.value))
@@ -4323,40 +4133,40 @@ module _ {S : Type 0} (rules : <a href="../../meter/Limiter/index.html#Rules">Ru
 -- says out of memory, are one
 abbrev pub <b id="RunsAreOne">RunsAreOne</b> : {L : Type 0} → <a href="../../meter/Limiter/index.html#Rules">Rules</a> L → Type 0
 <a href="../../machine/Laws/index.html#RunsAreOne">RunsAreOne</a> {L} rules =
-    <a href="../../machine/Determinism/index.html#IsDeterministic">IsDeterministic</a> rules → (w : <a href="../../machine/World/index.html#World">World</a> (Option L)) (turns turns&#x27; : List <a href="../../machine/World/index.html#Turn">Turn</a>) (v v&#x27; : <a href="../../machine/World/index.html#World">World</a> (Option L))
+    <a href="../../machine/Determinism/index.html#IsDeterministic">IsDeterministic</a> rules → (w : <a href="../../machine/State/index.html#World">World</a> (Option L)) (turns turns&#x27; : List <a href="../../machine/State/index.html#Turn">Turn</a>) (v v&#x27; : <a href="../../machine/State/index.html#World">World</a> (Option L))
     → map Turn.call turns ≡ map Turn.call turns&#x27;
-    → <a href="../../machine/Determinism/index.html#AreNotOutOfMemory">AreNotOutOfMemory</a> turns → <a href="../../machine/Determinism/index.html#AreNotOutOfMemory">AreNotOutOfMemory</a> turns&#x27; → <a href="../../machine/Runs/index.html#Run">Run</a> (<a href="../../machine/Determinism/index.html#never_out_of_memory">never_out_of_memory</a> (<a href="../../meter/Limiter/index.html#optional_rules">optional_rules</a> rules)) w turns v
-    → <a href="../../machine/Runs/index.html#Run">Run</a> (<a href="../../machine/Determinism/index.html#never_out_of_memory">never_out_of_memory</a> (<a href="../../meter/Limiter/index.html#optional_rules">optional_rules</a> rules)) w turns&#x27; v&#x27; → (turns ≡ turns&#x27;) × (v ≡ v&#x27;)
+    → <a href="../../machine/Determinism/index.html#AreNotOutOfMemory">AreNotOutOfMemory</a> turns → <a href="../../machine/Determinism/index.html#AreNotOutOfMemory">AreNotOutOfMemory</a> turns&#x27; → <a href="../../machine/Steps/index.html#Run">Run</a> (<a href="../../machine/Determinism/index.html#never_out_of_memory">never_out_of_memory</a> (<a href="../../meter/Limiter/index.html#optional_rules">optional_rules</a> rules)) w turns v
+    → <a href="../../machine/Steps/index.html#Run">Run</a> (<a href="../../machine/Determinism/index.html#never_out_of_memory">never_out_of_memory</a> (<a href="../../meter/Limiter/index.html#optional_rules">optional_rules</a> rules)) w turns&#x27; v&#x27; → (turns ≡ turns&#x27;) × (v ≡ v&#x27;)
 
 -- if the limiter accepts each notice, a run in which no reply says out of memory is one in which no notice does
 abbrev pub <b id="RepliesTell">RepliesTell</b> : {L : Type 0} → <a href="../../meter/Limiter/index.html#Rules">Rules</a> L → Type 0
 <a href="../../machine/Laws/index.html#RepliesTell">RepliesTell</a> {L} rules =
-    <a href="../../machine/Determinism/index.html#AcceptsNotices">AcceptsNotices</a> rules → (w : <a href="../../machine/World/index.html#World">World</a> (Option L)) (turns : List <a href="../../machine/World/index.html#Turn">Turn</a>) (w&#x27; : <a href="../../machine/World/index.html#World">World</a> (Option L)) → <a href="../../machine/Determinism/index.html#AreNotOutOfMemory">AreNotOutOfMemory</a> turns
-    → <a href="../../machine/Runs/index.html#Run">Run</a> (<a href="../../meter/Limiter/index.html#optional_rules">optional_rules</a> rules) w turns w&#x27; → <a href="../../machine/Runs/index.html#Run">Run</a> (<a href="../../machine/Determinism/index.html#never_out_of_memory">never_out_of_memory</a> (<a href="../../meter/Limiter/index.html#optional_rules">optional_rules</a> rules)) w turns w&#x27;
+    <a href="../../machine/Determinism/index.html#AcceptsNotices">AcceptsNotices</a> rules → (w : <a href="../../machine/State/index.html#World">World</a> (Option L)) (turns : List <a href="../../machine/State/index.html#Turn">Turn</a>) (w&#x27; : <a href="../../machine/State/index.html#World">World</a> (Option L)) → <a href="../../machine/Determinism/index.html#AreNotOutOfMemory">AreNotOutOfMemory</a> turns
+    → <a href="../../machine/Steps/index.html#Run">Run</a> (<a href="../../meter/Limiter/index.html#optional_rules">optional_rules</a> rules) w turns w&#x27; → <a href="../../machine/Steps/index.html#Run">Run</a> (<a href="../../machine/Determinism/index.html#never_out_of_memory">never_out_of_memory</a> (<a href="../../meter/Limiter/index.html#optional_rules">optional_rules</a> rules)) w turns w&#x27;
 
 -- if the limiter is deterministic and accepts each notice, two runs of one list of calls from one world, in which no
 -- reply says out of memory, have the same replies and end in one world
 abbrev pub <b id="RepliesAreOne">RepliesAreOne</b> : {L : Type 0} → <a href="../../meter/Limiter/index.html#Rules">Rules</a> L → Type 0
 <a href="../../machine/Laws/index.html#RepliesAreOne">RepliesAreOne</a> {L} rules =
     <a href="../../machine/Determinism/index.html#IsDeterministic">IsDeterministic</a> rules → <a href="../../machine/Determinism/index.html#AcceptsNotices">AcceptsNotices</a> rules
-    → (calls : List Call) (w : <a href="../../machine/World/index.html#World">World</a> (Option L)) (<a href="../../machine/Laws/index.html#replies">replies</a> replies&#x27; : List Reply) (v v&#x27; : <a href="../../machine/World/index.html#World">World</a> (Option L))
+    → (calls : List Call) (w : <a href="../../machine/State/index.html#World">World</a> (Option L)) (<a href="../../machine/Laws/index.html#replies">replies</a> replies&#x27; : List Reply) (v v&#x27; : <a href="../../machine/State/index.html#World">World</a> (Option L))
     → All <a href="../../machine/Determinism/index.html#IsNotOutOfMemory">IsNotOutOfMemory</a> <a href="../../machine/Laws/index.html#replies">replies</a> → All <a href="../../machine/Determinism/index.html#IsNotOutOfMemory">IsNotOutOfMemory</a> replies&#x27;
-    → <a href="../../machine/Runs/index.html#IsRunOf">IsRunOf</a> (<a href="../../meter/Limiter/index.html#optional_rules">optional_rules</a> rules) calls w <a href="../../machine/Laws/index.html#replies">replies</a> v → <a href="../../machine/Runs/index.html#IsRunOf">IsRunOf</a> (<a href="../../meter/Limiter/index.html#optional_rules">optional_rules</a> rules) calls w replies&#x27; v&#x27;
+    → <a href="../../machine/Steps/index.html#IsRunOf">IsRunOf</a> (<a href="../../meter/Limiter/index.html#optional_rules">optional_rules</a> rules) calls w <a href="../../machine/Laws/index.html#replies">replies</a> v → <a href="../../machine/Steps/index.html#IsRunOf">IsRunOf</a> (<a href="../../meter/Limiter/index.html#optional_rules">optional_rules</a> rules) calls w replies&#x27; v&#x27;
     → (<a href="../../machine/Laws/index.html#replies">replies</a> ≡ replies&#x27;) × (v ≡ v&#x27;)
 
 -- a limiter that holds the totals before a run is there after it, and holds the totals then
 abbrev pub <b id="HoldsTotalsAlways">HoldsTotalsAlways</b> : {L : Type 0} → <a href="../../meter/Limiter/index.html#Rules">Rules</a> L → (L → Holdings) → Type 0
-<a href="../../machine/Laws/index.html#HoldsTotalsAlways">HoldsTotalsAlways</a> {L} rules holdings = (s : <a href="../../machine/State/index.html#State">State</a>) (l : L) → <a href="../../machine/Totals/index.html#HoldsTotals">HoldsTotals</a> (holdings l) s
-    → (turns : List <a href="../../machine/World/index.html#Turn">Turn</a>) (w&#x27; : <a href="../../machine/World/index.html#World">World</a> (Option L))
-    → <a href="../../machine/Runs/index.html#Run">Run</a> (<a href="../../meter/Limiter/index.html#optional_rules">optional_rules</a> rules) (<a href="../../machine/World/index.html#world">world</a> s (Some l)) turns w&#x27;
-    → (l&#x27; : L) × (w&#x27;.limiter ≡ Some l&#x27;) × <a href="../../machine/Totals/index.html#HoldsTotals">HoldsTotals</a> (holdings l&#x27;) w&#x27;.state
+<a href="../../machine/Laws/index.html#HoldsTotalsAlways">HoldsTotalsAlways</a> {L} rules holdings = (s : <a href="../../machine/State/index.html#State">State</a>) (l : L) → <a href="../../machine/State/index.html#HoldsTotals">HoldsTotals</a> (holdings l) s
+    → (turns : List <a href="../../machine/State/index.html#Turn">Turn</a>) (w&#x27; : <a href="../../machine/State/index.html#World">World</a> (Option L))
+    → <a href="../../machine/Steps/index.html#Run">Run</a> (<a href="../../meter/Limiter/index.html#optional_rules">optional_rules</a> rules) (<a href="../../machine/State/index.html#world">world</a> s (Some l)) turns w&#x27;
+    → (l&#x27; : L) × (w&#x27;.limiter ≡ Some l&#x27;) × <a href="../../machine/State/index.html#HoldsTotals">HoldsTotals</a> (holdings l&#x27;) w&#x27;.state
 
 -- a quota that holds at most its caps before a run does so after it, and has the same caps
 abbrev pub <b id="QuotasStayWithin">QuotasStayWithin</b> : Type 0
 <a href="../../machine/Laws/index.html#QuotasStayWithin">QuotasStayWithin</a> =
-    (s : <a href="../../machine/State/index.html#State">State</a>) (quota : Quota) → <a href="../../meter/Quota/index.html#IsWithinCaps">IsWithinCaps</a> quota → (turns : List <a href="../../machine/World/index.html#Turn">Turn</a>) (w&#x27; : <a href="../../machine/World/index.html#World">World</a> (Option Quota))
-    → <a href="../../machine/Runs/index.html#Run">Run</a> (<a href="../../meter/Limiter/index.html#optional_rules">optional_rules</a> <a href="../../meter/Quota/index.html#quota_rules">quota_rules</a>) (<a href="../../machine/World/index.html#world">world</a> s (Some quota)) turns w&#x27;
-    → (quota&#x27; : Quota) × (w&#x27;.limiter ≡ Some quota&#x27;) × <a href="../../meter/Quota/index.html#IsWithinCaps">IsWithinCaps</a> quota&#x27; × <a href="../../meter/Quota/index.html#SameCaps">SameCaps</a> quota quota&#x27;
+    (s : <a href="../../machine/State/index.html#State">State</a>) (quota : Quota) → <a href="../../meter/Capped/index.html#IsWithinCaps">IsWithinCaps</a> quota → (turns : List <a href="../../machine/State/index.html#Turn">Turn</a>) (w&#x27; : <a href="../../machine/State/index.html#World">World</a> (Option Quota))
+    → <a href="../../machine/Steps/index.html#Run">Run</a> (<a href="../../meter/Limiter/index.html#optional_rules">optional_rules</a> <a href="../../meter/Capped/index.html#quota_rules">quota_rules</a>) (<a href="../../machine/State/index.html#world">world</a> s (Some quota)) turns w&#x27;
+    → (quota&#x27; : Quota) × (w&#x27;.limiter ≡ Some quota&#x27;) × <a href="../../meter/Capped/index.html#IsWithinCaps">IsWithinCaps</a> quota&#x27; × <a href="../../meter/Capped/index.html#SameCaps">SameCaps</a> quota quota&#x27;
 </code></pre>
 "####]
     pub mod Laws {}
@@ -4365,14 +4175,12 @@ abbrev pub <b id="QuotasStayWithin">QuotasStayWithin</b> : Type 0
 <pre><code>use Rattle.std.specs.Prelude.{◌≡◌, ◌⊎◌, ◌+◌, ◌*◌, ℕ, true, false, List, [], ◌∷◌, map, None}
 use Rattle.wasmi_meter.specs.Limiter.{<a href="../../meter/Limiter/index.html#Rules">Rules</a>}
 use Rattle.wasmi_store.specs.Buffer.{<a href="../../store/Buffer/index.html#Owned">Owned</a>, <a href="../../store/Buffer/index.html#fits_room">fits_room</a>}
-use Rattle.wasmi_store.specs.MemoryType.{<a href="../../store/MemoryType/index.html#page_bytes">page_bytes</a>, <a href="../../store/MemoryType/index.html#in_bounds">in_bounds</a>}
-use Rattle.wasmi_store.specs.Memory.{<a href="../../store/Memory/index.html#MemoryValue">MemoryValue</a>, <a href="../../store/Memory/index.html#pages_of">pages_of</a>}
+use Rattle.wasmi_store.specs.Memory.{<a href="../../store/Memory/index.html#page_bytes">page_bytes</a>, <a href="../../store/Memory/index.html#in_bounds">in_bounds</a>, <a href="../../store/Memory/index.html#MemoryValue">MemoryValue</a>, <a href="../../store/Memory/index.html#pages_of">pages_of</a>}
 use Rattle.wasmi_core.specs.declared.calls.Call.{Call}
 use Rattle.wasmi_core.specs.declared.calls.Call.TheVariants.{NewLentMemory, GrowMemory}
 use Rattle.wasmi_core.specs.declared.slots.Slot.{Slot}
 use Rattle.wasmi_core.specs.declared.slots.Slot.TheVariants.{Live, Gone}
-use Rattle.wasmi_core.specs.State.{<a href="../../machine/State/index.html#State">State</a>, <a href="../../machine/State/index.html#live_at">live_at</a>}
-use Rattle.wasmi_core.specs.World.{<a href="../../machine/World/index.html#World">World</a>, <a href="../../machine/World/index.html#Turn">Turn</a>}
+use Rattle.wasmi_core.specs.State.{<a href="../../machine/State/index.html#State">State</a>, <a href="../../machine/State/index.html#live_at">live_at</a>, <a href="../../machine/State/index.html#World">World</a>, <a href="../../machine/State/index.html#Turn">Turn</a>}
 use Rattle.wasmi_core.specs.Effects.{<a href="../../machine/Effects/index.html#OnLive">OnLive</a>}
 use Rattle.wasmi_core.specs.Steps.{<a href="../../machine/Steps/index.html#Step">Step</a>}
 
@@ -4390,17 +4198,17 @@ abbrev pub <b id="owned">owned</b> : <a href="../../machine/State/index.html#Sta
 <a href="../../machine/LentMemory/index.html#owned">owned</a> s = record s { memories = map <a href="../../machine/LentMemory/index.html#owned_slot">owned_slot</a> s.memories }
 
 -- a world whose memories all grow into memory of their own
-abbrev pub <b id="owned_world">owned_world</b> : {S : Type 0} → <a href="../../machine/World/index.html#World">World</a> S → <a href="../../machine/World/index.html#World">World</a> S
+abbrev pub <b id="owned_world">owned_world</b> : {S : Type 0} → <a href="../../machine/State/index.html#World">World</a> S → <a href="../../machine/State/index.html#World">World</a> S
 <a href="../../machine/LentMemory/index.html#owned_world">owned_world</a> w = record w { state = <a href="../../machine/LentMemory/index.html#owned">owned</a> w.state }
 
 -- a world whose memories all grow into memory of their own, without a spare region
-abbrev pub <b id="unlent_world">unlent_world</b> : {S : Type 0} → <a href="../../machine/World/index.html#World">World</a> S → <a href="../../machine/World/index.html#World">World</a> S
+abbrev pub <b id="unlent_world">unlent_world</b> : {S : Type 0} → <a href="../../machine/State/index.html#World">World</a> S → <a href="../../machine/State/index.html#World">World</a> S
 <a href="../../machine/LentMemory/index.html#unlent_world">unlent_world</a> w = record w { state = record (<a href="../../machine/LentMemory/index.html#owned">owned</a> w.state) { spare = None } }
 
 -- a growth of a memory that its room has place for, or that is refused before the limiter is asked
 abbrev pub <b id="FitsRoom">FitsRoom</b> : ℕ → <a href="../../store/Memory/index.html#MemoryValue">MemoryValue</a> → Type 0
 <a href="../../machine/LentMemory/index.html#FitsRoom">FitsRoom</a> pages x =
-    (<a href="../../store/Buffer/index.html#fits_room">fits_room</a> x.room (pages * <a href="../../store/MemoryType/index.html#page_bytes">page_bytes</a> x.ty.page) ≡ true) ⊎ (<a href="../../store/MemoryType/index.html#in_bounds">in_bounds</a> x.ty (<a href="../../store/Memory/index.html#pages_of">pages_of</a> x + pages) ≡ false)
+    (<a href="../../store/Buffer/index.html#fits_room">fits_room</a> x.room (pages * <a href="../../store/Memory/index.html#page_bytes">page_bytes</a> x.ty.page) ≡ true) ⊎ (<a href="../../store/Memory/index.html#in_bounds">in_bounds</a> x.ty (<a href="../../store/Memory/index.html#pages_of">pages_of</a> x + pages) ≡ false)
 
 -- a call that makes no memory in the spare region, and grows no memory past the region that it lies in
 abbrev pub <b id="FitsRegions">FitsRegions</b> : <a href="../../machine/State/index.html#State">State</a> → Call → Type 0
@@ -4409,62 +4217,13 @@ abbrev pub <b id="FitsRegions">FitsRegions</b> : <a href="../../machine/State/in
 <a href="../../machine/LentMemory/index.html#FitsRegions">FitsRegions</a> s call = Unit {0}
 
 -- turns by such calls one after another, from one world to another
-abbrev pub <b id="RunInRegions">RunInRegions</b> : {S : Type 0} → <a href="../../meter/Limiter/index.html#Rules">Rules</a> S → <a href="../../machine/World/index.html#World">World</a> S → List <a href="../../machine/World/index.html#Turn">Turn</a> → <a href="../../machine/World/index.html#World">World</a> S → Type 0
+abbrev pub <b id="RunInRegions">RunInRegions</b> : {S : Type 0} → <a href="../../meter/Limiter/index.html#Rules">Rules</a> S → <a href="../../machine/State/index.html#World">World</a> S → List <a href="../../machine/State/index.html#Turn">Turn</a> → <a href="../../machine/State/index.html#World">World</a> S → Type 0
 <a href="../../machine/LentMemory/index.html#RunInRegions">RunInRegions</a> rules w [] w&#x27; = w&#x27; ≡ w
 <a href="../../machine/LentMemory/index.html#RunInRegions">RunInRegions</a> rules w (turn ∷ turns) w&#x27; =
-    (v : <a href="../../machine/World/index.html#World">World</a> _) × <a href="../../machine/LentMemory/index.html#FitsRegions">FitsRegions</a> w.state turn.call × <a href="../../machine/Steps/index.html#Step">Step</a> rules w turn v × <a href="../../machine/LentMemory/index.html#RunInRegions">RunInRegions</a> rules v turns w&#x27;
+    (v : <a href="../../machine/State/index.html#World">World</a> _) × <a href="../../machine/LentMemory/index.html#FitsRegions">FitsRegions</a> w.state turn.call × <a href="../../machine/Steps/index.html#Step">Step</a> rules w turn v × <a href="../../machine/LentMemory/index.html#RunInRegions">RunInRegions</a> rules v turns w&#x27;
 </code></pre>
 "####]
     pub mod LentMemory {}
-    #[doc = r####"Runs under a limiter of one of three kinds, as runs by the rules of its kind.
-
-<pre><code>use Rattle.std.specs.Prelude.{◌≡◌, List, Option, Some, None}
-use Rattle.wasmi_meter.specs.declared.any_limiter.AnyLimiter.{AnyLimiter}
-use Rattle.wasmi_meter.specs.declared.any_limiter.AnyLimiter.TheVariants as limiter
-use Rattle.wasmi_meter.specs.declared.quota.Quota.{Quota}
-use Rattle.wasmi_meter.specs.AnswerList.{<a href="../../meter/AnswerList/index.html#AnswersAhead">AnswersAhead</a>, <a href="../../meter/AnswerList/index.html#answer_list_rules">answer_list_rules</a>}
-use Rattle.wasmi_meter.specs.AnyLimiter.{<a href="../../meter/AnyLimiter/index.html#any_limiter_rules">any_limiter_rules</a>}
-use Rattle.wasmi_meter.specs.Limiter.{<a href="../../meter/Limiter/index.html#Rules">Rules</a>, <a href="../../meter/Limiter/index.html#optional_rules">optional_rules</a>}
-use Rattle.wasmi_meter.specs.Quota.{<a href="../../meter/Quota/index.html#quota_rules">quota_rules</a>}
-use Rattle.wasmi_core.specs.State.{<a href="../../machine/State/index.html#State">State</a>}
-use Rattle.wasmi_core.specs.World.{<a href="../../machine/World/index.html#World">World</a>, <a href="../../machine/World/index.html#Turn">Turn</a>, <a href="../../machine/World/index.html#world">world</a>}
-use Rattle.wasmi_core.specs.Runs.{<a href="../../machine/Runs/index.html#Run">Run</a>, <a href="../../machine/Runs/index.html#IsRunOf">IsRunOf</a>}
-use Rattle.wasmi_core.specs.Steps.{<a href="../../machine/Steps/index.html#RepliesWith">RepliesWith</a>}
-use Rattle.wasmi_core.specs.declared.calls.Call.{Call}
-use Rattle.wasmi_core.specs.declared.calls.Reply.{Reply}
-
-module _ (Relates : (L : Type 0) → <a href="../../meter/Limiter/index.html#Rules">Rules</a> L → <a href="../../machine/World/index.html#World">World</a> L → <a href="../../machine/World/index.html#World">World</a> L → Type 0) where
-  -- Two machines, each with a limiter of one kind, are related by the rules of that kind: without a limiter, under its
-  -- quota or under its list of answers.
-  abbrev pub <b id="RelatesByKind">RelatesByKind</b> : <a href="../../machine/State/index.html#State">State</a> → AnyLimiter → <a href="../../machine/State/index.html#State">State</a> → AnyLimiter → Type 0
-  <a href="../../machine/LimiterKinds/index.html#RelatesByKind">RelatesByKind</a> s limiter.Unlimited s&#x27; l&#x27; = (l&#x27; ≡ limiter.Unlimited)
-      × Relates (Option Quota) (<a href="../../meter/Limiter/index.html#optional_rules">optional_rules</a> <a href="../../meter/Quota/index.html#quota_rules">quota_rules</a>) (<a href="../../machine/World/index.html#world">world</a> s None) (<a href="../../machine/World/index.html#world">world</a> s&#x27; None)
-  <a href="../../machine/LimiterKinds/index.html#RelatesByKind">RelatesByKind</a> s (limiter.Quota quota) s&#x27; l&#x27; = (quota&#x27; : Quota) × (l&#x27; ≡ limiter.Quota quota&#x27;)
-      × Relates (Option Quota) (<a href="../../meter/Limiter/index.html#optional_rules">optional_rules</a> <a href="../../meter/Quota/index.html#quota_rules">quota_rules</a>) (<a href="../../machine/World/index.html#world">world</a> s (Some quota)) (<a href="../../machine/World/index.html#world">world</a> s&#x27; (Some quota&#x27;))
-  <a href="../../machine/LimiterKinds/index.html#RelatesByKind">RelatesByKind</a> s (limiter.Answers list) s&#x27; l&#x27; = (list&#x27; : <a href="../../meter/AnswerList/index.html#AnswersAhead">AnswersAhead</a>) × (l&#x27; ≡ limiter.Answers list&#x27;)
-      × Relates (Option <a href="../../meter/AnswerList/index.html#AnswersAhead">AnswersAhead</a>) (<a href="../../meter/Limiter/index.html#optional_rules">optional_rules</a> <a href="../../meter/AnswerList/index.html#answer_list_rules">answer_list_rules</a>) (<a href="../../machine/World/index.html#world">world</a> s (Some list)) (<a href="../../machine/World/index.html#world">world</a> s&#x27; (Some list&#x27;))
-
-  -- what the rules of such limiters relate, the rules of its kind do, and the kind stays
-  abbrev pub <b id="KindStays">KindStays</b> : Type 0
-  <a href="../../machine/LimiterKinds/index.html#KindStays">KindStays</a> = (s : <a href="../../machine/State/index.html#State">State</a>) (l : AnyLimiter) (s&#x27; : <a href="../../machine/State/index.html#State">State</a>) (l&#x27; : AnyLimiter)
-      → Relates (Option AnyLimiter) (<a href="../../meter/Limiter/index.html#optional_rules">optional_rules</a> <a href="../../meter/AnyLimiter/index.html#any_limiter_rules">any_limiter_rules</a>) (<a href="../../machine/World/index.html#world">world</a> s (Some l)) (<a href="../../machine/World/index.html#world">world</a> s&#x27; (Some l&#x27;))
-      → <a href="../../machine/LimiterKinds/index.html#RelatesByKind">RelatesByKind</a> s l s&#x27; l&#x27;
-
--- a run under such a limiter is one by the rules of its kind
-abbrev pub <b id="RunsKeepKind">RunsKeepKind</b> : Type 0
-<a href="../../machine/LimiterKinds/index.html#RunsKeepKind">RunsKeepKind</a> = (turns : List <a href="../../machine/World/index.html#Turn">Turn</a>) → <a href="../../machine/LimiterKinds/index.html#KindStays">KindStays</a> (λ L rules w w&#x27;. <a href="../../machine/Runs/index.html#Run">Run</a> rules w turns w&#x27;)
-
--- a run of calls with these replies under such a limiter is one by the rules of its kind
-abbrev pub <b id="RunsOfCallsKeepKind">RunsOfCallsKeepKind</b> : Type 0
-<a href="../../machine/LimiterKinds/index.html#RunsOfCallsKeepKind">RunsOfCallsKeepKind</a> = (calls : List Call) (replies : List Reply)
-    → <a href="../../machine/LimiterKinds/index.html#KindStays">KindStays</a> (λ L rules w w&#x27;. <a href="../../machine/Runs/index.html#IsRunOf">IsRunOf</a> rules calls w replies w&#x27;)
-
--- a reply to a call under such a limiter is one by the rules of its kind
-abbrev pub <b id="RepliesKeepKind">RepliesKeepKind</b> : Type 0
-<a href="../../machine/LimiterKinds/index.html#RepliesKeepKind">RepliesKeepKind</a> = (call : Call) (reply : Reply) → <a href="../../machine/LimiterKinds/index.html#KindStays">KindStays</a> (λ L rules w w&#x27;. <a href="../../machine/Steps/index.html#RepliesWith">RepliesWith</a> rules call w reply w&#x27;)
-</code></pre>
-"####]
-    pub mod LimiterKinds {}
     #[doc = r####"The calls on memories: what each does to the list of slots.
 
 <pre><code>use Rattle.std.specs.Prelude.{◌≡◌, ◌⊎◌, ◌*◌, ℕ, Option, Some, None, Result, List, MatchOption}
@@ -4476,20 +4235,19 @@ use Rattle.wasmi_meter.specs.declared.error.MemoryError.{MemoryError}
 use Rattle.wasmi_meter.specs.declared.error.MemoryError.TheVariants.{OutOfBoundsAccess}
 use Rattle.wasmi_meter.specs.Limiter.{<a href="../../meter/Limiter/index.html#Rules">Rules</a>}
 use Rattle.wasmi_store.specs.Buffer.{<a href="../../store/Buffer/index.html#Lent">Lent</a>}
-use Rattle.wasmi_store.specs.MemoryType.{<a href="../../store/MemoryType/index.html#MemoryTypeValue">MemoryTypeValue</a>, <a href="../../store/MemoryType/index.html#page_bytes">page_bytes</a>}
-use Rattle.wasmi_store.specs.Memory.{<a href="../../store/Memory/index.html#MemoryValue">MemoryValue</a>, <a href="../../store/Memory/index.html#MakesMemory">MakesMemory</a>, <a href="../../store/Memory/index.html#WritesMemory">WritesMemory</a>}
+use Rattle.wasmi_store.specs.Memory.{<a href="../../store/Memory/index.html#MemoryTypeValue">MemoryTypeValue</a>, <a href="../../store/Memory/index.html#page_bytes">page_bytes</a>, <a href="../../store/Memory/index.html#MemoryValue">MemoryValue</a>, <a href="../../store/Memory/index.html#MakesMemory">MakesMemory</a>, <a href="../../store/Memory/index.html#WritesMemory">WritesMemory</a>}
 use Rattle.wasmi_core.specs.declared.calls.Reply.{Reply}
 use Rattle.wasmi_core.specs.declared.calls.Reply.TheVariants.{Done, Value, Number, Bytes, Memory, Trap, NoSuch, NoRegion, NoRoom}
 use Rattle.wasmi_core.specs.declared.slots.Slot.{Slot}
 use Rattle.wasmi_ops.specs.declared.scalar.access.LoadOp.{LoadOp}
-use Rattle.wasmi_ops.specs.ScalarAccessOps.{<a href="../../ops/ScalarAccessOps/index.html#loaded_raw">loaded_raw</a>}
+use Rattle.wasmi_ops.specs.ScalarOps.{<a href="../../ops/ScalarOps/index.html#loaded_raw">loaded_raw</a>}
 use Rattle.wasmi_core.specs.State.{<a href="../../machine/State/index.html#MemoryPart">MemoryPart</a>, <a href="../../machine/State/index.html#live_at">live_at</a>}
 use Rattle.wasmi_core.specs.Effects.{<a href="../../machine/Effects/index.html#reply_of">reply_of</a>, <a href="../../machine/Effects/index.html#OnLive">OnLive</a>, <a href="../../machine/Effects/index.html#Creates">Creates</a>, <a href="../../machine/Effects/index.html#ChangesAt">ChangesAt</a>}
 
 -- the bytes that a growth by so many pages has appended, by its reply
 abbrev pub <b id="bytes_appended">bytes_appended</b> : Option <a href="../../store/Memory/index.html#MemoryValue">MemoryValue</a> → ℕ → Reply → ℕ
 <a href="../../machine/MemoryEffects/index.html#bytes_appended">bytes_appended</a> None pages reply = 0
-<a href="../../machine/MemoryEffects/index.html#bytes_appended">bytes_appended</a> (Some x) pages (Number size) = pages * <a href="../../store/MemoryType/index.html#page_bytes">page_bytes</a> x.ty.page
+<a href="../../machine/MemoryEffects/index.html#bytes_appended">bytes_appended</a> (Some x) pages (Number size) = pages * <a href="../../store/Memory/index.html#page_bytes">page_bytes</a> x.ty.page
 <a href="../../machine/MemoryEffects/index.html#bytes_appended">bytes_appended</a> (Some x) pages reply = 0
 
 -- the spare region after a creation in it: it is spent, unless a slot could not be had
@@ -4498,7 +4256,7 @@ abbrev pub <b id="spare_after">spare_after</b> : Reply → Option (List ℕ) →
 <a href="../../machine/MemoryEffects/index.html#spare_after">spare_after</a> reply spare = None
 
 -- a creation in the spare region; without one nothing is asked
-abbrev pub <b id="CreatesLent">CreatesLent</b> : {S : Type 0} → <a href="../../meter/Limiter/index.html#Rules">Rules</a> S → <a href="../../store/MemoryType/index.html#MemoryTypeValue">MemoryTypeValue</a> → <a href="../../machine/State/index.html#MemoryPart">MemoryPart</a> → S → Reply → <a href="../../machine/State/index.html#MemoryPart">MemoryPart</a> → S → Type 0
+abbrev pub <b id="CreatesLent">CreatesLent</b> : {S : Type 0} → <a href="../../meter/Limiter/index.html#Rules">Rules</a> S → <a href="../../store/Memory/index.html#MemoryTypeValue">MemoryTypeValue</a> → <a href="../../machine/State/index.html#MemoryPart">MemoryPart</a> → S → Reply → <a href="../../machine/State/index.html#MemoryPart">MemoryPart</a> → S → Type 0
 <a href="../../machine/MemoryEffects/index.html#CreatesLent">CreatesLent</a> rules ty part l reply part&#x27; l&#x27; = MatchOption part.spare ((reply ≡ NoRegion) × (part&#x27; ≡ part) × (l&#x27; ≡ l))
     (λ region. <a href="../../machine/Effects/index.html#Creates">Creates</a> Memory (<a href="../../store/Memory/index.html#MakesMemory">MakesMemory</a> rules (<a href="../../store/Buffer/index.html#Lent">Lent</a> region) ty) part.slots l reply part&#x27;.slots l&#x27;
     × (part&#x27;.spare ≡ <a href="../../machine/MemoryEffects/index.html#spare_after">spare_after</a> reply part.spare))
@@ -4521,7 +4279,7 @@ abbrev pub <b id="WritesMemoryAt">WritesMemoryAt</b> : ℕ → ℕ → List ℕ 
 
 -- the reply to a load from a memory, if the memory is there
 abbrev pub <b id="load_reply">load_reply</b> : LoadOp → ℕ → Option <a href="../../store/Memory/index.html#MemoryValue">MemoryValue</a> → Reply
-<a href="../../machine/MemoryEffects/index.html#load_reply">load_reply</a> op a memory = option_map_or (λ x. <a href="../../machine/Effects/index.html#reply_of">reply_of</a> Value Trap (<a href="../../ops/ScalarAccessOps/index.html#loaded_raw">loaded_raw</a> op x.bytes a)) memory NoSuch
+<a href="../../machine/MemoryEffects/index.html#load_reply">load_reply</a> op a memory = option_map_or (λ x. <a href="../../machine/Effects/index.html#reply_of">reply_of</a> Value Trap (<a href="../../ops/ScalarOps/index.html#loaded_raw">loaded_raw</a> op x.bytes a)) memory NoSuch
 
 -- the reply to a load at an address of the memory of an index
 abbrev pub <b id="LoadsMemoryAt">LoadsMemoryAt</b> : LoadOp → ℕ → ℕ → List (Slot <a href="../../store/Memory/index.html#MemoryValue">MemoryValue</a>) → Reply → Type 0
@@ -4539,34 +4297,6 @@ abbrev pub <b id="StoresMemoryAt">StoresMemoryAt</b> : ℕ → ℕ → List ℕ 
 </code></pre>
 "####]
     pub mod MemoryEffects {}
-    #[doc = r####"Runs in which each question to the limiter is permitted.
-
-<pre><code>use Rattle.std.specs.Prelude.{◌≡◌, Ok, true}
-use Rattle.wasmi_meter.specs.declared.error.MemoryError.TheVariants as memory
-use Rattle.wasmi_meter.specs.declared.error.TableError.TheVariants as table
-use Rattle.wasmi_meter.specs.Limiter.{<a href="../../meter/Limiter/index.html#Rules">Rules</a>}
-use Rattle.wasmi_core.specs.declared.calls.Reply.{Reply}
-use Rattle.wasmi_core.specs.declared.calls.Reply.TheVariants.{Memory, Table}
-
--- the rules by which each question is permitted
-abbrev pub <b id="permitting">permitting</b> : {S : Type 0} → <a href="../../meter/Limiter/index.html#Rules">Rules</a> S → <a href="../../meter/Limiter/index.html#Rules">Rules</a> S
-<a href="../../machine/Permission/index.html#permitting">permitting</a> rules =
-    record {
-      asked = λ l question answer l&#x27;. (answer ≡ Ok true)
-          × rules.asked l question answer l&#x27;;
-      noticed = rules.noticed;
-    }
-
--- the reply reports no denial, and is no error by which a denial is reported
-abbrev pub <b id="TellsNoDenial">TellsNoDenial</b> : Reply → Type 0
-<a href="../../machine/Permission/index.html#TellsNoDenial">TellsNoDenial</a> (Memory memory.OutOfBoundsGrowth) = ⊥
-<a href="../../machine/Permission/index.html#TellsNoDenial">TellsNoDenial</a> (Memory memory.ResourceLimiterDeniedAllocation) = ⊥
-<a href="../../machine/Permission/index.html#TellsNoDenial">TellsNoDenial</a> (Table table.GrowOutOfBounds) = ⊥
-<a href="../../machine/Permission/index.html#TellsNoDenial">TellsNoDenial</a> (Table table.ResourceLimiterDeniedAllocation) = ⊥
-<a href="../../machine/Permission/index.html#TellsNoDenial">TellsNoDenial</a> reply = Unit {0}
-</code></pre>
-"####]
-    pub mod Permission {}
     #[doc = r####"The calls on registers and on the vectors in them: what each does to the registers.
 
 <pre><code>use Rattle.std.specs.Prelude.{◌≡◌, ℕ, Option, Some, None, Result, Ok, Err, List, slice_get, slice_set}
@@ -4577,11 +4307,11 @@ use Rattle.wasmi_raw.specs.RawVal.{<a href="../../raw/RawVal/index.html#vector_i
 use Rattle.wasmi_store.specs.Memory.{<a href="../../store/Memory/index.html#MemoryValue">MemoryValue</a>}
 use Rattle.wasmi_ops.specs.declared.vector.access.VectorLoadOp.{VectorLoadOp}
 use Rattle.wasmi_ops.specs.declared.vector.access.LoadLaneOp.{LoadLaneOp}
-use Rattle.wasmi_ops.specs.VectorAccessOps.{<a href="../../ops/VectorAccessOps/index.html#loaded_vector">loaded_vector</a>, <a href="../../ops/VectorAccessOps/index.html#loaded_lane">loaded_lane</a>}
+use Rattle.wasmi_ops.specs.VectorOps.{<a href="../../ops/VectorOps/index.html#loaded_vector">loaded_vector</a>, <a href="../../ops/VectorOps/index.html#loaded_lane">loaded_lane</a>}
 use Rattle.wasmi_core.specs.declared.calls.Reply.{Reply}
 use Rattle.wasmi_core.specs.declared.calls.Reply.TheVariants.{Done, Value, Trap, NoSuch}
 use Rattle.wasmi_core.specs.declared.slots.Slot.{Slot}
-use Rattle.wasmi_ops.specs.RawResults.{<a href="../../ops/RawResults/index.html#as_raw">as_raw</a>}
+use Rattle.wasmi_ops.specs.ScalarOps.{<a href="../../ops/ScalarOps/index.html#as_raw">as_raw</a>}
 use Rattle.wasmi_core.specs.MemoryEffects.{<a href="../../machine/MemoryEffects/index.html#StoresMemoryAt">StoresMemoryAt</a>}
 
 -- the vector in a register, if there is one
@@ -4620,12 +4350,12 @@ abbrev pub <b id="of_three">of_three</b> : (ℕ → ℕ → ℕ → ℕ) → Opt
 
 -- what a load of a vector from a memory gives a register, if the memory is there
 abbrev pub <b id="vector_loaded">vector_loaded</b> : VectorLoadOp → ℕ → Option <a href="../../store/Memory/index.html#MemoryValue">MemoryValue</a> → Option (Result RawVal TrapCode)
-<a href="../../machine/RegisterEffects/index.html#vector_loaded">vector_loaded</a> op a memory = option_map (λ x. <a href="../../ops/RawResults/index.html#as_raw">as_raw</a> <a href="../../raw/RawVal/index.html#raw_of_vector">raw_of_vector</a> (<a href="../../ops/VectorAccessOps/index.html#loaded_vector">loaded_vector</a> op x.bytes a)) memory
+<a href="../../machine/RegisterEffects/index.html#vector_loaded">vector_loaded</a> op a memory = option_map (λ x. <a href="../../ops/ScalarOps/index.html#as_raw">as_raw</a> <a href="../../raw/RawVal/index.html#raw_of_vector">raw_of_vector</a> (<a href="../../ops/VectorOps/index.html#loaded_vector">loaded_vector</a> op x.bytes a)) memory
 
 -- what a load of one lane of a vector from a memory gives a register, if the vector and the memory are there
 abbrev pub <b id="lane_loaded">lane_loaded</b> : LoadLaneOp → ℕ → Option ℕ → Option <a href="../../store/Memory/index.html#MemoryValue">MemoryValue</a> → Option (Result RawVal TrapCode)
 <a href="../../machine/RegisterEffects/index.html#lane_loaded">lane_loaded</a> op a vector memory =
-    option_and_then (λ v. option_map (λ x. <a href="../../ops/RawResults/index.html#as_raw">as_raw</a> <a href="../../raw/RawVal/index.html#raw_of_vector">raw_of_vector</a> (<a href="../../ops/VectorAccessOps/index.html#loaded_lane">loaded_lane</a> op v x.bytes a)) memory) vector
+    option_and_then (λ v. option_map (λ x. <a href="../../ops/ScalarOps/index.html#as_raw">as_raw</a> <a href="../../raw/RawVal/index.html#raw_of_vector">raw_of_vector</a> (<a href="../../ops/VectorOps/index.html#loaded_lane">loaded_lane</a> op v x.bytes a)) memory) vector
 
 -- the raw value that is asked of a register, if it is there
 abbrev pub <b id="raw_reply">raw_reply</b> : Option RawVal → Reply
@@ -4638,51 +4368,30 @@ abbrev pub <b id="StoresVectorAt">StoresVectorAt</b> : ℕ → ℕ → Option (L
 </code></pre>
 "####]
     pub mod RegisterEffects {}
-    #[doc = r####"Whole runs of the machine.
+    #[doc = r####"What a machine is to its callers: its state, a world of it with a limiter, its totals, and when it is valid (core specification, the store).
 
-<pre><code>use Rattle.std.specs.Prelude.{◌≡◌, List, [], ◌∷◌, map}
-use Rattle.wasmi_meter.specs.Limiter.{<a href="../../meter/Limiter/index.html#Rules">Rules</a>}
-use Rattle.wasmi_core.specs.declared.calls.Call.{Call}
-use Rattle.wasmi_core.specs.declared.calls.Reply.{Reply}
-use Rattle.wasmi_core.specs.World.{<a href="../../machine/World/index.html#World">World</a>, <a href="../../machine/World/index.html#Turn">Turn</a>}
-use Rattle.wasmi_core.specs.Steps.{<a href="../../machine/Steps/index.html#Step">Step</a>}
-
--- turns one after another from one world to another, each of which relates the worlds before and after it
-abbrev pub <b id="Sequence">Sequence</b> : {S : Type 0} → (<a href="../../machine/World/index.html#World">World</a> S → <a href="../../machine/World/index.html#Turn">Turn</a> → <a href="../../machine/World/index.html#World">World</a> S → Type 0) → <a href="../../machine/World/index.html#World">World</a> S → List <a href="../../machine/World/index.html#Turn">Turn</a> → <a href="../../machine/World/index.html#World">World</a> S → Type 0
-<a href="../../machine/Runs/index.html#Sequence">Sequence</a> Relates w [] w&#x27; = w&#x27; ≡ w
-<a href="../../machine/Runs/index.html#Sequence">Sequence</a> Relates w (turn ∷ turns) w&#x27; = (v : <a href="../../machine/World/index.html#World">World</a> _) × Relates w turn v × <a href="../../machine/Runs/index.html#Sequence">Sequence</a> Relates v turns w&#x27;
-
--- a run: each turn is a step
-abbrev pub <b id="Run">Run</b> : {S : Type 0} → <a href="../../meter/Limiter/index.html#Rules">Rules</a> S → <a href="../../machine/World/index.html#World">World</a> S → List <a href="../../machine/World/index.html#Turn">Turn</a> → <a href="../../machine/World/index.html#World">World</a> S → Type 0
-<a href="../../machine/Runs/index.html#Run">Run</a> rules = <a href="../../machine/Runs/index.html#Sequence">Sequence</a> (<a href="../../machine/Steps/index.html#Step">Step</a> rules)
-
--- turns of these calls with these replies
-pub record <b id="AreTurns">AreTurns</b> (calls : List Call) (replies : List Reply) (turns : List <a href="../../machine/World/index.html#Turn">Turn</a>) : Type 0 where
-  pub <b id="calls_of">calls_of</b> : map Turn.call turns ≡ calls
-  pub <b id="replies_of">replies_of</b> : map Turn.reply turns ≡ replies
-
--- the replies are those of a run of the calls, from one world to another
-abbrev pub <b id="IsRunOf">IsRunOf</b> : {S : Type 0} → <a href="../../meter/Limiter/index.html#Rules">Rules</a> S → List Call → <a href="../../machine/World/index.html#World">World</a> S → List Reply → <a href="../../machine/World/index.html#World">World</a> S → Type 0
-<a href="../../machine/Runs/index.html#IsRunOf">IsRunOf</a> rules calls w replies w&#x27; =
-    (turns : List <a href="../../machine/World/index.html#Turn">Turn</a>) × (map Turn.call turns ≡ calls) × (map Turn.reply turns ≡ replies) × <a href="../../machine/Runs/index.html#Run">Run</a> rules w turns w&#x27;
-</code></pre>
-"####]
-    pub mod Runs {}
-    #[doc = r####"What a machine is to its callers (core specification, the store).
-
-<pre><code>use Rattle.std.specs.Prelude.{ℕ, List, [], Option, Some, None, slice_get, replicate}
+<pre><code>use Rattle.std.specs.Prelude.{ℕ, List, [], Option, Some, None, slice_get, replicate, ◌≡◌, length, map, sum, ◌≤◌, All}
 use Rattle.std.specs.Option.{option_and_then}
 use Rattle.std.specs.Vec.{with_item}
 use Rattle.wasmi_raw.specs.declared.raw.RawVal.{RawVal}
 use Rattle.wasmi_raw.specs.RawVal.{<a href="../../raw/RawVal/index.html#raw_of">raw_of</a>}
 use Rattle.wasmi_meter.specs.Meter.{<a href="../../meter/Meter/index.html#Meter">Meter</a>}
 use Rattle.wasmi_typed.specs.Global.{<a href="../../typed/Global/index.html#GlobalInstance">GlobalInstance</a>}
-use Rattle.wasmi_store.specs.Memory.{<a href="../../store/Memory/index.html#MemoryValue">MemoryValue</a>}
-use Rattle.wasmi_store.specs.Segment.{<a href="../../store/Segment/index.html#SegmentValue">SegmentValue</a>}
-use Rattle.wasmi_store.specs.Table.{<a href="../../store/Table/index.html#TableValue">TableValue</a>}
+use Rattle.wasmi_store.specs.Memory.{<a href="../../store/Memory/index.html#MemoryValue">MemoryValue</a>, <a href="../../store/Memory/index.html#IsValidMemory">IsValidMemory</a>}
+use Rattle.wasmi_store.specs.Segment.{<a href="../../store/Segment/index.html#SegmentValue">SegmentValue</a>, <a href="../../store/Segment/index.html#most_items">most_items</a>}
+use Rattle.wasmi_store.specs.Table.{<a href="../../store/Table/index.html#TableValue">TableValue</a>, <a href="../../store/Table/index.html#size_of">size_of</a>, <a href="../../store/Table/index.html#IsValidTable">IsValidTable</a>}
 use Rattle.wasmi_core.specs.declared.slots.Slot.{Slot}
 use Rattle.wasmi_core.specs.declared.slots.Slot.TheVariants.{Live, Gone}
 use Rattle.wasmi_core.specs.declared.slots.Slots.{Slots}
+use Rattle.wasmi_core.specs.declared.calls.Call.{Call}
+use Rattle.wasmi_core.specs.declared.calls.Reply.{Reply}
+use Rattle.wasmi_meter.specs.declared.limiter.Kind.{Kind}
+use Rattle.wasmi_meter.specs.declared.limiter.Kind.TheVariants.{Bytes, Elements}
+use Rattle.wasmi_meter.specs.declared.holdings.Holdings.{Holdings}
+use Rattle.wasmi_core.specs.declared.calls.Call.TheVariants.{NewMemory, NewLentMemory, NewTable}
+use Rattle.wasmi_core.specs.declared.calls.Reply.TheVariants as <a href="../../machine/State/index.html#reply">reply</a>
+use Rattle.wasmi_store.specs.Memory as memory
+use Rattle.wasmi_store.specs.Table as table
 
 module _ {X : Type 0} where
   -- the value in a slot, if it wasn&#x27;t dropped
@@ -4758,14 +4467,91 @@ abbrev pub <b id="with_globals">with_globals</b> : <a href="../../machine/State/
 -- the state with other registers
 abbrev pub <b id="with_registers">with_registers</b> : <a href="../../machine/State/index.html#State">State</a> → List RawVal → <a href="../../machine/State/index.html#State">State</a>
 <a href="../../machine/State/index.html#with_registers">with_registers</a> s <a href="../../machine/State/index.html#registers">registers</a> = record s { <a href="../../machine/State/index.html#registers">registers</a> = <a href="../../machine/State/index.html#registers">registers</a> }
+
+-- what a call can reach: the machine&#x27;s state and the limiter
+pub record <b id="World">World</b> (S : Type 0) : Type 0 where
+  pub <b id="state">state</b> : <a href="../../machine/State/index.html#State">State</a>
+  pub <b id="limiter">limiter</b> : S
+
+-- a machine in this state with this limiter
+abbrev pub <b id="world">world</b> : {S : Type 0} → <a href="../../machine/State/index.html#State">State</a> → S → <a href="../../machine/State/index.html#World">World</a> S
+<a href="../../machine/State/index.html#world">world</a> machine <a href="../../machine/State/index.html#limiter">limiter</a> = record { <a href="../../machine/State/index.html#state">state</a> = machine; <a href="../../machine/State/index.html#limiter">limiter</a> = <a href="../../machine/State/index.html#limiter">limiter</a> }
+
+-- one call: its reply, the fuel that it was charged and the bytes that it has written by growing or copying
+pub record <b id="Turn">Turn</b> : Type 0 where
+  pub <b id="call">call</b> : Call
+  pub <b id="reply">reply</b> : Reply
+  pub <b id="charge">charge</b> : ℕ
+  pub <b id="written">written</b> : ℕ
+
+-- a turn that is neither charged nor written by
+abbrev pub <b id="IsFree">IsFree</b> : <a href="../../machine/State/index.html#Turn">Turn</a> → Type 0
+<a href="../../machine/State/index.html#IsFree">IsFree</a> turn = (turn.charge ≡ 0) × (turn.written ≡ 0)
+
+-- a reply that tells why nothing was done
+abbrev pub <b id="IsRefusal">IsRefusal</b> : Reply → Type 0
+<a href="../../machine/State/index.html#IsRefusal">IsRefusal</a> reply.Done = ⊥
+<a href="../../machine/State/index.html#IsRefusal">IsRefusal</a> (reply.Made index) = ⊥
+<a href="../../machine/State/index.html#IsRefusal">IsRefusal</a> (reply.Value value) = ⊥
+<a href="../../machine/State/index.html#IsRefusal">IsRefusal</a> (reply.Number number) = ⊥
+<a href="../../machine/State/index.html#IsRefusal">IsRefusal</a> (reply.Bytes <a href="../../machine/State/index.html#bytes">bytes</a>) = ⊥
+<a href="../../machine/State/index.html#IsRefusal">IsRefusal</a> (reply.Reference element) = ⊥
+<a href="../../machine/State/index.html#IsRefusal">IsRefusal</a> refusal = Unit {0}
+
+-- how many a slot&#x27;s value has, or had when it was dropped
+abbrev pub <b id="slot_count">slot_count</b> : {X : Type 0} → (X → ℕ) → Slot X → ℕ
+<a href="../../machine/State/index.html#slot_count">slot_count</a> count (Live x) = count x
+<a href="../../machine/State/index.html#slot_count">slot_count</a> count (Gone last) = last
+
+-- the bytes of a memory
+abbrev pub <b id="byte_count">byte_count</b> : <a href="../../store/Memory/index.html#MemoryValue">MemoryValue</a> → ℕ
+<a href="../../machine/State/index.html#byte_count">byte_count</a> x = length x.bytes
+
+-- the sizes of one kind: of the memories in bytes, or of the tables in elements, dropped ones at their last
+abbrev pub <b id="sizes">sizes</b> : <a href="../../machine/State/index.html#State">State</a> → Kind → List ℕ
+<a href="../../machine/State/index.html#sizes">sizes</a> s Bytes = map (<a href="../../machine/State/index.html#slot_count">slot_count</a> <a href="../../machine/State/index.html#byte_count">byte_count</a>) s.memories
+<a href="../../machine/State/index.html#sizes">sizes</a> s Elements = map (<a href="../../machine/State/index.html#slot_count">slot_count</a> <a href="../../store/Table/index.html#size_of">size_of</a>) s.tables
+
+-- their sum
+abbrev pub <b id="total">total</b> : <a href="../../machine/State/index.html#State">State</a> → Kind → ℕ
+<a href="../../machine/State/index.html#total">total</a> s kind = sum (<a href="../../machine/State/index.html#sizes">sizes</a> s kind)
+
+-- exactly these totals are held
+pub record <b id="HoldsTotals">HoldsTotals</b> (h : Holdings) (s : <a href="../../machine/State/index.html#State">State</a>) : Type 0 where
+  pub <b id="bytes">bytes</b> : h.held.<a href="../../machine/State/index.html#bytes">bytes</a> ≡ <a href="../../machine/State/index.html#total">total</a> s Bytes
+  pub <b id="elements">elements</b> : h.held.<a href="../../machine/State/index.html#elements">elements</a> ≡ <a href="../../machine/State/index.html#total">total</a> s Elements
+
+-- what is in a slot is valid, if it wasn&#x27;t dropped
+abbrev pub <b id="IsValidSlot">IsValidSlot</b> : {X : Type 0} → (X → Type 0) → Slot X → Type 0
+<a href="../../machine/State/index.html#IsValidSlot">IsValidSlot</a> Valid (Live x) = Valid x
+<a href="../../machine/State/index.html#IsValidSlot">IsValidSlot</a> Valid (Gone size) = Unit {0}
+
+-- a segment has at most the greatest number of items
+abbrev pub <b id="IsValidSegment">IsValidSegment</b> : <a href="../../store/Segment/index.html#SegmentValue">SegmentValue</a> → Type 0
+<a href="../../machine/State/index.html#IsValidSegment">IsValidSegment</a> segment = length segment.items ≤ <a href="../../store/Segment/index.html#most_items">most_items</a>
+
+-- memories and tables have valid types and as many whole pages and elements as these allow, segments aren&#x27;t too long,
+-- and there are 16 registers
+pub record <b id="IsValid">IsValid</b> (s : <a href="../../machine/State/index.html#State">State</a>) : Type 0 where
+  pub <b id="memories">memories</b> : All (<a href="../../machine/State/index.html#IsValidSlot">IsValidSlot</a> <a href="../../store/Memory/index.html#IsValidMemory">IsValidMemory</a>) s.memories
+  pub <b id="tables">tables</b> : All (<a href="../../machine/State/index.html#IsValidSlot">IsValidSlot</a> <a href="../../store/Table/index.html#IsValidTable">IsValidTable</a>) s.tables
+  pub <b id="segments">segments</b> : All <a href="../../machine/State/index.html#IsValidSegment">IsValidSegment</a> s.segments
+  pub <b id="registers">registers</b> : length s.registers ≡ 16
+
+-- a type that a call names is valid
+abbrev pub <b id="IsValidCall">IsValidCall</b> : Call → Type 0
+<a href="../../machine/State/index.html#IsValidCall">IsValidCall</a> (NewMemory ty) = <a href="../../store/Memory/index.html#IsValid">memory.IsValid</a> ty
+<a href="../../machine/State/index.html#IsValidCall">IsValidCall</a> (NewLentMemory ty) = <a href="../../store/Memory/index.html#IsValid">memory.IsValid</a> ty
+<a href="../../machine/State/index.html#IsValidCall">IsValidCall</a> (NewTable ty init) = <a href="../../store/Table/index.html#IsValid">table.IsValid</a> ty
+<a href="../../machine/State/index.html#IsValidCall">IsValidCall</a> <a href="../../machine/State/index.html#call">call</a> = Unit {0}
 </code></pre>
 "####]
     pub mod State {}
-    #[doc = r####"One step of the machine: what each call does, and what that changes in a world.
+    #[doc = r####"One step of the machine: what each call does, and what that changes in a world; and whole runs.
 
-<pre><code>use Rattle.std.specs.Prelude.{◌≡◌, ◌+◌, ℕ, Bool, true, false, List, Option, Some, Result, Ok, slice_get}
+<pre><code>use Rattle.std.specs.Prelude.{◌≡◌, ◌+◌, ℕ, Bool, true, false, List, Option, Some, Result, Ok, slice_get, [], ◌∷◌, map}
 use Rattle.std.specs.Option.{option_map, option_and_then}
-use Rattle.wasmi_types.specs.Bytes.{<a href="../../types/Bytes/index.html#le_bytes">le_bytes</a>}
+use Rattle.wasmi_types.specs.Numbers.{<a href="../../types/Numbers/index.html#le_bytes">le_bytes</a>}
 use Rattle.wasmi_types.specs.declared.trap.TrapCode.{TrapCode}
 use Rattle.wasmi_types.specs.declared.value.RefType.{RefType}
 use Rattle.wasmi_raw.specs.declared.raw.RawVal.{RawVal}
@@ -4773,34 +4559,23 @@ use Rattle.wasmi_typed.specs.declared.typed.TypedRawVal.{TypedRawVal}
 use Rattle.wasmi_typed.specs.declared.typed_ref.TypedRawRef.{TypedRawRef}
 use Rattle.wasmi_typed.specs.Global.{<a href="../../typed/Global/index.html#GlobalInstance">GlobalInstance</a>}
 use Rattle.wasmi_lanewise.specs.VectorTable.{<a href="../../lanewise/VectorTable/index.html#shuffle">shuffle</a>}
-use Rattle.wasmi_ops.specs.VectorAccessOps.{<a href="../../ops/VectorAccessOps/index.html#stored_lane">stored_lane</a>}
-use Rattle.wasmi_ops.specs.BinaryOps.{<a href="../../ops/BinaryOps/index.html#binary_vector">binary_vector</a>}
+use Rattle.wasmi_ops.specs.VectorOps.{<a href="../../ops/VectorOps/index.html#stored_lane">stored_lane</a>, <a href="../../ops/VectorOps/index.html#binary_vector">binary_vector</a>, <a href="../../ops/VectorOps/index.html#made_vector">made_vector</a>, <a href="../../ops/VectorOps/index.html#shifted_vector">shifted_vector</a>, <a href="../../ops/VectorOps/index.html#ternary_vector">ternary_vector</a>, <a href="../../ops/VectorOps/index.html#tested_raw">tested_raw</a>, <a href="../../ops/VectorOps/index.html#unary_vector">unary_vector</a>}
 use Rattle.wasmi_ops.specs.LaneOps.{<a href="../../ops/LaneOps/index.html#extracted_raw">extracted_raw</a>, <a href="../../ops/LaneOps/index.html#replaced_vector">replaced_vector</a>}
-use Rattle.wasmi_ops.specs.MakeOps.{<a href="../../ops/MakeOps/index.html#made_vector">made_vector</a>}
-use Rattle.wasmi_ops.specs.ShiftOps.{<a href="../../ops/ShiftOps/index.html#shifted_vector">shifted_vector</a>}
-use Rattle.wasmi_ops.specs.TernaryOps.{<a href="../../ops/TernaryOps/index.html#ternary_vector">ternary_vector</a>}
-use Rattle.wasmi_ops.specs.TestOps.{<a href="../../ops/TestOps/index.html#tested_raw">tested_raw</a>}
-use Rattle.wasmi_ops.specs.UnaryOps.{<a href="../../ops/UnaryOps/index.html#unary_vector">unary_vector</a>}
 use Rattle.wasmi_meter.specs.Limiter.{<a href="../../meter/Limiter/index.html#Rules">Rules</a>}
 use Rattle.wasmi_store.specs.Buffer.{<a href="../../store/Buffer/index.html#Owned">Owned</a>}
-use Rattle.wasmi_store.specs.MemoryType.{<a href="../../store/MemoryType/index.html#MemoryTypeValue">MemoryTypeValue</a>}
-use Rattle.wasmi_store.specs.Memory.{<a href="../../store/Memory/index.html#MakesMemory">MakesMemory</a>, <a href="../../store/Memory/index.html#GrowsMemoryCharging">GrowsMemoryCharging</a>}
-use Rattle.wasmi_store.specs.TableType.{<a href="../../store/TableType/index.html#TableTypeValue">TableTypeValue</a>}
-use Rattle.wasmi_store.specs.Table.{<a href="../../store/Table/index.html#size_of">size_of</a>, <a href="../../store/Table/index.html#MakesTable">MakesTable</a>, <a href="../../store/Table/index.html#GrowsTableCharging">GrowsTableCharging</a>}
+use Rattle.wasmi_store.specs.Memory.{<a href="../../store/Memory/index.html#MemoryTypeValue">MemoryTypeValue</a>, <a href="../../store/Memory/index.html#MakesMemory">MakesMemory</a>, <a href="../../store/Memory/index.html#GrowsMemoryCharging">GrowsMemoryCharging</a>}
+use Rattle.wasmi_store.specs.Table.{<a href="../../store/Table/index.html#TableTypeValue">TableTypeValue</a>, <a href="../../store/Table/index.html#size_of">size_of</a>, <a href="../../store/Table/index.html#MakesTable">MakesTable</a>, <a href="../../store/Table/index.html#GrowsTableCharging">GrowsTableCharging</a>}
 use Rattle.wasmi_core.specs.declared.calls.Call.{Call}
-use Rattle.wasmi_core.specs.declared.calls.Call.TheVariants as call
 use Rattle.wasmi_core.specs.declared.calls.Reply.{Reply}
-use Rattle.wasmi_core.specs.declared.calls.Reply.TheVariants as reply
-use Rattle.wasmi_core.specs.World.{<a href="../../machine/World/index.html#World">World</a>, <a href="../../machine/World/index.html#Turn">Turn</a>, <a href="../../machine/World/index.html#world">world</a>}
-use Rattle.wasmi_core.specs.State.{<a href="../../machine/State/index.html#State">State</a>, <a href="../../machine/State/index.html#live_at">live_at</a>, <a href="../../machine/State/index.html#with_memories">with_memories</a>, <a href="../../machine/State/index.html#memory_part">memory_part</a>, <a href="../../machine/State/index.html#with_memory_part">with_memory_part</a>, <a href="../../machine/State/index.html#with_tables">with_tables</a>, <a href="../../machine/State/index.html#with_segments">with_segments</a>, <a href="../../machine/State/index.html#with_globals">with_globals</a>, <a href="../../machine/State/index.html#with_registers">with_registers</a>}
+use Rattle.wasmi_core.specs.State.{<a href="../../machine/State/index.html#World">World</a>, <a href="../../machine/State/index.html#Turn">Turn</a>, <a href="../../machine/State/index.html#world">world</a>, <a href="../../machine/State/index.html#State">State</a>, <a href="../../machine/State/index.html#live_at">live_at</a>, <a href="../../machine/State/index.html#with_memories">with_memories</a>, <a href="../../machine/State/index.html#memory_part">memory_part</a>, <a href="../../machine/State/index.html#with_memory_part">with_memory_part</a>, <a href="../../machine/State/index.html#with_tables">with_tables</a>, <a href="../../machine/State/index.html#with_segments">with_segments</a>, <a href="../../machine/State/index.html#with_globals">with_globals</a>, <a href="../../machine/State/index.html#with_registers">with_registers</a>, <a href="../../machine/State/index.html#byte_count">byte_count</a>}
 use Rattle.wasmi_core.specs.Effects.{<a href="../../machine/Effects/index.html#reply_of">reply_of</a>, <a href="../../machine/Effects/index.html#Creates">Creates</a>, <a href="../../machine/Effects/index.html#DropsAt">DropsAt</a>, <a href="../../machine/Effects/index.html#ActsAt">ActsAt</a>, <a href="../../machine/Effects/index.html#ChangesPart">ChangesPart</a>, <a href="../../machine/Effects/index.html#OnlyReplies">OnlyReplies</a>, <a href="../../machine/Effects/index.html#Changes">Changes</a>, <a href="../../machine/Effects/index.html#Asks">Asks</a>, <a href="../../machine/Effects/index.html#ActsMetered">ActsMetered</a>, <a href="../../machine/Effects/index.html#ActsMeteredUnasked">ActsMeteredUnasked</a>}
-use Rattle.wasmi_core.specs.Totals.{<a href="../../machine/Totals/index.html#byte_count">byte_count</a>}
-use Rattle.wasmi_ops.specs.ScalarAccessOps.{<a href="../../ops/ScalarAccessOps/index.html#stored_bytes">stored_bytes</a>}
-use Rattle.wasmi_core.specs.FuelEffects.{<a href="../../machine/FuelEffects/index.html#SetsFuel">SetsFuel</a>, <a href="../../machine/FuelEffects/index.html#get_fuel_reply">get_fuel_reply</a>}
+use Rattle.wasmi_ops.specs.ScalarOps.{<a href="../../ops/ScalarOps/index.html#stored_bytes">stored_bytes</a>}
+use Rattle.wasmi_core.specs.ValueEffects.{<a href="../../machine/ValueEffects/index.html#SetsFuel">SetsFuel</a>, <a href="../../machine/ValueEffects/index.html#get_fuel_reply">get_fuel_reply</a>, <a href="../../machine/ValueEffects/index.html#CreatesSegment">CreatesSegment</a>, <a href="../../machine/ValueEffects/index.html#DropsItemsAt">DropsItemsAt</a>, <a href="../../machine/ValueEffects/index.html#CreatesGlobal">CreatesGlobal</a>, <a href="../../machine/ValueEffects/index.html#SetsGlobalAt">SetsGlobalAt</a>, <a href="../../machine/ValueEffects/index.html#global_reply">global_reply</a>}
 use Rattle.wasmi_core.specs.MemoryEffects.{<a href="../../machine/MemoryEffects/index.html#bytes_appended">bytes_appended</a>, <a href="../../machine/MemoryEffects/index.html#CreatesLent">CreatesLent</a>, <a href="../../machine/MemoryEffects/index.html#ReadsMemoryAt">ReadsMemoryAt</a>, <a href="../../machine/MemoryEffects/index.html#WritesMemoryAt">WritesMemoryAt</a>, <a href="../../machine/MemoryEffects/index.html#load_reply">load_reply</a>}
 use Rattle.wasmi_core.specs.TableEffects.{<a href="../../machine/TableEffects/index.html#Source">Source</a>, <a href="../../machine/TableEffects/index.html#OfReference">OfReference</a>, <a href="../../machine/TableEffects/index.html#OfTable">OfTable</a>, <a href="../../machine/TableEffects/index.html#OfSegment">OfSegment</a>, <a href="../../machine/TableEffects/index.html#element_reply">element_reply</a>, <a href="../../machine/TableEffects/index.html#SetsElementAt">SetsElementAt</a>, <a href="../../machine/TableEffects/index.html#write_of">write_of</a>, <a href="../../machine/TableEffects/index.html#WritesRangeAt">WritesRangeAt</a>, <a href="../../machine/TableEffects/index.html#element_bytes">element_bytes</a>}
 use Rattle.wasmi_core.specs.RegisterEffects.{<a href="../../machine/RegisterEffects/index.html#SetsRegister">SetsRegister</a>, <a href="../../machine/RegisterEffects/index.html#StoresVectorAt">StoresVectorAt</a>, <a href="../../machine/RegisterEffects/index.html#given_vector">given_vector</a>, <a href="../../machine/RegisterEffects/index.html#of_one">of_one</a>, <a href="../../machine/RegisterEffects/index.html#of_two">of_two</a>, <a href="../../machine/RegisterEffects/index.html#of_three">of_three</a>, <a href="../../machine/RegisterEffects/index.html#vector_loaded">vector_loaded</a>, <a href="../../machine/RegisterEffects/index.html#lane_loaded">lane_loaded</a>, <a href="../../machine/RegisterEffects/index.html#raw_reply">raw_reply</a>, <a href="../../machine/RegisterEffects/index.html#vector_at">vector_at</a>}
-use Rattle.wasmi_core.specs.ValueEffects.{<a href="../../machine/ValueEffects/index.html#CreatesSegment">CreatesSegment</a>, <a href="../../machine/ValueEffects/index.html#DropsItemsAt">DropsItemsAt</a>, <a href="../../machine/ValueEffects/index.html#CreatesGlobal">CreatesGlobal</a>, <a href="../../machine/ValueEffects/index.html#SetsGlobalAt">SetsGlobalAt</a>, <a href="../../machine/ValueEffects/index.html#global_reply">global_reply</a>}
+use Rattle.wasmi_core.specs.declared.calls.Call.TheVariants as call
+use Rattle.wasmi_core.specs.declared.calls.Reply.TheVariants as reply
 
 -- what a call is about
 pub data <b id="Subject">Subject</b> : Type 0 where
@@ -4881,17 +4656,17 @@ pub data <b id="Effect">Effect</b> : Type 0 where
   <b id="BytesRead">BytesRead</b> : ℕ → ℕ → ℕ → <a href="../../machine/Steps/index.html#Effect">Effect</a>
   <b id="FuelSet">FuelSet</b> : ℕ → <a href="../../machine/Steps/index.html#Effect">Effect</a>
   <b id="Changed">Changed</b> : <a href="../../machine/Steps/index.html#Change">Change</a> → <a href="../../machine/Steps/index.html#Effect">Effect</a>
-  <b id="MemoryMade">MemoryMade</b> : <a href="../../store/MemoryType/index.html#MemoryTypeValue">MemoryTypeValue</a> → <a href="../../machine/Steps/index.html#Effect">Effect</a>
-  <b id="LentMemoryMade">LentMemoryMade</b> : <a href="../../store/MemoryType/index.html#MemoryTypeValue">MemoryTypeValue</a> → <a href="../../machine/Steps/index.html#Effect">Effect</a>
+  <b id="MemoryMade">MemoryMade</b> : <a href="../../store/Memory/index.html#MemoryTypeValue">MemoryTypeValue</a> → <a href="../../machine/Steps/index.html#Effect">Effect</a>
+  <b id="LentMemoryMade">LentMemoryMade</b> : <a href="../../store/Memory/index.html#MemoryTypeValue">MemoryTypeValue</a> → <a href="../../machine/Steps/index.html#Effect">Effect</a>
   <b id="MemoryGrown">MemoryGrown</b> : ℕ → ℕ → <a href="../../machine/Steps/index.html#Effect">Effect</a>
-  <b id="TableMade">TableMade</b> : <a href="../../store/TableType/index.html#TableTypeValue">TableTypeValue</a> → TypedRawRef → <a href="../../machine/Steps/index.html#Effect">Effect</a>
+  <b id="TableMade">TableMade</b> : <a href="../../store/Table/index.html#TableTypeValue">TableTypeValue</a> → TypedRawRef → <a href="../../machine/Steps/index.html#Effect">Effect</a>
   <b id="TableGrown">TableGrown</b> : ℕ → ℕ → TypedRawRef → <a href="../../machine/Steps/index.html#Effect">Effect</a>
   <b id="RangeWritten">RangeWritten</b> : ℕ → <a href="../../machine/TableEffects/index.html#Source">Source</a> → ℕ → ℕ → <a href="../../machine/Steps/index.html#Effect">Effect</a>
 
 -- the effect of a call on a machine in this state: a line for each call
 abbrev pub <b id="effect_of">effect_of</b> : <a href="../../machine/State/index.html#State">State</a> → Call → <a href="../../machine/Steps/index.html#Effect">Effect</a>
 <a href="../../machine/Steps/index.html#effect_of">effect_of</a> s (call.SetFuel fuel) = <a href="../../machine/Steps/index.html#FuelSet">FuelSet</a> fuel
-<a href="../../machine/Steps/index.html#effect_of">effect_of</a> s call.GetFuel = <a href="../../machine/Steps/index.html#Told">Told</a> (<a href="../../machine/FuelEffects/index.html#get_fuel_reply">get_fuel_reply</a> s.meter)
+<a href="../../machine/Steps/index.html#effect_of">effect_of</a> s call.GetFuel = <a href="../../machine/Steps/index.html#Told">Told</a> (<a href="../../machine/ValueEffects/index.html#get_fuel_reply">get_fuel_reply</a> s.meter)
 <a href="../../machine/Steps/index.html#effect_of">effect_of</a> s (call.NewMemory ty) = <a href="../../machine/Steps/index.html#MemoryMade">MemoryMade</a> ty
 <a href="../../machine/Steps/index.html#effect_of">effect_of</a> s (call.NewLentMemory ty) = <a href="../../machine/Steps/index.html#LentMemoryMade">LentMemoryMade</a> ty
 <a href="../../machine/Steps/index.html#effect_of">effect_of</a> s (call.GrowMemory k pages) = <a href="../../machine/Steps/index.html#MemoryGrown">MemoryGrown</a> k pages
@@ -4899,7 +4674,7 @@ abbrev pub <b id="effect_of">effect_of</b> : <a href="../../machine/State/index.
 <a href="../../machine/Steps/index.html#effect_of">effect_of</a> s (call.Read k offset len) = <a href="../../machine/Steps/index.html#BytesRead">BytesRead</a> k offset len
 <a href="../../machine/Steps/index.html#effect_of">effect_of</a> s (call.Write k offset bytes) = <a href="../../machine/Steps/index.html#Changed">Changed</a> (<a href="../../machine/Steps/index.html#BytesWritten">BytesWritten</a> k offset bytes.items)
 <a href="../../machine/Steps/index.html#effect_of">effect_of</a> s (call.Load op k ptr offset) = <a href="../../machine/Steps/index.html#Told">Told</a> (<a href="../../machine/MemoryEffects/index.html#load_reply">load_reply</a> op (ptr + offset) (<a href="../../machine/State/index.html#live_at">live_at</a> s.memories k))
-<a href="../../machine/Steps/index.html#effect_of">effect_of</a> s (call.Store op k ptr offset value) = <a href="../../machine/Steps/index.html#Changed">Changed</a> (<a href="../../machine/Steps/index.html#BytesStored">BytesStored</a> k (ptr + offset) (Some (<a href="../../ops/ScalarAccessOps/index.html#stored_bytes">stored_bytes</a> op value)))
+<a href="../../machine/Steps/index.html#effect_of">effect_of</a> s (call.Store op k ptr offset value) = <a href="../../machine/Steps/index.html#Changed">Changed</a> (<a href="../../machine/Steps/index.html#BytesStored">BytesStored</a> k (ptr + offset) (Some (<a href="../../ops/ScalarOps/index.html#stored_bytes">stored_bytes</a> op value)))
 <a href="../../machine/Steps/index.html#effect_of">effect_of</a> s (call.NewTable ty init) = <a href="../../machine/Steps/index.html#TableMade">TableMade</a> ty init
 <a href="../../machine/Steps/index.html#effect_of">effect_of</a> s (call.GrowTable k n init) = <a href="../../machine/Steps/index.html#TableGrown">TableGrown</a> k n init
 <a href="../../machine/Steps/index.html#effect_of">effect_of</a> s (call.DropTable k) = <a href="../../machine/Steps/index.html#Changed">Changed</a> (<a href="../../machine/Steps/index.html#TableDropped">TableDropped</a> k)
@@ -4916,16 +4691,16 @@ abbrev pub <b id="effect_of">effect_of</b> : <a href="../../machine/State/index.
 <a href="../../machine/Steps/index.html#effect_of">effect_of</a> s (call.SetRegister dst value) = <a href="../../machine/Steps/index.html#Changed">Changed</a> (<a href="../../machine/Steps/index.html#RegisterSet">RegisterSet</a> dst (Some (Ok value)))
 <a href="../../machine/Steps/index.html#effect_of">effect_of</a> s (call.GetRegister a) = <a href="../../machine/Steps/index.html#Told">Told</a> (<a href="../../machine/RegisterEffects/index.html#raw_reply">raw_reply</a> (slice_get s.registers a))
 <a href="../../machine/Steps/index.html#effect_of">effect_of</a> s (call.Make op dst a) =
-    <a href="../../machine/Steps/index.html#Changed">Changed</a> (<a href="../../machine/Steps/index.html#RegisterSet">RegisterSet</a> dst (option_map (λ raw. <a href="../../machine/RegisterEffects/index.html#given_vector">given_vector</a> (<a href="../../ops/MakeOps/index.html#made_vector">made_vector</a> op raw)) (slice_get s.registers a)))
-<a href="../../machine/Steps/index.html#effect_of">effect_of</a> s (call.Unary op dst a) = <a href="../../machine/Steps/index.html#Changed">Changed</a> (<a href="../../machine/Steps/index.html#RegisterSet">RegisterSet</a> dst (<a href="../../machine/RegisterEffects/index.html#of_one">of_one</a> (<a href="../../ops/UnaryOps/index.html#unary_vector">unary_vector</a> op) (<a href="../../machine/RegisterEffects/index.html#vector_at">vector_at</a> s.registers a)))
+    <a href="../../machine/Steps/index.html#Changed">Changed</a> (<a href="../../machine/Steps/index.html#RegisterSet">RegisterSet</a> dst (option_map (λ raw. <a href="../../machine/RegisterEffects/index.html#given_vector">given_vector</a> (<a href="../../ops/VectorOps/index.html#made_vector">made_vector</a> op raw)) (slice_get s.registers a)))
+<a href="../../machine/Steps/index.html#effect_of">effect_of</a> s (call.Unary op dst a) = <a href="../../machine/Steps/index.html#Changed">Changed</a> (<a href="../../machine/Steps/index.html#RegisterSet">RegisterSet</a> dst (<a href="../../machine/RegisterEffects/index.html#of_one">of_one</a> (<a href="../../ops/VectorOps/index.html#unary_vector">unary_vector</a> op) (<a href="../../machine/RegisterEffects/index.html#vector_at">vector_at</a> s.registers a)))
 <a href="../../machine/Steps/index.html#effect_of">effect_of</a> s (call.Binary op dst a b) =
-    <a href="../../machine/Steps/index.html#Changed">Changed</a> (<a href="../../machine/Steps/index.html#RegisterSet">RegisterSet</a> dst (<a href="../../machine/RegisterEffects/index.html#of_two">of_two</a> (<a href="../../ops/BinaryOps/index.html#binary_vector">binary_vector</a> op) (<a href="../../machine/RegisterEffects/index.html#vector_at">vector_at</a> s.registers a) (<a href="../../machine/RegisterEffects/index.html#vector_at">vector_at</a> s.registers b)))
+    <a href="../../machine/Steps/index.html#Changed">Changed</a> (<a href="../../machine/Steps/index.html#RegisterSet">RegisterSet</a> dst (<a href="../../machine/RegisterEffects/index.html#of_two">of_two</a> (<a href="../../ops/VectorOps/index.html#binary_vector">binary_vector</a> op) (<a href="../../machine/RegisterEffects/index.html#vector_at">vector_at</a> s.registers a) (<a href="../../machine/RegisterEffects/index.html#vector_at">vector_at</a> s.registers b)))
 <a href="../../machine/Steps/index.html#effect_of">effect_of</a> s (call.Ternary op dst a b c) =
     <a href="../../machine/Steps/index.html#Changed">Changed</a> (<a href="../../machine/Steps/index.html#RegisterSet">RegisterSet</a> dst
-    (<a href="../../machine/RegisterEffects/index.html#of_three">of_three</a> (<a href="../../ops/TernaryOps/index.html#ternary_vector">ternary_vector</a> op) (<a href="../../machine/RegisterEffects/index.html#vector_at">vector_at</a> s.registers a) (<a href="../../machine/RegisterEffects/index.html#vector_at">vector_at</a> s.registers b) (<a href="../../machine/RegisterEffects/index.html#vector_at">vector_at</a> s.registers c)))
+    (<a href="../../machine/RegisterEffects/index.html#of_three">of_three</a> (<a href="../../ops/VectorOps/index.html#ternary_vector">ternary_vector</a> op) (<a href="../../machine/RegisterEffects/index.html#vector_at">vector_at</a> s.registers a) (<a href="../../machine/RegisterEffects/index.html#vector_at">vector_at</a> s.registers b) (<a href="../../machine/RegisterEffects/index.html#vector_at">vector_at</a> s.registers c)))
 <a href="../../machine/Steps/index.html#effect_of">effect_of</a> s (call.Shift op dst a amount) =
-    <a href="../../machine/Steps/index.html#Changed">Changed</a> (<a href="../../machine/Steps/index.html#RegisterSet">RegisterSet</a> dst (<a href="../../machine/RegisterEffects/index.html#of_one">of_one</a> (λ v. <a href="../../ops/ShiftOps/index.html#shifted_vector">shifted_vector</a> op v amount) (<a href="../../machine/RegisterEffects/index.html#vector_at">vector_at</a> s.registers a)))
-<a href="../../machine/Steps/index.html#effect_of">effect_of</a> s (call.Test op a) = <a href="../../machine/Steps/index.html#Told">Told</a> (<a href="../../machine/RegisterEffects/index.html#raw_reply">raw_reply</a> (option_map (<a href="../../ops/TestOps/index.html#tested_raw">tested_raw</a> op) (<a href="../../machine/RegisterEffects/index.html#vector_at">vector_at</a> s.registers a)))
+    <a href="../../machine/Steps/index.html#Changed">Changed</a> (<a href="../../machine/Steps/index.html#RegisterSet">RegisterSet</a> dst (<a href="../../machine/RegisterEffects/index.html#of_one">of_one</a> (λ v. <a href="../../ops/VectorOps/index.html#shifted_vector">shifted_vector</a> op v amount) (<a href="../../machine/RegisterEffects/index.html#vector_at">vector_at</a> s.registers a)))
+<a href="../../machine/Steps/index.html#effect_of">effect_of</a> s (call.Test op a) = <a href="../../machine/Steps/index.html#Told">Told</a> (<a href="../../machine/RegisterEffects/index.html#raw_reply">raw_reply</a> (option_map (<a href="../../ops/VectorOps/index.html#tested_raw">tested_raw</a> op) (<a href="../../machine/RegisterEffects/index.html#vector_at">vector_at</a> s.registers a)))
 <a href="../../machine/Steps/index.html#effect_of">effect_of</a> s (call.Extract op a) = <a href="../../machine/Steps/index.html#Told">Told</a> (<a href="../../machine/RegisterEffects/index.html#raw_reply">raw_reply</a> (option_map (<a href="../../ops/LaneOps/index.html#extracted_raw">extracted_raw</a> op) (<a href="../../machine/RegisterEffects/index.html#vector_at">vector_at</a> s.registers a)))
 <a href="../../machine/Steps/index.html#effect_of">effect_of</a> s (call.Replace op dst a item) =
     <a href="../../machine/Steps/index.html#Changed">Changed</a> (<a href="../../machine/Steps/index.html#RegisterSet">RegisterSet</a> dst
@@ -4938,16 +4713,16 @@ abbrev pub <b id="effect_of">effect_of</b> : <a href="../../machine/State/index.
 <a href="../../machine/Steps/index.html#effect_of">effect_of</a> s (call.LoadLane op dst a k ptr offset) =
     <a href="../../machine/Steps/index.html#Changed">Changed</a> (<a href="../../machine/Steps/index.html#RegisterSet">RegisterSet</a> dst (<a href="../../machine/RegisterEffects/index.html#lane_loaded">lane_loaded</a> op (ptr + offset) (<a href="../../machine/RegisterEffects/index.html#vector_at">vector_at</a> s.registers a) (<a href="../../machine/State/index.html#live_at">live_at</a> s.memories k)))
 <a href="../../machine/Steps/index.html#effect_of">effect_of</a> s (call.VectorStore a k ptr offset) =
-    <a href="../../machine/Steps/index.html#Changed">Changed</a> (<a href="../../machine/Steps/index.html#BytesStored">BytesStored</a> k (ptr + offset) (option_map (<a href="../../types/Bytes/index.html#le_bytes">le_bytes</a> 16) (<a href="../../machine/RegisterEffects/index.html#vector_at">vector_at</a> s.registers a)))
+    <a href="../../machine/Steps/index.html#Changed">Changed</a> (<a href="../../machine/Steps/index.html#BytesStored">BytesStored</a> k (ptr + offset) (option_map (<a href="../../types/Numbers/index.html#le_bytes">le_bytes</a> 16) (<a href="../../machine/RegisterEffects/index.html#vector_at">vector_at</a> s.registers a)))
 <a href="../../machine/Steps/index.html#effect_of">effect_of</a> s (call.StoreLane op a k ptr offset) =
-    <a href="../../machine/Steps/index.html#Changed">Changed</a> (<a href="../../machine/Steps/index.html#BytesStored">BytesStored</a> k (ptr + offset) (option_map (<a href="../../ops/VectorAccessOps/index.html#stored_lane">stored_lane</a> op) (<a href="../../machine/RegisterEffects/index.html#vector_at">vector_at</a> s.registers a)))
+    <a href="../../machine/Steps/index.html#Changed">Changed</a> (<a href="../../machine/Steps/index.html#BytesStored">BytesStored</a> k (ptr + offset) (option_map (<a href="../../ops/VectorOps/index.html#stored_lane">stored_lane</a> op) (<a href="../../machine/RegisterEffects/index.html#vector_at">vector_at</a> s.registers a)))
 
 -- one part of the state changes: a line for each kind
 abbrev pub <b id="HasChange">HasChange</b> : <a href="../../machine/Steps/index.html#Change">Change</a> → <a href="../../machine/State/index.html#State">State</a> → Reply → <a href="../../machine/State/index.html#State">State</a> → Type 0
 <a href="../../machine/Steps/index.html#HasChange">HasChange</a> (<a href="../../machine/Steps/index.html#BytesWritten">BytesWritten</a> k offset bytes) s = <a href="../../machine/Effects/index.html#ChangesPart">ChangesPart</a> (<a href="../../machine/State/index.html#with_memories">with_memories</a> s) (<a href="../../machine/MemoryEffects/index.html#WritesMemoryAt">WritesMemoryAt</a> k offset bytes s.memories)
 <a href="../../machine/Steps/index.html#HasChange">HasChange</a> (<a href="../../machine/Steps/index.html#BytesStored">BytesStored</a> k a stored) s = <a href="../../machine/Effects/index.html#ChangesPart">ChangesPart</a> (<a href="../../machine/State/index.html#with_memories">with_memories</a> s) (<a href="../../machine/RegisterEffects/index.html#StoresVectorAt">StoresVectorAt</a> k a stored s.memories)
 <a href="../../machine/Steps/index.html#HasChange">HasChange</a> (<a href="../../machine/Steps/index.html#RegisterSet">RegisterSet</a> dst given) s = <a href="../../machine/Effects/index.html#ChangesPart">ChangesPart</a> (<a href="../../machine/State/index.html#with_registers">with_registers</a> s) (<a href="../../machine/RegisterEffects/index.html#SetsRegister">SetsRegister</a> dst given s.registers)
-<a href="../../machine/Steps/index.html#HasChange">HasChange</a> (<a href="../../machine/Steps/index.html#MemoryDropped">MemoryDropped</a> k) s = <a href="../../machine/Effects/index.html#ChangesPart">ChangesPart</a> (<a href="../../machine/State/index.html#with_memories">with_memories</a> s) (<a href="../../machine/Effects/index.html#DropsAt">DropsAt</a> <a href="../../machine/Totals/index.html#byte_count">byte_count</a> k s.memories)
+<a href="../../machine/Steps/index.html#HasChange">HasChange</a> (<a href="../../machine/Steps/index.html#MemoryDropped">MemoryDropped</a> k) s = <a href="../../machine/Effects/index.html#ChangesPart">ChangesPart</a> (<a href="../../machine/State/index.html#with_memories">with_memories</a> s) (<a href="../../machine/Effects/index.html#DropsAt">DropsAt</a> <a href="../../machine/State/index.html#byte_count">byte_count</a> k s.memories)
 <a href="../../machine/Steps/index.html#HasChange">HasChange</a> (<a href="../../machine/Steps/index.html#TableDropped">TableDropped</a> k) s = <a href="../../machine/Effects/index.html#ChangesPart">ChangesPart</a> (<a href="../../machine/State/index.html#with_tables">with_tables</a> s) (<a href="../../machine/Effects/index.html#DropsAt">DropsAt</a> <a href="../../store/Table/index.html#size_of">size_of</a> k s.tables)
 <a href="../../machine/Steps/index.html#HasChange">HasChange</a> (<a href="../../machine/Steps/index.html#ElementSet">ElementSet</a> k index value) s = <a href="../../machine/Effects/index.html#ChangesPart">ChangesPart</a> (<a href="../../machine/State/index.html#with_tables">with_tables</a> s) (<a href="../../machine/TableEffects/index.html#SetsElementAt">SetsElementAt</a> k index value s.tables)
 <a href="../../machine/Steps/index.html#HasChange">HasChange</a> (<a href="../../machine/Steps/index.html#SegmentMade">SegmentMade</a> ty items) s = <a href="../../machine/Effects/index.html#ChangesPart">ChangesPart</a> (<a href="../../machine/State/index.html#with_segments">with_segments</a> s) (<a href="../../machine/ValueEffects/index.html#CreatesSegment">CreatesSegment</a> ty items s.segments)
@@ -4956,11 +4731,11 @@ abbrev pub <b id="HasChange">HasChange</b> : <a href="../../machine/Steps/index.
 <a href="../../machine/Steps/index.html#HasChange">HasChange</a> (<a href="../../machine/Steps/index.html#GlobalSet">GlobalSet</a> k value) s = <a href="../../machine/Effects/index.html#ChangesPart">ChangesPart</a> (<a href="../../machine/State/index.html#with_globals">with_globals</a> s) (<a href="../../machine/ValueEffects/index.html#SetsGlobalAt">SetsGlobalAt</a> k value s.globals)
 
 -- an effect takes place from one world to the next: a line for each kind
-abbrev pub <b id="HasEffect">HasEffect</b> : {S : Type 0} → <a href="../../meter/Limiter/index.html#Rules">Rules</a> S → <a href="../../machine/Steps/index.html#Effect">Effect</a> → <a href="../../machine/World/index.html#World">World</a> S → <a href="../../machine/World/index.html#Turn">Turn</a> → <a href="../../machine/World/index.html#World">World</a> S → Type 0
+abbrev pub <b id="HasEffect">HasEffect</b> : {S : Type 0} → <a href="../../meter/Limiter/index.html#Rules">Rules</a> S → <a href="../../machine/Steps/index.html#Effect">Effect</a> → <a href="../../machine/State/index.html#World">World</a> S → <a href="../../machine/State/index.html#Turn">Turn</a> → <a href="../../machine/State/index.html#World">World</a> S → Type 0
 <a href="../../machine/Steps/index.html#HasEffect">HasEffect</a> rules (<a href="../../machine/Steps/index.html#Told">Told</a> told) w turn w&#x27; = <a href="../../machine/Effects/index.html#OnlyReplies">OnlyReplies</a> w turn w&#x27; (λ answer. answer ≡ told)
 <a href="../../machine/Steps/index.html#HasEffect">HasEffect</a> rules (<a href="../../machine/Steps/index.html#BytesRead">BytesRead</a> k offset len) w turn w&#x27; =
     <a href="../../machine/Effects/index.html#OnlyReplies">OnlyReplies</a> w turn w&#x27; (<a href="../../machine/MemoryEffects/index.html#ReadsMemoryAt">ReadsMemoryAt</a> k offset len w.state.memories)
-<a href="../../machine/Steps/index.html#HasEffect">HasEffect</a> rules (<a href="../../machine/Steps/index.html#FuelSet">FuelSet</a> fuel) w turn w&#x27; = <a href="../../machine/Effects/index.html#Changes">Changes</a> w turn w&#x27; (<a href="../../machine/FuelEffects/index.html#SetsFuel">SetsFuel</a> fuel w.state)
+<a href="../../machine/Steps/index.html#HasEffect">HasEffect</a> rules (<a href="../../machine/Steps/index.html#FuelSet">FuelSet</a> fuel) w turn w&#x27; = <a href="../../machine/Effects/index.html#Changes">Changes</a> w turn w&#x27; (<a href="../../machine/ValueEffects/index.html#SetsFuel">SetsFuel</a> fuel w.state)
 <a href="../../machine/Steps/index.html#HasEffect">HasEffect</a> rules (<a href="../../machine/Steps/index.html#Changed">Changed</a> change) w turn w&#x27; = <a href="../../machine/Effects/index.html#Changes">Changes</a> w turn w&#x27; (<a href="../../machine/Steps/index.html#HasChange">HasChange</a> change w.state)
 <a href="../../machine/Steps/index.html#HasEffect">HasEffect</a> rules (<a href="../../machine/Steps/index.html#MemoryMade">MemoryMade</a> ty) w turn w&#x27; =
     <a href="../../machine/Effects/index.html#Asks">Asks</a> w turn w&#x27; (<a href="../../machine/State/index.html#with_memories">with_memories</a> w.state) (<a href="../../machine/Effects/index.html#Creates">Creates</a> reply.Memory (<a href="../../store/Memory/index.html#MakesMemory">MakesMemory</a> rules <a href="../../store/Buffer/index.html#Owned">Owned</a> ty) w.state.memories)
@@ -4980,11 +4755,11 @@ abbrev pub <b id="HasEffect">HasEffect</b> : {S : Type 0} → <a href="../../met
     (<a href="../../machine/TableEffects/index.html#element_bytes">element_bytes</a> len)
 
 -- a step from one world to the next: the effect of the turn&#x27;s call takes place
-abbrev pub <b id="Step">Step</b> : {S : Type 0} → <a href="../../meter/Limiter/index.html#Rules">Rules</a> S → <a href="../../machine/World/index.html#World">World</a> S → <a href="../../machine/World/index.html#Turn">Turn</a> → <a href="../../machine/World/index.html#World">World</a> S → Type 0
+abbrev pub <b id="Step">Step</b> : {S : Type 0} → <a href="../../meter/Limiter/index.html#Rules">Rules</a> S → <a href="../../machine/State/index.html#World">World</a> S → <a href="../../machine/State/index.html#Turn">Turn</a> → <a href="../../machine/State/index.html#World">World</a> S → Type 0
 <a href="../../machine/Steps/index.html#Step">Step</a> rules w turn w&#x27; = <a href="../../machine/Steps/index.html#HasEffect">HasEffect</a> rules (<a href="../../machine/Steps/index.html#effect_of">effect_of</a> w.state turn.call) w turn w&#x27;
 
 -- a call is answered by a reply: there is a step by it, with some charge and some bytes written
-abbrev pub <b id="RepliesWith">RepliesWith</b> : {S : Type 0} → <a href="../../meter/Limiter/index.html#Rules">Rules</a> S → Call → <a href="../../machine/World/index.html#World">World</a> S → Reply → <a href="../../machine/World/index.html#World">World</a> S → Type 0
+abbrev pub <b id="RepliesWith">RepliesWith</b> : {S : Type 0} → <a href="../../meter/Limiter/index.html#Rules">Rules</a> S → Call → <a href="../../machine/State/index.html#World">World</a> S → Reply → <a href="../../machine/State/index.html#World">World</a> S → Type 0
 <a href="../../machine/Steps/index.html#RepliesWith">RepliesWith</a> rules call w reply w&#x27; =
     (charge : ℕ) × (written : ℕ)
     × <a href="../../machine/Steps/index.html#Step">Step</a> rules w (record { call = call; reply = reply; charge = charge; written = written }) w&#x27;
@@ -4993,8 +4768,27 @@ abbrev pub <b id="RepliesWith">RepliesWith</b> : {S : Type 0} → <a href="../..
 abbrev pub <b id="RepliesWithoutLimiter">RepliesWithoutLimiter</b> : {S : Type 0} → <a href="../../meter/Limiter/index.html#Rules">Rules</a> S → Call → <a href="../../machine/State/index.html#State">State</a> → Reply → <a href="../../machine/State/index.html#State">State</a> → Type 0
 <a href="../../machine/Steps/index.html#RepliesWithoutLimiter">RepliesWithoutLimiter</a> {S} rules call s reply s&#x27; =
     (limiter : S)
-    → <a href="../../machine/Steps/index.html#Step">Step</a> rules (<a href="../../machine/World/index.html#world">world</a> s limiter) (record { call = call; reply = reply; charge = 0; written = 0 })
-    (<a href="../../machine/World/index.html#world">world</a> s&#x27; limiter)
+    → <a href="../../machine/Steps/index.html#Step">Step</a> rules (<a href="../../machine/State/index.html#world">world</a> s limiter) (record { call = call; reply = reply; charge = 0; written = 0 })
+    (<a href="../../machine/State/index.html#world">world</a> s&#x27; limiter)
+
+-- turns one after another from one world to another, each of which relates the worlds before and after it
+abbrev pub <b id="Sequence">Sequence</b> : {S : Type 0} → (<a href="../../machine/State/index.html#World">World</a> S → <a href="../../machine/State/index.html#Turn">Turn</a> → <a href="../../machine/State/index.html#World">World</a> S → Type 0) → <a href="../../machine/State/index.html#World">World</a> S → List <a href="../../machine/State/index.html#Turn">Turn</a> → <a href="../../machine/State/index.html#World">World</a> S → Type 0
+<a href="../../machine/Steps/index.html#Sequence">Sequence</a> Relates w [] w&#x27; = w&#x27; ≡ w
+<a href="../../machine/Steps/index.html#Sequence">Sequence</a> Relates w (turn ∷ turns) w&#x27; = (v : <a href="../../machine/State/index.html#World">World</a> _) × Relates w turn v × <a href="../../machine/Steps/index.html#Sequence">Sequence</a> Relates v turns w&#x27;
+
+-- a run: each turn is a step
+abbrev pub <b id="Run">Run</b> : {S : Type 0} → <a href="../../meter/Limiter/index.html#Rules">Rules</a> S → <a href="../../machine/State/index.html#World">World</a> S → List <a href="../../machine/State/index.html#Turn">Turn</a> → <a href="../../machine/State/index.html#World">World</a> S → Type 0
+<a href="../../machine/Steps/index.html#Run">Run</a> rules = <a href="../../machine/Steps/index.html#Sequence">Sequence</a> (<a href="../../machine/Steps/index.html#Step">Step</a> rules)
+
+-- turns of these calls with these replies
+pub record <b id="AreTurns">AreTurns</b> (calls : List Call) (replies : List Reply) (turns : List <a href="../../machine/State/index.html#Turn">Turn</a>) : Type 0 where
+  pub <b id="calls_of">calls_of</b> : map Turn.call turns ≡ calls
+  pub <b id="replies_of">replies_of</b> : map Turn.reply turns ≡ replies
+
+-- the replies are those of a run of the calls, from one world to another
+abbrev pub <b id="IsRunOf">IsRunOf</b> : {S : Type 0} → <a href="../../meter/Limiter/index.html#Rules">Rules</a> S → List Call → <a href="../../machine/State/index.html#World">World</a> S → List Reply → <a href="../../machine/State/index.html#World">World</a> S → Type 0
+<a href="../../machine/Steps/index.html#IsRunOf">IsRunOf</a> rules calls w replies w&#x27; =
+    (turns : List <a href="../../machine/State/index.html#Turn">Turn</a>) × (map Turn.call turns ≡ calls) × (map Turn.reply turns ≡ replies) × <a href="../../machine/Steps/index.html#Run">Run</a> rules w turns w&#x27;
 </code></pre>
 "####]
     pub mod Steps {}
@@ -5004,7 +4798,7 @@ abbrev pub <b id="RepliesWithoutLimiter">RepliesWithoutLimiter</b> : {S : Type 0
 use Rattle.std.specs.Option.{option_map, option_map_or}
 use Rattle.wasmi_typed.specs.declared.typed_ref.TypedRawRef.{TypedRawRef}
 use Rattle.wasmi_meter.specs.declared.error.TableError.{TableError}
-use Rattle.wasmi_meter.specs.Costs.{<a href="../../meter/Costs/index.html#cut_product">cut_product</a>}
+use Rattle.wasmi_meter.specs.Meter.{<a href="../../meter/Meter/index.html#cut_product">cut_product</a>}
 use Rattle.wasmi_meter.specs.Attempt.{<a href="../../meter/Attempt/index.html#MeteredValue">MeteredValue</a>, <a href="../../meter/Attempt/index.html#with_value">with_value</a>}
 use Rattle.wasmi_store.specs.Segment.{<a href="../../store/Segment/index.html#SegmentValue">SegmentValue</a>}
 use Rattle.wasmi_store.specs.Table.{<a href="../../store/Table/index.html#TableValue">TableValue</a>, <a href="../../store/Table/index.html#TableWrite">TableWrite</a>, <a href="../../store/Table/index.html#SetsTable">SetsTable</a>, <a href="../../store/Table/index.html#WritesTableCharging">WritesTableCharging</a>, <a href="../../store/Table/index.html#element_at">element_at</a>, <a href="../../store/Table/index.html#filling_of">filling_of</a>, <a href="../../store/Table/index.html#copy_of">copy_of</a>, <a href="../../store/Table/index.html#initialization_of">initialization_of</a>}
@@ -5075,49 +4869,12 @@ abbrev pub <b id="WritesRangeAt">WritesRangeAt</b> : ℕ → Option (<a href="..
 
 -- the bytes that an accepted call on so many elements has written
 abbrev pub <b id="element_bytes">element_bytes</b> : ℕ → Reply → ℕ
-<a href="../../machine/TableEffects/index.html#element_bytes">element_bytes</a> n Done = <a href="../../meter/Costs/index.html#cut_product">cut_product</a> n 4
-<a href="../../machine/TableEffects/index.html#element_bytes">element_bytes</a> n (Number size) = <a href="../../meter/Costs/index.html#cut_product">cut_product</a> n 4
+<a href="../../machine/TableEffects/index.html#element_bytes">element_bytes</a> n Done = <a href="../../meter/Meter/index.html#cut_product">cut_product</a> n 4
+<a href="../../machine/TableEffects/index.html#element_bytes">element_bytes</a> n (Number size) = <a href="../../meter/Meter/index.html#cut_product">cut_product</a> n 4
 <a href="../../machine/TableEffects/index.html#element_bytes">element_bytes</a> n reply = 0
 </code></pre>
 "####]
     pub mod TableEffects {}
-    #[doc = r####"How many bytes and elements a machine has in all, with what it has dropped.
-
-<pre><code>use Rattle.std.specs.Prelude.{◌≡◌, ℕ, List, length, map, sum}
-use Rattle.wasmi_meter.specs.declared.limiter.Kind.{Kind}
-use Rattle.wasmi_meter.specs.declared.limiter.Kind.TheVariants.{Bytes, Elements}
-use Rattle.wasmi_meter.specs.declared.holdings.Holdings.{Holdings}
-use Rattle.wasmi_store.specs.Memory.{<a href="../../store/Memory/index.html#MemoryValue">MemoryValue</a>}
-use Rattle.wasmi_store.specs.Table.{<a href="../../store/Table/index.html#size_of">size_of</a>}
-use Rattle.wasmi_core.specs.declared.slots.Slot.{Slot}
-use Rattle.wasmi_core.specs.declared.slots.Slot.TheVariants.{Live, Gone}
-use Rattle.wasmi_core.specs.State.{<a href="../../machine/State/index.html#State">State</a>}
-
--- how many a slot&#x27;s value has, or had when it was dropped
-abbrev pub <b id="slot_count">slot_count</b> : {X : Type 0} → (X → ℕ) → Slot X → ℕ
-<a href="../../machine/Totals/index.html#slot_count">slot_count</a> count (Live x) = count x
-<a href="../../machine/Totals/index.html#slot_count">slot_count</a> count (Gone last) = last
-
--- the bytes of a memory
-abbrev pub <b id="byte_count">byte_count</b> : <a href="../../store/Memory/index.html#MemoryValue">MemoryValue</a> → ℕ
-<a href="../../machine/Totals/index.html#byte_count">byte_count</a> x = length x.bytes
-
--- the sizes of one kind: of the memories in bytes, or of the tables in elements, dropped ones at their last
-abbrev pub <b id="sizes">sizes</b> : <a href="../../machine/State/index.html#State">State</a> → Kind → List ℕ
-<a href="../../machine/Totals/index.html#sizes">sizes</a> s Bytes = map (<a href="../../machine/Totals/index.html#slot_count">slot_count</a> <a href="../../machine/Totals/index.html#byte_count">byte_count</a>) s.memories
-<a href="../../machine/Totals/index.html#sizes">sizes</a> s Elements = map (<a href="../../machine/Totals/index.html#slot_count">slot_count</a> <a href="../../store/Table/index.html#size_of">size_of</a>) s.tables
-
--- their sum
-abbrev pub <b id="total">total</b> : <a href="../../machine/State/index.html#State">State</a> → Kind → ℕ
-<a href="../../machine/Totals/index.html#total">total</a> s kind = sum (<a href="../../machine/Totals/index.html#sizes">sizes</a> s kind)
-
--- exactly these totals are held
-pub record <b id="HoldsTotals">HoldsTotals</b> (h : Holdings) (s : <a href="../../machine/State/index.html#State">State</a>) : Type 0 where
-  pub <b id="bytes">bytes</b> : h.held.<a href="../../machine/Totals/index.html#bytes">bytes</a> ≡ <a href="../../machine/Totals/index.html#total">total</a> s Bytes
-  pub <b id="elements">elements</b> : h.held.<a href="../../machine/Totals/index.html#elements">elements</a> ≡ <a href="../../machine/Totals/index.html#total">total</a> s Elements
-</code></pre>
-"####]
-    pub mod Totals {}
     #[doc = r####"The types of the parts that clauses and specifications cite, passed on from one place. Declares nothing.
 
 <pre><code>pub <b id="use">use</b> Rattle.wasmi_types.specs.declared.index_ty.IndexType.{IndexType}
@@ -5156,49 +4913,9 @@ pub <b id="use">use</b> Rattle.wasmi_core.specs.declared.slots.Slot.{Slot}
 </code></pre>
 "####]
     pub mod Types {}
-    #[doc = r####"Valid states (core specification, validity of a store): what every machine's state is.
+    #[doc = r####"The calls on element segments, globals and the meter.
 
-<pre><code>use Rattle.std.specs.Prelude.{◌≡◌, ◌≤◌, All, length}
-use Rattle.wasmi_store.specs.MemoryType as memory
-use Rattle.wasmi_store.specs.Memory.{<a href="../../store/Memory/index.html#IsValidMemory">IsValidMemory</a>}
-use Rattle.wasmi_store.specs.Segment.{<a href="../../store/Segment/index.html#SegmentValue">SegmentValue</a>, <a href="../../store/Segment/index.html#most_items">most_items</a>}
-use Rattle.wasmi_store.specs.TableType as table
-use Rattle.wasmi_store.specs.Table.{<a href="../../store/Table/index.html#IsValidTable">IsValidTable</a>}
-use Rattle.wasmi_core.specs.declared.calls.Call.{Call}
-use Rattle.wasmi_core.specs.declared.calls.Call.TheVariants.{NewMemory, NewLentMemory, NewTable}
-use Rattle.wasmi_core.specs.declared.slots.Slot.{Slot}
-use Rattle.wasmi_core.specs.declared.slots.Slot.TheVariants.{Live, Gone}
-use Rattle.wasmi_core.specs.State.{<a href="../../machine/State/index.html#State">State</a>}
-
--- what is in a slot is valid, if it wasn&#x27;t dropped
-abbrev pub <b id="IsValidSlot">IsValidSlot</b> : {X : Type 0} → (X → Type 0) → Slot X → Type 0
-<a href="../../machine/Validity/index.html#IsValidSlot">IsValidSlot</a> Valid (Live x) = Valid x
-<a href="../../machine/Validity/index.html#IsValidSlot">IsValidSlot</a> Valid (Gone size) = Unit {0}
-
--- a segment has at most the greatest number of items
-abbrev pub <b id="IsValidSegment">IsValidSegment</b> : <a href="../../store/Segment/index.html#SegmentValue">SegmentValue</a> → Type 0
-<a href="../../machine/Validity/index.html#IsValidSegment">IsValidSegment</a> segment = length segment.items ≤ <a href="../../store/Segment/index.html#most_items">most_items</a>
-
--- memories and tables have valid types and as many whole pages and elements as these allow, segments aren&#x27;t too long,
--- and there are 16 registers
-pub record <b id="IsValid">IsValid</b> (s : <a href="../../machine/State/index.html#State">State</a>) : Type 0 where
-  pub <b id="memories">memories</b> : All (<a href="../../machine/Validity/index.html#IsValidSlot">IsValidSlot</a> <a href="../../store/Memory/index.html#IsValidMemory">IsValidMemory</a>) s.memories
-  pub <b id="tables">tables</b> : All (<a href="../../machine/Validity/index.html#IsValidSlot">IsValidSlot</a> <a href="../../store/Table/index.html#IsValidTable">IsValidTable</a>) s.tables
-  pub <b id="segments">segments</b> : All <a href="../../machine/Validity/index.html#IsValidSegment">IsValidSegment</a> s.segments
-  pub <b id="registers">registers</b> : length s.registers ≡ 16
-
--- a type that a call names is valid
-abbrev pub <b id="IsValidCall">IsValidCall</b> : Call → Type 0
-<a href="../../machine/Validity/index.html#IsValidCall">IsValidCall</a> (NewMemory ty) = <a href="../../store/MemoryType/index.html#IsValid">memory.IsValid</a> ty
-<a href="../../machine/Validity/index.html#IsValidCall">IsValidCall</a> (NewLentMemory ty) = <a href="../../store/MemoryType/index.html#IsValid">memory.IsValid</a> ty
-<a href="../../machine/Validity/index.html#IsValidCall">IsValidCall</a> (NewTable ty init) = <a href="../../store/TableType/index.html#IsValid">table.IsValid</a> ty
-<a href="../../machine/Validity/index.html#IsValidCall">IsValidCall</a> call = Unit {0}
-</code></pre>
-"####]
-    pub mod Validity {}
-    #[doc = r####"The calls on element segments and globals: what each does to the list of them.
-
-<pre><code>use Rattle.std.specs.Prelude.{◌≡◌, ◌⊎◌, ◌≤◌, ◌&lt;◌, ◌++◌, ℕ, Option, Result, Ok, Err, List, [], ◌∷◌, length, slice_get}
+<pre><code>use Rattle.std.specs.Prelude.{◌≡◌, ◌⊎◌, ◌≤◌, ◌&lt;◌, ◌++◌, ℕ, Option, Result, Ok, Err, List, [], ◌∷◌, length, slice_get, if◌then◌else◌, is_some}
 use Rattle.std.specs.Option.{option_map_or}
 use Rattle.wasmi_types.specs.declared.value.RefType.{RefType}
 use Rattle.wasmi_typed.specs.declared.typed.TypedRawVal.{TypedRawVal}
@@ -5208,8 +4925,11 @@ use Rattle.wasmi_store.specs.declared.table.element.SegmentError.{SegmentError}
 use Rattle.wasmi_store.specs.declared.table.element.SegmentError.TheVariants.{TooManyItems, OutOfSystemMemory}
 use Rattle.wasmi_store.specs.Segment.{<a href="../../store/Segment/index.html#SegmentValue">SegmentValue</a>, <a href="../../store/Segment/index.html#most_items">most_items</a>, <a href="../../store/Segment/index.html#dropped">dropped</a>}
 use Rattle.wasmi_core.specs.declared.calls.Reply.{Reply}
-use Rattle.wasmi_core.specs.declared.calls.Reply.TheVariants.{Done, Made, Value, Global, Segment, NoSuch, NoRoom}
+use Rattle.wasmi_core.specs.declared.calls.Reply.TheVariants.{Done, Made, Value, Global, Segment, NoSuch, NoRoom, Number, Fuel}
 use Rattle.wasmi_core.specs.Effects.{<a href="../../machine/Effects/index.html#reply_of">reply_of</a>, <a href="../../machine/Effects/index.html#ChangesItem">ChangesItem</a>, <a href="../../machine/Effects/index.html#AddsEntry">AddsEntry</a>}
+use Rattle.wasmi_meter.specs.declared.fuel.FuelError.TheVariants.{FuelMeteringDisabled}
+use Rattle.wasmi_meter.specs.Meter.{<a href="../../meter/Meter/index.html#Meter">Meter</a>, <a href="../../meter/Meter/index.html#meter_set">meter_set</a>}
+use Rattle.wasmi_core.specs.State.{<a href="../../machine/State/index.html#State">State</a>}
 
 -- the segment of these items, unless there are too many, or memory is refused for some
 abbrev pub <b id="IsSegmentOf">IsSegmentOf</b> : RefType → List ℕ → Result <a href="../../store/Segment/index.html#SegmentValue">SegmentValue</a> SegmentError → Type 0
@@ -5246,105 +4966,19 @@ abbrev pub <b id="global_reply">global_reply</b> : Option <a href="../../typed/G
 -- the reply to a call for the value of the global of an index
 abbrev pub <b id="GetsGlobalAt">GetsGlobalAt</b> : ℕ → List <a href="../../typed/Global/index.html#GlobalInstance">GlobalInstance</a> → Reply → Type 0
 <a href="../../machine/ValueEffects/index.html#GetsGlobalAt">GetsGlobalAt</a> k globals reply = reply ≡ <a href="../../machine/ValueEffects/index.html#global_reply">global_reply</a> (slice_get globals k)
+
+-- the fuel that is left is set, where the meter is on
+abbrev pub <b id="SetsFuel">SetsFuel</b> : ℕ → <a href="../../machine/State/index.html#State">State</a> → Reply → <a href="../../machine/State/index.html#State">State</a> → Type 0
+<a href="../../machine/ValueEffects/index.html#SetsFuel">SetsFuel</a> fuel s reply s&#x27; =
+    (reply ≡ (if is_some s.meter.left then Done else Fuel FuelMeteringDisabled))
+    × (s&#x27; ≡ record s { meter = <a href="../../meter/Meter/index.html#meter_set">meter_set</a> s.meter fuel })
+
+-- the fuel that is left is asked for
+abbrev pub <b id="get_fuel_reply">get_fuel_reply</b> : <a href="../../meter/Meter/index.html#Meter">Meter</a> → Reply
+<a href="../../machine/ValueEffects/index.html#get_fuel_reply">get_fuel_reply</a> m = option_map_or (λ left. Number left) m.left (Fuel FuelMeteringDisabled)
 </code></pre>
 "####]
     pub mod ValueEffects {}
-    #[doc = r####"A machine with the limiter that it asks, and what one call does.
-
-<pre><code>use Rattle.std.specs.Prelude.{◌≡◌, ℕ}
-use Rattle.wasmi_core.specs.declared.calls.Call.{Call}
-use Rattle.wasmi_core.specs.declared.calls.Reply.{Reply}
-use Rattle.wasmi_core.specs.declared.calls.Reply.TheVariants as <a href="../../machine/World/index.html#reply">reply</a>
-use Rattle.wasmi_core.specs.State.{<a href="../../machine/State/index.html#State">State</a>}
-
--- what a call can reach: the machine&#x27;s state and the limiter
-pub record <b id="World">World</b> (S : Type 0) : Type 0 where
-  pub <b id="state">state</b> : <a href="../../machine/State/index.html#State">State</a>
-  pub <b id="limiter">limiter</b> : S
-
--- a machine in this state with this limiter
-abbrev pub <b id="world">world</b> : {S : Type 0} → <a href="../../machine/State/index.html#State">State</a> → S → <a href="../../machine/World/index.html#World">World</a> S
-<a href="../../machine/World/index.html#world">world</a> machine <a href="../../machine/World/index.html#limiter">limiter</a> = record { <a href="../../machine/World/index.html#state">state</a> = machine; <a href="../../machine/World/index.html#limiter">limiter</a> = <a href="../../machine/World/index.html#limiter">limiter</a> }
-
--- one call: its reply, the fuel that it was charged and the bytes that it has written by growing or copying
-pub record <b id="Turn">Turn</b> : Type 0 where
-  pub <b id="call">call</b> : Call
-  pub <b id="reply">reply</b> : Reply
-  pub <b id="charge">charge</b> : ℕ
-  pub <b id="written">written</b> : ℕ
-
--- a turn that is neither charged nor written by
-abbrev pub <b id="IsFree">IsFree</b> : <a href="../../machine/World/index.html#Turn">Turn</a> → Type 0
-<a href="../../machine/World/index.html#IsFree">IsFree</a> turn = (turn.charge ≡ 0) × (turn.written ≡ 0)
-
--- a reply that tells why nothing was done
-abbrev pub <b id="IsRefusal">IsRefusal</b> : Reply → Type 0
-<a href="../../machine/World/index.html#IsRefusal">IsRefusal</a> reply.Done = ⊥
-<a href="../../machine/World/index.html#IsRefusal">IsRefusal</a> (reply.Made index) = ⊥
-<a href="../../machine/World/index.html#IsRefusal">IsRefusal</a> (reply.Value value) = ⊥
-<a href="../../machine/World/index.html#IsRefusal">IsRefusal</a> (reply.Number number) = ⊥
-<a href="../../machine/World/index.html#IsRefusal">IsRefusal</a> (reply.Bytes bytes) = ⊥
-<a href="../../machine/World/index.html#IsRefusal">IsRefusal</a> (reply.Reference element) = ⊥
-<a href="../../machine/World/index.html#IsRefusal">IsRefusal</a> refusal = Unit {0}
-</code></pre>
-"####]
-    pub mod World {}
-    #[doc = r####"The bytes that turns have written by growing and copying, and the fuel that they were charged for it.
-
-<pre><code>use Rattle.std.specs.Prelude.{◌≡◌, ℕ, ◌+◌, ◌-◌, ◌*◌, ◌≤◌, ◌&lt;◌, Bool, true, false, ◌&amp;&amp;◌, if◌then◌else◌, List, count_by, sum_by}
-use Rattle.wasmi_core.specs.declared.calls.Call.{Call}
-use Rattle.wasmi_core.specs.declared.calls.Call.TheVariants.{SetFuel}
-use Rattle.wasmi_core.specs.declared.calls.Reply.{Reply}
-use Rattle.wasmi_core.specs.declared.calls.Reply.TheVariants.{Done, Number}
-use Rattle.wasmi_core.specs.World.{<a href="../../machine/World/index.html#Turn">Turn</a>}
-use Rattle.wasmi_core.specs.Steps.{<a href="../../machine/Steps/index.html#is_charged">is_charged</a>}
-use Rattle.wasmi_core.specs.Account.{<a href="../../machine/Account/index.html#charges">charges</a>}
-
--- whether a reply accepts a call that is charged for what it writes
-abbrev pub <b id="is_accepted">is_accepted</b> : Reply → Bool
-<a href="../../machine/Writing/index.html#is_accepted">is_accepted</a> Done = true
-<a href="../../machine/Writing/index.html#is_accepted">is_accepted</a> (Number size) = true
-<a href="../../machine/Writing/index.html#is_accepted">is_accepted</a> reply = false
-
--- whether a call with this reply is charged for what it writes, and was accepted
-abbrev pub <b id="has_written">has_written</b> : Call → Reply → Bool
-<a href="../../machine/Writing/index.html#has_written">has_written</a> call reply = <a href="../../machine/Steps/index.html#is_charged">is_charged</a> call &amp;&amp; <a href="../../machine/Writing/index.html#is_accepted">is_accepted</a> reply
-
--- how many turns have written
-abbrev pub <b id="writing_turns">writing_turns</b> : List <a href="../../machine/World/index.html#Turn">Turn</a> → ℕ
-<a href="../../machine/Writing/index.html#writing_turns">writing_turns</a> turns = count_by (λ turn. <a href="../../machine/Writing/index.html#has_written">has_written</a> turn.call turn.reply) turns
-
--- what the turns that have written were charged
-abbrev pub <b id="charges_for_writing">charges_for_writing</b> : List <a href="../../machine/World/index.html#Turn">Turn</a> → ℕ
-<a href="../../machine/Writing/index.html#charges_for_writing">charges_for_writing</a> turns = sum_by (λ turn. if <a href="../../machine/Writing/index.html#has_written">has_written</a> turn.call turn.reply then turn.charge else 0) turns
-
--- how many bytes turns have written
-abbrev pub <b id="bytes_written">bytes_written</b> : List <a href="../../machine/World/index.html#Turn">Turn</a> → ℕ
-<a href="../../machine/Writing/index.html#bytes_written">bytes_written</a> turns = sum_by (λ turn. turn.written) turns
-
--- the amount to which a call sets the fuel, or 0
-abbrev pub <b id="amount_set">amount_set</b> : Call → ℕ
-<a href="../../machine/Writing/index.html#amount_set">amount_set</a> (SetFuel fuel) = fuel
-<a href="../../machine/Writing/index.html#amount_set">amount_set</a> call = 0
-
--- the sum of all amounts to which turns have set the fuel
-abbrev pub <b id="amounts_set">amounts_set</b> : List <a href="../../machine/World/index.html#Turn">Turn</a> → ℕ
-<a href="../../machine/Writing/index.html#amounts_set">amounts_set</a> turns = sum_by (λ turn. <a href="../../machine/Writing/index.html#amount_set">amount_set</a> turn.call) turns
-
--- at a rate of so many bytes a fuel, no more is written than what was charged pays for, and less than a fuel&#x27;s worth
--- beyond it in each turn; and no more than all the fuel that there was
-pub record <b id="IsBounded">IsBounded</b> (rate fuel : ℕ) (turns : List <a href="../../machine/World/index.html#Turn">Turn</a>) : Type 0 where
-  pub <b id="by_charges">by_charges</b> : <a href="../../machine/Writing/index.html#bytes_written">bytes_written</a> turns ≤ rate * <a href="../../machine/Writing/index.html#charges_for_writing">charges_for_writing</a> turns + <a href="../../machine/Writing/index.html#writing_turns">writing_turns</a> turns * (rate - 1)
-  pub <b id="by_fuel">by_fuel</b> : <a href="../../machine/Writing/index.html#bytes_written">bytes_written</a> turns ≤ rate * (fuel + <a href="../../machine/Writing/index.html#amounts_set">amounts_set</a> turns) + <a href="../../machine/Writing/index.html#writing_turns">writing_turns</a> turns * (rate - 1)
-
--- what was left before is what is left after turns and what they were charged; at a rate above 0, no more is written
--- than what was spent pays for, and less than a fuel&#x27;s worth beyond it in each turn
-pub record <b id="IsSpent">IsSpent</b> (rate before after : ℕ) (turns : List <a href="../../machine/World/index.html#Turn">Turn</a>) : Type 0 where
-  pub <b id="charged">charged</b> : after + <a href="../../machine/Account/index.html#charges">charges</a> turns ≡ before
-  pub <b id="written">written</b> : 0 &lt; rate → <a href="../../machine/Writing/index.html#bytes_written">bytes_written</a> turns ≤ rate * (before - after) + <a href="../../machine/Writing/index.html#writing_turns">writing_turns</a> turns * (rate - 1)
-</code></pre>
-"####]
-    pub mod Writing {}
 }
 /// Definitions of `wasmi_laws`.
 pub mod laws {
@@ -5367,10 +5001,8 @@ use Rattle.wasmi_core.specs.declared.slots.Slot.{Slot}
 use Rattle.wasmi_core.specs.declared.slots.Slot.TheVariants.{Live, Gone}
 use Rattle.wasmi_core.specs.declared.calls.Reply.{Reply}
 use Rattle.wasmi_core.specs.declared.calls.Reply.TheVariants.{Done, Value, Bytes, Memory, Number, Table}
-use Rattle.wasmi_core.specs.State.{<a href="../../machine/State/index.html#State">State</a>, <a href="../../machine/State/index.html#live_at">live_at</a>, <a href="../../machine/State/index.html#with_memories">with_memories</a>, <a href="../../machine/State/index.html#with_tables">with_tables</a>}
-use Rattle.wasmi_core.specs.World.{<a href="../../machine/World/index.html#World">World</a>, <a href="../../machine/World/index.html#Turn">Turn</a>, <a href="../../machine/World/index.html#world">world</a>}
-use Rattle.wasmi_core.specs.Steps.{<a href="../../machine/Steps/index.html#Step">Step</a>, <a href="../../machine/Steps/index.html#RepliesWith">RepliesWith</a>}
-use Rattle.wasmi_core.specs.Runs.{<a href="../../machine/Runs/index.html#Run">Run</a>}
+use Rattle.wasmi_core.specs.State.{<a href="../../machine/State/index.html#State">State</a>, <a href="../../machine/State/index.html#live_at">live_at</a>, <a href="../../machine/State/index.html#with_memories">with_memories</a>, <a href="../../machine/State/index.html#with_tables">with_tables</a>, <a href="../../machine/State/index.html#World">World</a>, <a href="../../machine/State/index.html#Turn">Turn</a>, <a href="../../machine/State/index.html#world">world</a>}
+use Rattle.wasmi_core.specs.Steps.{<a href="../../machine/Steps/index.html#Step">Step</a>, <a href="../../machine/Steps/index.html#RepliesWith">RepliesWith</a>, <a href="../../machine/Steps/index.html#Run">Run</a>}
 use Rattle.wasmi_types.specs.Access.{<a href="../../types/Access/index.html#at">at</a>}
 use Rattle.wasmi_typed.specs.declared.typed_ref.TypedRawRef.{TypedRawRef}
 use Rattle.wasmi_meter.specs.Meter.{<a href="../../meter/Meter/index.html#Meter">Meter</a>}
@@ -5579,25 +5211,25 @@ module _ {S : Type 0} (rules : <a href="../../meter/Limiter/index.html#Rules">Ru
   -- a turn leaves what is at each index except the one that its call may change
   abbrev pub <b id="OthersStay">OthersStay</b> : Type 0
   <a href="../../laws/Places/index.html#OthersStay">OthersStay</a> =
-      (w : <a href="../../machine/World/index.html#World">World</a> S) (turn : <a href="../../machine/World/index.html#Turn">Turn</a>) (w&#x27; : <a href="../../machine/World/index.html#World">World</a> S) → <a href="../../machine/Steps/index.html#Step">Step</a> rules w turn w&#x27; → (location : <a href="../../laws/Places/index.html#Location">Location</a>)
+      (w : <a href="../../machine/State/index.html#World">World</a> S) (turn : <a href="../../machine/State/index.html#Turn">Turn</a>) (w&#x27; : <a href="../../machine/State/index.html#World">World</a> S) → <a href="../../machine/Steps/index.html#Step">Step</a> rules w turn w&#x27; → (location : <a href="../../laws/Places/index.html#Location">Location</a>)
       → <a href="../../laws/Places/index.html#LeavesAlone">LeavesAlone</a> location turn.call → <a href="../../laws/Places/index.html#StaysAt">StaysAt</a> location w.state w&#x27;.state
 
   -- a run leaves what is at each index that none of its calls may change
   abbrev pub <b id="OthersStayInRuns">OthersStayInRuns</b> : Type 0
   <a href="../../laws/Places/index.html#OthersStayInRuns">OthersStayInRuns</a> =
-      (w : <a href="../../machine/World/index.html#World">World</a> S) (turns : List <a href="../../machine/World/index.html#Turn">Turn</a>) (w&#x27; : <a href="../../machine/World/index.html#World">World</a> S) → <a href="../../machine/Runs/index.html#Run">Run</a> rules w turns w&#x27; → (location : <a href="../../laws/Places/index.html#Location">Location</a>)
+      (w : <a href="../../machine/State/index.html#World">World</a> S) (turns : List <a href="../../machine/State/index.html#Turn">Turn</a>) (w&#x27; : <a href="../../machine/State/index.html#World">World</a> S) → <a href="../../machine/Steps/index.html#Run">Run</a> rules w turns w&#x27; → (location : <a href="../../laws/Places/index.html#Location">Location</a>)
       → All (<a href="../../laws/Places/index.html#LeavesAlone">LeavesAlone</a> location) (map Turn.call turns) → <a href="../../laws/Places/index.html#StaysAt">StaysAt</a> location w.state w&#x27;.state
 
   -- after a run, what was at an index is there, as it may have become
   abbrev pub <b id="IndicesLast">IndicesLast</b> : Type 0
   <a href="../../laws/Places/index.html#IndicesLast">IndicesLast</a> =
-      (w : <a href="../../machine/World/index.html#World">World</a> S) (turns : List <a href="../../machine/World/index.html#Turn">Turn</a>) (w&#x27; : <a href="../../machine/World/index.html#World">World</a> S) → <a href="../../machine/Runs/index.html#Run">Run</a> rules w turns w&#x27; → (location : <a href="../../laws/Places/index.html#Location">Location</a>)
+      (w : <a href="../../machine/State/index.html#World">World</a> S) (turns : List <a href="../../machine/State/index.html#Turn">Turn</a>) (w&#x27; : <a href="../../machine/State/index.html#World">World</a> S) → <a href="../../machine/Steps/index.html#Run">Run</a> rules w turns w&#x27; → (location : <a href="../../laws/Places/index.html#Location">Location</a>)
       → (x : <a href="../../laws/Places/index.html#Content">Content</a> location) → <a href="../../laws/Places/index.html#content_at">content_at</a> location w.state ≡ Some x → <a href="../../laws/Places/index.html#HasAt">HasAt</a> location w&#x27;.state (<a href="../../laws/Places/index.html#IsLater">IsLater</a> location x)
 
   -- after a run none of whose calls drops it, what was live at an index is live
   abbrev pub <b id="LiveUntilDropped">LiveUntilDropped</b> : Type 0
   <a href="../../laws/Places/index.html#LiveUntilDropped">LiveUntilDropped</a> =
-      (w : <a href="../../machine/World/index.html#World">World</a> S) (turns : List <a href="../../machine/World/index.html#Turn">Turn</a>) (w&#x27; : <a href="../../machine/World/index.html#World">World</a> S) → <a href="../../machine/Runs/index.html#Run">Run</a> rules w turns w&#x27; → (location : <a href="../../laws/Places/index.html#Location">Location</a>)
+      (w : <a href="../../machine/State/index.html#World">World</a> S) (turns : List <a href="../../machine/State/index.html#Turn">Turn</a>) (w&#x27; : <a href="../../machine/State/index.html#World">World</a> S) → <a href="../../machine/Steps/index.html#Run">Run</a> rules w turns w&#x27; → (location : <a href="../../laws/Places/index.html#Location">Location</a>)
       → All (<a href="../../laws/Places/index.html#DropsNot">DropsNot</a> location) (map Turn.call turns) → <a href="../../laws/Places/index.html#HasAt">HasAt</a> location w.state (<a href="../../laws/Places/index.html#IsLive">IsLive</a> location)
       → <a href="../../laws/Places/index.html#HasAt">HasAt</a> location w&#x27;.state (<a href="../../laws/Places/index.html#IsLive">IsLive</a> location)
 
@@ -5605,15 +5237,15 @@ module _ {S : Type 0} (rules : <a href="../../meter/Limiter/index.html#Rules">Ru
   -- change that memory
   abbrev pub <b id="StoresAreReadBack">StoresAreReadBack</b> : Type 0
   <a href="../../laws/Places/index.html#StoresAreReadBack">StoresAreReadBack</a> =
-      (it : <a href="../../laws/Places/index.html#NumberStore">NumberStore</a>) (t u v w : <a href="../../machine/World/index.html#World">World</a> S) (turns : List <a href="../../machine/World/index.html#Turn">Turn</a>) (reply : Reply)
-      → <a href="../../machine/Steps/index.html#RepliesWith">RepliesWith</a> rules (<a href="../../laws/Places/index.html#store_call">store_call</a> it) t Done u → <a href="../../machine/Runs/index.html#Run">Run</a> rules u turns v
+      (it : <a href="../../laws/Places/index.html#NumberStore">NumberStore</a>) (t u v w : <a href="../../machine/State/index.html#World">World</a> S) (turns : List <a href="../../machine/State/index.html#Turn">Turn</a>) (reply : Reply)
+      → <a href="../../machine/Steps/index.html#RepliesWith">RepliesWith</a> rules (<a href="../../laws/Places/index.html#store_call">store_call</a> it) t Done u → <a href="../../machine/Steps/index.html#Run">Run</a> rules u turns v
       → All (<a href="../../laws/Places/index.html#LeavesAlone">LeavesAlone</a> (<a href="../../laws/Places/index.html#MemoryAt">MemoryAt</a> it.memory)) (map Turn.call turns) → <a href="../../machine/Steps/index.html#RepliesWith">RepliesWith</a> rules (<a href="../../laws/Places/index.html#load_call">load_call</a> it) v reply w
       → (reply ≡ Value (<a href="../../laws/Places/index.html#stored_part">stored_part</a> it.op it.value)) × (w ≡ v)
 
   -- an accepted store keeps all other bytes of its memory, and how many there are
   abbrev pub <b id="StoresKeepOtherBytes">StoresKeepOtherBytes</b> : Type 0
   <a href="../../laws/Places/index.html#StoresKeepOtherBytes">StoresKeepOtherBytes</a> =
-      (it : <a href="../../laws/Places/index.html#NumberStore">NumberStore</a>) (t u : <a href="../../machine/World/index.html#World">World</a> S) → <a href="../../machine/Steps/index.html#RepliesWith">RepliesWith</a> rules (<a href="../../laws/Places/index.html#store_call">store_call</a> it) t Done u
+      (it : <a href="../../laws/Places/index.html#NumberStore">NumberStore</a>) (t u : <a href="../../machine/State/index.html#World">World</a> S) → <a href="../../machine/Steps/index.html#RepliesWith">RepliesWith</a> rules (<a href="../../laws/Places/index.html#store_call">store_call</a> it) t Done u
       → (x x&#x27; : <a href="../../store/Memory/index.html#MemoryValue">MemoryValue</a>) → <a href="../../machine/State/index.html#live_at">live_at</a> t.state.memories it.memory ≡ Some x
       → <a href="../../machine/State/index.html#live_at">live_at</a> u.state.memories it.memory ≡ Some x&#x27;
       → <a href="../../accesses/LoadStore/index.html#IsSameOutside">IsSameOutside</a> x.bytes x&#x27;.bytes (it.ptr + it.offset) (<a href="../../laws/Places/index.html#stored_size">stored_size</a> it.op)
@@ -5622,9 +5254,9 @@ module _ {S : Type 0} (rules : <a href="../../meter/Limiter/index.html#Rules">Ru
   -- two turns one after the other whose calls are local and independent may be exchanged
   abbrev pub <b id="IndependentTurnsSwap">IndependentTurnsSwap</b> : Type 0
   <a href="../../laws/Places/index.html#IndependentTurnsSwap">IndependentTurnsSwap</a> =
-      (w : <a href="../../machine/World/index.html#World">World</a> S) (first second : <a href="../../machine/World/index.html#Turn">Turn</a>) (w&#x27; : <a href="../../machine/World/index.html#World">World</a> S) → <a href="../../laws/Places/index.html#IsLocal">IsLocal</a> first.call → <a href="../../laws/Places/index.html#IsLocal">IsLocal</a> second.call
-      → <a href="../../laws/Places/index.html#IsIndependent">IsIndependent</a> first.call second.call → <a href="../../machine/Runs/index.html#Run">Run</a> rules w (first ∷ second ∷ []) w&#x27;
-      → <a href="../../machine/Runs/index.html#Run">Run</a> rules w (second ∷ first ∷ []) w&#x27;
+      (w : <a href="../../machine/State/index.html#World">World</a> S) (first second : <a href="../../machine/State/index.html#Turn">Turn</a>) (w&#x27; : <a href="../../machine/State/index.html#World">World</a> S) → <a href="../../laws/Places/index.html#IsLocal">IsLocal</a> first.call → <a href="../../laws/Places/index.html#IsLocal">IsLocal</a> second.call
+      → <a href="../../laws/Places/index.html#IsIndependent">IsIndependent</a> first.call second.call → <a href="../../machine/Steps/index.html#Run">Run</a> rules w (first ∷ second ∷ []) w&#x27;
+      → <a href="../../machine/Steps/index.html#Run">Run</a> rules w (second ∷ first ∷ []) w&#x27;
 
 -- the state with this memory at an index
 abbrev pub <b id="with_memory_at">with_memory_at</b> : <a href="../../machine/State/index.html#State">State</a> → ℕ → <a href="../../store/Memory/index.html#MemoryValue">MemoryValue</a> → <a href="../../machine/State/index.html#State">State</a>
@@ -5643,37 +5275,37 @@ module _ {S : Type 0} (rules : <a href="../../meter/Limiter/index.html#Rules">Ru
   -- as the machine&#x27;s does: with the same reply, and with what it leaves at the index
   abbrev pub <b id="MemoriesGrowAlike">MemoriesGrowAlike</b> : Type 0
   <a href="../../laws/Places/index.html#MemoriesGrowAlike">MemoriesGrowAlike</a> =
-      (w : <a href="../../machine/World/index.html#World">World</a> S) (k pages : ℕ) (x x&#x27; : <a href="../../store/Memory/index.html#MemoryValue">MemoryValue</a>) (result : Result ℕ MemoryError) (m&#x27; : <a href="../../meter/Meter/index.html#Meter">Meter</a>) (l&#x27; : S)
+      (w : <a href="../../machine/State/index.html#World">World</a> S) (k pages : ℕ) (x x&#x27; : <a href="../../store/Memory/index.html#MemoryValue">MemoryValue</a>) (result : Result ℕ MemoryError) (m&#x27; : <a href="../../meter/Meter/index.html#Meter">Meter</a>) (l&#x27; : S)
       → <a href="../../machine/State/index.html#live_at">live_at</a> w.state.memories k ≡ Some x
       → <a href="../../store/Memory/index.html#GrowsMemory">GrowsMemory</a> rules pages (<a href="../../store/Growth/index.html#metered_value">metered_value</a> x (Some w.state.meter) w.limiter) result
       (<a href="../../store/Growth/index.html#metered_value">metered_value</a> x&#x27; (Some m&#x27;) l&#x27;)
       → <a href="../../machine/Steps/index.html#RepliesWith">RepliesWith</a> rules (GrowMemory k pages) w (<a href="../../machine/Effects/index.html#reply_of">reply_of</a> Number Memory result)
-      (<a href="../../machine/World/index.html#world">world</a> (<a href="../../laws/Places/index.html#with_meter">with_meter</a> (<a href="../../laws/Places/index.html#with_memory_at">with_memory_at</a> w.state k x&#x27;) m&#x27;) l&#x27;)
+      (<a href="../../machine/State/index.html#world">world</a> (<a href="../../laws/Places/index.html#with_meter">with_meter</a> (<a href="../../laws/Places/index.html#with_memory_at">with_memory_at</a> w.state k x&#x27;) m&#x27;) l&#x27;)
 
   -- a table that grows by itself grows as the one at an index of a machine does, with the same reply
   abbrev pub <b id="TablesGrowAlike">TablesGrowAlike</b> : Type 0
   <a href="../../laws/Places/index.html#TablesGrowAlike">TablesGrowAlike</a> =
-      (w : <a href="../../machine/World/index.html#World">World</a> S) (k n : ℕ) (init : TypedRawRef) (x x&#x27; : <a href="../../store/Table/index.html#TableValue">TableValue</a>) (result : Result ℕ TableError) (m&#x27; : <a href="../../meter/Meter/index.html#Meter">Meter</a>)
+      (w : <a href="../../machine/State/index.html#World">World</a> S) (k n : ℕ) (init : TypedRawRef) (x x&#x27; : <a href="../../store/Table/index.html#TableValue">TableValue</a>) (result : Result ℕ TableError) (m&#x27; : <a href="../../meter/Meter/index.html#Meter">Meter</a>)
       (l&#x27; : S) → <a href="../../machine/State/index.html#live_at">live_at</a> w.state.tables k ≡ Some x
       → <a href="../../store/Table/index.html#GrowsTable">GrowsTable</a> rules n init (<a href="../../store/Growth/index.html#metered_value">metered_value</a> x (Some w.state.meter) w.limiter) result
       (<a href="../../store/Growth/index.html#metered_value">metered_value</a> x&#x27; (Some m&#x27;) l&#x27;)
       → <a href="../../machine/Steps/index.html#RepliesWith">RepliesWith</a> rules (GrowTable k n init) w (<a href="../../machine/Effects/index.html#reply_of">reply_of</a> Number Table result)
-      (<a href="../../machine/World/index.html#world">world</a> (<a href="../../laws/Places/index.html#with_meter">with_meter</a> (<a href="../../laws/Places/index.html#with_table_at">with_table_at</a> w.state k x&#x27;) m&#x27;) l&#x27;)
+      (<a href="../../machine/State/index.html#world">world</a> (<a href="../../laws/Places/index.html#with_meter">with_meter</a> (<a href="../../laws/Places/index.html#with_table_at">with_table_at</a> w.state k x&#x27;) m&#x27;) l&#x27;)
 
   -- bytes that are read of a memory by itself are those that the machine answers, and a read past its end is refused
   abbrev pub <b id="MemoriesReadAlike">MemoriesReadAlike</b> : Type 0
   <a href="../../laws/Places/index.html#MemoriesReadAlike">MemoriesReadAlike</a> =
-      (w : <a href="../../machine/World/index.html#World">World</a> S) (k <a href="../../laws/Places/index.html#offset">offset</a> len : ℕ) (x : <a href="../../store/Memory/index.html#MemoryValue">MemoryValue</a>) → <a href="../../machine/State/index.html#live_at">live_at</a> w.state.memories k ≡ Some x
+      (w : <a href="../../machine/State/index.html#World">World</a> S) (k <a href="../../laws/Places/index.html#offset">offset</a> len : ℕ) (x : <a href="../../store/Memory/index.html#MemoryValue">MemoryValue</a>) → <a href="../../machine/State/index.html#live_at">live_at</a> w.state.memories k ≡ Some x
       → MatchOption (<a href="../../types/Access/index.html#at">at</a> x.bytes <a href="../../laws/Places/index.html#offset">offset</a> len) (<a href="../../machine/Steps/index.html#RepliesWith">RepliesWith</a> rules (Read k <a href="../../laws/Places/index.html#offset">offset</a> len) w (Memory OutOfBoundsAccess) w)
       (λ bytes. <a href="../../machine/Steps/index.html#RepliesWith">RepliesWith</a> rules (Read k <a href="../../laws/Places/index.html#offset">offset</a> len) w (Bytes bytes) w)
 
   -- bytes that are written over those of a memory by itself are written by the machine&#x27;s call, or refused by it
   abbrev pub <b id="MemoriesWriteAlike">MemoriesWriteAlike</b> : Type 0
   <a href="../../laws/Places/index.html#MemoriesWriteAlike">MemoriesWriteAlike</a> =
-      (w : <a href="../../machine/World/index.html#World">World</a> S) (k <a href="../../laws/Places/index.html#offset">offset</a> : ℕ) (bytes : Vec ℕ _) (x x&#x27; : <a href="../../store/Memory/index.html#MemoryValue">MemoryValue</a>) (result : Result (Unit {0}) MemoryError)
+      (w : <a href="../../machine/State/index.html#World">World</a> S) (k <a href="../../laws/Places/index.html#offset">offset</a> : ℕ) (bytes : Vec ℕ _) (x x&#x27; : <a href="../../store/Memory/index.html#MemoryValue">MemoryValue</a>) (result : Result (Unit {0}) MemoryError)
       → <a href="../../machine/State/index.html#live_at">live_at</a> w.state.memories k ≡ Some x → <a href="../../store/Memory/index.html#WritesMemory">WritesMemory</a> x <a href="../../laws/Places/index.html#offset">offset</a> bytes.items result x&#x27;
       → <a href="../../machine/Steps/index.html#RepliesWith">RepliesWith</a> rules (Write k <a href="../../laws/Places/index.html#offset">offset</a> bytes) w (<a href="../../machine/Effects/index.html#reply_of">reply_of</a> (λ _. Done) Memory result)
-      (<a href="../../machine/World/index.html#world">world</a> (<a href="../../laws/Places/index.html#with_memory_at">with_memory_at</a> w.state k x&#x27;) w.limiter)
+      (<a href="../../machine/State/index.html#world">world</a> (<a href="../../laws/Places/index.html#with_memory_at">with_memory_at</a> w.state k x&#x27;) w.limiter)
 </code></pre>
 "####]
     pub mod Places {}
@@ -5683,15 +5315,12 @@ module _ {S : Type 0} (rules : <a href="../../meter/Limiter/index.html#Rules">Ru
 use Rattle.wasmi_meter.specs.declared.limiter.Kind.{Kind}
 use Rattle.wasmi_meter.specs.Limiter.{<a href="../../meter/Limiter/index.html#Rules">Rules</a>, <a href="../../meter/Limiter/index.html#optional_rules">optional_rules</a>}
 use Rattle.wasmi_meter.specs.declared.quota.Quota.{Quota}
-use Rattle.wasmi_meter.specs.Quota.{<a href="../../meter/Quota/index.html#IsWithinCaps">IsWithinCaps</a>, <a href="../../meter/Quota/index.html#cap_of">cap_of</a>, <a href="../../meter/Quota/index.html#holdings">holdings</a>, <a href="../../meter/Quota/index.html#quota_rules">quota_rules</a>}
+use Rattle.wasmi_meter.specs.Capped.{<a href="../../meter/Capped/index.html#IsWithinCaps">IsWithinCaps</a>, <a href="../../meter/Capped/index.html#cap_of">cap_of</a>, <a href="../../meter/Capped/index.html#holdings">holdings</a>, <a href="../../meter/Capped/index.html#quota_rules">quota_rules</a>}
 use Rattle.wasmi_core.specs.declared.calls.Call.{Call}
 use Rattle.wasmi_core.specs.declared.calls.Reply.{Reply}
-use Rattle.wasmi_core.specs.State.{<a href="../../machine/State/index.html#State">State</a>}
-use Rattle.wasmi_core.specs.World.{<a href="../../machine/World/index.html#World">World</a>, <a href="../../machine/World/index.html#Turn">Turn</a>, <a href="../../machine/World/index.html#world">world</a>, <a href="../../machine/World/index.html#IsRefusal">IsRefusal</a>}
-use Rattle.wasmi_core.specs.Steps.{<a href="../../machine/Steps/index.html#Step">Step</a>}
+use Rattle.wasmi_core.specs.State.{<a href="../../machine/State/index.html#State">State</a>, <a href="../../machine/State/index.html#World">World</a>, <a href="../../machine/State/index.html#Turn">Turn</a>, <a href="../../machine/State/index.html#world">world</a>, <a href="../../machine/State/index.html#IsRefusal">IsRefusal</a>, <a href="../../machine/State/index.html#sizes">sizes</a>, <a href="../../machine/State/index.html#total">total</a>, <a href="../../machine/State/index.html#HoldsTotals">HoldsTotals</a>}
+use Rattle.wasmi_core.specs.Steps.{<a href="../../machine/Steps/index.html#Step">Step</a>, <a href="../../machine/Steps/index.html#Sequence">Sequence</a>, <a href="../../machine/Steps/index.html#Run">Run</a>, <a href="../../machine/Steps/index.html#IsRunOf">IsRunOf</a>}
 use Rattle.wasmi_core.specs.Exchange.{<a href="../../machine/Exchange/index.html#Nowhere">Nowhere</a>, <a href="../../machine/Exchange/index.html#place_of">place_of</a>}
-use Rattle.wasmi_core.specs.Runs.{<a href="../../machine/Runs/index.html#Sequence">Sequence</a>, <a href="../../machine/Runs/index.html#Run">Run</a>, <a href="../../machine/Runs/index.html#IsRunOf">IsRunOf</a>}
-use Rattle.wasmi_core.specs.Totals.{<a href="../../machine/Totals/index.html#sizes">sizes</a>, <a href="../../machine/Totals/index.html#total">total</a>, <a href="../../machine/Totals/index.html#HoldsTotals">HoldsTotals</a>}
 use Rattle.std.specs.Option.{option_map}
 use Rattle.wasmi_meter.specs.Meter.{<a href="../../meter/Meter/index.html#Meter">Meter</a>, <a href="../../meter/Meter/index.html#amount_left">amount_left</a>}
 use Rattle.wasmi_core.specs.declared.calls.Call.TheVariants.{SetFuel, GetFuel}
@@ -5703,11 +5332,11 @@ use Rattle.wasmi_meter.specs.declared.error.TableError.TheVariants as table
 use Rattle.wasmi_core.specs.declared.calls.Reply.TheVariants as reply
 
 -- the replies are those of two runs in a row: of the first calls, and of the others from where these end
-pub record <b id="IsRunInTwo">IsRunInTwo</b> {S : Type 0} (rules : <a href="../../meter/Limiter/index.html#Rules">Rules</a> S) (first rest : List Call) (u : <a href="../../machine/World/index.html#World">World</a> S) (replies : List Reply)
-    (<a href="../../laws/Runs/index.html#w">w</a> : <a href="../../machine/World/index.html#World">World</a> S) : Type 0 where
-  pub <b id="between">between</b> : <a href="../../machine/World/index.html#World">World</a> S
-  pub <b id="first_run">first_run</b> : <a href="../../machine/Runs/index.html#IsRunOf">IsRunOf</a> rules first u (take (length first) replies) <a href="../../laws/Runs/index.html#between">between</a>
-  pub <b id="rest_run">rest_run</b> : <a href="../../machine/Runs/index.html#IsRunOf">IsRunOf</a> rules rest <a href="../../laws/Runs/index.html#between">between</a> (drop (length first) replies) <a href="../../laws/Runs/index.html#w">w</a>
+pub record <b id="IsRunInTwo">IsRunInTwo</b> {S : Type 0} (rules : <a href="../../meter/Limiter/index.html#Rules">Rules</a> S) (first rest : List Call) (u : <a href="../../machine/State/index.html#World">World</a> S) (replies : List Reply)
+    (<a href="../../laws/Runs/index.html#w">w</a> : <a href="../../machine/State/index.html#World">World</a> S) : Type 0 where
+  pub <b id="between">between</b> : <a href="../../machine/State/index.html#World">World</a> S
+  pub <b id="first_run">first_run</b> : <a href="../../machine/Steps/index.html#IsRunOf">IsRunOf</a> rules first u (take (length first) replies) <a href="../../laws/Runs/index.html#between">between</a>
+  pub <b id="rest_run">rest_run</b> : <a href="../../machine/Steps/index.html#IsRunOf">IsRunOf</a> rules rest <a href="../../laws/Runs/index.html#between">between</a> (drop (length first) replies) <a href="../../laws/Runs/index.html#w">w</a>
 
 -- The reply is a refusal that is found before the limiter is asked and before anything is charged: a trap, an index
 -- that names nothing, an access past the end, another type, metering that is off, or no place for a new slot.
@@ -5731,66 +5360,66 @@ module _ {S : Type 0} (rules : <a href="../../meter/Limiter/index.html#Rules">Ru
   -- a run of turns is, at each place, a run of those before it, and a run of the others from where these end
   abbrev pub <b id="RunsAreCut">RunsAreCut</b> : Type 0
   <a href="../../laws/Runs/index.html#RunsAreCut">RunsAreCut</a> =
-      (u : <a href="../../machine/World/index.html#World">World</a> S) (turns turns&#x27; : List <a href="../../machine/World/index.html#Turn">Turn</a>) (<a href="../../laws/Runs/index.html#w">w</a> : <a href="../../machine/World/index.html#World">World</a> S) → <a href="../../machine/Runs/index.html#Run">Run</a> rules u (turns ++ turns&#x27;) <a href="../../laws/Runs/index.html#w">w</a>
-      → (v : <a href="../../machine/World/index.html#World">World</a> S) × <a href="../../machine/Runs/index.html#Run">Run</a> rules u turns v × <a href="../../machine/Runs/index.html#Run">Run</a> rules v turns&#x27; <a href="../../laws/Runs/index.html#w">w</a>
+      (u : <a href="../../machine/State/index.html#World">World</a> S) (turns turns&#x27; : List <a href="../../machine/State/index.html#Turn">Turn</a>) (<a href="../../laws/Runs/index.html#w">w</a> : <a href="../../machine/State/index.html#World">World</a> S) → <a href="../../machine/Steps/index.html#Run">Run</a> rules u (turns ++ turns&#x27;) <a href="../../laws/Runs/index.html#w">w</a>
+      → (v : <a href="../../machine/State/index.html#World">World</a> S) × <a href="../../machine/Steps/index.html#Run">Run</a> rules u turns v × <a href="../../machine/Steps/index.html#Run">Run</a> rules v turns&#x27; <a href="../../laws/Runs/index.html#w">w</a>
 
   -- a run of calls is, at each place, two runs in a row
   abbrev pub <b id="RunsOfCallsAreCut">RunsOfCallsAreCut</b> : Type 0
   <a href="../../laws/Runs/index.html#RunsOfCallsAreCut">RunsOfCallsAreCut</a> =
-      (calls calls&#x27; : List Call) (u : <a href="../../machine/World/index.html#World">World</a> S) (replies : List Reply) (<a href="../../laws/Runs/index.html#w">w</a> : <a href="../../machine/World/index.html#World">World</a> S)
-      → <a href="../../machine/Runs/index.html#IsRunOf">IsRunOf</a> rules (calls ++ calls&#x27;) u replies <a href="../../laws/Runs/index.html#w">w</a> → <a href="../../laws/Runs/index.html#IsRunInTwo">IsRunInTwo</a> rules calls calls&#x27; u replies <a href="../../laws/Runs/index.html#w">w</a>
+      (calls calls&#x27; : List Call) (u : <a href="../../machine/State/index.html#World">World</a> S) (replies : List Reply) (<a href="../../laws/Runs/index.html#w">w</a> : <a href="../../machine/State/index.html#World">World</a> S)
+      → <a href="../../machine/Steps/index.html#IsRunOf">IsRunOf</a> rules (calls ++ calls&#x27;) u replies <a href="../../laws/Runs/index.html#w">w</a> → <a href="../../laws/Runs/index.html#IsRunInTwo">IsRunInTwo</a> rules calls calls&#x27; u replies <a href="../../laws/Runs/index.html#w">w</a>
 
   -- each size, of a memory in bytes or of a table in elements, stays at its index in a run and doesn&#x27;t shrink
   abbrev pub <b id="SizesNeverShrink">SizesNeverShrink</b> : Type 0
   <a href="../../laws/Runs/index.html#SizesNeverShrink">SizesNeverShrink</a> =
-      (<a href="../../laws/Runs/index.html#w">w</a> : <a href="../../machine/World/index.html#World">World</a> S) (turns : List <a href="../../machine/World/index.html#Turn">Turn</a>) (w&#x27; : <a href="../../machine/World/index.html#World">World</a> S) → <a href="../../machine/Runs/index.html#Run">Run</a> rules <a href="../../laws/Runs/index.html#w">w</a> turns w&#x27;
-      → (kind : Kind) (k n : ℕ) → slice_get (<a href="../../machine/Totals/index.html#sizes">sizes</a> w.state kind) k ≡ Some n
-      → (n&#x27; : ℕ) × (slice_get (<a href="../../machine/Totals/index.html#sizes">sizes</a> w&#x27;.state kind) k ≡ Some n&#x27;) × (n ≤ n&#x27;)
+      (<a href="../../laws/Runs/index.html#w">w</a> : <a href="../../machine/State/index.html#World">World</a> S) (turns : List <a href="../../machine/State/index.html#Turn">Turn</a>) (w&#x27; : <a href="../../machine/State/index.html#World">World</a> S) → <a href="../../machine/Steps/index.html#Run">Run</a> rules <a href="../../laws/Runs/index.html#w">w</a> turns w&#x27;
+      → (kind : Kind) (k n : ℕ) → slice_get (<a href="../../machine/State/index.html#sizes">sizes</a> w.state kind) k ≡ Some n
+      → (n&#x27; : ℕ) × (slice_get (<a href="../../machine/State/index.html#sizes">sizes</a> w&#x27;.state kind) k ≡ Some n&#x27;) × (n ≤ n&#x27;)
 
   -- the totals of a machine don&#x27;t shrink in a run
   abbrev pub <b id="TotalsNeverShrink">TotalsNeverShrink</b> : Type 0
   <a href="../../laws/Runs/index.html#TotalsNeverShrink">TotalsNeverShrink</a> =
-      (<a href="../../laws/Runs/index.html#w">w</a> : <a href="../../machine/World/index.html#World">World</a> S) (turns : List <a href="../../machine/World/index.html#Turn">Turn</a>) (w&#x27; : <a href="../../machine/World/index.html#World">World</a> S) → <a href="../../machine/Runs/index.html#Run">Run</a> rules <a href="../../laws/Runs/index.html#w">w</a> turns w&#x27;
-      → (kind : Kind) → <a href="../../machine/Totals/index.html#total">total</a> w.state kind ≤ <a href="../../machine/Totals/index.html#total">total</a> w&#x27;.state kind
+      (<a href="../../laws/Runs/index.html#w">w</a> : <a href="../../machine/State/index.html#World">World</a> S) (turns : List <a href="../../machine/State/index.html#Turn">Turn</a>) (w&#x27; : <a href="../../machine/State/index.html#World">World</a> S) → <a href="../../machine/Steps/index.html#Run">Run</a> rules <a href="../../laws/Runs/index.html#w">w</a> turns w&#x27;
+      → (kind : Kind) → <a href="../../machine/State/index.html#total">total</a> w.state kind ≤ <a href="../../machine/State/index.html#total">total</a> w&#x27;.state kind
 
   -- a turn with a plain refusal leaves the machine, its meter and the limiter as they were
   abbrev pub <b id="PlainRefusalsChangeNothing">PlainRefusalsChangeNothing</b> : Type 0
   <a href="../../laws/Runs/index.html#PlainRefusalsChangeNothing">PlainRefusalsChangeNothing</a> =
-      (<a href="../../laws/Runs/index.html#w">w</a> : <a href="../../machine/World/index.html#World">World</a> S) (turn : <a href="../../machine/World/index.html#Turn">Turn</a>) (w&#x27; : <a href="../../machine/World/index.html#World">World</a> S) → <a href="../../machine/Steps/index.html#Step">Step</a> rules <a href="../../laws/Runs/index.html#w">w</a> turn w&#x27; → <a href="../../laws/Runs/index.html#IsPlainRefusal">IsPlainRefusal</a> turn.reply → w&#x27; ≡ <a href="../../laws/Runs/index.html#w">w</a>
+      (<a href="../../laws/Runs/index.html#w">w</a> : <a href="../../machine/State/index.html#World">World</a> S) (turn : <a href="../../machine/State/index.html#Turn">Turn</a>) (w&#x27; : <a href="../../machine/State/index.html#World">World</a> S) → <a href="../../machine/Steps/index.html#Step">Step</a> rules <a href="../../laws/Runs/index.html#w">w</a> turn w&#x27; → <a href="../../laws/Runs/index.html#IsPlainRefusal">IsPlainRefusal</a> turn.reply → w&#x27; ≡ <a href="../../laws/Runs/index.html#w">w</a>
 
   -- a refused turn of a call that makes nothing and lets nothing grow leaves the machine, its meter and the limiter as
   -- they were
   abbrev pub <b id="OtherRefusalsChangeNothing">OtherRefusalsChangeNothing</b> : Type 0
   <a href="../../laws/Runs/index.html#OtherRefusalsChangeNothing">OtherRefusalsChangeNothing</a> =
-      (<a href="../../laws/Runs/index.html#w">w</a> : <a href="../../machine/World/index.html#World">World</a> S) (turn : <a href="../../machine/World/index.html#Turn">Turn</a>) (w&#x27; : <a href="../../machine/World/index.html#World">World</a> S) → <a href="../../machine/Steps/index.html#Step">Step</a> rules <a href="../../laws/Runs/index.html#w">w</a> turn w&#x27; → <a href="../../machine/Exchange/index.html#place_of">place_of</a> turn.call ≡ <a href="../../machine/Exchange/index.html#Nowhere">Nowhere</a>
-      → <a href="../../machine/World/index.html#IsRefusal">IsRefusal</a> turn.reply → w&#x27; ≡ <a href="../../laws/Runs/index.html#w">w</a>
+      (<a href="../../laws/Runs/index.html#w">w</a> : <a href="../../machine/State/index.html#World">World</a> S) (turn : <a href="../../machine/State/index.html#Turn">Turn</a>) (w&#x27; : <a href="../../machine/State/index.html#World">World</a> S) → <a href="../../machine/Steps/index.html#Step">Step</a> rules <a href="../../laws/Runs/index.html#w">w</a> turn w&#x27; → <a href="../../machine/Exchange/index.html#place_of">place_of</a> turn.call ≡ <a href="../../machine/Exchange/index.html#Nowhere">Nowhere</a>
+      → <a href="../../machine/State/index.html#IsRefusal">IsRefusal</a> turn.reply → w&#x27; ≡ <a href="../../laws/Runs/index.html#w">w</a>
 
   -- a run in which each reply is a plain refusal leaves the machine, its meter and the limiter as they were
   abbrev pub <b id="PlainlyRefusedRunsChangeNothing">PlainlyRefusedRunsChangeNothing</b> : Type 0
   <a href="../../laws/Runs/index.html#PlainlyRefusedRunsChangeNothing">PlainlyRefusedRunsChangeNothing</a> =
-      (<a href="../../laws/Runs/index.html#w">w</a> : <a href="../../machine/World/index.html#World">World</a> S) (turns : List <a href="../../machine/World/index.html#Turn">Turn</a>) (w&#x27; : <a href="../../machine/World/index.html#World">World</a> S) → <a href="../../machine/Runs/index.html#Run">Run</a> rules <a href="../../laws/Runs/index.html#w">w</a> turns w&#x27;
+      (<a href="../../laws/Runs/index.html#w">w</a> : <a href="../../machine/State/index.html#World">World</a> S) (turns : List <a href="../../machine/State/index.html#Turn">Turn</a>) (w&#x27; : <a href="../../machine/State/index.html#World">World</a> S) → <a href="../../machine/Steps/index.html#Run">Run</a> rules <a href="../../laws/Runs/index.html#w">w</a> turns w&#x27;
       → All <a href="../../laws/Runs/index.html#IsPlainRefusal">IsPlainRefusal</a> (map Turn.reply turns) → w&#x27; ≡ <a href="../../laws/Runs/index.html#w">w</a>
 
 -- a machine has no more of each kind than the caps of a quota
 abbrev pub <b id="IsWithinCapsOf">IsWithinCapsOf</b> : Quota → <a href="../../machine/State/index.html#State">State</a> → Type 0
-<a href="../../laws/Runs/index.html#IsWithinCapsOf">IsWithinCapsOf</a> quota s = (kind : Kind) → <a href="../../machine/Totals/index.html#total">total</a> s kind ≤ <a href="../../meter/Quota/index.html#cap_of">cap_of</a> quota kind
+<a href="../../laws/Runs/index.html#IsWithinCapsOf">IsWithinCapsOf</a> quota s = (kind : Kind) → <a href="../../machine/State/index.html#total">total</a> s kind ≤ <a href="../../meter/Capped/index.html#cap_of">cap_of</a> quota kind
 
 -- under a quota that holds what a machine has, and no more than its caps, the machine is within these caps after each
 -- turn of a run
 abbrev pub <b id="CapsHoldInRuns">CapsHoldInRuns</b> : Type 0
 <a href="../../laws/Runs/index.html#CapsHoldInRuns">CapsHoldInRuns</a> =
-    (s : <a href="../../machine/State/index.html#State">State</a>) (quota : Quota) → <a href="../../machine/Totals/index.html#HoldsTotals">HoldsTotals</a> (<a href="../../meter/Quota/index.html#holdings">holdings</a> quota) s → <a href="../../meter/Quota/index.html#IsWithinCaps">IsWithinCaps</a> quota
-    → (turns : List <a href="../../machine/World/index.html#Turn">Turn</a>) (w&#x27; : <a href="../../machine/World/index.html#World">World</a> (Option Quota))
-    → <a href="../../machine/Runs/index.html#Run">Run</a> (<a href="../../meter/Limiter/index.html#optional_rules">optional_rules</a> <a href="../../meter/Quota/index.html#quota_rules">quota_rules</a>) (<a href="../../machine/World/index.html#world">world</a> s (Some quota)) turns w&#x27;
-    → <a href="../../machine/Runs/index.html#Sequence">Sequence</a> (λ v turn v&#x27;. <a href="../../machine/Steps/index.html#Step">Step</a> (<a href="../../meter/Limiter/index.html#optional_rules">optional_rules</a> <a href="../../meter/Quota/index.html#quota_rules">quota_rules</a>) v turn v&#x27; × <a href="../../laws/Runs/index.html#IsWithinCapsOf">IsWithinCapsOf</a> quota v&#x27;.state)
-    (<a href="../../machine/World/index.html#world">world</a> s (Some quota)) turns w&#x27;
+    (s : <a href="../../machine/State/index.html#State">State</a>) (quota : Quota) → <a href="../../machine/State/index.html#HoldsTotals">HoldsTotals</a> (<a href="../../meter/Capped/index.html#holdings">holdings</a> quota) s → <a href="../../meter/Capped/index.html#IsWithinCaps">IsWithinCaps</a> quota
+    → (turns : List <a href="../../machine/State/index.html#Turn">Turn</a>) (w&#x27; : <a href="../../machine/State/index.html#World">World</a> (Option Quota))
+    → <a href="../../machine/Steps/index.html#Run">Run</a> (<a href="../../meter/Limiter/index.html#optional_rules">optional_rules</a> <a href="../../meter/Capped/index.html#quota_rules">quota_rules</a>) (<a href="../../machine/State/index.html#world">world</a> s (Some quota)) turns w&#x27;
+    → <a href="../../machine/Steps/index.html#Sequence">Sequence</a> (λ v turn v&#x27;. <a href="../../machine/Steps/index.html#Step">Step</a> (<a href="../../meter/Limiter/index.html#optional_rules">optional_rules</a> <a href="../../meter/Capped/index.html#quota_rules">quota_rules</a>) v turn v&#x27; × <a href="../../laws/Runs/index.html#IsWithinCapsOf">IsWithinCapsOf</a> quota v&#x27;.state)
+    (<a href="../../machine/State/index.html#world">world</a> s (Some quota)) turns w&#x27;
 
 -- the meter with so much more fuel left; one that is off stays
 abbrev pub <b id="meter_with_more">meter_with_more</b> : ℕ → <a href="../../meter/Meter/index.html#Meter">Meter</a> → <a href="../../meter/Meter/index.html#Meter">Meter</a>
 <a href="../../laws/Runs/index.html#meter_with_more">meter_with_more</a> more m = record m { left = option_map (λ left. left + more) m.left }
 
 -- the world whose meter has so much more fuel left
-abbrev pub <b id="world_with_more">world_with_more</b> : {S : Type 0} → ℕ → <a href="../../machine/World/index.html#World">World</a> S → <a href="../../machine/World/index.html#World">World</a> S
+abbrev pub <b id="world_with_more">world_with_more</b> : {S : Type 0} → ℕ → <a href="../../machine/State/index.html#World">World</a> S → <a href="../../machine/State/index.html#World">World</a> S
 <a href="../../laws/Runs/index.html#world_with_more">world_with_more</a> more <a href="../../laws/Runs/index.html#w">w</a> =
     record <b id="w">w</b> { state = record w.state { meter = <a href="../../laws/Runs/index.html#meter_with_more">meter_with_more</a> more w.state.meter } }
 
@@ -5810,121 +5439,159 @@ module _ {S : Type 0} (rules : <a href="../../meter/Limiter/index.html#Rules">Ru
   -- a run keeps the costs of the meter
   abbrev pub <b id="CostsAreKept">CostsAreKept</b> : Type 0
   <a href="../../laws/Runs/index.html#CostsAreKept">CostsAreKept</a> =
-      (<a href="../../laws/Runs/index.html#w">w</a> : <a href="../../machine/World/index.html#World">World</a> S) (turns : List <a href="../../machine/World/index.html#Turn">Turn</a>) (w&#x27; : <a href="../../machine/World/index.html#World">World</a> S) → <a href="../../machine/Runs/index.html#Run">Run</a> rules <a href="../../laws/Runs/index.html#w">w</a> turns w&#x27;
+      (<a href="../../laws/Runs/index.html#w">w</a> : <a href="../../machine/State/index.html#World">World</a> S) (turns : List <a href="../../machine/State/index.html#Turn">Turn</a>) (w&#x27; : <a href="../../machine/State/index.html#World">World</a> S) → <a href="../../machine/Steps/index.html#Run">Run</a> rules <a href="../../laws/Runs/index.html#w">w</a> turns w&#x27;
       → w&#x27;.state.meter.costs ≡ w.state.meter.costs
 
   -- a meter that is on is on after a run, and one that is off is off
   abbrev pub <b id="SwitchIsKept">SwitchIsKept</b> : Type 0
   <a href="../../laws/Runs/index.html#SwitchIsKept">SwitchIsKept</a> =
-      (<a href="../../laws/Runs/index.html#w">w</a> : <a href="../../machine/World/index.html#World">World</a> S) (turns : List <a href="../../machine/World/index.html#Turn">Turn</a>) (w&#x27; : <a href="../../machine/World/index.html#World">World</a> S) → <a href="../../machine/Runs/index.html#Run">Run</a> rules <a href="../../laws/Runs/index.html#w">w</a> turns w&#x27;
+      (<a href="../../laws/Runs/index.html#w">w</a> : <a href="../../machine/State/index.html#World">World</a> S) (turns : List <a href="../../machine/State/index.html#Turn">Turn</a>) (w&#x27; : <a href="../../machine/State/index.html#World">World</a> S) → <a href="../../machine/Steps/index.html#Run">Run</a> rules <a href="../../laws/Runs/index.html#w">w</a> turns w&#x27;
       → is_some w&#x27;.state.meter.left ≡ is_some w.state.meter.left
 
   -- a run of calls that don&#x27;t set the fuel leaves no more than there was
   abbrev pub <b id="FuelNeverRises">FuelNeverRises</b> : Type 0
   <a href="../../laws/Runs/index.html#FuelNeverRises">FuelNeverRises</a> =
-      (<a href="../../laws/Runs/index.html#w">w</a> : <a href="../../machine/World/index.html#World">World</a> S) (turns : List <a href="../../machine/World/index.html#Turn">Turn</a>) (w&#x27; : <a href="../../machine/World/index.html#World">World</a> S) → <a href="../../machine/Runs/index.html#Run">Run</a> rules <a href="../../laws/Runs/index.html#w">w</a> turns w&#x27;
+      (<a href="../../laws/Runs/index.html#w">w</a> : <a href="../../machine/State/index.html#World">World</a> S) (turns : List <a href="../../machine/State/index.html#Turn">Turn</a>) (w&#x27; : <a href="../../machine/State/index.html#World">World</a> S) → <a href="../../machine/Steps/index.html#Run">Run</a> rules <a href="../../laws/Runs/index.html#w">w</a> turns w&#x27;
       → All <a href="../../machine/Account/index.html#SetsNoFuel">SetsNoFuel</a> (map Turn.call turns) → <a href="../../meter/Meter/index.html#amount_left">amount_left</a> w&#x27;.state.meter ≤ <a href="../../meter/Meter/index.html#amount_left">amount_left</a> w.state.meter
 
 -- if the limiter accepts each notice, a run of calls that neither set the fuel nor ask for it, in which no reply says
 -- that fuel was wanting, is the same run with any more fuel, all of which is left then
 abbrev pub <b id="MoreFuelChangesNothing">MoreFuelChangesNothing</b> : {L : Type 0} → <a href="../../meter/Limiter/index.html#Rules">Rules</a> L → Type 0
 <a href="../../laws/Runs/index.html#MoreFuelChangesNothing">MoreFuelChangesNothing</a> {L} rules =
-    <a href="../../machine/Determinism/index.html#AcceptsNotices">AcceptsNotices</a> rules → (more : ℕ) (<a href="../../laws/Runs/index.html#w">w</a> : <a href="../../machine/World/index.html#World">World</a> (Option L)) (turns : List <a href="../../machine/World/index.html#Turn">Turn</a>) (w&#x27; : <a href="../../machine/World/index.html#World">World</a> (Option L))
+    <a href="../../machine/Determinism/index.html#AcceptsNotices">AcceptsNotices</a> rules → (more : ℕ) (<a href="../../laws/Runs/index.html#w">w</a> : <a href="../../machine/State/index.html#World">World</a> (Option L)) (turns : List <a href="../../machine/State/index.html#Turn">Turn</a>) (w&#x27; : <a href="../../machine/State/index.html#World">World</a> (Option L))
     → All <a href="../../laws/Runs/index.html#NamesNoFuel">NamesNoFuel</a> (map Turn.call turns) → All <a href="../../laws/Runs/index.html#HasFuel">HasFuel</a> (map Turn.reply turns)
-    → <a href="../../machine/Runs/index.html#Run">Run</a> (<a href="../../meter/Limiter/index.html#optional_rules">optional_rules</a> rules) <a href="../../laws/Runs/index.html#w">w</a> turns w&#x27;
-    → <a href="../../machine/Runs/index.html#Run">Run</a> (<a href="../../meter/Limiter/index.html#optional_rules">optional_rules</a> rules) (<a href="../../laws/Runs/index.html#world_with_more">world_with_more</a> more <a href="../../laws/Runs/index.html#w">w</a>) turns (<a href="../../laws/Runs/index.html#world_with_more">world_with_more</a> more w&#x27;)
+    → <a href="../../machine/Steps/index.html#Run">Run</a> (<a href="../../meter/Limiter/index.html#optional_rules">optional_rules</a> rules) <a href="../../laws/Runs/index.html#w">w</a> turns w&#x27;
+    → <a href="../../machine/Steps/index.html#Run">Run</a> (<a href="../../meter/Limiter/index.html#optional_rules">optional_rules</a> rules) (<a href="../../laws/Runs/index.html#world_with_more">world_with_more</a> more <a href="../../laws/Runs/index.html#w">w</a>) turns (<a href="../../laws/Runs/index.html#world_with_more">world_with_more</a> more w&#x27;)
 </code></pre>
 "####]
     pub mod Runs {}
 }
 /// Definitions of `wasmi_budget`.
 pub mod budget {
-    #[doc = r####"What holds of all calls on a pool, and of all runs of a tenant's machine.
+    #[doc = r####"What holds of all calls on a pool, one after another, and of all runs of a tenant's machine.
 
-<pre><code>use Rattle.std.specs.Prelude.{ℕ, nat_eq, if◌then◌else◌, MatchBool, List, [], ◌∷◌, ◌≡◌, Some, All, slice_get}
-use Rattle.wasmi_meter.specs.Limiter.{<a href="../../meter/Limiter/index.html#optional_rules">optional_rules</a>}
-use Rattle.wasmi_core.specs.Permission.{<a href="../../machine/Permission/index.html#permitting">permitting</a>, <a href="../../machine/Permission/index.html#TellsNoDenial">TellsNoDenial</a>}
-use Rattle.wasmi_budget.specs.Tenant.{<a href="../../budget/Tenant/index.html#tenant_rules">tenant_rules</a>, <a href="../../budget/Tenant/index.html#without_others">without_others</a>}
-use Rattle.wasmi_budget.specs.Pool.{<a href="../../budget/Pool/index.html#PoolValue">PoolValue</a>, <a href="../../budget/Pool/index.html#RunsTenantBy">RunsTenantBy</a>, <a href="../../budget/Pool/index.html#RunsTenant">RunsTenant</a>, <a href="../../budget/Pool/index.html#IsWithinCaps">IsWithinCaps</a>}
-use Rattle.wasmi_budget.specs.Runs.{<a href="../../budget/Runs/index.html#PoolTurn">PoolTurn</a>, <a href="../../budget/Runs/index.html#Added">Added</a>, <a href="../../budget/Runs/index.html#Ran">Ran</a>, <a href="../../budget/Runs/index.html#Refused">Refused</a>, <a href="../../budget/Runs/index.html#PoolStep">PoolStep</a>, <a href="../../budget/Runs/index.html#RunBy">RunBy</a>, <a href="../../budget/Runs/index.html#PoolRun">PoolRun</a>}
-use Rattle.wasmi_core.specs.State.{<a href="../../machine/State/index.html#State">State</a>}
-use Rattle.wasmi_core.specs.World.{<a href="../../machine/World/index.html#Turn">Turn</a>}
-use Rattle.wasmi_core.specs.Runs.{<a href="../../machine/Runs/index.html#Run">Run</a>}
-use Rattle.wasmi_budget.specs.declared.tenant.Tenant.{Tenant}
+<pre><code>use Rattle.std.specs.Prelude.{◌≡◌, ℕ, List, [], ◌∷◌, nat_eq, if◌then◌else◌, MatchBool, Some, All, slice_get}
 use Rattle.wasmi_core.specs.declared.calls.Call.{Call}
 use Rattle.wasmi_core.specs.declared.calls.Reply.{Reply}
+use Rattle.wasmi_core.specs.State.{<a href="../../machine/State/index.html#State">State</a>, <a href="../../machine/State/index.html#Turn">Turn</a>}
+use Rattle.wasmi_budget.specs.Pool.{<a href="../../budget/Pool/index.html#PoolValue">PoolValue</a>, <a href="../../budget/Pool/index.html#AddsTenant">AddsTenant</a>, <a href="../../budget/Pool/index.html#RunsTenant">RunsTenant</a>, <a href="../../budget/Pool/index.html#tenant_rules">tenant_rules</a>, <a href="../../budget/Pool/index.html#without_others">without_others</a>, <a href="../../budget/Pool/index.html#RunsTenantBy">RunsTenantBy</a>, <a href="../../budget/Pool/index.html#IsWithinCaps">IsWithinCaps</a>}
+use Rattle.wasmi_meter.specs.Limiter.{<a href="../../meter/Limiter/index.html#optional_rules">optional_rules</a>}
+use Rattle.wasmi_core.specs.Determinism.{<a href="../../machine/Determinism/index.html#permitting">permitting</a>, <a href="../../machine/Determinism/index.html#TellsNoDenial">TellsNoDenial</a>}
+use Rattle.wasmi_core.specs.Steps.{<a href="../../machine/Steps/index.html#Run">Run</a>}
+use Rattle.wasmi_budget.specs.declared.tenant.Tenant.{Tenant}
+
+-- one call on a pool: a machine was added, a tenant&#x27;s machine has run, or the call was refused
+pub data <b id="PoolTurn">PoolTurn</b> : Type 0 where
+  <b id="Added">Added</b> : <a href="../../machine/State/index.html#State">State</a> → <a href="../../budget/Laws/index.html#PoolTurn">PoolTurn</a>
+  <b id="Ran">Ran</b> : ℕ → List Call → List Reply → <a href="../../budget/Laws/index.html#PoolTurn">PoolTurn</a>
+  <b id="Refused">Refused</b> : <a href="../../budget/Laws/index.html#PoolTurn">PoolTurn</a>
+
+-- a call leads a pool to another
+abbrev pub <b id="PoolStep">PoolStep</b> : <a href="../../budget/Pool/index.html#PoolValue">PoolValue</a> → <a href="../../budget/Laws/index.html#PoolTurn">PoolTurn</a> → <a href="../../budget/Pool/index.html#PoolValue">PoolValue</a> → Type 0
+<a href="../../budget/Laws/index.html#PoolStep">PoolStep</a> pool (<a href="../../budget/Laws/index.html#Added">Added</a> s) pool&#x27; = <a href="../../budget/Pool/index.html#AddsTenant">AddsTenant</a> pool s pool&#x27;
+<a href="../../budget/Laws/index.html#PoolStep">PoolStep</a> pool (<a href="../../budget/Laws/index.html#Ran">Ran</a> index calls replies) pool&#x27; = <a href="../../budget/Pool/index.html#RunsTenant">RunsTenant</a> pool index calls replies pool&#x27;
+<a href="../../budget/Laws/index.html#PoolStep">PoolStep</a> pool <a href="../../budget/Laws/index.html#Refused">Refused</a> pool&#x27; = pool&#x27; ≡ pool
+
+-- calls one after another, each a step of this kind
+abbrev pub <b id="RunBy">RunBy</b> : (<a href="../../budget/Pool/index.html#PoolValue">PoolValue</a> → <a href="../../budget/Laws/index.html#PoolTurn">PoolTurn</a> → <a href="../../budget/Pool/index.html#PoolValue">PoolValue</a> → Type 0) → <a href="../../budget/Pool/index.html#PoolValue">PoolValue</a> → List <a href="../../budget/Laws/index.html#PoolTurn">PoolTurn</a> → <a href="../../budget/Pool/index.html#PoolValue">PoolValue</a> → Type 0
+<a href="../../budget/Laws/index.html#RunBy">RunBy</a> Step pool [] pool&#x27; = pool&#x27; ≡ pool
+<a href="../../budget/Laws/index.html#RunBy">RunBy</a> Step pool (turn ∷ turns) pool&#x27; = (next : <a href="../../budget/Pool/index.html#PoolValue">PoolValue</a>) × Step pool turn next × <a href="../../budget/Laws/index.html#RunBy">RunBy</a> Step next turns pool&#x27;
+
+-- calls one after another lead a pool to another
+abbrev pub <b id="PoolRun">PoolRun</b> : <a href="../../budget/Pool/index.html#PoolValue">PoolValue</a> → List <a href="../../budget/Laws/index.html#PoolTurn">PoolTurn</a> → <a href="../../budget/Pool/index.html#PoolValue">PoolValue</a> → Type 0
+<a href="../../budget/Laws/index.html#PoolRun">PoolRun</a> = <a href="../../budget/Laws/index.html#RunBy">RunBy</a> <a href="../../budget/Laws/index.html#PoolStep">PoolStep</a>
 
 -- a call on a pool, which permits each question where it is a run of the tenant of an index
-abbrev pub <b id="PermittingStep">PermittingStep</b> : ℕ → <a href="../../budget/Pool/index.html#PoolValue">PoolValue</a> → <a href="../../budget/Runs/index.html#PoolTurn">PoolTurn</a> → <a href="../../budget/Pool/index.html#PoolValue">PoolValue</a> → Type 0
-<a href="../../budget/Laws/index.html#PermittingStep">PermittingStep</a> index pool (<a href="../../budget/Runs/index.html#Ran">Ran</a> i calls replies) pool&#x27; = MatchBool (nat_eq i index)
-    (<a href="../../budget/Pool/index.html#RunsTenantBy">RunsTenantBy</a> (<a href="../../machine/Permission/index.html#permitting">permitting</a> (<a href="../../meter/Limiter/index.html#optional_rules">optional_rules</a> <a href="../../budget/Tenant/index.html#tenant_rules">tenant_rules</a>)) pool i calls replies pool&#x27;)
+abbrev pub <b id="PermittingStep">PermittingStep</b> : ℕ → <a href="../../budget/Pool/index.html#PoolValue">PoolValue</a> → <a href="../../budget/Laws/index.html#PoolTurn">PoolTurn</a> → <a href="../../budget/Pool/index.html#PoolValue">PoolValue</a> → Type 0
+<a href="../../budget/Laws/index.html#PermittingStep">PermittingStep</a> index pool (<a href="../../budget/Laws/index.html#Ran">Ran</a> i calls replies) pool&#x27; = MatchBool (nat_eq i index)
+    (<a href="../../budget/Pool/index.html#RunsTenantBy">RunsTenantBy</a> (<a href="../../machine/Determinism/index.html#permitting">permitting</a> (<a href="../../meter/Limiter/index.html#optional_rules">optional_rules</a> <a href="../../budget/Pool/index.html#tenant_rules">tenant_rules</a>)) pool i calls replies pool&#x27;)
     (<a href="../../budget/Pool/index.html#RunsTenant">RunsTenant</a> pool i calls replies pool&#x27;)
-<a href="../../budget/Laws/index.html#PermittingStep">PermittingStep</a> index pool turn pool&#x27; = <a href="../../budget/Runs/index.html#PoolStep">PoolStep</a> pool turn pool&#x27;
+<a href="../../budget/Laws/index.html#PermittingStep">PermittingStep</a> index pool turn pool&#x27; = <a href="../../budget/Laws/index.html#PoolStep">PoolStep</a> pool turn pool&#x27;
 
 -- such calls one after another: the tenant of the index is never denied
-abbrev pub <b id="PermittingRun">PermittingRun</b> : ℕ → <a href="../../budget/Pool/index.html#PoolValue">PoolValue</a> → List <a href="../../budget/Runs/index.html#PoolTurn">PoolTurn</a> → <a href="../../budget/Pool/index.html#PoolValue">PoolValue</a> → Type 0
-<a href="../../budget/Laws/index.html#PermittingRun">PermittingRun</a> index = <a href="../../budget/Runs/index.html#RunBy">RunBy</a> (<a href="../../budget/Laws/index.html#PermittingStep">PermittingStep</a> index)
+abbrev pub <b id="PermittingRun">PermittingRun</b> : ℕ → <a href="../../budget/Pool/index.html#PoolValue">PoolValue</a> → List <a href="../../budget/Laws/index.html#PoolTurn">PoolTurn</a> → <a href="../../budget/Pool/index.html#PoolValue">PoolValue</a> → Type 0
+<a href="../../budget/Laws/index.html#PermittingRun">PermittingRun</a> index = <a href="../../budget/Laws/index.html#RunBy">RunBy</a> (<a href="../../budget/Laws/index.html#PermittingStep">PermittingStep</a> index)
 
 -- the runs of the tenant of an index, as those of the only tenant
-abbrev pub <b id="own_turns">own_turns</b> : ℕ → List <a href="../../budget/Runs/index.html#PoolTurn">PoolTurn</a> → List <a href="../../budget/Runs/index.html#PoolTurn">PoolTurn</a>
+abbrev pub <b id="own_turns">own_turns</b> : ℕ → List <a href="../../budget/Laws/index.html#PoolTurn">PoolTurn</a> → List <a href="../../budget/Laws/index.html#PoolTurn">PoolTurn</a>
 <a href="../../budget/Laws/index.html#own_turns">own_turns</a> index [] = []
-<a href="../../budget/Laws/index.html#own_turns">own_turns</a> index (<a href="../../budget/Runs/index.html#Added">Added</a> s ∷ turns) = <a href="../../budget/Laws/index.html#own_turns">own_turns</a> index turns
-<a href="../../budget/Laws/index.html#own_turns">own_turns</a> index (<a href="../../budget/Runs/index.html#Ran">Ran</a> i calls replies ∷ turns) =
-    if nat_eq i index then <a href="../../budget/Runs/index.html#Ran">Ran</a> 0 calls replies ∷ <a href="../../budget/Laws/index.html#own_turns">own_turns</a> index turns else <a href="../../budget/Laws/index.html#own_turns">own_turns</a> index turns
-<a href="../../budget/Laws/index.html#own_turns">own_turns</a> index (<a href="../../budget/Runs/index.html#Refused">Refused</a> ∷ turns) = <a href="../../budget/Laws/index.html#own_turns">own_turns</a> index turns
+<a href="../../budget/Laws/index.html#own_turns">own_turns</a> index (<a href="../../budget/Laws/index.html#Added">Added</a> s ∷ turns) = <a href="../../budget/Laws/index.html#own_turns">own_turns</a> index turns
+<a href="../../budget/Laws/index.html#own_turns">own_turns</a> index (<a href="../../budget/Laws/index.html#Ran">Ran</a> i calls replies ∷ turns) =
+    if nat_eq i index then <a href="../../budget/Laws/index.html#Ran">Ran</a> 0 calls replies ∷ <a href="../../budget/Laws/index.html#own_turns">own_turns</a> index turns else <a href="../../budget/Laws/index.html#own_turns">own_turns</a> index turns
+<a href="../../budget/Laws/index.html#own_turns">own_turns</a> index (<a href="../../budget/Laws/index.html#Refused">Refused</a> ∷ turns) = <a href="../../budget/Laws/index.html#own_turns">own_turns</a> index turns
 
 -- after all calls the caps are the same, and all machines together are within them
 abbrev pub <b id="CapsHold">CapsHold</b> : Type 0
-<a href="../../budget/Laws/index.html#CapsHold">CapsHold</a> = (pool : <a href="../../budget/Pool/index.html#PoolValue">PoolValue</a>) → <a href="../../budget/Pool/index.html#IsWithinCaps">IsWithinCaps</a> pool → (turns : List <a href="../../budget/Runs/index.html#PoolTurn">PoolTurn</a>) (pool&#x27; : <a href="../../budget/Pool/index.html#PoolValue">PoolValue</a>)
-    → <a href="../../budget/Runs/index.html#PoolRun">PoolRun</a> pool turns pool&#x27;
+<a href="../../budget/Laws/index.html#CapsHold">CapsHold</a> = (pool : <a href="../../budget/Pool/index.html#PoolValue">PoolValue</a>) → <a href="../../budget/Pool/index.html#IsWithinCaps">IsWithinCaps</a> pool → (turns : List <a href="../../budget/Laws/index.html#PoolTurn">PoolTurn</a>) (pool&#x27; : <a href="../../budget/Pool/index.html#PoolValue">PoolValue</a>)
+    → <a href="../../budget/Laws/index.html#PoolRun">PoolRun</a> pool turns pool&#x27;
     → (pool&#x27;.caps ≡ pool.caps) × <a href="../../budget/Pool/index.html#IsWithinCaps">IsWithinCaps</a> pool&#x27;
 
 -- a run in which each question is permitted is one, with the same turns and the same machine, where the others hold
 -- nothing
 abbrev pub <b id="OthersDontShow">OthersDontShow</b> : Type 0
-<a href="../../budget/Laws/index.html#OthersDontShow">OthersDontShow</a> = (s s&#x27; : <a href="../../machine/State/index.html#State">State</a>) (tenant tenant&#x27; : Tenant) (turns : List <a href="../../machine/World/index.html#Turn">Turn</a>)
-    → <a href="../../machine/Runs/index.html#Run">Run</a> (<a href="../../machine/Permission/index.html#permitting">permitting</a> (<a href="../../meter/Limiter/index.html#optional_rules">optional_rules</a> <a href="../../budget/Tenant/index.html#tenant_rules">tenant_rules</a>)) (record { state = s; limiter = Some tenant }) turns
+<a href="../../budget/Laws/index.html#OthersDontShow">OthersDontShow</a> = (s s&#x27; : <a href="../../machine/State/index.html#State">State</a>) (tenant tenant&#x27; : Tenant) (turns : List <a href="../../machine/State/index.html#Turn">Turn</a>)
+    → <a href="../../machine/Steps/index.html#Run">Run</a> (<a href="../../machine/Determinism/index.html#permitting">permitting</a> (<a href="../../meter/Limiter/index.html#optional_rules">optional_rules</a> <a href="../../budget/Pool/index.html#tenant_rules">tenant_rules</a>)) (record { state = s; limiter = Some tenant }) turns
     (record { state = s&#x27;; limiter = Some tenant&#x27; })
-    → <a href="../../machine/Runs/index.html#Run">Run</a> (<a href="../../meter/Limiter/index.html#optional_rules">optional_rules</a> <a href="../../budget/Tenant/index.html#tenant_rules">tenant_rules</a>) (record { state = s; limiter = Some (<a href="../../budget/Tenant/index.html#without_others">without_others</a> tenant) }) turns
-    (record { state = s&#x27;; limiter = Some (<a href="../../budget/Tenant/index.html#without_others">without_others</a> tenant&#x27;) })
+    → <a href="../../machine/Steps/index.html#Run">Run</a> (<a href="../../meter/Limiter/index.html#optional_rules">optional_rules</a> <a href="../../budget/Pool/index.html#tenant_rules">tenant_rules</a>) (record { state = s; limiter = Some (<a href="../../budget/Pool/index.html#without_others">without_others</a> tenant) }) turns
+    (record { state = s&#x27;; limiter = Some (<a href="../../budget/Pool/index.html#without_others">without_others</a> tenant&#x27;) })
 
 -- a tenant that is never denied gets, run after run, what it gets alone under the same caps
 abbrev pub <b id="RunsAsAlone">RunsAsAlone</b> : Type 0
 <a href="../../budget/Laws/index.html#RunsAsAlone">RunsAsAlone</a> = (pool : <a href="../../budget/Pool/index.html#PoolValue">PoolValue</a>) (index : ℕ) (s : <a href="../../machine/State/index.html#State">State</a>) → slice_get pool.machines index ≡ Some s
-    → (turns : List <a href="../../budget/Runs/index.html#PoolTurn">PoolTurn</a>) (pool&#x27; : <a href="../../budget/Pool/index.html#PoolValue">PoolValue</a>) → <a href="../../budget/Laws/index.html#PermittingRun">PermittingRun</a> index pool turns pool&#x27;
+    → (turns : List <a href="../../budget/Laws/index.html#PoolTurn">PoolTurn</a>) (pool&#x27; : <a href="../../budget/Pool/index.html#PoolValue">PoolValue</a>) → <a href="../../budget/Laws/index.html#PermittingRun">PermittingRun</a> index pool turns pool&#x27;
     → (s&#x27; : <a href="../../machine/State/index.html#State">State</a>) × (slice_get pool&#x27;.machines index ≡ Some s&#x27;)
-    × <a href="../../budget/Runs/index.html#PoolRun">PoolRun</a> (record { caps = pool.caps; machines = s ∷ [] }) (<a href="../../budget/Laws/index.html#own_turns">own_turns</a> index turns)
+    × <a href="../../budget/Laws/index.html#PoolRun">PoolRun</a> (record { caps = pool.caps; machines = s ∷ [] }) (<a href="../../budget/Laws/index.html#own_turns">own_turns</a> index turns)
     (record { caps = pool.caps; machines = s&#x27; ∷ [] })
 
 -- an accepted run of a tenant in which no reply reports a denial is one in which each question was permitted
 abbrev pub <b id="RepliesPermit">RepliesPermit</b> : Type 0
 <a href="../../budget/Laws/index.html#RepliesPermit">RepliesPermit</a> =
     (pool : <a href="../../budget/Pool/index.html#PoolValue">PoolValue</a>) (index : ℕ) (calls : List Call) (replies : List Reply) (pool&#x27; : <a href="../../budget/Pool/index.html#PoolValue">PoolValue</a>)
-    → All <a href="../../machine/Permission/index.html#TellsNoDenial">TellsNoDenial</a> replies
+    → All <a href="../../machine/Determinism/index.html#TellsNoDenial">TellsNoDenial</a> replies
     → <a href="../../budget/Pool/index.html#RunsTenant">RunsTenant</a> pool index calls replies pool&#x27;
-    → <a href="../../budget/Pool/index.html#RunsTenantBy">RunsTenantBy</a> (<a href="../../machine/Permission/index.html#permitting">permitting</a> (<a href="../../meter/Limiter/index.html#optional_rules">optional_rules</a> <a href="../../budget/Tenant/index.html#tenant_rules">tenant_rules</a>)) pool index calls replies pool&#x27;
+    → <a href="../../budget/Pool/index.html#RunsTenantBy">RunsTenantBy</a> (<a href="../../machine/Determinism/index.html#permitting">permitting</a> (<a href="../../meter/Limiter/index.html#optional_rules">optional_rules</a> <a href="../../budget/Pool/index.html#tenant_rules">tenant_rules</a>)) pool index calls replies pool&#x27;
 </code></pre>
 "####]
     pub mod Laws {}
-    #[doc = r####"A pool of tenants: what its machines hold together, what a run of one of them does, and what its errors print.
+    #[doc = r####"A pool of tenants: a tenant's rules, what the machines hold together, what a run of one of them does, and what its errors print.
 
-<pre><code>use Rattle.std.specs.Prelude.{◌≡◌, ◌≤◌, ◌&lt;◌, ◌^◌, ◌++◌, ℕ, List, [], ◌∷◌, Option, Some, None, slice_get, slice_set, sum_by, remove, codes}
+<pre><code>use Rattle.wasmi_meter.specs.declared.holdings.Holdings.{Holdings}
+use Rattle.wasmi_meter.specs.Capped.{<a href="../../meter/Capped/index.html#amount_of">amount_of</a>, <a href="../../meter/Capped/index.html#nothing">nothing</a>, <a href="../../meter/Capped/index.html#amounts_of">amounts_of</a>, <a href="../../meter/Capped/index.html#Capped">Capped</a>, <a href="../../meter/Capped/index.html#capped_rules">capped_rules</a>}
+use Rattle.wasmi_meter.specs.Limiter.{<a href="../../meter/Limiter/index.html#Rules">Rules</a>, <a href="../../meter/Limiter/index.html#optional_rules">optional_rules</a>}
+use Rattle.wasmi_budget.specs.declared.tenant.Tenant.{Tenant}
+use Rattle.std.specs.Prelude.{◌≡◌, ◌≤◌, ◌&lt;◌, ◌^◌, ◌++◌, ℕ, List, [], ◌∷◌, Option, Some, None, slice_get, slice_set, sum_by, remove, codes}
 use Rattle.wasmi_meter.specs.declared.limiter.Kind.{Kind}
 use Rattle.wasmi_meter.specs.declared.limiter.Kind.TheVariants.{Bytes, Elements}
 use Rattle.wasmi_meter.specs.declared.amounts.Amounts.{Amounts}
-use Rattle.wasmi_meter.specs.Amounts.{<a href="../../meter/Amounts/index.html#amount_of">amount_of</a>, <a href="../../meter/Amounts/index.html#amounts_of">amounts_of</a>}
-use Rattle.wasmi_meter.specs.Limiter.{<a href="../../meter/Limiter/index.html#Rules">Rules</a>, <a href="../../meter/Limiter/index.html#optional_rules">optional_rules</a>}
 use Rattle.wasmi_core.specs.declared.calls.Call.{Call}
 use Rattle.wasmi_core.specs.declared.calls.Reply.{Reply}
-use Rattle.wasmi_core.specs.State.{<a href="../../machine/State/index.html#State">State</a>}
-use Rattle.wasmi_core.specs.Totals.{<a href="../../machine/Totals/index.html#total">total</a>}
-use Rattle.wasmi_core.specs.Runs.{<a href="../../machine/Runs/index.html#IsRunOf">IsRunOf</a>}
+use Rattle.wasmi_core.specs.State.{<a href="../../machine/State/index.html#State">State</a>, <a href="../../machine/State/index.html#total">total</a>}
+use Rattle.wasmi_core.specs.Steps.{<a href="../../machine/Steps/index.html#IsRunOf">IsRunOf</a>}
 use Rattle.wasmi_budget.specs.declared.error.AddError.{AddError}
 use Rattle.wasmi_budget.specs.declared.error.AddError.TheVariants.{NotEmpty, NoRoom}
-use Rattle.wasmi_budget.specs.declared.tenant.Tenant.{Tenant}
-use Rattle.wasmi_budget.specs.Tenant.{<a href="../../budget/Tenant/index.html#tenant_rules">tenant_rules</a>}
 use Rattle.wasmi_budget.specs.declared.error.PoolError.{PoolError}
 use Rattle.wasmi_budget.specs.declared.error.PoolError.TheVariants.{NoTenant, OutOfMemory}
+
+-- what a tenant holds
+abbrev pub <b id="holdings">holdings</b> : Tenant → Holdings
+<a href="../../budget/Pool/index.html#holdings">holdings</a> tenant = tenant.holdings
+
+-- tenants as limiters with caps
+abbrev pub <b id="capped_tenant">capped_tenant</b> : <a href="../../meter/Capped/index.html#Capped">Capped</a> Tenant
+<a href="../../budget/Pool/index.html#capped_tenant">capped_tenant</a> = record {
+  <a href="../../budget/Pool/index.html#holdings">holdings</a> = <a href="../../budget/Pool/index.html#holdings">holdings</a>;
+  with_holdings = λ tenant h. record tenant { <a href="../../budget/Pool/index.html#holdings">holdings</a> = h };
+  others = λ tenant kind. <a href="../../meter/Capped/index.html#amount_of">amount_of</a> tenant.others kind;
+  cap = λ tenant kind. <a href="../../meter/Capped/index.html#amount_of">amount_of</a> tenant.caps kind;
+}
+
+-- the rules of a tenant
+abbrev pub <b id="tenant_rules">tenant_rules</b> : <a href="../../meter/Limiter/index.html#Rules">Rules</a> Tenant
+<a href="../../budget/Pool/index.html#tenant_rules">tenant_rules</a> = <a href="../../meter/Capped/index.html#capped_rules">capped_rules</a> <a href="../../budget/Pool/index.html#capped_tenant">capped_tenant</a>
+
+-- the tenant where the others hold nothing
+abbrev pub <b id="without_others">without_others</b> : Tenant → Tenant
+<a href="../../budget/Pool/index.html#without_others">without_others</a> tenant = record tenant { others = <a href="../../meter/Capped/index.html#nothing">nothing</a> }
 
 -- a pool: its caps, and the machines of its tenants by their indices
 pub record <b id="PoolValue">PoolValue</b> : Type 0 where
@@ -5933,31 +5600,31 @@ pub record <b id="PoolValue">PoolValue</b> : Type 0 where
 
 -- what these machines have of a kind
 abbrev pub <b id="total_of">total_of</b> : List <a href="../../machine/State/index.html#State">State</a> → Kind → ℕ
-<a href="../../budget/Pool/index.html#total_of">total_of</a> <a href="../../budget/Pool/index.html#machines">machines</a> kind = sum_by (λ s. <a href="../../machine/Totals/index.html#total">total</a> s kind) <a href="../../budget/Pool/index.html#machines">machines</a>
+<a href="../../budget/Pool/index.html#total_of">total_of</a> <a href="../../budget/Pool/index.html#machines">machines</a> kind = sum_by (λ s. <a href="../../machine/State/index.html#total">total</a> s kind) <a href="../../budget/Pool/index.html#machines">machines</a>
 
 -- all machines together are within the caps
 abbrev pub <b id="IsWithinCaps">IsWithinCaps</b> : <a href="../../budget/Pool/index.html#PoolValue">PoolValue</a> → Type 0
-<a href="../../budget/Pool/index.html#IsWithinCaps">IsWithinCaps</a> pool = (kind : Kind) → <a href="../../budget/Pool/index.html#total_of">total_of</a> pool.machines kind ≤ <a href="../../meter/Amounts/index.html#amount_of">amount_of</a> pool.caps kind
+<a href="../../budget/Pool/index.html#IsWithinCaps">IsWithinCaps</a> pool = (kind : Kind) → <a href="../../budget/Pool/index.html#total_of">total_of</a> pool.machines kind ≤ <a href="../../meter/Capped/index.html#amount_of">amount_of</a> pool.caps kind
 
 -- all machines together are within the caps, which are numbers of 64 bits, and have these amounts
 pub record <b id="IsKept">IsKept</b> (pool : <a href="../../budget/Pool/index.html#PoolValue">PoolValue</a>) (held : Amounts) : Type 0 where
   pub <b id="within">within</b> : <a href="../../budget/Pool/index.html#IsWithinCaps">IsWithinCaps</a> pool
-  pub <b id="fits">fits</b> : (kind : Kind) → <a href="../../meter/Amounts/index.html#amount_of">amount_of</a> pool.caps kind &lt; 2 ^ 64
-  pub <b id="counted">counted</b> : held ≡ <a href="../../meter/Amounts/index.html#amounts_of">amounts_of</a> (<a href="../../budget/Pool/index.html#total_of">total_of</a> pool.machines)
+  pub <b id="fits">fits</b> : (kind : Kind) → <a href="../../meter/Capped/index.html#amount_of">amount_of</a> pool.caps kind &lt; 2 ^ 64
+  pub <b id="counted">counted</b> : held ≡ <a href="../../meter/Capped/index.html#amounts_of">amounts_of</a> (<a href="../../budget/Pool/index.html#total_of">total_of</a> pool.machines)
 
 -- the limiter of the machine s of an index: it holds what the machine has, beside what the others have
 abbrev pub <b id="tenant_at">tenant_at</b> : <a href="../../budget/Pool/index.html#PoolValue">PoolValue</a> → ℕ → <a href="../../machine/State/index.html#State">State</a> → Tenant
 <a href="../../budget/Pool/index.html#tenant_at">tenant_at</a> pool index s =
     record {
       <a href="../../budget/Pool/index.html#caps">caps</a> = pool.caps;
-      others = <a href="../../meter/Amounts/index.html#amounts_of">amounts_of</a> (<a href="../../budget/Pool/index.html#total_of">total_of</a> (remove pool.machines index));
-      holdings = record { held = <a href="../../meter/Amounts/index.html#amounts_of">amounts_of</a> (<a href="../../machine/Totals/index.html#total">total</a> s); last = None };
+      others = <a href="../../meter/Capped/index.html#amounts_of">amounts_of</a> (<a href="../../budget/Pool/index.html#total_of">total_of</a> (remove pool.machines index));
+      <a href="../../budget/Pool/index.html#holdings">holdings</a> = record { held = <a href="../../meter/Capped/index.html#amounts_of">amounts_of</a> (<a href="../../machine/State/index.html#total">total</a> s); last = None };
     }
 
 -- the machine has no bytes and no elements, and dropped none
 pub record <b id="HasNothing">HasNothing</b> (s : <a href="../../machine/State/index.html#State">State</a>) : Type 0 where
-  pub <b id="bytes">bytes</b> : <a href="../../machine/Totals/index.html#total">total</a> s Bytes ≡ 0
-  pub <b id="elements">elements</b> : <a href="../../machine/Totals/index.html#total">total</a> s Elements ≡ 0
+  pub <b id="bytes">bytes</b> : <a href="../../machine/State/index.html#total">total</a> s Bytes ≡ 0
+  pub <b id="elements">elements</b> : <a href="../../machine/State/index.html#total">total</a> s Elements ≡ 0
 
 -- a machine that has nothing is added as it is
 pub record <b id="AddsTenant">AddsTenant</b> (pool : <a href="../../budget/Pool/index.html#PoolValue">PoolValue</a>) (s : <a href="../../machine/State/index.html#State">State</a>) (pool&#x27; : <a href="../../budget/Pool/index.html#PoolValue">PoolValue</a>) : Type 0 where
@@ -5976,13 +5643,13 @@ pub record <b id="RunsTenantBy">RunsTenantBy</b> (rules : <a href="../../meter/L
   pub <b id="found">found</b> : slice_get pool.machines index ≡ Some <a href="../../budget/Pool/index.html#machine">machine</a>
   pub <b id="machine&#x27;">machine&#x27;</b> : <a href="../../machine/State/index.html#State">State</a>
   pub <b id="tenant&#x27;">tenant&#x27;</b> : Tenant
-  pub <b id="ran">ran</b> : <a href="../../machine/Runs/index.html#IsRunOf">IsRunOf</a> rules calls (record { state = <a href="../../budget/Pool/index.html#machine">machine</a>; limiter = Some (<a href="../../budget/Pool/index.html#tenant_at">tenant_at</a> pool index <a href="../../budget/Pool/index.html#machine">machine</a>) })
+  pub <b id="ran">ran</b> : <a href="../../machine/Steps/index.html#IsRunOf">IsRunOf</a> rules calls (record { state = <a href="../../budget/Pool/index.html#machine">machine</a>; limiter = Some (<a href="../../budget/Pool/index.html#tenant_at">tenant_at</a> pool index <a href="../../budget/Pool/index.html#machine">machine</a>) })
       replies (record { state = <a href="../../budget/Pool/index.html#machine%27">machine&#x27;</a>; limiter = Some <a href="../../budget/Pool/index.html#tenant%27">tenant&#x27;</a> })
   pub <b id="after">after</b> : pool&#x27; ≡ record pool { <a href="../../budget/Pool/index.html#machines">machines</a> = slice_set pool.machines index <a href="../../budget/Pool/index.html#machine%27">machine&#x27;</a> }
 
 -- the machine of an index has run these calls under its limiter by a tenant&#x27;s rules, and all else is the same
 abbrev pub <b id="RunsTenant">RunsTenant</b> : <a href="../../budget/Pool/index.html#PoolValue">PoolValue</a> → ℕ → List Call → List Reply → <a href="../../budget/Pool/index.html#PoolValue">PoolValue</a> → Type 0
-<a href="../../budget/Pool/index.html#RunsTenant">RunsTenant</a> = <a href="../../budget/Pool/index.html#RunsTenantBy">RunsTenantBy</a> (<a href="../../meter/Limiter/index.html#optional_rules">optional_rules</a> <a href="../../budget/Tenant/index.html#tenant_rules">tenant_rules</a>)
+<a href="../../budget/Pool/index.html#RunsTenant">RunsTenant</a> = <a href="../../budget/Pool/index.html#RunsTenantBy">RunsTenantBy</a> (<a href="../../meter/Limiter/index.html#optional_rules">optional_rules</a> <a href="../../budget/Pool/index.html#tenant_rules">tenant_rules</a>)
 
 -- the text of why a machine isn&#x27;t added to a pool
 abbrev pub <b id="add_error_text">add_error_text</b> : AddError → List ℕ
@@ -5996,68 +5663,6 @@ abbrev pub <b id="pool_error_text">pool_error_text</b> : PoolError → List ℕ
 </code></pre>
 "####]
     pub mod Pool {}
-    #[doc = r####"Calls on a pool, one after another.
-
-<pre><code>use Rattle.std.specs.Prelude.{◌≡◌, ℕ, List, [], ◌∷◌}
-use Rattle.wasmi_core.specs.declared.calls.Call.{Call}
-use Rattle.wasmi_core.specs.declared.calls.Reply.{Reply}
-use Rattle.wasmi_core.specs.State.{<a href="../../machine/State/index.html#State">State</a>}
-use Rattle.wasmi_budget.specs.Pool.{<a href="../../budget/Pool/index.html#PoolValue">PoolValue</a>, <a href="../../budget/Pool/index.html#AddsTenant">AddsTenant</a>, <a href="../../budget/Pool/index.html#RunsTenant">RunsTenant</a>}
-
--- one call on a pool: a machine was added, a tenant&#x27;s machine has run, or the call was refused
-pub data <b id="PoolTurn">PoolTurn</b> : Type 0 where
-  <b id="Added">Added</b> : <a href="../../machine/State/index.html#State">State</a> → <a href="../../budget/Runs/index.html#PoolTurn">PoolTurn</a>
-  <b id="Ran">Ran</b> : ℕ → List Call → List Reply → <a href="../../budget/Runs/index.html#PoolTurn">PoolTurn</a>
-  <b id="Refused">Refused</b> : <a href="../../budget/Runs/index.html#PoolTurn">PoolTurn</a>
-
--- a call leads a pool to another
-abbrev pub <b id="PoolStep">PoolStep</b> : <a href="../../budget/Pool/index.html#PoolValue">PoolValue</a> → <a href="../../budget/Runs/index.html#PoolTurn">PoolTurn</a> → <a href="../../budget/Pool/index.html#PoolValue">PoolValue</a> → Type 0
-<a href="../../budget/Runs/index.html#PoolStep">PoolStep</a> pool (<a href="../../budget/Runs/index.html#Added">Added</a> s) pool&#x27; = <a href="../../budget/Pool/index.html#AddsTenant">AddsTenant</a> pool s pool&#x27;
-<a href="../../budget/Runs/index.html#PoolStep">PoolStep</a> pool (<a href="../../budget/Runs/index.html#Ran">Ran</a> index calls replies) pool&#x27; = <a href="../../budget/Pool/index.html#RunsTenant">RunsTenant</a> pool index calls replies pool&#x27;
-<a href="../../budget/Runs/index.html#PoolStep">PoolStep</a> pool <a href="../../budget/Runs/index.html#Refused">Refused</a> pool&#x27; = pool&#x27; ≡ pool
-
--- calls one after another, each a step of this kind
-abbrev pub <b id="RunBy">RunBy</b> : (<a href="../../budget/Pool/index.html#PoolValue">PoolValue</a> → <a href="../../budget/Runs/index.html#PoolTurn">PoolTurn</a> → <a href="../../budget/Pool/index.html#PoolValue">PoolValue</a> → Type 0) → <a href="../../budget/Pool/index.html#PoolValue">PoolValue</a> → List <a href="../../budget/Runs/index.html#PoolTurn">PoolTurn</a> → <a href="../../budget/Pool/index.html#PoolValue">PoolValue</a> → Type 0
-<a href="../../budget/Runs/index.html#RunBy">RunBy</a> Step pool [] pool&#x27; = pool&#x27; ≡ pool
-<a href="../../budget/Runs/index.html#RunBy">RunBy</a> Step pool (turn ∷ turns) pool&#x27; = (next : <a href="../../budget/Pool/index.html#PoolValue">PoolValue</a>) × Step pool turn next × <a href="../../budget/Runs/index.html#RunBy">RunBy</a> Step next turns pool&#x27;
-
--- calls one after another lead a pool to another
-abbrev pub <b id="PoolRun">PoolRun</b> : <a href="../../budget/Pool/index.html#PoolValue">PoolValue</a> → List <a href="../../budget/Runs/index.html#PoolTurn">PoolTurn</a> → <a href="../../budget/Pool/index.html#PoolValue">PoolValue</a> → Type 0
-<a href="../../budget/Runs/index.html#PoolRun">PoolRun</a> = <a href="../../budget/Runs/index.html#RunBy">RunBy</a> <a href="../../budget/Runs/index.html#PoolStep">PoolStep</a>
-</code></pre>
-"####]
-    pub mod Runs {}
-    #[doc = r####"A tenant's rules: those of limiters with caps, beside what the other tenants hold.
-
-<pre><code>use Rattle.wasmi_meter.specs.declared.holdings.Holdings.{Holdings}
-use Rattle.wasmi_meter.specs.Amounts.{<a href="../../meter/Amounts/index.html#amount_of">amount_of</a>, <a href="../../meter/Amounts/index.html#nothing">nothing</a>}
-use Rattle.wasmi_meter.specs.Capped.{<a href="../../meter/Capped/index.html#Capped">Capped</a>, <a href="../../meter/Capped/index.html#capped_rules">capped_rules</a>}
-use Rattle.wasmi_meter.specs.Limiter.{<a href="../../meter/Limiter/index.html#Rules">Rules</a>}
-use Rattle.wasmi_budget.specs.declared.tenant.Tenant.{Tenant}
-
--- what a tenant holds
-abbrev pub <b id="holdings">holdings</b> : Tenant → Holdings
-<a href="../../budget/Tenant/index.html#holdings">holdings</a> tenant = tenant.holdings
-
--- tenants as limiters with caps
-abbrev pub <b id="capped_tenant">capped_tenant</b> : <a href="../../meter/Capped/index.html#Capped">Capped</a> Tenant
-<a href="../../budget/Tenant/index.html#capped_tenant">capped_tenant</a> = record {
-  <a href="../../budget/Tenant/index.html#holdings">holdings</a> = <a href="../../budget/Tenant/index.html#holdings">holdings</a>;
-  with_holdings = λ tenant h. record tenant { <a href="../../budget/Tenant/index.html#holdings">holdings</a> = h };
-  others = λ tenant kind. <a href="../../meter/Amounts/index.html#amount_of">amount_of</a> tenant.others kind;
-  cap = λ tenant kind. <a href="../../meter/Amounts/index.html#amount_of">amount_of</a> tenant.caps kind;
-}
-
--- the rules of a tenant
-abbrev pub <b id="tenant_rules">tenant_rules</b> : <a href="../../meter/Limiter/index.html#Rules">Rules</a> Tenant
-<a href="../../budget/Tenant/index.html#tenant_rules">tenant_rules</a> = <a href="../../meter/Capped/index.html#capped_rules">capped_rules</a> <a href="../../budget/Tenant/index.html#capped_tenant">capped_tenant</a>
-
--- the tenant where the others hold nothing
-abbrev pub <b id="without_others">without_others</b> : Tenant → Tenant
-<a href="../../budget/Tenant/index.html#without_others">without_others</a> tenant = record tenant { others = <a href="../../meter/Amounts/index.html#nothing">nothing</a> }
-</code></pre>
-"####]
-    pub mod Tenant {}
 }
 /// Definitions of `wasmi_region`.
 pub mod region {
@@ -6068,8 +5673,7 @@ use Rattle.wasmi_meter.specs.Attempt.{<a href="../../meter/Attempt/index.html#Me
 use Rattle.wasmi_meter.specs.Limiter.{<a href="../../meter/Limiter/index.html#Question">Question</a>, <a href="../../meter/Limiter/index.html#Answer">Answer</a>, <a href="../../meter/Limiter/index.html#IsDenial">IsDenial</a>, <a href="../../meter/Limiter/index.html#Rules">Rules</a>}
 use Rattle.wasmi_meter.specs.Meter.{<a href="../../meter/Meter/index.html#Meter">Meter</a>}
 use Rattle.wasmi_meter.specs.declared.error.TableError.{TableError}
-use Rattle.wasmi_store.specs.Table.{<a href="../../store/Table/index.html#TableValue">TableValue</a>, <a href="../../store/Table/index.html#MakesTable">MakesTable</a>, <a href="../../store/Table/index.html#GrowsTableRaw">GrowsTableRaw</a>, <a href="../../store/Table/index.html#new_table">new_table</a>, <a href="../../store/Table/index.html#size_of">size_of</a>}
-use Rattle.wasmi_store.specs.TableType.{<a href="../../store/TableType/index.html#TableTypeValue">TableTypeValue</a>, <a href="../../store/TableType/index.html#is_indexable">is_indexable</a>, <a href="../../store/TableType/index.html#is_within_maximum">is_within_maximum</a>}
+use Rattle.wasmi_store.specs.Table.{<a href="../../store/Table/index.html#TableValue">TableValue</a>, <a href="../../store/Table/index.html#MakesTable">MakesTable</a>, <a href="../../store/Table/index.html#GrowsTableRaw">GrowsTableRaw</a>, <a href="../../store/Table/index.html#new_table">new_table</a>, <a href="../../store/Table/index.html#size_of">size_of</a>, <a href="../../store/Table/index.html#TableTypeValue">TableTypeValue</a>, <a href="../../store/Table/index.html#is_indexable">is_indexable</a>, <a href="../../store/Table/index.html#is_within_maximum">is_within_maximum</a>}
 use Rattle.wasmi_region.specs.Table.{<a href="../../region/Table/index.html#MakesTableIn">MakesTableIn</a>, <a href="../../region/Table/index.html#GrowsTableIn">GrowsTableIn</a>, <a href="../../region/Table/index.html#creation_in">creation_in</a>, <a href="../../region/Table/index.html#growth_in">growth_in</a>, <a href="../../region/Table/index.html#typed_as">typed_as</a>}
 
 -- a limiter was asked a question, and denied it
@@ -6079,8 +5683,8 @@ abbrev pub <b id="IsDenied">IsDenied</b> : {S : Type 0} → <a href="../../meter
 -- a table can grow by n elements on a region of so many references: its type and the region have place for them, and a
 -- meter, if there is one, can pay them
 pub record <b id="CanGrowIn">CanGrowIn</b> (room n : ℕ) (x : <a href="../../store/Table/index.html#TableValue">TableValue</a>) (m : Option <a href="../../meter/Meter/index.html#Meter">Meter</a>) : Type 0 where
-  pub <b id="indexable">indexable</b> : <a href="../../store/TableType/index.html#is_indexable">is_indexable</a> x.ty (<a href="../../store/Table/index.html#size_of">size_of</a> x + n) ≡ true
-  pub <b id="within">within</b> : <a href="../../store/TableType/index.html#is_within_maximum">is_within_maximum</a> x.ty (<a href="../../store/Table/index.html#size_of">size_of</a> x + n) ≡ true
+  pub <b id="indexable">indexable</b> : <a href="../../store/Table/index.html#is_indexable">is_indexable</a> x.ty (<a href="../../store/Table/index.html#size_of">size_of</a> x + n) ≡ true
+  pub <b id="within">within</b> : <a href="../../store/Table/index.html#is_within_maximum">is_within_maximum</a> x.ty (<a href="../../store/Table/index.html#size_of">size_of</a> x + n) ≡ true
   pub <b id="place">place</b> : <a href="../../store/Table/index.html#size_of">size_of</a> x + n ≤ room
   pub <b id="paid">paid</b> : <a href="../../meter/Attempt/index.html#covers">covers</a> m (<a href="../../meter/Attempt/index.html#optional_due">optional_due</a> m (<a href="../../region/Table/index.html#growth_in">growth_in</a> room x n 0).price) ≡ true
 
@@ -6088,7 +5692,7 @@ module _ {S : Type 0} (rules : <a href="../../meter/Limiter/index.html#Rules">Ru
   -- a creation of a table on a region of at least its minimum is refused by the limiter alone
   abbrev pub <b id="TableCreationsSucceed">TableCreationsSucceed</b> : Type 0
   <a href="../../region/Laws/index.html#TableCreationsSucceed">TableCreationsSucceed</a> =
-      (ty : <a href="../../store/TableType/index.html#TableTypeValue">TableTypeValue</a>) (room reference : ℕ) (l : S) (result : Result <a href="../../store/Table/index.html#TableValue">TableValue</a> TableError) (l&#x27; : S)
+      (ty : <a href="../../store/Table/index.html#TableTypeValue">TableTypeValue</a>) (room reference : ℕ) (l : S) (result : Result <a href="../../store/Table/index.html#TableValue">TableValue</a> TableError) (l&#x27; : S)
       → ty.minimum ≤ room → <a href="../../region/Table/index.html#MakesTableIn">MakesTableIn</a> rules ty room reference l result l&#x27;
       → (result ≡ Ok (<a href="../../store/Table/index.html#new_table">new_table</a> ty reference)) ⊎ <a href="../../region/Laws/index.html#IsDenied">IsDenied</a> rules (<a href="../../region/Table/index.html#creation_in">creation_in</a> ty room).question l l&#x27;
 
@@ -6105,7 +5709,7 @@ module _ {S : Type 0} (rules : <a href="../../meter/Limiter/index.html#Rules">Ru
   -- a table that is made on a region is made as one that owns its elements
   abbrev pub <b id="CreationsAreTables">CreationsAreTables</b> : Type 0
   <a href="../../region/Laws/index.html#CreationsAreTables">CreationsAreTables</a> =
-      (ty : <a href="../../store/TableType/index.html#TableTypeValue">TableTypeValue</a>) (room reference : ℕ) (l : S) (result : Result <a href="../../store/Table/index.html#TableValue">TableValue</a> TableError) (l&#x27; : S)
+      (ty : <a href="../../store/Table/index.html#TableTypeValue">TableTypeValue</a>) (room reference : ℕ) (l : S) (result : Result <a href="../../store/Table/index.html#TableValue">TableValue</a> TableError) (l&#x27; : S)
       → <a href="../../region/Table/index.html#MakesTableIn">MakesTableIn</a> rules ty room reference l result l&#x27; → <a href="../../store/Table/index.html#MakesTable">MakesTable</a> rules ty (<a href="../../region/Table/index.html#typed_as">typed_as</a> ty reference) l result l&#x27;
 
   -- a table on a region grows as one that owns its elements
@@ -6122,15 +5726,14 @@ module _ {S : Type 0} (rules : <a href="../../meter/Limiter/index.html#Rules">Ru
 <pre><code>use Rattle.std.specs.Prelude.{ℕ, List, take, drop, Result, Ok, Err}
 use Rattle.wasmi_meter.specs.declared.error.MemoryError.{MemoryError}
 use Rattle.wasmi_store.specs.Buffer.{<a href="../../store/Buffer/index.html#Lent">Lent</a>}
-use Rattle.wasmi_store.specs.Memory.{<a href="../../store/Memory/index.html#MemoryValue">MemoryValue</a>}
-use Rattle.wasmi_store.specs.MemoryType.{<a href="../../store/MemoryType/index.html#MemoryTypeValue">MemoryTypeValue</a>}
+use Rattle.wasmi_store.specs.Memory.{<a href="../../store/Memory/index.html#MemoryValue">MemoryValue</a>, <a href="../../store/Memory/index.html#MemoryTypeValue">MemoryTypeValue</a>}
 
 -- the memory of a type that has so many bytes at the front of a region, and the rest of it as room
-abbrev pub <b id="memory_in">memory_in</b> : <a href="../../store/MemoryType/index.html#MemoryTypeValue">MemoryTypeValue</a> → List ℕ → ℕ → <a href="../../store/Memory/index.html#MemoryValue">MemoryValue</a>
+abbrev pub <b id="memory_in">memory_in</b> : <a href="../../store/Memory/index.html#MemoryTypeValue">MemoryTypeValue</a> → List ℕ → ℕ → <a href="../../store/Memory/index.html#MemoryValue">MemoryValue</a>
 <a href="../../region/Memory/index.html#memory_in">memory_in</a> ty region size = record { ty = ty; bytes = take size region; room = <a href="../../store/Buffer/index.html#Lent">Lent</a> (drop size region) }
 
 -- what a call makes in a region, by the size that it returns
-abbrev pub <b id="made_in">made_in</b> : <a href="../../store/MemoryType/index.html#MemoryTypeValue">MemoryTypeValue</a> → List ℕ → Result ℕ MemoryError → Result <a href="../../store/Memory/index.html#MemoryValue">MemoryValue</a> MemoryError
+abbrev pub <b id="made_in">made_in</b> : <a href="../../store/Memory/index.html#MemoryTypeValue">MemoryTypeValue</a> → List ℕ → Result ℕ MemoryError → Result <a href="../../store/Memory/index.html#MemoryValue">MemoryValue</a> MemoryError
 <a href="../../region/Memory/index.html#made_in">made_in</a> ty region (Ok size) = Ok (<a href="../../region/Memory/index.html#memory_in">memory_in</a> ty region size)
 <a href="../../region/Memory/index.html#made_in">made_in</a> ty region (Err error) = Err error
 </code></pre>
@@ -6146,29 +5749,28 @@ use Rattle.wasmi_meter.specs.declared.error.TableError.{TableError}
 use Rattle.wasmi_meter.specs.declared.error.TableError.TheVariants.{OutOfSystemMemory}
 use Rattle.wasmi_store.specs.Growth.{<a href="../../store/Growth/index.html#WithCharge">WithCharge</a>, <a href="../../store/Growth/index.html#Makes">Makes</a>, <a href="../../store/Growth/index.html#Growth">Growth</a>, <a href="../../store/Growth/index.html#Grows">Grows</a>}
 use Rattle.wasmi_store.specs.Segment.{<a href="../../store/Segment/index.html#SegmentValue">SegmentValue</a>}
-use Rattle.wasmi_store.specs.Table.{<a href="../../store/Table/index.html#TableValue">TableValue</a>, <a href="../../store/Table/index.html#table_of">table_of</a>, <a href="../../store/Table/index.html#size_of">size_of</a>, <a href="../../store/Table/index.html#new_table">new_table</a>, <a href="../../store/Table/index.html#creation_of">creation_of</a>, <a href="../../store/Table/index.html#growth_of">growth_of</a>}
-use Rattle.wasmi_store.specs.TableType.{<a href="../../store/TableType/index.html#TableTypeValue">TableTypeValue</a>}
+use Rattle.wasmi_store.specs.Table.{<a href="../../store/Table/index.html#TableValue">TableValue</a>, <a href="../../store/Table/index.html#table_of">table_of</a>, <a href="../../store/Table/index.html#size_of">size_of</a>, <a href="../../store/Table/index.html#new_table">new_table</a>, <a href="../../store/Table/index.html#creation_of">creation_of</a>, <a href="../../store/Table/index.html#growth_of">growth_of</a>, <a href="../../store/Table/index.html#TableTypeValue">TableTypeValue</a>}
 
 -- the table of a type that has so many elements at the front of a region
-abbrev pub <b id="table_in">table_in</b> : <a href="../../store/TableType/index.html#TableTypeValue">TableTypeValue</a> → List ℕ → ℕ → <a href="../../store/Table/index.html#TableValue">TableValue</a>
+abbrev pub <b id="table_in">table_in</b> : <a href="../../store/Table/index.html#TableTypeValue">TableTypeValue</a> → List ℕ → ℕ → <a href="../../store/Table/index.html#TableValue">TableValue</a>
 <a href="../../region/Table/index.html#table_in">table_in</a> ty region size = <a href="../../store/Table/index.html#table_of">table_of</a> ty (take size region)
 
 -- what a call makes in a region, by the size that it returns
-abbrev pub <b id="made_in">made_in</b> : <a href="../../store/TableType/index.html#TableTypeValue">TableTypeValue</a> → List ℕ → Result ℕ TableError → Result <a href="../../store/Table/index.html#TableValue">TableValue</a> TableError
+abbrev pub <b id="made_in">made_in</b> : <a href="../../store/Table/index.html#TableTypeValue">TableTypeValue</a> → List ℕ → Result ℕ TableError → Result <a href="../../store/Table/index.html#TableValue">TableValue</a> TableError
 <a href="../../region/Table/index.html#made_in">made_in</a> ty region (Ok size) = Ok (<a href="../../region/Table/index.html#table_in">table_in</a> ty region size)
 <a href="../../region/Table/index.html#made_in">made_in</a> ty region (Err error) = Err error
 
 -- a reference of the type of a table&#x27;s elements
-abbrev pub <b id="typed_as">typed_as</b> : <a href="../../store/TableType/index.html#TableTypeValue">TableTypeValue</a> → ℕ → TypedRawRef
+abbrev pub <b id="typed_as">typed_as</b> : <a href="../../store/Table/index.html#TableTypeValue">TableTypeValue</a> → ℕ → TypedRawRef
 <a href="../../region/Table/index.html#typed_as">typed_as</a> ty reference = record { raw = reference; ty = ty.element }
 
 -- items of the type of a table&#x27;s elements
-abbrev pub <b id="items_of">items_of</b> : <a href="../../store/TableType/index.html#TableTypeValue">TableTypeValue</a> → List ℕ → <a href="../../store/Segment/index.html#SegmentValue">SegmentValue</a>
+abbrev pub <b id="items_of">items_of</b> : <a href="../../store/Table/index.html#TableTypeValue">TableTypeValue</a> → List ℕ → <a href="../../store/Segment/index.html#SegmentValue">SegmentValue</a>
 <a href="../../region/Table/index.html#items_of">items_of</a> ty items = record { ty = ty.element; items = items }
 
 -- what is asked where a table of a type is made on a region of so many references, and the causes of a refusal: it is
 -- out of memory if the region is shorter than the minimum
-abbrev pub <b id="creation_in">creation_in</b> : <a href="../../store/TableType/index.html#TableTypeValue">TableTypeValue</a> → ℕ → <a href="../../meter/Attempt/index.html#Request">Request</a> (Unit {0}) TableError
+abbrev pub <b id="creation_in">creation_in</b> : <a href="../../store/Table/index.html#TableTypeValue">TableTypeValue</a> → ℕ → <a href="../../meter/Attempt/index.html#Request">Request</a> (Unit {0}) TableError
 <a href="../../region/Table/index.html#creation_in">creation_in</a> ty room = record (<a href="../../store/Table/index.html#creation_of">creation_of</a> ty ty.element) {
   refuses = λ cause. (cause ≡ OutOfSystemMemory) × (room &lt; ty.minimum);
 }
@@ -6186,7 +5788,7 @@ abbrev pub <b id="region_growth">region_growth</b> : ℕ → ℕ → ℕ → <a 
     record { amount = n; size = <a href="../../store/Table/index.html#size_of">size_of</a> x; request = <a href="../../region/Table/index.html#growth_in">growth_in</a> room x n reference }
 
 -- a table of a type is made of one reference on a region of so many
-abbrev pub <b id="MakesTableIn">MakesTableIn</b> : {S : Type 0} → <a href="../../meter/Limiter/index.html#Rules">Rules</a> S → <a href="../../store/TableType/index.html#TableTypeValue">TableTypeValue</a> → ℕ → ℕ → S → Result <a href="../../store/Table/index.html#TableValue">TableValue</a> TableError → S
+abbrev pub <b id="MakesTableIn">MakesTableIn</b> : {S : Type 0} → <a href="../../meter/Limiter/index.html#Rules">Rules</a> S → <a href="../../store/Table/index.html#TableTypeValue">TableTypeValue</a> → ℕ → ℕ → S → Result <a href="../../store/Table/index.html#TableValue">TableValue</a> TableError → S
     → Type 0
 <a href="../../region/Table/index.html#MakesTableIn">MakesTableIn</a> rules ty room reference l result l&#x27; =
     <a href="../../store/Growth/index.html#Makes">Makes</a> rules (<a href="../../region/Table/index.html#creation_in">creation_in</a> ty room) (<a href="../../store/Table/index.html#new_table">new_table</a> ty reference) l result l&#x27;
@@ -6272,7 +5874,7 @@ use Rattle.wasmi_typed.specs.declared.typed_ref.TypedRawRef.{TypedRawRef}
 use Rattle.wasmi_operands.specs.LineWords.{<a href="../../operands/LineWords/index.html#WritesNumber">WritesNumber</a>, <a href="../../operands/LineWords/index.html#LineWords">LineWords</a>, <a href="../../operands/LineWords/index.html#WritesEach">WritesEach</a>}
 use Rattle.wasmi_meter.specs.declared.answer_list.LimiterAnswer.{LimiterAnswer}
 use Rattle.wasmi_meter.specs.declared.answer_list.LimiterAnswer.TheVariants.{Permit, Deny, Error, Complain}
-use Rattle.wasmi_ops.specs.LaneKinds.{<a href="../../ops/LaneKinds/index.html#extract_name">extract_name</a>, <a href="../../ops/LaneKinds/index.html#extract_op">extract_op</a>, <a href="../../ops/LaneKinds/index.html#replace_name">replace_name</a>, <a href="../../ops/LaneKinds/index.html#replace_op">replace_op</a>, <a href="../../ops/LaneKinds/index.html#load_lane_name">load_lane_name</a>, <a href="../../ops/LaneKinds/index.html#load_lane_op">load_lane_op</a>, <a href="../../ops/LaneKinds/index.html#store_lane_name">store_lane_name</a>, <a href="../../ops/LaneKinds/index.html#store_lane_op">store_lane_op</a>}
+use Rattle.wasmi_ops.specs.LaneOps.{<a href="../../ops/LaneOps/index.html#extract_name">extract_name</a>, <a href="../../ops/LaneOps/index.html#extract_op">extract_op</a>, <a href="../../ops/LaneOps/index.html#replace_name">replace_name</a>, <a href="../../ops/LaneOps/index.html#replace_op">replace_op</a>, <a href="../../ops/LaneOps/index.html#load_lane_name">load_lane_name</a>, <a href="../../ops/LaneOps/index.html#load_lane_op">load_lane_op</a>, <a href="../../ops/LaneOps/index.html#store_lane_name">store_lane_name</a>, <a href="../../ops/LaneOps/index.html#store_lane_op">store_lane_op</a>}
 use Rattle.wasmi_ops.specs.declared.vector.lane.ExtractOp.{ExtractOp}
 use Rattle.wasmi_ops.specs.declared.vector.lane.ReplaceOp.{ReplaceOp}
 use Rattle.wasmi_ops.specs.declared.vector.access.LoadLaneOp.{LoadLaneOp}
@@ -6344,19 +5946,19 @@ unfoldable pub <b id="NamesLane">NamesLane</b> : {Kind Op : Type 0} → (Kind �
 
 -- two words name the extraction of a lane
 abbrev pub <b id="NamesExtract">NamesExtract</b> : List ℕ → List ℕ → ExtractOp → Type 0
-<a href="../../operands/Names/index.html#NamesExtract">NamesExtract</a> = <a href="../../operands/Names/index.html#NamesLane">NamesLane</a> <a href="../../ops/LaneKinds/index.html#extract_name">extract_name</a> <a href="../../ops/LaneKinds/index.html#extract_op">extract_op</a>
+<a href="../../operands/Names/index.html#NamesExtract">NamesExtract</a> = <a href="../../operands/Names/index.html#NamesLane">NamesLane</a> <a href="../../ops/LaneOps/index.html#extract_name">extract_name</a> <a href="../../ops/LaneOps/index.html#extract_op">extract_op</a>
 
 -- two words name the replacement of a lane
 abbrev pub <b id="NamesReplace">NamesReplace</b> : List ℕ → List ℕ → ReplaceOp → Type 0
-<a href="../../operands/Names/index.html#NamesReplace">NamesReplace</a> = <a href="../../operands/Names/index.html#NamesLane">NamesLane</a> <a href="../../ops/LaneKinds/index.html#replace_name">replace_name</a> <a href="../../ops/LaneKinds/index.html#replace_op">replace_op</a>
+<a href="../../operands/Names/index.html#NamesReplace">NamesReplace</a> = <a href="../../operands/Names/index.html#NamesLane">NamesLane</a> <a href="../../ops/LaneOps/index.html#replace_name">replace_name</a> <a href="../../ops/LaneOps/index.html#replace_op">replace_op</a>
 
 -- two words name the load of a lane
 abbrev pub <b id="NamesLoadLane">NamesLoadLane</b> : List ℕ → List ℕ → LoadLaneOp → Type 0
-<a href="../../operands/Names/index.html#NamesLoadLane">NamesLoadLane</a> = <a href="../../operands/Names/index.html#NamesLane">NamesLane</a> <a href="../../ops/LaneKinds/index.html#load_lane_name">load_lane_name</a> <a href="../../ops/LaneKinds/index.html#load_lane_op">load_lane_op</a>
+<a href="../../operands/Names/index.html#NamesLoadLane">NamesLoadLane</a> = <a href="../../operands/Names/index.html#NamesLane">NamesLane</a> <a href="../../ops/LaneOps/index.html#load_lane_name">load_lane_name</a> <a href="../../ops/LaneOps/index.html#load_lane_op">load_lane_op</a>
 
 -- two words name the store of a lane
 abbrev pub <b id="NamesStoreLane">NamesStoreLane</b> : List ℕ → List ℕ → StoreLaneOp → Type 0
-<a href="../../operands/Names/index.html#NamesStoreLane">NamesStoreLane</a> = <a href="../../operands/Names/index.html#NamesLane">NamesLane</a> <a href="../../ops/LaneKinds/index.html#store_lane_name">store_lane_name</a> <a href="../../ops/LaneKinds/index.html#store_lane_op">store_lane_op</a>
+<a href="../../operands/Names/index.html#NamesStoreLane">NamesStoreLane</a> = <a href="../../operands/Names/index.html#NamesLane">NamesLane</a> <a href="../../ops/LaneOps/index.html#store_lane_name">store_lane_name</a> <a href="../../ops/LaneOps/index.html#store_lane_op">store_lane_op</a>
 
 -- sixteen words write the lanes of a shuffle, of which there are 32 to choose from
 pub record <b id="WritesLanes">WritesLanes</b> (words : <a href="../../operands/LineWords/index.html#LineWords">LineWords</a>) (lanes : List ℕ) : Type 0 where
@@ -6374,21 +5976,15 @@ pub mod grammar {
 use Rattle.wasmi_types.specs.declared.index_ty.IndexType.{IndexType}
 use Rattle.wasmi_operands.specs.LineWords.{<a href="../../operands/LineWords/index.html#WritesNumber">WritesNumber</a>, <a href="../../operands/LineWords/index.html#WritesLimit">WritesLimit</a>, <a href="../../operands/LineWords/index.html#LineWords">LineWords</a>, <a href="../../operands/LineWords/index.html#WritesEach">WritesEach</a>, <a href="../../operands/LineWords/index.html#word_at">word_at</a>}
 use Rattle.wasmi_operands.specs.Names.{<a href="../../operands/Names/index.html#width_word">width_word</a>, <a href="../../operands/Names/index.html#reference_word">reference_word</a>, <a href="../../operands/Names/index.html#value_word">value_word</a>, <a href="../../operands/Names/index.html#mutability_word">mutability_word</a>, <a href="../../operands/Names/index.html#WritesReference">WritesReference</a>, <a href="../../operands/Names/index.html#IsName">IsName</a>, <a href="../../operands/Names/index.html#NamesExtract">NamesExtract</a>, <a href="../../operands/Names/index.html#NamesReplace">NamesReplace</a>, <a href="../../operands/Names/index.html#NamesLoadLane">NamesLoadLane</a>, <a href="../../operands/Names/index.html#NamesStoreLane">NamesStoreLane</a>, <a href="../../operands/Names/index.html#WritesLanes">WritesLanes</a>}
-use Rattle.wasmi_store.specs.MemoryType.{<a href="../../store/MemoryType/index.html#MemoryTypeValue">MemoryTypeValue</a>, <a href="../../store/MemoryType/index.html#page_log2">page_log2</a>}
+use Rattle.wasmi_store.specs.Memory.{<a href="../../store/Memory/index.html#MemoryTypeValue">MemoryTypeValue</a>, <a href="../../store/Memory/index.html#page_log2">page_log2</a>}
 use Rattle.wasmi_types.specs.declared.value.RefType.{RefType}
-use Rattle.wasmi_store.specs.TableType.{<a href="../../store/TableType/index.html#TableTypeValue">TableTypeValue</a>}
+use Rattle.wasmi_store.specs.Table.{<a href="../../store/Table/index.html#TableTypeValue">TableTypeValue</a>}
 use Rattle.wasmi_raw.specs.RawVal.{<a href="../../raw/RawVal/index.html#raw_of">raw_of</a>}
-use Rattle.wasmi_ops.specs.ScalarAccessOps.{<a href="../../ops/ScalarAccessOps/index.html#load_name">load_name</a>, <a href="../../ops/ScalarAccessOps/index.html#store_name">store_name</a>}
-use Rattle.wasmi_ops.specs.MakeOps.{<a href="../../ops/MakeOps/index.html#make_name">make_name</a>}
-use Rattle.wasmi_ops.specs.UnaryOps.{<a href="../../ops/UnaryOps/index.html#unary_name">unary_name</a>}
-use Rattle.wasmi_ops.specs.BinaryOps.{<a href="../../ops/BinaryOps/index.html#binary_name">binary_name</a>}
-use Rattle.wasmi_ops.specs.TernaryOps.{<a href="../../ops/TernaryOps/index.html#ternary_name">ternary_name</a>}
-use Rattle.wasmi_ops.specs.ShiftOps.{<a href="../../ops/ShiftOps/index.html#shift_name">shift_name</a>}
-use Rattle.wasmi_ops.specs.TestOps.{<a href="../../ops/TestOps/index.html#test_name">test_name</a>}
-use Rattle.wasmi_ops.specs.VectorAccessOps.{<a href="../../ops/VectorAccessOps/index.html#vector_load_name">vector_load_name</a>}
+use Rattle.wasmi_ops.specs.ScalarOps.{<a href="../../ops/ScalarOps/index.html#load_name">load_name</a>, <a href="../../ops/ScalarOps/index.html#store_name">store_name</a>}
+use Rattle.wasmi_ops.specs.VectorOps.{<a href="../../ops/VectorOps/index.html#make_name">make_name</a>, <a href="../../ops/VectorOps/index.html#unary_name">unary_name</a>, <a href="../../ops/VectorOps/index.html#binary_name">binary_name</a>, <a href="../../ops/VectorOps/index.html#ternary_name">ternary_name</a>, <a href="../../ops/VectorOps/index.html#shift_name">shift_name</a>, <a href="../../ops/VectorOps/index.html#test_name">test_name</a>, <a href="../../ops/VectorOps/index.html#vector_load_name">vector_load_name</a>}
 use Rattle.wasmi_core.specs.declared.calls.Call.{Call}
-use Rattle.wasmi_store.specs.MemoryType as memory_type
-use Rattle.wasmi_store.specs.TableType as table_type
+use Rattle.wasmi_store.specs.Memory as memory_type
+use Rattle.wasmi_store.specs.Table as table_type
 use Rattle.wasmi_core.specs.declared.calls.Call.TheVariants as call
 
 -- the limits of a memory or of a table: the type of its indices, its minimum and its maximum, if it has one
@@ -6404,38 +6000,38 @@ pub record <b id="WritesLimits">WritesLimits</b> (<a href="../../grammar/Command
   pub <b id="width_text">width_text</b> : width ≡ <a href="../../operands/Names/index.html#width_word">width_word</a> limits.index
 
 -- the limits of a memory type
-abbrev pub <b id="memory_limits">memory_limits</b> : <a href="../../store/MemoryType/index.html#MemoryTypeValue">MemoryTypeValue</a> → <a href="../../grammar/Commands/index.html#Limits">Limits</a>
+abbrev pub <b id="memory_limits">memory_limits</b> : <a href="../../store/Memory/index.html#MemoryTypeValue">MemoryTypeValue</a> → <a href="../../grammar/Commands/index.html#Limits">Limits</a>
 <a href="../../grammar/Commands/index.html#memory_limits">memory_limits</a> ty = record { <a href="../../grammar/Commands/index.html#index">index</a> = ty.index; <a href="../../grammar/Commands/index.html#minimum">minimum</a> = ty.minimum; <a href="../../grammar/Commands/index.html#maximum">maximum</a> = ty.maximum }
 
 -- a memory type, which there is, of these limits and this page size
-pub record <b id="HasSettings">HasSettings</b> (limits : <a href="../../grammar/Commands/index.html#Limits">Limits</a>) (log2 : ℕ) (ty : <a href="../../store/MemoryType/index.html#MemoryTypeValue">MemoryTypeValue</a>) : Type 0 where
+pub record <b id="HasSettings">HasSettings</b> (limits : <a href="../../grammar/Commands/index.html#Limits">Limits</a>) (log2 : ℕ) (ty : <a href="../../store/Memory/index.html#MemoryTypeValue">MemoryTypeValue</a>) : Type 0 where
   pub <b id="same_limits">same_limits</b> : <a href="../../grammar/Commands/index.html#memory_limits">memory_limits</a> ty ≡ limits
-  pub <b id="same_log2">same_log2</b> : <a href="../../store/MemoryType/index.html#page_log2">page_log2</a> ty.page ≡ log2
-  pub <b id="valid">valid</b> : <a href="../../store/MemoryType/index.html#IsValid">memory_type.IsValid</a> ty
+  pub <b id="same_log2">same_log2</b> : <a href="../../store/Memory/index.html#page_log2">page_log2</a> ty.page ≡ log2
+  pub <b id="valid">valid</b> : <a href="../../store/Memory/index.html#IsValid">memory_type.IsValid</a> ty
 
 -- four words name this memory type, which there is: its minimum, its maximum, its page size and the width of its
 -- addresses
-pub record <b id="NamesType">NamesType</b> (<a href="../../grammar/Commands/index.html#minimum">minimum</a> <a href="../../grammar/Commands/index.html#maximum">maximum</a> log2 width : List ℕ) (ty : <a href="../../store/MemoryType/index.html#MemoryTypeValue">MemoryTypeValue</a>) : Type 0 where
+pub record <b id="NamesType">NamesType</b> (<a href="../../grammar/Commands/index.html#minimum">minimum</a> <a href="../../grammar/Commands/index.html#maximum">maximum</a> log2 width : List ℕ) (ty : <a href="../../store/Memory/index.html#MemoryTypeValue">MemoryTypeValue</a>) : Type 0 where
   pub <b id="limits_words">limits_words</b> : <a href="../../grammar/Commands/index.html#WritesLimits">WritesLimits</a> <a href="../../grammar/Commands/index.html#minimum">minimum</a> <a href="../../grammar/Commands/index.html#maximum">maximum</a> width (<a href="../../grammar/Commands/index.html#memory_limits">memory_limits</a> ty)
-  pub <b id="log2_word">log2_word</b> : <a href="../../operands/LineWords/index.html#WritesNumber">WritesNumber</a> 8 log2 (<a href="../../store/MemoryType/index.html#page_log2">page_log2</a> ty.page)
-  pub <b id="valid">valid</b> : <a href="../../store/MemoryType/index.html#IsValid">memory_type.IsValid</a> ty
+  pub <b id="log2_word">log2_word</b> : <a href="../../operands/LineWords/index.html#WritesNumber">WritesNumber</a> 8 log2 (<a href="../../store/Memory/index.html#page_log2">page_log2</a> ty.page)
+  pub <b id="valid">valid</b> : <a href="../../store/Memory/index.html#IsValid">memory_type.IsValid</a> ty
 
 -- the limits of a table type
-abbrev pub <b id="table_limits">table_limits</b> : <a href="../../store/TableType/index.html#TableTypeValue">TableTypeValue</a> → <a href="../../grammar/Commands/index.html#Limits">Limits</a>
+abbrev pub <b id="table_limits">table_limits</b> : <a href="../../store/Table/index.html#TableTypeValue">TableTypeValue</a> → <a href="../../grammar/Commands/index.html#Limits">Limits</a>
 <a href="../../grammar/Commands/index.html#table_limits">table_limits</a> ty = record { <a href="../../grammar/Commands/index.html#index">index</a> = ty.index; <a href="../../grammar/Commands/index.html#minimum">minimum</a> = ty.minimum; <a href="../../grammar/Commands/index.html#maximum">maximum</a> = ty.maximum }
 
 -- a table type, which there is, of these limits and this type of elements
-pub record <b id="HasLimits">HasLimits</b> (limits : <a href="../../grammar/Commands/index.html#Limits">Limits</a>) (element : RefType) (ty : <a href="../../store/TableType/index.html#TableTypeValue">TableTypeValue</a>) : Type 0 where
+pub record <b id="HasLimits">HasLimits</b> (limits : <a href="../../grammar/Commands/index.html#Limits">Limits</a>) (element : RefType) (ty : <a href="../../store/Table/index.html#TableTypeValue">TableTypeValue</a>) : Type 0 where
   pub <b id="same_limits">same_limits</b> : <a href="../../grammar/Commands/index.html#table_limits">table_limits</a> ty ≡ limits
   pub <b id="same_element">same_element</b> : ty.element ≡ element
-  pub <b id="valid">valid</b> : <a href="../../store/TableType/index.html#IsValid">table_type.IsValid</a> ty
+  pub <b id="valid">valid</b> : <a href="../../store/Table/index.html#IsValid">table_type.IsValid</a> ty
 
 -- four words name this table type, which there is: the type of its elements, its minimum, its maximum and the width of
 -- its indices
-pub record <b id="NamesTableType">NamesTableType</b> (element <a href="../../grammar/Commands/index.html#minimum">minimum</a> <a href="../../grammar/Commands/index.html#maximum">maximum</a> width : List ℕ) (ty : <a href="../../store/TableType/index.html#TableTypeValue">TableTypeValue</a>) : Type 0 where
+pub record <b id="NamesTableType">NamesTableType</b> (element <a href="../../grammar/Commands/index.html#minimum">minimum</a> <a href="../../grammar/Commands/index.html#maximum">maximum</a> width : List ℕ) (ty : <a href="../../store/Table/index.html#TableTypeValue">TableTypeValue</a>) : Type 0 where
   pub <b id="element_text">element_text</b> : element ≡ <a href="../../operands/Names/index.html#reference_word">reference_word</a> ty.element
   pub <b id="limits_words">limits_words</b> : <a href="../../grammar/Commands/index.html#WritesLimits">WritesLimits</a> <a href="../../grammar/Commands/index.html#minimum">minimum</a> <a href="../../grammar/Commands/index.html#maximum">maximum</a> width (<a href="../../grammar/Commands/index.html#table_limits">table_limits</a> ty)
-  pub <b id="valid">valid</b> : <a href="../../store/TableType/index.html#IsValid">table_type.IsValid</a> ty
+  pub <b id="valid">valid</b> : <a href="../../store/Table/index.html#IsValid">table_type.IsValid</a> ty
 
 -- the word that a command begins with
 abbrev pub <b id="command_word">command_word</b> : Call → List ℕ
@@ -6492,9 +6088,9 @@ abbrev pub <b id="OperandsWrite">OperandsWrite</b> : ℕ → (ℕ → List ℕ) 
     (count ≡ 3) × <a href="../../operands/LineWords/index.html#WritesNumber">WritesNumber</a> 64 (word 0) memory × <a href="../../operands/LineWords/index.html#WritesNumber">WritesNumber</a> 64 (word 1) offset × <a href="../../operands/LineWords/index.html#WritesNumber">WritesNumber</a> 64 (word 2) len
 <a href="../../grammar/Commands/index.html#OperandsWrite">OperandsWrite</a> count word (call.Write memory offset bytes) =
     (2 ≤ count) × <a href="../../operands/LineWords/index.html#WritesNumber">WritesNumber</a> 64 (word 0) memory × <a href="../../operands/LineWords/index.html#WritesNumber">WritesNumber</a> 64 (word 1) offset
-<a href="../../grammar/Commands/index.html#OperandsWrite">OperandsWrite</a> count word (call.Load op memory ptr offset) = (count ≡ 4) × <a href="../../operands/Names/index.html#IsName">IsName</a> <a href="../../ops/ScalarAccessOps/index.html#load_name">load_name</a> (word 0) op
+<a href="../../grammar/Commands/index.html#OperandsWrite">OperandsWrite</a> count word (call.Load op memory ptr offset) = (count ≡ 4) × <a href="../../operands/Names/index.html#IsName">IsName</a> <a href="../../ops/ScalarOps/index.html#load_name">load_name</a> (word 0) op
     × <a href="../../operands/LineWords/index.html#WritesNumber">WritesNumber</a> 64 (word 1) memory × <a href="../../operands/LineWords/index.html#WritesNumber">WritesNumber</a> 64 (word 2) ptr × <a href="../../operands/LineWords/index.html#WritesNumber">WritesNumber</a> 64 (word 3) offset
-<a href="../../grammar/Commands/index.html#OperandsWrite">OperandsWrite</a> count word (call.Store op memory ptr offset value) = (count ≡ 5) × <a href="../../operands/Names/index.html#IsName">IsName</a> <a href="../../ops/ScalarAccessOps/index.html#store_name">store_name</a> (word 0) op
+<a href="../../grammar/Commands/index.html#OperandsWrite">OperandsWrite</a> count word (call.Store op memory ptr offset value) = (count ≡ 5) × <a href="../../operands/Names/index.html#IsName">IsName</a> <a href="../../ops/ScalarOps/index.html#store_name">store_name</a> (word 0) op
     × <a href="../../operands/LineWords/index.html#WritesNumber">WritesNumber</a> 64 (word 1) memory × <a href="../../operands/LineWords/index.html#WritesNumber">WritesNumber</a> 64 (word 2) ptr × <a href="../../operands/LineWords/index.html#WritesNumber">WritesNumber</a> 64 (word 3) offset × (lo : ℕ)
     × <a href="../../operands/LineWords/index.html#WritesNumber">WritesNumber</a> 64 (word 4) lo × (value ≡ <a href="../../raw/RawVal/index.html#raw_of">raw_of</a> lo)
 <a href="../../grammar/Commands/index.html#OperandsWrite">OperandsWrite</a> count word (call.NewTable ty init) =
@@ -6527,23 +6123,23 @@ abbrev pub <b id="OperandsWrite">OperandsWrite</b> : ℕ → (ℕ → List ℕ) 
     (count ≡ 3) × <a href="../../operands/LineWords/index.html#WritesNumber">WritesNumber</a> 8 (word 0) dst × <a href="../../operands/LineWords/index.html#WritesNumber">WritesNumber</a> 64 (word 1) value.lo × <a href="../../operands/LineWords/index.html#WritesNumber">WritesNumber</a> 64 (word 2) value.hi
 <a href="../../grammar/Commands/index.html#OperandsWrite">OperandsWrite</a> count word (call.GetRegister a) = (count ≡ 1) × <a href="../../operands/LineWords/index.html#WritesNumber">WritesNumber</a> 8 (word 0) a
 <a href="../../grammar/Commands/index.html#OperandsWrite">OperandsWrite</a> count word (call.Make op dst a) =
-    (count ≡ 3) × <a href="../../operands/Names/index.html#IsName">IsName</a> <a href="../../ops/MakeOps/index.html#make_name">make_name</a> (word 0) op × <a href="../../operands/LineWords/index.html#WritesNumber">WritesNumber</a> 8 (word 1) dst × <a href="../../operands/LineWords/index.html#WritesNumber">WritesNumber</a> 8 (word 2) a
+    (count ≡ 3) × <a href="../../operands/Names/index.html#IsName">IsName</a> <a href="../../ops/VectorOps/index.html#make_name">make_name</a> (word 0) op × <a href="../../operands/LineWords/index.html#WritesNumber">WritesNumber</a> 8 (word 1) dst × <a href="../../operands/LineWords/index.html#WritesNumber">WritesNumber</a> 8 (word 2) a
 <a href="../../grammar/Commands/index.html#OperandsWrite">OperandsWrite</a> count word (call.Unary op dst a) =
-    (count ≡ 3) × <a href="../../operands/Names/index.html#IsName">IsName</a> <a href="../../ops/UnaryOps/index.html#unary_name">unary_name</a> (word 0) op × <a href="../../operands/LineWords/index.html#WritesNumber">WritesNumber</a> 8 (word 1) dst × <a href="../../operands/LineWords/index.html#WritesNumber">WritesNumber</a> 8 (word 2) a
-<a href="../../grammar/Commands/index.html#OperandsWrite">OperandsWrite</a> count word (call.Binary op dst a b) = (count ≡ 4) × <a href="../../operands/Names/index.html#IsName">IsName</a> <a href="../../ops/BinaryOps/index.html#binary_name">binary_name</a> (word 0) op
+    (count ≡ 3) × <a href="../../operands/Names/index.html#IsName">IsName</a> <a href="../../ops/VectorOps/index.html#unary_name">unary_name</a> (word 0) op × <a href="../../operands/LineWords/index.html#WritesNumber">WritesNumber</a> 8 (word 1) dst × <a href="../../operands/LineWords/index.html#WritesNumber">WritesNumber</a> 8 (word 2) a
+<a href="../../grammar/Commands/index.html#OperandsWrite">OperandsWrite</a> count word (call.Binary op dst a b) = (count ≡ 4) × <a href="../../operands/Names/index.html#IsName">IsName</a> <a href="../../ops/VectorOps/index.html#binary_name">binary_name</a> (word 0) op
     × <a href="../../operands/LineWords/index.html#WritesNumber">WritesNumber</a> 8 (word 1) dst × <a href="../../operands/LineWords/index.html#WritesNumber">WritesNumber</a> 8 (word 2) a × <a href="../../operands/LineWords/index.html#WritesNumber">WritesNumber</a> 8 (word 3) b
-<a href="../../grammar/Commands/index.html#OperandsWrite">OperandsWrite</a> count word (call.Ternary op dst a b c) = (count ≡ 5) × <a href="../../operands/Names/index.html#IsName">IsName</a> <a href="../../ops/TernaryOps/index.html#ternary_name">ternary_name</a> (word 0) op
+<a href="../../grammar/Commands/index.html#OperandsWrite">OperandsWrite</a> count word (call.Ternary op dst a b c) = (count ≡ 5) × <a href="../../operands/Names/index.html#IsName">IsName</a> <a href="../../ops/VectorOps/index.html#ternary_name">ternary_name</a> (word 0) op
     × <a href="../../operands/LineWords/index.html#WritesNumber">WritesNumber</a> 8 (word 1) dst × <a href="../../operands/LineWords/index.html#WritesNumber">WritesNumber</a> 8 (word 2) a × <a href="../../operands/LineWords/index.html#WritesNumber">WritesNumber</a> 8 (word 3) b × <a href="../../operands/LineWords/index.html#WritesNumber">WritesNumber</a> 8 (word 4) c
-<a href="../../grammar/Commands/index.html#OperandsWrite">OperandsWrite</a> count word (call.Shift op dst a amount) = (count ≡ 4) × <a href="../../operands/Names/index.html#IsName">IsName</a> <a href="../../ops/ShiftOps/index.html#shift_name">shift_name</a> (word 0) op
+<a href="../../grammar/Commands/index.html#OperandsWrite">OperandsWrite</a> count word (call.Shift op dst a amount) = (count ≡ 4) × <a href="../../operands/Names/index.html#IsName">IsName</a> <a href="../../ops/VectorOps/index.html#shift_name">shift_name</a> (word 0) op
     × <a href="../../operands/LineWords/index.html#WritesNumber">WritesNumber</a> 8 (word 1) dst × <a href="../../operands/LineWords/index.html#WritesNumber">WritesNumber</a> 8 (word 2) a × <a href="../../operands/LineWords/index.html#WritesNumber">WritesNumber</a> 32 (word 3) amount
-<a href="../../grammar/Commands/index.html#OperandsWrite">OperandsWrite</a> count word (call.Test op a) = (count ≡ 2) × <a href="../../operands/Names/index.html#IsName">IsName</a> <a href="../../ops/TestOps/index.html#test_name">test_name</a> (word 0) op × <a href="../../operands/LineWords/index.html#WritesNumber">WritesNumber</a> 8 (word 1) a
+<a href="../../grammar/Commands/index.html#OperandsWrite">OperandsWrite</a> count word (call.Test op a) = (count ≡ 2) × <a href="../../operands/Names/index.html#IsName">IsName</a> <a href="../../ops/VectorOps/index.html#test_name">test_name</a> (word 0) op × <a href="../../operands/LineWords/index.html#WritesNumber">WritesNumber</a> 8 (word 1) a
 <a href="../../grammar/Commands/index.html#OperandsWrite">OperandsWrite</a> count word (call.Extract op a) =
     (count ≡ 3) × <a href="../../operands/Names/index.html#NamesExtract">NamesExtract</a> (word 0) (word 2) op × <a href="../../operands/LineWords/index.html#WritesNumber">WritesNumber</a> 8 (word 1) a
 <a href="../../grammar/Commands/index.html#OperandsWrite">OperandsWrite</a> count word (call.Replace op dst a item) = (count ≡ 5) × <a href="../../operands/Names/index.html#NamesReplace">NamesReplace</a> (word 0) (word 3) op
     × <a href="../../operands/LineWords/index.html#WritesNumber">WritesNumber</a> 8 (word 1) dst × <a href="../../operands/LineWords/index.html#WritesNumber">WritesNumber</a> 8 (word 2) a × <a href="../../operands/LineWords/index.html#WritesNumber">WritesNumber</a> 8 (word 4) item
 <a href="../../grammar/Commands/index.html#OperandsWrite">OperandsWrite</a> count word (call.Shuffle dst a b lanes) =
     (3 ≤ count) × <a href="../../operands/LineWords/index.html#WritesNumber">WritesNumber</a> 8 (word 0) dst × <a href="../../operands/LineWords/index.html#WritesNumber">WritesNumber</a> 8 (word 1) a × <a href="../../operands/LineWords/index.html#WritesNumber">WritesNumber</a> 8 (word 2) b
-<a href="../../grammar/Commands/index.html#OperandsWrite">OperandsWrite</a> count word (call.VectorLoad op dst memory ptr offset) = (count ≡ 5) × <a href="../../operands/Names/index.html#IsName">IsName</a> <a href="../../ops/VectorAccessOps/index.html#vector_load_name">vector_load_name</a> (word 0) op
+<a href="../../grammar/Commands/index.html#OperandsWrite">OperandsWrite</a> count word (call.VectorLoad op dst memory ptr offset) = (count ≡ 5) × <a href="../../operands/Names/index.html#IsName">IsName</a> <a href="../../ops/VectorOps/index.html#vector_load_name">vector_load_name</a> (word 0) op
     × <a href="../../operands/LineWords/index.html#WritesNumber">WritesNumber</a> 8 (word 1) dst × <a href="../../operands/LineWords/index.html#WritesNumber">WritesNumber</a> 64 (word 2) memory × <a href="../../operands/LineWords/index.html#WritesNumber">WritesNumber</a> 64 (word 3) ptr
     × <a href="../../operands/LineWords/index.html#WritesNumber">WritesNumber</a> 64 (word 4) offset
 <a href="../../grammar/Commands/index.html#OperandsWrite">OperandsWrite</a> count word (call.LoadLane op dst a memory ptr offset) = (count ≡ 7) × <a href="../../operands/Names/index.html#NamesLoadLane">NamesLoadLane</a> (word 0) (word 3) op
@@ -6577,8 +6173,7 @@ abbrev pub <b id="NamesAfter">NamesAfter</b> : List ℕ → <a href="../../opera
 
 <pre><code>use Rattle.std.specs.Prelude.{◌≡◌, ◌≤◌, ℕ, Option, List, Some, None, length, codes, replicate}
 use Rattle.std.specs.Option.{option_map, option_map_or}
-use Rattle.wasmi_meter.specs.Costs.{<a href="../../meter/Costs/index.html#default_costs">default_costs</a>}
-use Rattle.wasmi_meter.specs.Meter.{<a href="../../meter/Meter/index.html#Meter">Meter</a>}
+use Rattle.wasmi_meter.specs.Meter.{<a href="../../meter/Meter/index.html#default_costs">default_costs</a>, <a href="../../meter/Meter/index.html#Meter">Meter</a>}
 use Rattle.wasmi_core.specs.State.{<a href="../../machine/State/index.html#State">State</a>, <a href="../../machine/State/index.html#new_state">new_state</a>}
 use Rattle.wasmi_grammar.specs.declared.header.Header.{Header}
 use Rattle.wasmi_grammar.specs.declared.header.MeterLine.{MeterLine}
@@ -6635,13 +6230,13 @@ abbrev pub <b id="AreApart">AreApart</b> : Option LimiterLine → Option RegionL
 
 -- a meter that is off
 abbrev pub <b id="meter_off">meter_off</b> : <a href="../../meter/Meter/index.html#Meter">Meter</a>
-<a href="../../grammar/Headers/index.html#meter_off">meter_off</a> = record { left = None; costs = <a href="../../meter/Costs/index.html#default_costs">default_costs</a> }
+<a href="../../grammar/Headers/index.html#meter_off">meter_off</a> = record { left = None; costs = <a href="../../meter/Meter/index.html#default_costs">default_costs</a> }
 
 -- the meter that a line asks for, with no fuel left yet
 abbrev pub <b id="meter_meaning">meter_meaning</b> : MeterLine → <a href="../../meter/Meter/index.html#Meter">Meter</a>
 <a href="../../grammar/Headers/index.html#meter_meaning">meter_meaning</a> Off = <a href="../../grammar/Headers/index.html#meter_off">meter_off</a>
 <a href="../../grammar/Headers/index.html#meter_meaning">meter_meaning</a> (On bytes_per_fuel) =
-    record { left = Some 0; costs = record <a href="../../meter/Costs/index.html#default_costs">default_costs</a> { bytes_copied_per_fuel = bytes_per_fuel } }
+    record { left = Some 0; costs = record <a href="../../meter/Meter/index.html#default_costs">default_costs</a> { bytes_copied_per_fuel = bytes_per_fuel } }
 
 -- the meter that a script starts with: off without a line that says more
 abbrev pub <b id="meter_of">meter_of</b> : Header → <a href="../../meter/Meter/index.html#Meter">Meter</a>
@@ -6657,9 +6252,9 @@ abbrev pub <b id="start_of">start_of</b> : Header → <a href="../../machine/Sta
 </code></pre>
 "####]
     pub mod Headers {}
-    #[doc = r####"What the lines of a script add to it.
+    #[doc = r####"What the lines of a script add to it, its calls by parts, and why a text is not parsed.
 
-<pre><code>use Rattle.std.specs.Prelude.{◌≡◌, ◌&lt;◌, ℕ, ◌⊎◌, List, [], ◌∷◌, ◌++◌, Some, None, ◌==◌, codes, drop, map}
+<pre><code>use Rattle.std.specs.Prelude.{◌≡◌, ◌&lt;◌, ℕ, ◌⊎◌, List, [], ◌∷◌, ◌++◌, Some, None, ◌==◌, codes, drop, map, ◌+◌, ⊤, length}
 use Rattle.std.specs.List.{slice_split}
 use Rattle.std.specs.Str.{IsUtf8}
 use Rattle.wasmi_core.specs.declared.calls.Call.{Call}
@@ -6673,6 +6268,8 @@ use Rattle.wasmi_operands.specs.LineWords.{<a href="../../operands/LineWords/ind
 use Rattle.wasmi_grammar.specs.Parts.{<a href="../../grammar/Parts/index.html#parts_in">parts_in</a>, <a href="../../grammar/Parts/index.html#calls_in">calls_in</a>}
 use Rattle.wasmi_grammar.specs.Commands.{<a href="../../grammar/Commands/index.html#NamesAfter">NamesAfter</a>}
 use Rattle.wasmi_grammar.specs.Headers.{<a href="../../grammar/Headers/index.html#WritesMeter">WritesMeter</a>, <a href="../../grammar/Headers/index.html#NamesLimiterAfter">NamesLimiterAfter</a>, <a href="../../grammar/Headers/index.html#WritesRegion">WritesRegion</a>, <a href="../../grammar/Headers/index.html#WritesTenant">WritesTenant</a>, <a href="../../grammar/Headers/index.html#AreApart">AreApart</a>, <a href="../../grammar/Headers/index.html#tenants_of">tenants_of</a>}
+use Rattle.wasmi_grammar.specs.declared.error.ParseError.{ParseError}
+use Rattle.wasmi_grammar.specs.declared.error.ParseError.TheVariants.{BadCommand, OutOfMemory}
 
 -- the first word of a line and the words after it say this
 abbrev pub <b id="NamesLine">NamesLine</b> : List ℕ → <a href="../../operands/LineWords/index.html#LineWords">LineWords</a> → Line → Type 0
@@ -6683,7 +6280,7 @@ abbrev pub <b id="NamesLine">NamesLine</b> : List ℕ → <a href="../../operand
 <a href="../../grammar/Lines/index.html#NamesLine">NamesLine</a> name operands (Command call) = <a href="../../grammar/Commands/index.html#NamesAfter">NamesAfter</a> name operands call
 
 -- no command was taken yet
-pub record <b id="HasNoCommands">HasNoCommands</b> (script : Script) : Type 0 where
+pub record <b id="HasNoCommands">HasNoCommands</b> (<a href="../../grammar/Lines/index.html#script">script</a> : Script) : Type 0 where
   pub <b id="no_calls">no_calls</b> : script.parts.calls ≡ []
   pub <b id="no_parts">no_parts</b> : script.parts.earlier ≡ []
 
@@ -6750,23 +6347,43 @@ unfoldable pub <b id="lines_in">lines_in</b> : List ℕ → List (List ℕ)
 <a href="../../grammar/Lines/index.html#lines_in">lines_in</a> text = slice_split (λ byte. byte == 10) text
 
 -- no line was taken yet
-pub record <b id="IsNewScript">IsNewScript</b> (script : Script) : Type 0 where
+pub record <b id="IsNewScript">IsNewScript</b> (<a href="../../grammar/Lines/index.html#script">script</a> : Script) : Type 0 where
   pub <b id="no_header">no_header</b> : script.header ≡ record { meter = None; limiter = None; region = None }
   pub <b id="no_commands">no_commands</b> : script.parts ≡ record { earlier = []; tenant = 0; calls = [] }
 
 -- the lines, taken one after the other from none on, lead to this script
-pub record <b id="AreTaken">AreTaken</b> (texts : List (List ℕ)) (script : Script) : Type 0 where
+pub record <b id="AreTaken">AreTaken</b> (texts : List (List ℕ)) (<a href="../../grammar/Lines/index.html#script">script</a> : Script) : Type 0 where
   pub <b id="empty">empty</b> : Script
   pub <b id="is_new">is_new</b> : <a href="../../grammar/Lines/index.html#IsNewScript">IsNewScript</a> <a href="../../grammar/Lines/index.html#empty">empty</a>
-  pub <b id="lines">lines</b> : <a href="../../grammar/Lines/index.html#AcceptsLines">AcceptsLines</a> texts <a href="../../grammar/Lines/index.html#empty">empty</a> script
+  pub <b id="lines">lines</b> : <a href="../../grammar/Lines/index.html#AcceptsLines">AcceptsLines</a> texts <a href="../../grammar/Lines/index.html#empty">empty</a> <a href="../../grammar/Lines/index.html#script">script</a>
 
 -- the script that a text writes: what its lines make
 abbrev pub <b id="WritesScript">WritesScript</b> : List ℕ → Script → Type 0
-<a href="../../grammar/Lines/index.html#WritesScript">WritesScript</a> text script = <a href="../../grammar/Lines/index.html#AreTaken">AreTaken</a> (<a href="../../grammar/Lines/index.html#lines_in">lines_in</a> text) script
+<a href="../../grammar/Lines/index.html#WritesScript">WritesScript</a> text <a href="../../grammar/Lines/index.html#script">script</a> = <a href="../../grammar/Lines/index.html#AreTaken">AreTaken</a> (<a href="../../grammar/Lines/index.html#lines_in">lines_in</a> text) <a href="../../grammar/Lines/index.html#script">script</a>
 
 -- all calls of a script, in order
 abbrev pub <b id="calls_of">calls_of</b> : Script → List Call
-<a href="../../grammar/Lines/index.html#calls_of">calls_of</a> script = <a href="../../grammar/Parts/index.html#calls_in">calls_in</a> (<a href="../../grammar/Parts/index.html#parts_in">parts_in</a> script.parts)
+<a href="../../grammar/Lines/index.html#calls_of">calls_of</a> <a href="../../grammar/Lines/index.html#script">script</a> = <a href="../../grammar/Parts/index.html#calls_in">calls_in</a> (<a href="../../grammar/Parts/index.html#parts_in">parts_in</a> script.parts)
+
+-- a line that can&#x27;t be taken after those before: it is no text, or its words, however they are held, add nothing
+abbrev pub <b id="IsBadLine">IsBadLine</b> : Script → List ℕ → Type 0
+<a href="../../grammar/Lines/index.html#IsBadLine">IsBadLine</a> <a href="../../grammar/Lines/index.html#script">script</a> line = (new : Script) → ¬ (<a href="../../grammar/Lines/index.html#AcceptsLine">AcceptsLine</a> <a href="../../grammar/Lines/index.html#script">script</a> line new)
+
+-- the lines before this one, counted from 1, are taken, and this one adds nothing to them
+pub record <b id="IsFirstBadLine">IsFirstBadLine</b> (text : List ℕ) (number : ℕ) : Type 0 where
+  pub <b id="before">before</b> : List (List ℕ)
+  pub <b id="bad">bad</b> : List ℕ
+  pub <b id="after">after</b> : List (List ℕ)
+  pub <b id="lines">lines</b> : <a href="../../grammar/Lines/index.html#lines_in">lines_in</a> text ≡ <a href="../../grammar/Lines/index.html#before">before</a> ++ <a href="../../grammar/Lines/index.html#bad">bad</a> ∷ <a href="../../grammar/Lines/index.html#after">after</a>
+  pub <b id="counted">counted</b> : number ≡ length <a href="../../grammar/Lines/index.html#before">before</a> + 1
+  pub <b id="script">script</b> : Script
+  pub <b id="taken">taken</b> : <a href="../../grammar/Lines/index.html#AreTaken">AreTaken</a> <a href="../../grammar/Lines/index.html#before">before</a> <a href="../../grammar/Lines/index.html#script">script</a>
+  pub <b id="is_bad">is_bad</b> : <a href="../../grammar/Lines/index.html#IsBadLine">IsBadLine</a> <a href="../../grammar/Lines/index.html#script">script</a> <a href="../../grammar/Lines/index.html#bad">bad</a>
+
+-- why a text isn&#x27;t parsed
+abbrev pub <b id="IsParseError">IsParseError</b> : List ℕ → ParseError → Type 0
+<a href="../../grammar/Lines/index.html#IsParseError">IsParseError</a> text (BadCommand number) = <a href="../../grammar/Lines/index.html#IsFirstBadLine">IsFirstBadLine</a> text number
+<a href="../../grammar/Lines/index.html#IsParseError">IsParseError</a> text OutOfMemory = ⊤
 </code></pre>
 "####]
     pub mod Lines {}
@@ -6783,9 +6400,8 @@ use Rattle.wasmi_grammar.specs.declared.header.RegionLine.{RegionLine}
 use Rattle.wasmi_grammar.specs.declared.header.LimiterLine.{LimiterLine}
 use Rattle.wasmi_grammar.specs.declared.header.LimiterLine.TheVariants.{Answers}
 use Rattle.wasmi_meter.specs.declared.answer_list.LimiterAnswer.{LimiterAnswer}
-use Rattle.wasmi_grammar.specs.Lines.{<a href="../../grammar/Lines/index.html#WritesScript">WritesScript</a>}
+use Rattle.wasmi_grammar.specs.Lines.{<a href="../../grammar/Lines/index.html#WritesScript">WritesScript</a>, <a href="../../grammar/Lines/index.html#IsFirstBadLine">IsFirstBadLine</a>}
 use Rattle.wasmi_grammar.specs.Parts.{<a href="../../grammar/Parts/index.html#TenantRun">TenantRun</a>, <a href="../../grammar/Parts/index.html#parts_in">parts_in</a>}
-use Rattle.wasmi_grammar.specs.Refusals.{<a href="../../grammar/Refusals/index.html#IsFirstBadLine">IsFirstBadLine</a>}
 
 -- a call, with its bytes or its items as a list
 pub data <b id="CallMeaning">CallMeaning</b> : Type 0 where
@@ -6845,13 +6461,13 @@ abbrev pub <b id="TextsWriteOneScript">TextsWriteOneScript</b> : Type 0
 
 -- the first bad line of a text is one number
 abbrev pub <b id="FirstBadLinesAreOne">FirstBadLinesAreOne</b> : Type 0
-<a href="../../grammar/Meanings/index.html#FirstBadLinesAreOne">FirstBadLinesAreOne</a> = (text : List ℕ) (number number&#x27; : ℕ) → <a href="../../grammar/Refusals/index.html#IsFirstBadLine">IsFirstBadLine</a> text number → <a href="../../grammar/Refusals/index.html#IsFirstBadLine">IsFirstBadLine</a> text number&#x27;
+<a href="../../grammar/Meanings/index.html#FirstBadLinesAreOne">FirstBadLinesAreOne</a> = (text : List ℕ) (number number&#x27; : ℕ) → <a href="../../grammar/Lines/index.html#IsFirstBadLine">IsFirstBadLine</a> text number → <a href="../../grammar/Lines/index.html#IsFirstBadLine">IsFirstBadLine</a> text number&#x27;
     → number ≡ number&#x27;
 
 -- a text that writes a script has no bad line
 abbrev pub <b id="WrittenTextsHaveNoBadLine">WrittenTextsHaveNoBadLine</b> : Type 0
 <a href="../../grammar/Meanings/index.html#WrittenTextsHaveNoBadLine">WrittenTextsHaveNoBadLine</a> =
-    (text : List ℕ) (script : Script) (number : ℕ) → <a href="../../grammar/Lines/index.html#WritesScript">WritesScript</a> text script → ¬ (<a href="../../grammar/Refusals/index.html#IsFirstBadLine">IsFirstBadLine</a> text number)
+    (text : List ℕ) (script : Script) (number : ℕ) → <a href="../../grammar/Lines/index.html#WritesScript">WritesScript</a> text script → ¬ (<a href="../../grammar/Lines/index.html#IsFirstBadLine">IsFirstBadLine</a> text number)
 </code></pre>
 "####]
     pub mod Meanings {}
@@ -6896,36 +6512,6 @@ pub record <b id="AreCut">AreCut</b> (spans : List Span) (start : ℕ) (<a href=
 </code></pre>
 "####]
     pub mod Parts {}
-    #[doc = r####"Why a text isn't parsed.
-
-<pre><code>use Rattle.std.specs.Prelude.{◌≡◌, ◌+◌, ⊤, ℕ, List, ◌∷◌, ◌++◌, length}
-use Rattle.wasmi_grammar.specs.declared.error.ParseError.{ParseError}
-use Rattle.wasmi_grammar.specs.declared.error.ParseError.TheVariants.{BadCommand, OutOfMemory}
-use Rattle.wasmi_grammar.specs.declared.script.Script.{Script}
-use Rattle.wasmi_grammar.specs.Lines.{<a href="../../grammar/Lines/index.html#AcceptsLine">AcceptsLine</a>, <a href="../../grammar/Lines/index.html#AreTaken">AreTaken</a>, <a href="../../grammar/Lines/index.html#lines_in">lines_in</a>}
-
--- a line that can&#x27;t be taken after those before: it is no text, or its words, however they are held, add nothing
-abbrev pub <b id="IsBadLine">IsBadLine</b> : Script → List ℕ → Type 0
-<a href="../../grammar/Refusals/index.html#IsBadLine">IsBadLine</a> <a href="../../grammar/Refusals/index.html#script">script</a> line = (new : Script) → ¬ (<a href="../../grammar/Lines/index.html#AcceptsLine">AcceptsLine</a> <a href="../../grammar/Refusals/index.html#script">script</a> line new)
-
--- the lines before this one, counted from 1, are taken, and this one adds nothing to them
-pub record <b id="IsFirstBadLine">IsFirstBadLine</b> (text : List ℕ) (number : ℕ) : Type 0 where
-  pub <b id="before">before</b> : List (List ℕ)
-  pub <b id="bad">bad</b> : List ℕ
-  pub <b id="after">after</b> : List (List ℕ)
-  pub <b id="lines">lines</b> : <a href="../../grammar/Lines/index.html#lines_in">lines_in</a> text ≡ <a href="../../grammar/Refusals/index.html#before">before</a> ++ <a href="../../grammar/Refusals/index.html#bad">bad</a> ∷ <a href="../../grammar/Refusals/index.html#after">after</a>
-  pub <b id="counted">counted</b> : number ≡ length <a href="../../grammar/Refusals/index.html#before">before</a> + 1
-  pub <b id="script">script</b> : Script
-  pub <b id="taken">taken</b> : <a href="../../grammar/Lines/index.html#AreTaken">AreTaken</a> <a href="../../grammar/Refusals/index.html#before">before</a> <a href="../../grammar/Refusals/index.html#script">script</a>
-  pub <b id="is_bad">is_bad</b> : <a href="../../grammar/Refusals/index.html#IsBadLine">IsBadLine</a> <a href="../../grammar/Refusals/index.html#script">script</a> <a href="../../grammar/Refusals/index.html#bad">bad</a>
-
--- why a text isn&#x27;t parsed
-abbrev pub <b id="IsParseError">IsParseError</b> : List ℕ → ParseError → Type 0
-<a href="../../grammar/Refusals/index.html#IsParseError">IsParseError</a> text (BadCommand number) = <a href="../../grammar/Refusals/index.html#IsFirstBadLine">IsFirstBadLine</a> text number
-<a href="../../grammar/Refusals/index.html#IsParseError">IsParseError</a> text OutOfMemory = ⊤
-</code></pre>
-"####]
-    pub mod Refusals {}
 }
 /// Definitions of `wasmi_script`.
 pub mod script {
@@ -6943,9 +6529,8 @@ use Rattle.wasmi_script.specs.Status.{<a href="../../script/Status/index.html#st
 use Rattle.wasmi_meter.specs.Limiter.{<a href="../../meter/Limiter/index.html#optional_rules">optional_rules</a>}
 use Rattle.wasmi_core.specs.declared.calls.Call.{Call}
 use Rattle.wasmi_core.specs.declared.calls.Reply.{Reply}
-use Rattle.wasmi_core.specs.State.{<a href="../../machine/State/index.html#State">State</a>}
-use Rattle.wasmi_core.specs.World.{<a href="../../machine/World/index.html#World">World</a>, <a href="../../machine/World/index.html#world">world</a>}
-use Rattle.wasmi_core.specs.Runs.{<a href="../../machine/Runs/index.html#IsRunOf">IsRunOf</a>}
+use Rattle.wasmi_core.specs.State.{<a href="../../machine/State/index.html#State">State</a>, <a href="../../machine/State/index.html#World">World</a>, <a href="../../machine/State/index.html#world">world</a>}
+use Rattle.wasmi_core.specs.Steps.{<a href="../../machine/Steps/index.html#IsRunOf">IsRunOf</a>}
 
 -- no word of an `answers` line is `complain`: each notice is accepted
 abbrev pub <b id="HasNoComplain">HasNoComplain</b> : Option LimiterLine → Type 0
@@ -6984,10 +6569,10 @@ abbrev pub <b id="QuietListsAcceptNotices">QuietListsAcceptNotices</b> : Type 0
 -- same replies and end in one world
 abbrev pub <b id="QuietListsDecideReplies">QuietListsDecideReplies</b> : Type 0
 <a href="../../script/Decided/index.html#QuietListsDecideReplies">QuietListsDecideReplies</a> = (calls : List Call) (s : <a href="../../machine/State/index.html#State">State</a>) (list : <a href="../../meter/AnswerList/index.html#AnswersAhead">AnswersAhead</a>) → <a href="../../script/Decided/index.html#NeverComplains">NeverComplains</a> list
-    → (replies replies&#x27; : List Reply) (v v&#x27; : <a href="../../machine/World/index.html#World">World</a> (Option <a href="../../meter/AnswerList/index.html#AnswersAhead">AnswersAhead</a>))
+    → (replies replies&#x27; : List Reply) (v v&#x27; : <a href="../../machine/State/index.html#World">World</a> (Option <a href="../../meter/AnswerList/index.html#AnswersAhead">AnswersAhead</a>))
     → All <a href="../../machine/Determinism/index.html#IsNotOutOfMemory">IsNotOutOfMemory</a> replies → All <a href="../../machine/Determinism/index.html#IsNotOutOfMemory">IsNotOutOfMemory</a> replies&#x27;
-    → <a href="../../machine/Runs/index.html#IsRunOf">IsRunOf</a> (<a href="../../meter/Limiter/index.html#optional_rules">optional_rules</a> <a href="../../meter/AnswerList/index.html#answer_list_rules">answer_list_rules</a>) calls (<a href="../../machine/World/index.html#world">world</a> s (Some list)) replies v
-    → <a href="../../machine/Runs/index.html#IsRunOf">IsRunOf</a> (<a href="../../meter/Limiter/index.html#optional_rules">optional_rules</a> <a href="../../meter/AnswerList/index.html#answer_list_rules">answer_list_rules</a>) calls (<a href="../../machine/World/index.html#world">world</a> s (Some list)) replies&#x27; v&#x27;
+    → <a href="../../machine/Steps/index.html#IsRunOf">IsRunOf</a> (<a href="../../meter/Limiter/index.html#optional_rules">optional_rules</a> <a href="../../meter/AnswerList/index.html#answer_list_rules">answer_list_rules</a>) calls (<a href="../../machine/State/index.html#world">world</a> s (Some list)) replies v
+    → <a href="../../machine/Steps/index.html#IsRunOf">IsRunOf</a> (<a href="../../meter/Limiter/index.html#optional_rules">optional_rules</a> <a href="../../meter/AnswerList/index.html#answer_list_rules">answer_list_rules</a>) calls (<a href="../../machine/State/index.html#world">world</a> s (Some list)) replies&#x27; v&#x27;
     → (replies ≡ replies&#x27;) × (v ≡ v&#x27;)
 </code></pre>
 "####]
@@ -7032,15 +6617,13 @@ use Rattle.std.specs.List.{zip, enumerate_from}
 use Rattle.wasmi_meter.specs.declared.limiter.Kind.TheVariants.{Bytes, Elements}
 use Rattle.wasmi_core.specs.declared.calls.Call.{Call}
 use Rattle.wasmi_core.specs.declared.calls.Reply.{Reply}
-use Rattle.wasmi_core.specs.State.{<a href="../../machine/State/index.html#State">State</a>}
-use Rattle.wasmi_core.specs.Totals.{<a href="../../machine/Totals/index.html#total">total</a>}
+use Rattle.wasmi_core.specs.State.{<a href="../../machine/State/index.html#State">State</a>, <a href="../../machine/State/index.html#total">total</a>}
 use Rattle.wasmi_script.specs.declared.running.Held.{Held}
 use Rattle.wasmi_script.specs.declared.running.Held.TheVariants.{<a href="../../machine/Exchange/index.html#Nothing">Nothing</a>, Quota, Tenants}
 use Rattle.wasmi_script.specs.declared.printing.Replayed.{Replayed}
 use Rattle.wasmi_script.specs.declared.replaying.Status.{Status}
 use Rattle.wasmi_script.specs.declared.replaying.Status.TheVariants.{Fault}
-use Rattle.wasmi_grammar.specs.Lines.{<a href="../../grammar/Lines/index.html#WritesScript">WritesScript</a>, <a href="../../grammar/Lines/index.html#calls_of">calls_of</a>}
-use Rattle.wasmi_grammar.specs.Refusals.{<a href="../../grammar/Refusals/index.html#IsFirstBadLine">IsFirstBadLine</a>}
+use Rattle.wasmi_grammar.specs.Lines.{<a href="../../grammar/Lines/index.html#WritesScript">WritesScript</a>, <a href="../../grammar/Lines/index.html#calls_of">calls_of</a>, <a href="../../grammar/Lines/index.html#IsFirstBadLine">IsFirstBadLine</a>}
 use Rattle.wasmi_script.specs.Printing.{<a href="../../script/Printing/index.html#AppendsFront">AppendsFront</a>, <a href="../../script/Printing/index.html#line">line</a>}
 use Rattle.wasmi_script.specs.ScriptRuns.{<a href="../../script/ScriptRuns/index.html#IsReplayOf">IsReplayOf</a>}
 use Rattle.wasmi_script.specs.Status.{<a href="../../script/Status/index.html#status_after">status_after</a>}
@@ -7069,7 +6652,7 @@ abbrev pub <b id="amounts_text">amounts_text</b> : ℕ → ℕ → List ℕ
 abbrev pub <b id="tenant_text">tenant_text</b> : ℕ → <a href="../../machine/State/index.html#State">State</a> → List ℕ
 <a href="../../script/Outcomes/index.html#tenant_text">tenant_text</a> index machine =
     codes "held " ++
-    (decimal index ++ (codes " " ++ (decimal (<a href="../../machine/Totals/index.html#total">total</a> machine Bytes) ++ (codes " " ++ decimal (<a href="../../machine/Totals/index.html#total">total</a> machine Elements)))))
+    (decimal index ++ (codes " " ++ (decimal (<a href="../../machine/State/index.html#total">total</a> machine Bytes) ++ (codes " " ++ decimal (<a href="../../machine/State/index.html#total">total</a> machine Elements)))))
 
 -- a line for each tenant
 abbrev pub <b id="tenants_text">tenants_text</b> : List <a href="../../machine/State/index.html#State">State</a> → List ℕ
@@ -7096,7 +6679,7 @@ abbrev pub <b id="outcome_text">outcome_text</b> : <a href="../../script/Outcome
 abbrev pub <b id="IsOutcomeOf">IsOutcomeOf</b> : List ℕ → <a href="../../script/Outcomes/index.html#ReplayOutcome">ReplayOutcome</a> → Type 0
 <a href="../../script/Outcomes/index.html#IsOutcomeOf">IsOutcomeOf</a> bytes (Ok replayed) =
     (length bytes ≤ <a href="../../script/Outcomes/index.html#script_limit">script_limit</a>) × <a href="../../grammar/Lines/index.html#WritesScript">WritesScript</a> bytes replayed.script × <a href="../../script/ScriptRuns/index.html#IsReplayOf">IsReplayOf</a> replayed.script replayed.ran
-<a href="../../script/Outcomes/index.html#IsOutcomeOf">IsOutcomeOf</a> bytes (Err (Parse (BadCommand number))) = (length bytes ≤ <a href="../../script/Outcomes/index.html#script_limit">script_limit</a>) × <a href="../../grammar/Refusals/index.html#IsFirstBadLine">IsFirstBadLine</a> bytes number
+<a href="../../script/Outcomes/index.html#IsOutcomeOf">IsOutcomeOf</a> bytes (Err (Parse (BadCommand number))) = (length bytes ≤ <a href="../../script/Outcomes/index.html#script_limit">script_limit</a>) × <a href="../../grammar/Lines/index.html#IsFirstBadLine">IsFirstBadLine</a> bytes number
 <a href="../../script/Outcomes/index.html#IsOutcomeOf">IsOutcomeOf</a> bytes (Err (Parse OutOfMemory)) = ⊤
 <a href="../../script/Outcomes/index.html#IsOutcomeOf">IsOutcomeOf</a> bytes (Err TooLong) = <a href="../../script/Outcomes/index.html#script_limit">script_limit</a> &lt; length bytes
 <a href="../../script/Outcomes/index.html#IsOutcomeOf">IsOutcomeOf</a> bytes (Err ReadFault) = ⊤
@@ -7183,13 +6766,10 @@ use Rattle.wasmi_meter.specs.declared.quota.Quota.{Quota}
 use Rattle.wasmi_meter.specs.declared.limiter.Kind.TheVariants.{Bytes, Elements}
 use Rattle.wasmi_meter.specs.declared.holdings.Holdings.{Holdings}
 use Rattle.wasmi_meter.specs.declared.amounts.Amounts.{Amounts}
-use Rattle.wasmi_meter.specs.Amounts.{<a href="../../script/ScriptRuns/index.html#nothing">nothing</a>}
-use Rattle.wasmi_meter.specs.Quota.{<a href="../../meter/Quota/index.html#quota_rules">quota_rules</a>, <a href="../../meter/Quota/index.html#cap_of">cap_of</a>, <a href="../../meter/Quota/index.html#holdings">holdings</a>}
+use Rattle.wasmi_meter.specs.Capped.{<a href="../../script/ScriptRuns/index.html#nothing">nothing</a>, <a href="../../meter/Capped/index.html#quota_rules">quota_rules</a>, <a href="../../meter/Capped/index.html#cap_of">cap_of</a>, <a href="../../meter/Capped/index.html#holdings">holdings</a>}
 use Rattle.wasmi_core.specs.declared.calls.Call.{Call}
-use Rattle.wasmi_core.specs.State.{<a href="../../machine/State/index.html#State">State</a>, <a href="../../machine/State/index.html#new_state">new_state</a>}
-use Rattle.wasmi_core.specs.World.{<a href="../../machine/World/index.html#World">World</a>}
-use Rattle.wasmi_core.specs.Runs.{<a href="../../machine/Runs/index.html#IsRunOf">IsRunOf</a>}
-use Rattle.wasmi_core.specs.Totals.{<a href="../../machine/Totals/index.html#HoldsTotals">HoldsTotals</a>}
+use Rattle.wasmi_core.specs.State.{<a href="../../machine/State/index.html#State">State</a>, <a href="../../machine/State/index.html#new_state">new_state</a>, <a href="../../machine/State/index.html#World">World</a>, <a href="../../machine/State/index.html#HoldsTotals">HoldsTotals</a>}
+use Rattle.wasmi_core.specs.Steps.{<a href="../../machine/Steps/index.html#IsRunOf">IsRunOf</a>}
 use Rattle.wasmi_core.specs.declared.calls.Reply.{Reply}
 use Rattle.wasmi_budget.specs.Pool.{<a href="../../budget/Pool/index.html#PoolValue">PoolValue</a>, <a href="../../budget/Pool/index.html#RunsTenant">RunsTenant</a>}
 use Rattle.wasmi_grammar.specs.declared.header.Header.{Header}
@@ -7202,7 +6782,7 @@ use Rattle.wasmi_grammar.specs.Parts.{<a href="../../grammar/Parts/index.html#Te
 use Rattle.wasmi_script.specs.declared.running.Held.TheVariants.{<a href="../../machine/Exchange/index.html#Nothing">Nothing</a>}
 use Rattle.wasmi_script.specs.declared.running.Held.TheVariants as Holding
 use Rattle.wasmi_script.specs.declared.running.Held.{Held}
-use Rattle.wasmi_script.specs.declared.running.Ran.{<a href="../../budget/Runs/index.html#Ran">Ran</a>}
+use Rattle.wasmi_script.specs.declared.running.Ran.{<a href="../../budget/Laws/index.html#Ran">Ran</a>}
 use Rattle.wasmi_meter.specs.declared.answer_list.LimiterAnswer.{LimiterAnswer}
 use Rattle.wasmi_meter.specs.AnswerList.{<a href="../../meter/AnswerList/index.html#AnswersAhead">AnswersAhead</a>, <a href="../../meter/AnswerList/index.html#answer_list_rules">answer_list_rules</a>, <a href="../../meter/AnswerList/index.html#new_answers">new_answers</a>}
 use Rattle.wasmi_grammar.specs.Headers.{<a href="../../grammar/Headers/index.html#meter_of">meter_of</a>, <a href="../../grammar/Headers/index.html#start_of">start_of</a>}
@@ -7213,33 +6793,33 @@ abbrev pub <b id="nothing_held">nothing_held</b> : Holdings
 
 -- a quota of these caps that holds nothing yet
 pub record <b id="IsNewQuota">IsNewQuota</b> (caps : Amounts) (quota : Quota) : Type 0 where
-  pub <b id="bytes">bytes</b> : <a href="../../meter/Quota/index.html#cap_of">cap_of</a> quota Bytes ≡ caps.bytes
-  pub <b id="elements">elements</b> : <a href="../../meter/Quota/index.html#cap_of">cap_of</a> quota Elements ≡ caps.elements
-  pub <b id="nothing">nothing</b> : <a href="../../meter/Quota/index.html#holdings">holdings</a> quota ≡ <a href="../../script/ScriptRuns/index.html#nothing_held">nothing_held</a>
+  pub <b id="bytes">bytes</b> : <a href="../../meter/Capped/index.html#cap_of">cap_of</a> quota Bytes ≡ caps.bytes
+  pub <b id="elements">elements</b> : <a href="../../meter/Capped/index.html#cap_of">cap_of</a> quota Elements ≡ caps.elements
+  pub <b id="nothing">nothing</b> : <a href="../../meter/Capped/index.html#holdings">holdings</a> quota ≡ <a href="../../script/ScriptRuns/index.html#nothing_held">nothing_held</a>
 
 -- The replies, with what is held, are those of a run of the calls from a machine, under a limiter that has these
 -- answers.
 abbrev pub <b id="IsListedReplay">IsListedReplay</b> : List LimiterAnswer → <a href="../../machine/State/index.html#State">State</a> → List Call → List Reply → Held → Type 0
-<a href="../../script/ScriptRuns/index.html#IsListedReplay">IsListedReplay</a> answers start calls replies held = (held ≡ <a href="../../machine/Exchange/index.html#Nothing">Nothing</a>) × (after : <a href="../../machine/World/index.html#World">World</a> (Option <a href="../../meter/AnswerList/index.html#AnswersAhead">AnswersAhead</a>))
-    × <a href="../../machine/Runs/index.html#IsRunOf">IsRunOf</a> (<a href="../../meter/Limiter/index.html#optional_rules">optional_rules</a> <a href="../../meter/AnswerList/index.html#answer_list_rules">answer_list_rules</a>) calls
+<a href="../../script/ScriptRuns/index.html#IsListedReplay">IsListedReplay</a> answers start calls replies held = (held ≡ <a href="../../machine/Exchange/index.html#Nothing">Nothing</a>) × (after : <a href="../../machine/State/index.html#World">World</a> (Option <a href="../../meter/AnswerList/index.html#AnswersAhead">AnswersAhead</a>))
+    × <a href="../../machine/Steps/index.html#IsRunOf">IsRunOf</a> (<a href="../../meter/Limiter/index.html#optional_rules">optional_rules</a> <a href="../../meter/AnswerList/index.html#answer_list_rules">answer_list_rules</a>) calls
     (record { state = start; limiter = Some (<a href="../../meter/AnswerList/index.html#new_answers">new_answers</a> answers) }) replies after
 
 -- The replies are those of a run of the calls from a machine, without a limiter or under the one that a line asks for.
 -- What is held is what a quota then holds, which is all that the machine has.
 abbrev pub <b id="IsReplayUnder">IsReplayUnder</b> : Option LimiterLine → <a href="../../machine/State/index.html#State">State</a> → List Call → List Reply → Held → Type 0
-<a href="../../script/ScriptRuns/index.html#IsReplayUnder">IsReplayUnder</a> None start calls replies held = (held ≡ <a href="../../machine/Exchange/index.html#Nothing">Nothing</a>) × (after : <a href="../../machine/World/index.html#World">World</a> (Option NoLimits))
-    × <a href="../../machine/Runs/index.html#IsRunOf">IsRunOf</a> (<a href="../../meter/Limiter/index.html#optional_rules">optional_rules</a> <a href="../../meter/Limiter/index.html#unlimited_rules">unlimited_rules</a>) calls (record { state = start; limiter = None }) replies after
+<a href="../../script/ScriptRuns/index.html#IsReplayUnder">IsReplayUnder</a> None start calls replies held = (held ≡ <a href="../../machine/Exchange/index.html#Nothing">Nothing</a>) × (after : <a href="../../machine/State/index.html#World">World</a> (Option NoLimits))
+    × <a href="../../machine/Steps/index.html#IsRunOf">IsRunOf</a> (<a href="../../meter/Limiter/index.html#optional_rules">optional_rules</a> <a href="../../meter/Limiter/index.html#unlimited_rules">unlimited_rules</a>) calls (record { state = start; limiter = None }) replies after
 <a href="../../script/ScriptRuns/index.html#IsReplayUnder">IsReplayUnder</a> (Some (Lines.Quota caps)) start calls replies held =
     (quota : Quota) × <a href="../../script/ScriptRuns/index.html#IsNewQuota">IsNewQuota</a> caps quota × (end : <a href="../../machine/State/index.html#State">State</a>) × (after : Quota)
-    × <a href="../../machine/Runs/index.html#IsRunOf">IsRunOf</a> (<a href="../../meter/Limiter/index.html#optional_rules">optional_rules</a> <a href="../../meter/Quota/index.html#quota_rules">quota_rules</a>) calls (record { state = start; limiter = Some quota }) replies
+    × <a href="../../machine/Steps/index.html#IsRunOf">IsRunOf</a> (<a href="../../meter/Limiter/index.html#optional_rules">optional_rules</a> <a href="../../meter/Capped/index.html#quota_rules">quota_rules</a>) calls (record { state = start; limiter = Some quota }) replies
     (record { state = end; limiter = Some after })
-    × <a href="../../machine/Totals/index.html#HoldsTotals">HoldsTotals</a> (<a href="../../meter/Quota/index.html#holdings">holdings</a> after) end × (held ≡ Holding.Quota (<a href="../../meter/Quota/index.html#holdings">holdings</a> after).held)
+    × <a href="../../machine/State/index.html#HoldsTotals">HoldsTotals</a> (<a href="../../meter/Capped/index.html#holdings">holdings</a> after) end × (held ≡ Holding.Quota (<a href="../../meter/Capped/index.html#holdings">holdings</a> after).held)
 <a href="../../script/ScriptRuns/index.html#IsReplayUnder">IsReplayUnder</a> (Some (Lines.Answers answers)) start calls replies held =
     <a href="../../script/ScriptRuns/index.html#IsListedReplay">IsListedReplay</a> answers.items start calls replies held
 <a href="../../script/ScriptRuns/index.html#IsReplayUnder">IsReplayUnder</a> (Some (Lines.Tenants line)) start calls replies held = ⊥
 
 -- the replies are those of a run of the calls on a new machine with the meter and the region of these header lines
-abbrev pub <b id="IsReplayOnOne">IsReplayOnOne</b> : Option LimiterLine → Header → List Call → <a href="../../budget/Runs/index.html#Ran">Ran</a> → Type 0
+abbrev pub <b id="IsReplayOnOne">IsReplayOnOne</b> : Option LimiterLine → Header → List Call → <a href="../../budget/Laws/index.html#Ran">Ran</a> → Type 0
 <a href="../../script/ScriptRuns/index.html#IsReplayOnOne">IsReplayOnOne</a> limiter header calls ran = <a href="../../script/ScriptRuns/index.html#IsReplayUnder">IsReplayUnder</a> limiter (<a href="../../grammar/Headers/index.html#start_of">start_of</a> header) calls ran.replies.items ran.held
 
 -- a pool of new machines, as many as a line says, under its caps
@@ -7256,18 +6836,18 @@ abbrev pub <b id="AnswersParts">AnswersParts</b> : <a href="../../budget/Pool/in
 
 -- The replies are those of the parts, one after another, on a pool of new machines with the script&#x27;s meter.
 -- What is held is what the pool&#x27;s machines have then.
-abbrev pub <b id="IsPoolReplay">IsPoolReplay</b> : TenantsLine → Script → <a href="../../budget/Runs/index.html#Ran">Ran</a> → Type 0
+abbrev pub <b id="IsPoolReplay">IsPoolReplay</b> : TenantsLine → Script → <a href="../../budget/Laws/index.html#Ran">Ran</a> → Type 0
 <a href="../../script/ScriptRuns/index.html#IsPoolReplay">IsPoolReplay</a> line script ran = (pool : <a href="../../budget/Pool/index.html#PoolValue">PoolValue</a>) × (ran.held ≡ Holding.Tenants pool)
     × <a href="../../script/ScriptRuns/index.html#AnswersParts">AnswersParts</a> (<a href="../../script/ScriptRuns/index.html#new_pool">new_pool</a> line (<a href="../../machine/State/index.html#new_state">new_state</a> (<a href="../../grammar/Headers/index.html#meter_of">meter_of</a> script.header))) (<a href="../../grammar/Parts/index.html#parts_in">parts_in</a> script.parts) ran.replies.items pool
 
 -- the replies are those of the parts on a pool, or those of a run on a new machine with the script&#x27;s meter and its
 -- region
-abbrev pub <b id="IsReplayBy">IsReplayBy</b> : Option LimiterLine → Script → <a href="../../budget/Runs/index.html#Ran">Ran</a> → Type 0
+abbrev pub <b id="IsReplayBy">IsReplayBy</b> : Option LimiterLine → Script → <a href="../../budget/Laws/index.html#Ran">Ran</a> → Type 0
 <a href="../../script/ScriptRuns/index.html#IsReplayBy">IsReplayBy</a> (Some (Lines.Tenants line)) script ran = <a href="../../script/ScriptRuns/index.html#IsPoolReplay">IsPoolReplay</a> line script ran
 <a href="../../script/ScriptRuns/index.html#IsReplayBy">IsReplayBy</a> limiter script ran = <a href="../../script/ScriptRuns/index.html#IsReplayOnOne">IsReplayOnOne</a> limiter script.header (<a href="../../grammar/Lines/index.html#calls_of">calls_of</a> script) ran
 
 -- the replies are those of a run as the script&#x27;s header lines ask for it
-abbrev pub <b id="IsReplayOf">IsReplayOf</b> : Script → <a href="../../budget/Runs/index.html#Ran">Ran</a> → Type 0
+abbrev pub <b id="IsReplayOf">IsReplayOf</b> : Script → <a href="../../budget/Laws/index.html#Ran">Ran</a> → Type 0
 <a href="../../script/ScriptRuns/index.html#IsReplayOf">IsReplayOf</a> script ran = <a href="../../script/ScriptRuns/index.html#IsReplayBy">IsReplayBy</a> script.header.limiter script ran
 </code></pre>
 "####]

@@ -20,7 +20,7 @@ pub mod bulk {
     /// ensures len: length bytes.new ≡ length bytes.old
     /// ```
     ///
-    /// Definitions: [`BulkWrites`](crate::specs::store::Bulk#BulkWrites), [`filled`](crate::specs::store::Bulk#filled), [`metered`](crate::specs::store::Growth#metered).
+    /// Definitions: [`BulkWrites`](crate::specs::store::Growth#BulkWrites), [`filled`](crate::specs::store::Growth#filled), [`metered`](crate::specs::store::Growth#metered).
     #[inline]
     pub fn fill_bytes(
         bytes: &mut [u8],
@@ -51,7 +51,7 @@ pub mod bulk {
     /// ensures len: length bytes.new ≡ length bytes.old
     /// ```
     ///
-    /// Definitions: [`BulkWrites`](crate::specs::store::Bulk#BulkWrites), [`copied`](crate::specs::store::Bulk#copied), [`metered`](crate::specs::store::Growth#metered).
+    /// Definitions: [`BulkWrites`](crate::specs::store::Growth#BulkWrites), [`copied`](crate::specs::store::Growth#copied), [`metered`](crate::specs::store::Growth#metered).
     #[inline]
     pub fn copy_bytes_within(
         bytes: &mut [u8],
@@ -81,7 +81,7 @@ pub mod bulk {
     /// ensures len: length bytes.new ≡ length bytes.old
     /// ```
     ///
-    /// Definitions: [`BulkWrites`](crate::specs::store::Bulk#BulkWrites), [`copied`](crate::specs::store::Bulk#copied), [`metered`](crate::specs::store::Growth#metered).
+    /// Definitions: [`BulkWrites`](crate::specs::store::Growth#BulkWrites), [`copied`](crate::specs::store::Growth#copied), [`metered`](crate::specs::store::Growth#metered).
     #[inline]
     pub fn copy_bytes(
         bytes: &mut [u8],
@@ -126,7 +126,7 @@ pub mod elements {
     /// ensures len: length elements.new ≡ length elements.old
     /// ```
     ///
-    /// Definitions: [`WritesElements`](crate::specs::store::Table#WritesElements), [`filled`](crate::specs::store::Bulk#filled), [`metered`](crate::specs::store::Growth#metered).
+    /// Definitions: [`WritesElements`](crate::specs::store::Table#WritesElements), [`filled`](crate::specs::store::Growth#filled), [`metered`](crate::specs::store::Growth#metered).
     #[inline]
     pub fn fill_elements<T: Copy>(
         elements: &mut [T],
@@ -158,7 +158,7 @@ pub mod elements {
     /// ensures len: length elements.new ≡ length elements.old
     /// ```
     ///
-    /// Definitions: [`WritesElements`](crate::specs::store::Table#WritesElements), [`copied`](crate::specs::store::Bulk#copied), [`metered`](crate::specs::store::Growth#metered).
+    /// Definitions: [`WritesElements`](crate::specs::store::Table#WritesElements), [`copied`](crate::specs::store::Growth#copied), [`metered`](crate::specs::store::Growth#metered).
     #[inline]
     pub fn copy_elements_within<T: Chunk>(
         elements: &mut [T],
@@ -188,7 +188,7 @@ pub mod elements {
     /// ensures len: length elements.new ≡ length elements.old
     /// ```
     ///
-    /// Definitions: [`WritesElements`](crate::specs::store::Table#WritesElements), [`copied`](crate::specs::store::Bulk#copied), [`metered`](crate::specs::store::Growth#metered).
+    /// Definitions: [`WritesElements`](crate::specs::store::Table#WritesElements), [`copied`](crate::specs::store::Growth#copied), [`metered`](crate::specs::store::Growth#metered).
     #[inline]
     pub fn copy_elements<T: Copy>(
         elements: &mut [T],
@@ -222,7 +222,7 @@ pub mod elements {
     /// ensures len: length elements.new ≡ length elements.old
     /// ```
     ///
-    /// Definitions: [`WritesElements`](crate::specs::store::Table#WritesElements), [`copied`](crate::specs::store::Bulk#copied), [`metered`](crate::specs::store::Growth#metered).
+    /// Definitions: [`WritesElements`](crate::specs::store::Table#WritesElements), [`copied`](crate::specs::store::Growth#copied), [`metered`](crate::specs::store::Growth#metered).
     #[inline]
     pub fn init_elements<T: Copy>(
         elements: &mut [T],
@@ -275,7 +275,7 @@ pub mod growth {
     /// ensures sized: IfOk result (λ size. IsSized ty size)
     /// ```
     ///
-    /// Definitions: [`KeepsLoan`](crate::specs::meter::LimiterRef#KeepsLoan), [`PermitsMinimum`](crate::specs::store::Memory#PermitsMinimum), [`optional_rules`](crate::specs::meter::Limiter#optional_rules), [`lent_limiter`](crate::specs::meter::LimiterRef#lent_limiter), [`IsSized`](crate::specs::store::Memory#IsSized).
+    /// Definitions: [`KeepsLoan`](crate::specs::meter::Limiter#KeepsLoan), [`PermitsMinimum`](crate::specs::store::Memory#PermitsMinimum), [`optional_rules`](crate::specs::meter::Limiter#optional_rules), [`lent_limiter`](crate::specs::meter::Limiter#lent_limiter), [`IsSized`](crate::specs::store::Memory#IsSized).
     #[inline]
     pub fn permitted_minimum<L: ResourceLimiter>(
         ty: MemoryType,
@@ -317,7 +317,7 @@ pub mod growth {
     ///     (metered_value x (Some fuel.new) (lent_limiter limiter.new)))
     /// ```
     ///
-    /// Definitions: [`KeepsLoan`](crate::specs::meter::LimiterRef#KeepsLoan), [`optional_rules`](crate::specs::meter::Limiter#optional_rules), [`lent_limiter`](crate::specs::meter::LimiterRef#lent_limiter), [`size_question`](crate::specs::store::Memory#size_question), [`Charges`](crate::specs::meter::Meter#Charges), [`due`](crate::specs::meter::Meter#due), [`copy_cost`](crate::specs::meter::Costs#copy_cost), [`MemoryValue`](crate::specs::store::Memory#MemoryValue), [`IsAsked`](crate::specs::store::Growth#IsAsked), [`growth_of`](crate::specs::store::Memory#growth_of), [`fits_room`](crate::specs::store::Buffer#fits_room), [`GrowsMemory`](crate::specs::store::Memory#GrowsMemory), [`metered_value`](crate::specs::store::Growth#metered_value).
+    /// Definitions: [`KeepsLoan`](crate::specs::meter::Limiter#KeepsLoan), [`optional_rules`](crate::specs::meter::Limiter#optional_rules), [`lent_limiter`](crate::specs::meter::Limiter#lent_limiter), [`size_question`](crate::specs::store::Memory#size_question), [`Charges`](crate::specs::meter::Meter#Charges), [`due`](crate::specs::meter::Meter#due), [`copy_cost`](crate::specs::meter::Meter#copy_cost), [`MemoryValue`](crate::specs::store::Memory#MemoryValue), [`IsAsked`](crate::specs::store::Growth#IsAsked), [`growth_of`](crate::specs::store::Memory#growth_of), [`fits_room`](crate::specs::store::Buffer#fits_room), [`GrowsMemory`](crate::specs::store::Memory#GrowsMemory), [`metered_value`](crate::specs::store::Growth#metered_value).
     #[inline]
     pub fn decide_growth<L: ResourceLimiter>(
         old_size: usize,
@@ -398,7 +398,7 @@ pub mod laws {
     /// ensures: (a : MemoryTypeValue) → IsSubtype a a
     /// ```
     ///
-    /// Definitions: [`MemoryTypeValue`](crate::specs::store::MemoryType#MemoryTypeValue), [`IsSubtype`](crate::specs::store::MemoryType#IsSubtype).
+    /// Definitions: [`MemoryTypeValue`](crate::specs::store::Memory#MemoryTypeValue), [`IsSubtype`](crate::specs::store::Memory#IsSubtype).
     #[inline]
     pub fn memory_subtyping_is_reflexive() {}
 
@@ -410,7 +410,7 @@ pub mod laws {
     /// ensures: (a b c : MemoryTypeValue) → IsSubtype a b → IsSubtype b c → IsSubtype a c
     /// ```
     ///
-    /// Definitions: [`MemoryTypeValue`](crate::specs::store::MemoryType#MemoryTypeValue), [`IsSubtype`](crate::specs::store::MemoryType#IsSubtype).
+    /// Definitions: [`MemoryTypeValue`](crate::specs::store::Memory#MemoryTypeValue), [`IsSubtype`](crate::specs::store::Memory#IsSubtype).
     #[inline]
     pub fn memory_subtyping_is_transitive() {}
 
@@ -422,7 +422,7 @@ pub mod laws {
     /// ensures: (a : table.TableTypeValue) → table.IsSubtype a a
     /// ```
     ///
-    /// Definitions: [`TableTypeValue`](crate::specs::store::TableType#TableTypeValue), [`IsSubtype`](crate::specs::store::TableType#IsSubtype).
+    /// Definitions: [`TableTypeValue`](crate::specs::store::Table#TableTypeValue), [`IsSubtype`](crate::specs::store::Table#IsSubtype).
     #[inline]
     pub fn table_subtyping_is_reflexive() {}
 
@@ -435,7 +435,7 @@ pub mod laws {
     ///     → table.IsSubtype a c
     /// ```
     ///
-    /// Definitions: [`TableTypeValue`](crate::specs::store::TableType#TableTypeValue), [`IsSubtype`](crate::specs::store::TableType#IsSubtype).
+    /// Definitions: [`TableTypeValue`](crate::specs::store::Table#TableTypeValue), [`IsSubtype`](crate::specs::store::Table#IsSubtype).
     #[inline]
     pub fn table_subtyping_is_transitive() {}
 }
@@ -763,7 +763,7 @@ mod memory {
             /// ensures: result ≡ page_of_log2 log2
             /// ```
             ///
-            /// Definitions: [`page_of_log2`](crate::specs::store::MemoryType#page_of_log2).
+            /// Definitions: [`page_of_log2`](crate::specs::store::Memory#page_of_log2).
             #[inline]
             fn from_log2(log2: u8) -> Option<Self> {
                 match log2 {
@@ -779,7 +779,7 @@ mod memory {
             /// ensures: result ≡ page_bytes self
             /// ```
             ///
-            /// Definitions: [`page_bytes`](crate::specs::store::MemoryType#page_bytes).
+            /// Definitions: [`page_bytes`](crate::specs::store::Memory#page_bytes).
             #[inline]
             fn bytes(self) -> u32 {
                 match self {
@@ -796,7 +796,7 @@ mod memory {
             /// ensures: result ≡ bytes / page_bytes self
             /// ```
             ///
-            /// Definitions: [`page_bytes`](crate::specs::store::MemoryType#page_bytes).
+            /// Definitions: [`page_bytes`](crate::specs::store::Memory#page_bytes).
             #[inline]
             fn pages_in(self, bytes: u64) -> u64 {
                 match self {
@@ -811,7 +811,7 @@ mod memory {
             /// ensures: result ≡ page_log2 self
             /// ```
             ///
-            /// Definitions: [`page_log2`](crate::specs::store::MemoryType#page_log2).
+            /// Definitions: [`page_log2`](crate::specs::store::Memory#page_log2).
             #[inline]
             fn log2(self) -> u8 {
                 match self {
@@ -838,7 +838,7 @@ mod memory {
         ///     { index = t.index; page = t.page; minimum = t.minimum; maximum = t.maximum }
         /// ```
         ///
-        /// Definitions: [`MemoryTypeValue`](crate::specs::store::MemoryType#MemoryTypeValue), [`IsValid`](crate::specs::store::MemoryType#IsValid).
+        /// Definitions: [`MemoryTypeValue`](crate::specs::store::Memory#MemoryTypeValue), [`IsValid`](crate::specs::store::Memory#IsValid).
         #[doc = examples!(store MemoryType)]
         #[derive(Clone, Copy, Debug, PartialEq, Eq)]
         pub struct MemoryType {
@@ -857,7 +857,7 @@ mod memory {
             /// ensures: result ≡ default_settings
             /// ```
             ///
-            /// Definitions: [`default_settings`](crate::specs::store::MemoryType#default_settings).
+            /// Definitions: [`default_settings`](crate::specs::store::Memory#default_settings).
             #[inline]
             pub fn builder() -> MemoryTypeBuilder {
                 MemoryTypeBuilder::default()
@@ -896,7 +896,7 @@ mod memory {
             /// ensures valid: IsValid self
             /// ```
             ///
-            /// Definitions: [`IsValid`](crate::specs::store::MemoryType#IsValid).
+            /// Definitions: [`IsValid`](crate::specs::store::Memory#IsValid).
             #[inline]
             pub fn minimum(self) -> u64 {
                 self.minimum
@@ -922,7 +922,7 @@ mod memory {
             /// ensures: result ≡ page_bytes self.page
             /// ```
             ///
-            /// Definitions: [`page_bytes`](crate::specs::store::MemoryType#page_bytes).
+            /// Definitions: [`page_bytes`](crate::specs::store::Memory#page_bytes).
             #[inline]
             pub fn page_size(self) -> u32 {
                 self.page.bytes()
@@ -936,7 +936,7 @@ mod memory {
             /// ensures: result ≡ page_log2 self.page
             /// ```
             ///
-            /// Definitions: [`page_log2`](crate::specs::store::MemoryType#page_log2).
+            /// Definitions: [`page_log2`](crate::specs::store::Memory#page_log2).
             #[inline]
             pub fn page_size_log2(self) -> u8 {
                 self.page.log2()
@@ -952,7 +952,7 @@ mod memory {
             /// ensures: IsTrue result ↔ IsSubtype self.now other.now
             /// ```
             ///
-            /// Definitions: [`IsSubtype`](crate::specs::store::MemoryType#IsSubtype).
+            /// Definitions: [`IsSubtype`](crate::specs::store::Memory#IsSubtype).
             #[inline]
             pub fn is_subtype_of(&self, other: &Self) -> bool {
                 self.index == other.index
@@ -970,7 +970,7 @@ mod memory {
             /// ensures value: result ≡ record self { minimum = minimum }
             /// ```
             ///
-            /// Definitions: [`in_bounds`](crate::specs::store::MemoryType#in_bounds).
+            /// Definitions: [`in_bounds`](crate::specs::store::Memory#in_bounds).
             #[inline]
             pub(super) fn with_minimum(self, minimum: u64) -> Self {
                 MemoryType { minimum, ..self }
@@ -986,7 +986,7 @@ mod memory {
             /// ensures valid: IsValid self
             /// ```
             ///
-            /// Definitions: [`minimum_bytes`](crate::specs::store::MemoryType#minimum_bytes), [`IsValid`](crate::specs::store::MemoryType#IsValid).
+            /// Definitions: [`minimum_bytes`](crate::specs::store::Memory#minimum_bytes), [`IsValid`](crate::specs::store::Memory#IsValid).
             #[inline]
             pub(crate) fn minimum_size(self) -> Option<usize> {
                 let size = self.minimum.checked_mul(u64::from(self.page.bytes()))?;
@@ -1001,7 +1001,7 @@ mod memory {
             /// ensures: result ≡ maximum_bytes self
             /// ```
             ///
-            /// Definitions: [`maximum_bytes`](crate::specs::store::MemoryType#maximum_bytes).
+            /// Definitions: [`maximum_bytes`](crate::specs::store::Memory#maximum_bytes).
             #[inline]
             pub(crate) fn maximum_size(self) -> Option<usize> {
                 match self.maximum {
@@ -1020,7 +1020,7 @@ mod memory {
             /// ensures: result ≡ size / page_bytes self.page
             /// ```
             ///
-            /// Definitions: [`page_bytes`](crate::specs::store::MemoryType#page_bytes).
+            /// Definitions: [`page_bytes`](crate::specs::store::Memory#page_bytes).
             #[inline]
             pub(crate) fn pages_in(self, size: usize) -> u64 {
                 self.page.pages_in(size as u64)
@@ -1042,7 +1042,7 @@ mod memory {
             ///     × (grown ≡ size + additional * page_bytes self.page))
             /// ```
             ///
-            /// Definitions: [`page_bytes`](crate::specs::store::MemoryType#page_bytes), [`in_bounds`](crate::specs::store::MemoryType#in_bounds).
+            /// Definitions: [`page_bytes`](crate::specs::store::Memory#page_bytes), [`in_bounds`](crate::specs::store::Memory#in_bounds).
             #[inline]
             pub(crate) fn grown_size(self, size: usize, additional: u64) -> Option<usize> {
                 assert!(
@@ -1063,7 +1063,7 @@ mod memory {
             ///     (λ size. (in_bounds self pages ≡ true) × (size ≡ pages * page_bytes self.page))
             /// ```
             ///
-            /// Definitions: [`in_bounds`](crate::specs::store::MemoryType#in_bounds), [`page_bytes`](crate::specs::store::MemoryType#page_bytes).
+            /// Definitions: [`in_bounds`](crate::specs::store::Memory#in_bounds), [`page_bytes`](crate::specs::store::Memory#page_bytes).
             #[inline]
             pub(crate) fn size_of_pages(self, pages: u64) -> Option<usize> {
                 if pages > self.maximum.unwrap_or(most_pages(self.index, self.page)) {
@@ -1082,7 +1082,7 @@ mod memory {
         /// ensures: result ≡ min (2 ^ address_bits index / page_bytes page) (2 ^ 64 - 1)
         /// ```
         ///
-        /// Definitions: [`address_bits`](crate::specs::types::IndexType#address_bits), [`page_bytes`](crate::specs::store::MemoryType#page_bytes).
+        /// Definitions: [`address_bits`](crate::specs::types::Value#address_bits), [`page_bytes`](crate::specs::store::Memory#page_bytes).
         #[inline]
         fn most_pages(index: IndexType, page: PageSize) -> u64 {
             match (index, page) {
@@ -1101,7 +1101,7 @@ mod memory {
         /// ensures: IsTrue result ↔ IsNoLooser own other
         /// ```
         ///
-        /// Definitions: [`IsNoLooser`](crate::specs::store::Limits#IsNoLooser).
+        /// Definitions: [`IsNoLooser`](crate::specs::store::Memory#IsNoLooser).
         #[inline]
         pub(crate) fn is_no_looser(own: Option<u64>, other: Option<u64>) -> bool {
             match (own, other) {
@@ -1127,7 +1127,7 @@ mod memory {
         ///     }
         /// ```
         ///
-        /// Definitions: [`Settings`](crate::specs::store::MemoryType#Settings).
+        /// Definitions: [`Settings`](crate::specs::store::Memory#Settings).
         pub struct MemoryTypeBuilder {
             index: IndexType,
             page_size_log2: u8,
@@ -1141,7 +1141,7 @@ mod memory {
         /// is_default = λ b. b ≡ default_settings
         /// ```
         ///
-        /// Definitions: [`default_settings`](crate::specs::store::MemoryType#default_settings).
+        /// Definitions: [`default_settings`](crate::specs::store::Memory#default_settings).
         impl Default for MemoryTypeBuilder {
             #[inline]
             fn default() -> Self {
@@ -1227,7 +1227,7 @@ mod memory {
             ///     × ¬ (IsSomeAnd (named_type self) IsValid))
             /// ```
             ///
-            /// Definitions: [`named_type`](crate::specs::store::MemoryType#named_type), [`IsValid`](crate::specs::store::MemoryType#IsValid).
+            /// Definitions: [`named_type`](crate::specs::store::Memory#named_type), [`IsValid`](crate::specs::store::Memory#IsValid).
             #[inline]
             pub fn build(self) -> Result<MemoryType, MemoryError> {
                 if cfg!(not(feature = "memory64")) && self.index.is_64() {
@@ -1300,7 +1300,7 @@ mod memory {
         ///     (lent_limiter limiter.old) result (lent_limiter limiter.new)
         /// ```
         ///
-        /// Definitions: [`KeepsLoan`](crate::specs::meter::LimiterRef#KeepsLoan), [`MakesMemory`](crate::specs::store::Memory#MakesMemory), [`optional_rules`](crate::specs::meter::Limiter#optional_rules), [`Owned`](crate::specs::store::Buffer#Owned), [`lent_limiter`](crate::specs::meter::LimiterRef#lent_limiter).
+        /// Definitions: [`KeepsLoan`](crate::specs::meter::Limiter#KeepsLoan), [`MakesMemory`](crate::specs::store::Memory#MakesMemory), [`optional_rules`](crate::specs::meter::Limiter#optional_rules), [`Owned`](crate::specs::store::Buffer#Owned), [`lent_limiter`](crate::specs::meter::Limiter#lent_limiter).
         #[inline]
         pub fn new<L: ResourceLimiter>(
             ty: MemoryType,
@@ -1329,7 +1329,7 @@ mod memory {
         ///     (lent_limiter limiter.old) result (lent_limiter limiter.new)
         /// ```
         ///
-        /// Definitions: [`KeepsLoan`](crate::specs::meter::LimiterRef#KeepsLoan), [`MakesMemory`](crate::specs::store::Memory#MakesMemory), [`optional_rules`](crate::specs::meter::Limiter#optional_rules), [`Lent`](crate::specs::store::Buffer#Lent), [`lent_limiter`](crate::specs::meter::LimiterRef#lent_limiter).
+        /// Definitions: [`KeepsLoan`](crate::specs::meter::Limiter#KeepsLoan), [`MakesMemory`](crate::specs::store::Memory#MakesMemory), [`optional_rules`](crate::specs::meter::Limiter#optional_rules), [`Lent`](crate::specs::store::Buffer#Lent), [`lent_limiter`](crate::specs::meter::Limiter#lent_limiter).
         #[inline]
         pub fn new_static<L: ResourceLimiter>(
             ty: MemoryType,
@@ -1427,7 +1427,7 @@ mod memory {
         /// ensures subtype: IsSubtype result self.now.ty
         /// ```
         ///
-        /// Definitions: [`dynamic_type`](crate::specs::store::Memory#dynamic_type), [`IsSubtype`](crate::specs::store::MemoryType#IsSubtype).
+        /// Definitions: [`dynamic_type`](crate::specs::store::Memory#dynamic_type), [`IsSubtype`](crate::specs::store::Memory#IsSubtype).
         #[inline]
         pub fn dynamic_ty(&self) -> MemoryType {
             self.ty.with_minimum(self.size())
@@ -1442,7 +1442,7 @@ mod memory {
         /// ensures within: in_bounds self.now.ty result ≡ true
         /// ```
         ///
-        /// Definitions: [`pages_of`](crate::specs::store::Memory#pages_of), [`in_bounds`](crate::specs::store::MemoryType#in_bounds).
+        /// Definitions: [`pages_of`](crate::specs::store::Memory#pages_of), [`in_bounds`](crate::specs::store::Memory#in_bounds).
         #[inline]
         pub fn size(&self) -> u64 {
             self.buffer.len() as u64 / u64::from(self.ty.page_size())
@@ -1512,7 +1512,7 @@ mod memory {
         ///     (metered_value self.new (meter_at_exit fuel.exit) (lent_limiter limiter.new))
         /// ```
         ///
-        /// Definitions: [`KeepsLoan`](crate::specs::meter::LimiterRef#KeepsLoan), [`GrowsMemory`](crate::specs::store::Memory#GrowsMemory), [`optional_rules`](crate::specs::meter::Limiter#optional_rules), [`metered_value`](crate::specs::store::Growth#metered_value), [`meter_at_entry`](crate::specs::meter::Meter#meter_at_entry), [`lent_limiter`](crate::specs::meter::LimiterRef#lent_limiter), [`meter_at_exit`](crate::specs::meter::Meter#meter_at_exit).
+        /// Definitions: [`KeepsLoan`](crate::specs::meter::Limiter#KeepsLoan), [`GrowsMemory`](crate::specs::store::Memory#GrowsMemory), [`optional_rules`](crate::specs::meter::Limiter#optional_rules), [`metered_value`](crate::specs::store::Growth#metered_value), [`meter_at_entry`](crate::specs::meter::Meter#meter_at_entry), [`lent_limiter`](crate::specs::meter::Limiter#lent_limiter), [`meter_at_exit`](crate::specs::meter::Meter#meter_at_exit).
         #[inline]
         pub fn grow<L: ResourceLimiter>(
             &mut self,
@@ -1534,7 +1534,7 @@ mod memory {
         ///     (metered_value self.new (Some fuel.new) (lent_limiter limiter.new))
         /// ```
         ///
-        /// Definitions: [`KeepsLoan`](crate::specs::meter::LimiterRef#KeepsLoan), [`GrowsMemory`](crate::specs::store::Memory#GrowsMemory), [`optional_rules`](crate::specs::meter::Limiter#optional_rules), [`metered_value`](crate::specs::store::Growth#metered_value), [`lent_limiter`](crate::specs::meter::LimiterRef#lent_limiter).
+        /// Definitions: [`KeepsLoan`](crate::specs::meter::Limiter#KeepsLoan), [`GrowsMemory`](crate::specs::store::Memory#GrowsMemory), [`optional_rules`](crate::specs::meter::Limiter#optional_rules), [`metered_value`](crate::specs::store::Growth#metered_value), [`lent_limiter`](crate::specs::meter::Limiter#lent_limiter).
         #[inline]
         pub fn grow_metered<L: ResourceLimiter>(
             &mut self,
@@ -1634,7 +1634,7 @@ mod memory {
         /// ensures kept: KeepsPlace self.old self.new
         /// ```
         ///
-        /// Definitions: [`BulkWrites`](crate::specs::store::Bulk#BulkWrites), [`filled`](crate::specs::store::Bulk#filled), [`metered`](crate::specs::store::Growth#metered), [`meter_at_entry`](crate::specs::meter::Meter#meter_at_entry), [`meter_at_exit`](crate::specs::meter::Meter#meter_at_exit), [`KeepsPlace`](crate::specs::store::Memory#KeepsPlace).
+        /// Definitions: [`BulkWrites`](crate::specs::store::Growth#BulkWrites), [`filled`](crate::specs::store::Growth#filled), [`metered`](crate::specs::store::Growth#metered), [`meter_at_entry`](crate::specs::meter::Meter#meter_at_entry), [`meter_at_exit`](crate::specs::meter::Meter#meter_at_exit), [`KeepsPlace`](crate::specs::store::Memory#KeepsPlace).
         #[inline]
         pub fn fill(
             &mut self,
@@ -1657,7 +1657,7 @@ mod memory {
         /// ensures kept: KeepsPlace self.old self.new
         /// ```
         ///
-        /// Definitions: [`BulkWrites`](crate::specs::store::Bulk#BulkWrites), [`filled`](crate::specs::store::Bulk#filled), [`metered`](crate::specs::store::Growth#metered), [`KeepsPlace`](crate::specs::store::Memory#KeepsPlace).
+        /// Definitions: [`BulkWrites`](crate::specs::store::Growth#BulkWrites), [`filled`](crate::specs::store::Growth#filled), [`metered`](crate::specs::store::Growth#metered), [`KeepsPlace`](crate::specs::store::Memory#KeepsPlace).
         #[inline]
         pub fn fill_metered(
             &mut self,
@@ -1683,7 +1683,7 @@ mod memory {
         /// ensures kept: KeepsPlace self.old self.new
         /// ```
         ///
-        /// Definitions: [`BulkWrites`](crate::specs::store::Bulk#BulkWrites), [`copied`](crate::specs::store::Bulk#copied), [`metered`](crate::specs::store::Growth#metered), [`meter_at_entry`](crate::specs::meter::Meter#meter_at_entry), [`meter_at_exit`](crate::specs::meter::Meter#meter_at_exit), [`KeepsPlace`](crate::specs::store::Memory#KeepsPlace).
+        /// Definitions: [`BulkWrites`](crate::specs::store::Growth#BulkWrites), [`copied`](crate::specs::store::Growth#copied), [`metered`](crate::specs::store::Growth#metered), [`meter_at_entry`](crate::specs::meter::Meter#meter_at_entry), [`meter_at_exit`](crate::specs::meter::Meter#meter_at_exit), [`KeepsPlace`](crate::specs::store::Memory#KeepsPlace).
         #[inline]
         pub fn copy_within(
             &mut self,
@@ -1706,7 +1706,7 @@ mod memory {
         /// ensures kept: KeepsPlace self.old self.new
         /// ```
         ///
-        /// Definitions: [`BulkWrites`](crate::specs::store::Bulk#BulkWrites), [`copied`](crate::specs::store::Bulk#copied), [`metered`](crate::specs::store::Growth#metered), [`KeepsPlace`](crate::specs::store::Memory#KeepsPlace).
+        /// Definitions: [`BulkWrites`](crate::specs::store::Growth#BulkWrites), [`copied`](crate::specs::store::Growth#copied), [`metered`](crate::specs::store::Growth#metered), [`KeepsPlace`](crate::specs::store::Memory#KeepsPlace).
         #[inline]
         pub fn copy_within_metered(
             &mut self,
@@ -1733,7 +1733,7 @@ mod memory {
         /// ensures kept: KeepsPlace dst_memory.old dst_memory.new
         /// ```
         ///
-        /// Definitions: [`BulkWrites`](crate::specs::store::Bulk#BulkWrites), [`copied`](crate::specs::store::Bulk#copied), [`metered`](crate::specs::store::Growth#metered), [`meter_at_entry`](crate::specs::meter::Meter#meter_at_entry), [`meter_at_exit`](crate::specs::meter::Meter#meter_at_exit), [`KeepsPlace`](crate::specs::store::Memory#KeepsPlace).
+        /// Definitions: [`BulkWrites`](crate::specs::store::Growth#BulkWrites), [`copied`](crate::specs::store::Growth#copied), [`metered`](crate::specs::store::Growth#metered), [`meter_at_entry`](crate::specs::meter::Meter#meter_at_entry), [`meter_at_exit`](crate::specs::meter::Meter#meter_at_exit), [`KeepsPlace`](crate::specs::store::Memory#KeepsPlace).
         #[inline]
         pub fn copy<S: Region>(
             dst_memory: &mut LinearMemory<R>,
@@ -1757,7 +1757,7 @@ mod memory {
         /// ensures kept: KeepsPlace self.old self.new
         /// ```
         ///
-        /// Definitions: [`BulkWrites`](crate::specs::store::Bulk#BulkWrites), [`copied`](crate::specs::store::Bulk#copied), [`metered`](crate::specs::store::Growth#metered), [`KeepsPlace`](crate::specs::store::Memory#KeepsPlace).
+        /// Definitions: [`BulkWrites`](crate::specs::store::Growth#BulkWrites), [`copied`](crate::specs::store::Growth#copied), [`metered`](crate::specs::store::Growth#metered), [`KeepsPlace`](crate::specs::store::Memory#KeepsPlace).
         #[inline]
         pub fn copy_metered<S: Region>(
             &mut self,
@@ -1792,7 +1792,7 @@ mod memory {
         /// ensures kept: KeepsPlace self.old self.new
         /// ```
         ///
-        /// Definitions: [`BulkWrites`](crate::specs::store::Bulk#BulkWrites), [`copied`](crate::specs::store::Bulk#copied), [`metered`](crate::specs::store::Growth#metered), [`meter_at_entry`](crate::specs::meter::Meter#meter_at_entry), [`meter_at_exit`](crate::specs::meter::Meter#meter_at_exit), [`KeepsPlace`](crate::specs::store::Memory#KeepsPlace).
+        /// Definitions: [`BulkWrites`](crate::specs::store::Growth#BulkWrites), [`copied`](crate::specs::store::Growth#copied), [`metered`](crate::specs::store::Growth#metered), [`meter_at_entry`](crate::specs::meter::Meter#meter_at_entry), [`meter_at_exit`](crate::specs::meter::Meter#meter_at_exit), [`KeepsPlace`](crate::specs::store::Memory#KeepsPlace).
         #[inline]
         pub fn init(
             &mut self,
@@ -1816,7 +1816,7 @@ mod memory {
         /// ensures kept: KeepsPlace self.old self.new
         /// ```
         ///
-        /// Definitions: [`BulkWrites`](crate::specs::store::Bulk#BulkWrites), [`copied`](crate::specs::store::Bulk#copied), [`metered`](crate::specs::store::Growth#metered), [`KeepsPlace`](crate::specs::store::Memory#KeepsPlace).
+        /// Definitions: [`BulkWrites`](crate::specs::store::Growth#BulkWrites), [`copied`](crate::specs::store::Growth#copied), [`metered`](crate::specs::store::Growth#metered), [`KeepsPlace`](crate::specs::store::Memory#KeepsPlace).
         #[inline]
         pub fn init_metered(
             &mut self,
@@ -2140,7 +2140,7 @@ mod table {
             /// ensures reading: IsReadingOf I.into_iter_gives I.IntoIter.next_gives ty items result
             /// ```
             ///
-            /// Definitions: [`EachBecomes`](crate::specs::types::Iteration#EachBecomes), [`IsReadingOf`](crate::specs::store::Segment#IsReadingOf).
+            /// Definitions: [`EachBecomes`](crate::specs::types::Reading#EachBecomes), [`IsReadingOf`](crate::specs::store::Segment#IsReadingOf).
             #[inline]
             pub fn new<I>(ty: RefType, items: I) -> Result<Self, SegmentError>
             where
@@ -2340,7 +2340,7 @@ mod table {
         ///     { index = t.index; element = t.element; minimum = t.minimum; maximum = t.maximum }
         /// ```
         ///
-        /// Definitions: [`TableTypeValue`](crate::specs::store::TableType#TableTypeValue), [`IsValid`](crate::specs::store::TableType#IsValid).
+        /// Definitions: [`TableTypeValue`](crate::specs::store::Table#TableTypeValue), [`IsValid`](crate::specs::store::Table#IsValid).
         #[derive(Clone, Copy, Debug, PartialEq, Eq)]
         pub struct TableType {
             index: IndexType,
@@ -2449,7 +2449,7 @@ mod table {
             /// ensures valid: IsValid self.now
             /// ```
             ///
-            /// Definitions: [`IsValid`](crate::specs::store::TableType#IsValid).
+            /// Definitions: [`IsValid`](crate::specs::store::Table#IsValid).
             #[inline]
             pub fn minimum(&self) -> u64 {
                 self.minimum
@@ -2477,7 +2477,7 @@ mod table {
             /// ensures: IsTrue result ↔ IsSubtype self.now other.now
             /// ```
             ///
-            /// Definitions: [`IsSubtype`](crate::specs::store::TableType#IsSubtype).
+            /// Definitions: [`IsSubtype`](crate::specs::store::Table#IsSubtype).
             #[inline]
             pub fn is_subtype_of(&self, other: &Self) -> bool {
                 self.index == other.index
@@ -2497,7 +2497,7 @@ mod table {
             ///     × (same_type self.element ty ≡ false))
             /// ```
             ///
-            /// Definitions: [`same_type`](crate::specs::store::TableType#same_type).
+            /// Definitions: [`same_type`](crate::specs::store::Table#same_type).
             #[inline]
             pub(crate) fn ensure_element_type_matches(self, ty: RefType) -> Result<(), TableError> {
                 if self.element != ty {
@@ -2516,7 +2516,7 @@ mod table {
             /// ensures value: result ≡ record self { minimum = minimum }
             /// ```
             ///
-            /// Definitions: [`is_indexable`](crate::specs::store::TableType#is_indexable), [`is_within_maximum`](crate::specs::store::TableType#is_within_maximum).
+            /// Definitions: [`is_indexable`](crate::specs::store::Table#is_indexable), [`is_within_maximum`](crate::specs::store::Table#is_within_maximum).
             #[inline]
             pub(super) fn with_minimum(self, minimum: u64) -> Self {
                 TableType { minimum, ..self }
@@ -2532,7 +2532,7 @@ mod table {
             ///     (λ grown. (is_indexable self (size + delta) ≡ true) × (grown ≡ size + delta))
             /// ```
             ///
-            /// Definitions: [`is_indexable`](crate::specs::store::TableType#is_indexable).
+            /// Definitions: [`is_indexable`](crate::specs::store::Table#is_indexable).
             #[inline]
             pub(crate) fn grown_size(self, size: u64, delta: u64) -> Option<usize> {
                 let grown = size.checked_add(delta)?;
@@ -2550,7 +2550,7 @@ mod table {
             /// ensures: result ≡ is_indexable self size
             /// ```
             ///
-            /// Definitions: [`is_indexable`](crate::specs::store::TableType#is_indexable).
+            /// Definitions: [`is_indexable`](crate::specs::store::Table#is_indexable).
             #[inline]
             pub(crate) fn indexes_size(self, size: usize) -> bool {
                 size as u64 <= most_elements(self.index)
@@ -2576,7 +2576,7 @@ mod table {
             /// ensures: result ≡ is_within_maximum self size
             /// ```
             ///
-            /// Definitions: [`is_within_maximum`](crate::specs::store::TableType#is_within_maximum).
+            /// Definitions: [`is_within_maximum`](crate::specs::store::Table#is_within_maximum).
             #[inline]
             pub(crate) fn allows_size(self, size: usize) -> bool {
                 self.maximum.is_none_or(|maximum| size as u64 <= maximum)
@@ -2591,7 +2591,7 @@ mod table {
         /// ensures: result ≡ 2 ^ address_bits index - 1
         /// ```
         ///
-        /// Definitions: [`address_bits`](crate::specs::types::IndexType#address_bits).
+        /// Definitions: [`address_bits`](crate::specs::types::Value#address_bits).
         #[inline]
         fn most_elements(index: IndexType) -> u64 {
             match index {
@@ -2653,7 +2653,7 @@ mod table {
         ///     (lent_limiter limiter.new)
         /// ```
         ///
-        /// Definitions: [`KeepsLoan`](crate::specs::meter::LimiterRef#KeepsLoan), [`MakesTable`](crate::specs::store::Table#MakesTable), [`optional_rules`](crate::specs::meter::Limiter#optional_rules), [`lent_limiter`](crate::specs::meter::LimiterRef#lent_limiter).
+        /// Definitions: [`KeepsLoan`](crate::specs::meter::Limiter#KeepsLoan), [`MakesTable`](crate::specs::store::Table#MakesTable), [`optional_rules`](crate::specs::meter::Limiter#optional_rules), [`lent_limiter`](crate::specs::meter::Limiter#lent_limiter).
         #[inline]
         pub fn new<L: ResourceLimiter>(
             ty: TableType,
@@ -2730,7 +2730,7 @@ mod table {
         /// ensures subtype: IsSubtype result self.now.ty
         /// ```
         ///
-        /// Definitions: [`dynamic_type`](crate::specs::store::Table#dynamic_type), [`IsSubtype`](crate::specs::store::TableType#IsSubtype).
+        /// Definitions: [`dynamic_type`](crate::specs::store::Table#dynamic_type), [`IsSubtype`](crate::specs::store::Table#IsSubtype).
         #[inline]
         pub fn dynamic_ty(&self) -> TableType {
             self.ty.with_minimum(self.size())
@@ -2764,7 +2764,7 @@ mod table {
         ///     (metered_value self.new (meter_at_exit fuel.exit) (lent_limiter limiter.new))
         /// ```
         ///
-        /// Definitions: [`KeepsLoan`](crate::specs::meter::LimiterRef#KeepsLoan), [`GrowsTable`](crate::specs::store::Table#GrowsTable), [`optional_rules`](crate::specs::meter::Limiter#optional_rules), [`metered_value`](crate::specs::store::Growth#metered_value), [`meter_at_entry`](crate::specs::meter::Meter#meter_at_entry), [`lent_limiter`](crate::specs::meter::LimiterRef#lent_limiter), [`meter_at_exit`](crate::specs::meter::Meter#meter_at_exit).
+        /// Definitions: [`KeepsLoan`](crate::specs::meter::Limiter#KeepsLoan), [`GrowsTable`](crate::specs::store::Table#GrowsTable), [`optional_rules`](crate::specs::meter::Limiter#optional_rules), [`metered_value`](crate::specs::store::Growth#metered_value), [`meter_at_entry`](crate::specs::meter::Meter#meter_at_entry), [`lent_limiter`](crate::specs::meter::Limiter#lent_limiter), [`meter_at_exit`](crate::specs::meter::Meter#meter_at_exit).
         #[inline]
         pub fn grow<L: ResourceLimiter>(
             &mut self,
@@ -2787,7 +2787,7 @@ mod table {
         ///     (metered_value self.new (Some fuel.new) (lent_limiter limiter.new))
         /// ```
         ///
-        /// Definitions: [`KeepsLoan`](crate::specs::meter::LimiterRef#KeepsLoan), [`GrowsTable`](crate::specs::store::Table#GrowsTable), [`optional_rules`](crate::specs::meter::Limiter#optional_rules), [`metered_value`](crate::specs::store::Growth#metered_value), [`lent_limiter`](crate::specs::meter::LimiterRef#lent_limiter).
+        /// Definitions: [`KeepsLoan`](crate::specs::meter::Limiter#KeepsLoan), [`GrowsTable`](crate::specs::store::Table#GrowsTable), [`optional_rules`](crate::specs::meter::Limiter#optional_rules), [`metered_value`](crate::specs::store::Growth#metered_value), [`lent_limiter`](crate::specs::meter::Limiter#lent_limiter).
         #[inline]
         pub fn grow_metered<L: ResourceLimiter>(
             &mut self,
@@ -2845,7 +2845,7 @@ mod table {
         ///     (metered_value self.new (meter_at_exit fuel.exit) (lent_limiter limiter.new))
         /// ```
         ///
-        /// Definitions: [`KeepsLoan`](crate::specs::meter::LimiterRef#KeepsLoan), [`GrowsTableRaw`](crate::specs::store::Table#GrowsTableRaw), [`optional_rules`](crate::specs::meter::Limiter#optional_rules), [`metered_value`](crate::specs::store::Growth#metered_value), [`meter_at_entry`](crate::specs::meter::Meter#meter_at_entry), [`lent_limiter`](crate::specs::meter::LimiterRef#lent_limiter), [`meter_at_exit`](crate::specs::meter::Meter#meter_at_exit).
+        /// Definitions: [`KeepsLoan`](crate::specs::meter::Limiter#KeepsLoan), [`GrowsTableRaw`](crate::specs::store::Table#GrowsTableRaw), [`optional_rules`](crate::specs::meter::Limiter#optional_rules), [`metered_value`](crate::specs::store::Growth#metered_value), [`meter_at_entry`](crate::specs::meter::Meter#meter_at_entry), [`lent_limiter`](crate::specs::meter::Limiter#lent_limiter), [`meter_at_exit`](crate::specs::meter::Meter#meter_at_exit).
         #[inline]
         pub fn grow_raw<L: ResourceLimiter>(
             &mut self,
@@ -2866,7 +2866,7 @@ mod table {
         ///     (metered_value self.new (Some fuel.new) (lent_limiter limiter.new))
         /// ```
         ///
-        /// Definitions: [`KeepsLoan`](crate::specs::meter::LimiterRef#KeepsLoan), [`GrowsTableRaw`](crate::specs::store::Table#GrowsTableRaw), [`optional_rules`](crate::specs::meter::Limiter#optional_rules), [`metered_value`](crate::specs::store::Growth#metered_value), [`lent_limiter`](crate::specs::meter::LimiterRef#lent_limiter).
+        /// Definitions: [`KeepsLoan`](crate::specs::meter::Limiter#KeepsLoan), [`GrowsTableRaw`](crate::specs::store::Table#GrowsTableRaw), [`optional_rules`](crate::specs::meter::Limiter#optional_rules), [`metered_value`](crate::specs::store::Growth#metered_value), [`lent_limiter`](crate::specs::meter::Limiter#lent_limiter).
         #[inline]
         fn grow_raw_metered<L: ResourceLimiter>(
             &mut self,

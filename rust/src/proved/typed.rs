@@ -319,7 +319,7 @@ mod shift_amount {
         /// ensures: result ≡ shift_amount (bits Self.Lane.width) (Self.ShiftSource.number source)
         /// ```
         ///
-        /// Definitions: [`shift_amount`](crate::specs::typed::ShiftAmount#shift_amount).
+        /// Definitions: [`shift_amount`](crate::specs::typed::Typed#shift_amount).
         fn into_shift_amount(source: Self::ShiftSource) -> Option<ShiftAmount>;
     }
 
@@ -928,7 +928,7 @@ mod typed_ref {
     /// output = λ _. Some not_a_reference_text
     /// ```
     ///
-    /// Definitions: [`not_a_reference_text`](crate::specs::typed::TypedRef#not_a_reference_text).
+    /// Definitions: [`not_a_reference_text`](crate::specs::typed::Typed#not_a_reference_text).
     impl fmt::Display for NotAReference {
         #[inline]
         fn fmt(&self, f: &mut fmt::Formatter<'_>) -> fmt::Result {
@@ -944,7 +944,7 @@ mod typed_ref {
     /// try_from_gives = IsReference
     /// ```
     ///
-    /// Definitions: [`IsReference`](crate::specs::typed::TypedRef#IsReference).
+    /// Definitions: [`IsReference`](crate::specs::typed::Typed#IsReference).
     impl TypedRawRef {
         #[inline]
         pub(crate) fn of_value(typed: TypedRawVal) -> Result<TypedRawRef, NotAReference> {

@@ -30,7 +30,7 @@ mod func_type {
     /// output = λ error. Some (func_type_error_text error)
     /// ```
     ///
-    /// Definitions: [`func_type_error_text`](crate::specs::types::FuncTypeError#func_type_error_text).
+    /// Definitions: [`func_type_error_text`](crate::specs::types::FunctionType#func_type_error_text).
     impl fmt::Display for FuncTypeError {
         #[inline]
         fn fmt(&self, f: &mut fmt::Formatter<'_>) -> fmt::Result {
@@ -103,7 +103,7 @@ mod func_type {
         ///     R.IntoIter.next_gives params results result
         /// ```
         ///
-        /// Definitions: [`EachBecomes`](crate::specs::types::Iteration#EachBecomes), [`AfterAll`](crate::specs::types::Reading#AfterAll), [`IsReadingOf`](crate::specs::types::Reading#IsReadingOf).
+        /// Definitions: [`EachBecomes`](crate::specs::types::Reading#EachBecomes), [`AfterAll`](crate::specs::types::Reading#AfterAll), [`IsReadingOf`](crate::specs::types::Reading#IsReadingOf).
         #[inline]
         pub fn new<P, R>(params: P, results: R) -> Result<Self, FuncTypeError>
         where
@@ -609,7 +609,7 @@ mod index_ty {
         /// ensures: result ≡ address_type self.now
         /// ```
         ///
-        /// Definitions: [`address_type`](crate::specs::types::IndexType#address_type).
+        /// Definitions: [`address_type`](crate::specs::types::Value#address_type).
         #[inline]
         pub fn ty(&self) -> ValType {
             match self {
@@ -638,7 +638,7 @@ mod index_ty {
         /// ensures: result ≡ 2 ^ address_bits self.now
         /// ```
         ///
-        /// Definitions: [`address_bits`](crate::specs::types::IndexType#address_bits).
+        /// Definitions: [`address_bits`](crate::specs::types::Value#address_bits).
         #[inline]
         pub fn max_size(&self) -> u128 {
             const MAX_SIZE_32: u128 = 1 << 32;
@@ -657,7 +657,7 @@ mod index_ty {
         /// ensures: result ≡ narrower self.now other.now
         /// ```
         ///
-        /// Definitions: [`narrower`](crate::specs::types::IndexType#narrower).
+        /// Definitions: [`narrower`](crate::specs::types::Value#narrower).
         #[inline]
         pub fn min(&self, other: &Self) -> Self {
             match (self, other) {
@@ -740,7 +740,7 @@ mod trap {
         /// ensures: result ≡ exit_status_of self.now
         /// ```
         ///
-        /// Definitions: [`exit_status_of`](crate::specs::types::TrapReason#exit_status_of).
+        /// Definitions: [`exit_status_of`](crate::specs::types::Trap#exit_status_of).
         #[inline]
         pub fn i32_exit_status(&self) -> Option<i32> {
             match &self.reason {
@@ -757,7 +757,7 @@ mod trap {
         /// ensures: result ≡ code_of self.now
         /// ```
         ///
-        /// Definitions: [`code_of`](crate::specs::types::TrapReason#code_of).
+        /// Definitions: [`code_of`](crate::specs::types::Trap#code_of).
         #[inline]
         pub fn trap_code(&self) -> Option<TrapCode> {
             match &self.reason {
@@ -774,7 +774,7 @@ mod trap {
         /// ensures: option_copied result ≡ host_error_of self.now
         /// ```
         ///
-        /// Definitions: [`host_error_of`](crate::specs::types::TrapReason#host_error_of).
+        /// Definitions: [`host_error_of`](crate::specs::types::Trap#host_error_of).
         #[inline]
         pub fn downcast_ref(&self) -> Option<&H> {
             match &self.reason {
@@ -793,7 +793,7 @@ mod trap {
         /// ensures value: option_copied_mut result ≡ host_error_of self.old
         /// ```
         ///
-        /// Definitions: [`with_host_error`](crate::specs::types::TrapReason#with_host_error), [`host_error_of`](crate::specs::types::TrapReason#host_error_of).
+        /// Definitions: [`with_host_error`](crate::specs::types::Trap#with_host_error), [`host_error_of`](crate::specs::types::Trap#host_error_of).
         #[inline]
         pub fn downcast_mut(&mut self) -> Option<&mut H> {
             self.reason.as_host_mut()
@@ -807,7 +807,7 @@ mod trap {
         /// ensures: result ≡ host_error_of self
         /// ```
         ///
-        /// Definitions: [`host_error_of`](crate::specs::types::TrapReason#host_error_of).
+        /// Definitions: [`host_error_of`](crate::specs::types::Trap#host_error_of).
         #[inline]
         pub fn downcast(self) -> Option<H> {
             match self.reason {
@@ -826,7 +826,7 @@ mod trap {
         /// ensures value: option_copied_mut result ≡ host_error_of self.old
         /// ```
         ///
-        /// Definitions: [`with_host_error`](crate::specs::types::TrapReason#with_host_error), [`host_error_of`](crate::specs::types::TrapReason#host_error_of).
+        /// Definitions: [`with_host_error`](crate::specs::types::Trap#with_host_error), [`host_error_of`](crate::specs::types::Trap#host_error_of).
         #[inline]
         fn as_host_mut(&mut self) -> Option<&mut H> {
             match self {
@@ -842,7 +842,7 @@ mod trap {
     /// output = text_of H.output
     /// ```
     ///
-    /// Definitions: [`text_of`](crate::specs::types::TrapReason#text_of).
+    /// Definitions: [`text_of`](crate::specs::types::Trap#text_of).
     impl<H: HostError> fmt::Display for Trap<H> {
         #[inline]
         fn fmt(&self, f: &mut fmt::Formatter<'_>) -> fmt::Result {

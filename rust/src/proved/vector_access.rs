@@ -54,7 +54,7 @@ pub mod simd {
     /// ensures: IsStore memory.old (ptr + offset) (le_bytes 16 value) memory.new result
     /// ```
     ///
-    /// Definitions: [`IsStore`](crate::specs::accesses::LoadStore#IsStore), [`le_bytes`](crate::specs::types::Bytes#le_bytes).
+    /// Definitions: [`IsStore`](crate::specs::accesses::LoadStore#IsStore), [`le_bytes`](crate::specs::types::Numbers#le_bytes).
     #[inline]
     pub fn v128_store(
         memory: &mut [u8],
@@ -73,7 +73,7 @@ pub mod simd {
     /// ensures: IsStore memory.old address (le_bytes 16 value) memory.new result
     /// ```
     ///
-    /// Definitions: [`IsStore`](crate::specs::accesses::LoadStore#IsStore), [`le_bytes`](crate::specs::types::Bytes#le_bytes).
+    /// Definitions: [`IsStore`](crate::specs::accesses::LoadStore#IsStore), [`le_bytes`](crate::specs::types::Numbers#le_bytes).
     #[inline]
     pub fn v128_store_at(memory: &mut [u8], address: usize, value: V128) -> Result<(), TrapCode> {
         store_at::<u128>(memory, address, value.as_u128())
@@ -586,7 +586,7 @@ pub mod simd {
     ///     (le_bytes 1 (lanes.lane w8 v lane)) memory.new result
     /// ```
     ///
-    /// Definitions: [`IsStore`](crate::specs::accesses::LoadStore#IsStore), [`le_bytes`](crate::specs::types::Bytes#le_bytes), [`lane`](crate::specs::lanes::Lane#lane).
+    /// Definitions: [`IsStore`](crate::specs::accesses::LoadStore#IsStore), [`le_bytes`](crate::specs::types::Numbers#le_bytes), [`lane`](crate::specs::lanes::Vector#lane).
     #[inline]
     pub fn v128_store8_lane(
         memory: &mut [u8],
@@ -606,7 +606,7 @@ pub mod simd {
     /// ensures: IsStore memory.old address (le_bytes 1 (lanes.lane w8 v lane)) memory.new result
     /// ```
     ///
-    /// Definitions: [`IsStore`](crate::specs::accesses::LoadStore#IsStore), [`le_bytes`](crate::specs::types::Bytes#le_bytes), [`lane`](crate::specs::lanes::Lane#lane).
+    /// Definitions: [`IsStore`](crate::specs::accesses::LoadStore#IsStore), [`le_bytes`](crate::specs::types::Numbers#le_bytes), [`lane`](crate::specs::lanes::Vector#lane).
     #[inline]
     pub fn v128_store8_lane_at(
         memory: &mut [u8],
@@ -626,7 +626,7 @@ pub mod simd {
     ///     (le_bytes 2 (lanes.lane w16 v lane)) memory.new result
     /// ```
     ///
-    /// Definitions: [`IsStore`](crate::specs::accesses::LoadStore#IsStore), [`le_bytes`](crate::specs::types::Bytes#le_bytes), [`lane`](crate::specs::lanes::Lane#lane).
+    /// Definitions: [`IsStore`](crate::specs::accesses::LoadStore#IsStore), [`le_bytes`](crate::specs::types::Numbers#le_bytes), [`lane`](crate::specs::lanes::Vector#lane).
     #[inline]
     pub fn v128_store16_lane(
         memory: &mut [u8],
@@ -646,7 +646,7 @@ pub mod simd {
     /// ensures: IsStore memory.old address (le_bytes 2 (lanes.lane w16 v lane)) memory.new result
     /// ```
     ///
-    /// Definitions: [`IsStore`](crate::specs::accesses::LoadStore#IsStore), [`le_bytes`](crate::specs::types::Bytes#le_bytes), [`lane`](crate::specs::lanes::Lane#lane).
+    /// Definitions: [`IsStore`](crate::specs::accesses::LoadStore#IsStore), [`le_bytes`](crate::specs::types::Numbers#le_bytes), [`lane`](crate::specs::lanes::Vector#lane).
     #[inline]
     pub fn v128_store16_lane_at(
         memory: &mut [u8],
@@ -666,7 +666,7 @@ pub mod simd {
     ///     (le_bytes 4 (lanes.lane w32 v lane)) memory.new result
     /// ```
     ///
-    /// Definitions: [`IsStore`](crate::specs::accesses::LoadStore#IsStore), [`le_bytes`](crate::specs::types::Bytes#le_bytes), [`lane`](crate::specs::lanes::Lane#lane).
+    /// Definitions: [`IsStore`](crate::specs::accesses::LoadStore#IsStore), [`le_bytes`](crate::specs::types::Numbers#le_bytes), [`lane`](crate::specs::lanes::Vector#lane).
     #[inline]
     pub fn v128_store32_lane(
         memory: &mut [u8],
@@ -686,7 +686,7 @@ pub mod simd {
     /// ensures: IsStore memory.old address (le_bytes 4 (lanes.lane w32 v lane)) memory.new result
     /// ```
     ///
-    /// Definitions: [`IsStore`](crate::specs::accesses::LoadStore#IsStore), [`le_bytes`](crate::specs::types::Bytes#le_bytes), [`lane`](crate::specs::lanes::Lane#lane).
+    /// Definitions: [`IsStore`](crate::specs::accesses::LoadStore#IsStore), [`le_bytes`](crate::specs::types::Numbers#le_bytes), [`lane`](crate::specs::lanes::Vector#lane).
     #[inline]
     pub fn v128_store32_lane_at(
         memory: &mut [u8],
@@ -706,7 +706,7 @@ pub mod simd {
     ///     (le_bytes 8 (lanes.lane w64 v lane)) memory.new result
     /// ```
     ///
-    /// Definitions: [`IsStore`](crate::specs::accesses::LoadStore#IsStore), [`le_bytes`](crate::specs::types::Bytes#le_bytes), [`lane`](crate::specs::lanes::Lane#lane).
+    /// Definitions: [`IsStore`](crate::specs::accesses::LoadStore#IsStore), [`le_bytes`](crate::specs::types::Numbers#le_bytes), [`lane`](crate::specs::lanes::Vector#lane).
     #[inline]
     pub fn v128_store64_lane(
         memory: &mut [u8],
@@ -726,7 +726,7 @@ pub mod simd {
     /// ensures: IsStore memory.old address (le_bytes 8 (lanes.lane w64 v lane)) memory.new result
     /// ```
     ///
-    /// Definitions: [`IsStore`](crate::specs::accesses::LoadStore#IsStore), [`le_bytes`](crate::specs::types::Bytes#le_bytes), [`lane`](crate::specs::lanes::Lane#lane).
+    /// Definitions: [`IsStore`](crate::specs::accesses::LoadStore#IsStore), [`le_bytes`](crate::specs::types::Numbers#le_bytes), [`lane`](crate::specs::lanes::Vector#lane).
     #[inline]
     pub fn v128_store64_lane_at(
         memory: &mut [u8],

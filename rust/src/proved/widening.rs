@@ -22,7 +22,7 @@ pub mod laws {
     ///     (read (lane narrow b (first + i))) % 2 ^ bits wide
     /// ```
     ///
-    /// Definitions: [`lane_count`](crate::specs::widening::Widening#lane_count), [`lane`](crate::specs::lanes::Lane#lane), [`half_unary`](crate::specs::widening::Widening#half_unary), [`half_binary`](crate::specs::widening::Widening#half_binary).
+    /// Definitions: [`lane_count`](crate::specs::widening::WideningTable#lane_count), [`lane`](crate::specs::lanes::Vector#lane), [`half_unary`](crate::specs::widening::WideningTable#half_unary), [`half_binary`](crate::specs::widening::WideningTable#half_binary).
     #[inline]
     pub fn lanes_of_halves<A>() {}
 
@@ -44,7 +44,7 @@ pub mod laws {
     ///     → lane wide (vector.extend_high_u narrow wide v) i ≡ lane narrow v (lane_count wide + i)
     /// ```
     ///
-    /// Definitions: [`lane_count`](crate::specs::widening::Widening#lane_count), [`lane`](crate::specs::lanes::Lane#lane), [`extend_low_s`](crate::specs::widening::WideningTable#extend_low_s), [`extend_low_u`](crate::specs::widening::WideningTable#extend_low_u), [`extend_high_s`](crate::specs::widening::WideningTable#extend_high_s), [`extend_high_u`](crate::specs::widening::WideningTable#extend_high_u).
+    /// Definitions: [`lane_count`](crate::specs::widening::WideningTable#lane_count), [`lane`](crate::specs::lanes::Vector#lane), [`extend_low_s`](crate::specs::widening::WideningTable#extend_low_s), [`extend_low_u`](crate::specs::widening::WideningTable#extend_low_u), [`extend_high_s`](crate::specs::widening::WideningTable#extend_high_s), [`extend_high_u`](crate::specs::widening::WideningTable#extend_high_u).
     #[inline]
     pub fn extended_lanes() {}
 
@@ -58,7 +58,7 @@ pub mod laws {
     /// ensures signed: (w : Width) (z : ℤ) → FitsSigned w z → signed w (wrap w z) ≡ z
     /// ```
     ///
-    /// Definitions: [`wrap`](crate::specs::types::Wrapping#wrap).
+    /// Definitions: [`wrap`](crate::specs::types::Numbers#wrap).
     #[inline]
     pub fn wrapped_numbers() {}
 
@@ -80,7 +80,7 @@ pub mod laws {
     ///     (read (lane narrow b (2 * i))) (read (lane narrow b (2 * i + 1))) % 2 ^ bits wide
     /// ```
     ///
-    /// Definitions: [`lane_count`](crate::specs::widening::Widening#lane_count), [`lane`](crate::specs::lanes::Lane#lane), [`pairwise_unary`](crate::specs::widening::Widening#pairwise_unary), [`pairwise_binary`](crate::specs::widening::Widening#pairwise_binary).
+    /// Definitions: [`lane_count`](crate::specs::widening::WideningTable#lane_count), [`lane`](crate::specs::lanes::Vector#lane), [`pairwise_unary`](crate::specs::widening::WideningTable#pairwise_unary), [`pairwise_binary`](crate::specs::widening::WideningTable#pairwise_binary).
     #[inline]
     pub fn pairwise_lanes<A>() {}
 
@@ -101,7 +101,7 @@ pub mod laws {
     ///     ≡ row (read (lane wide high i)) % 2 ^ bits narrow
     /// ```
     ///
-    /// Definitions: [`lane_count`](crate::specs::widening::Widening#lane_count), [`lane`](crate::specs::lanes::Lane#lane), [`from_low_high`](crate::specs::widening::Widening#from_low_high).
+    /// Definitions: [`lane_count`](crate::specs::widening::WideningTable#lane_count), [`lane`](crate::specs::lanes::Vector#lane), [`from_low_high`](crate::specs::widening::WideningTable#from_low_high).
     #[inline]
     pub fn lanes_of_wide_lanes<A>() {}
 
@@ -120,7 +120,7 @@ pub mod laws {
     /// ensures tests_below: (n : ℕ) (test : ℕ → Bool) → first_bits n test < 2 ^ n
     /// ```
     ///
-    /// Definitions: [`lane_count`](crate::specs::widening::Widening#lane_count), [`lane_bits`](crate::specs::widening::Widening#lane_bits), [`lane`](crate::specs::lanes::Lane#lane), [`first_bits`](crate::specs::widening::Widening#first_bits).
+    /// Definitions: [`lane_count`](crate::specs::widening::WideningTable#lane_count), [`lane_bits`](crate::specs::widening::WideningTable#lane_bits), [`lane`](crate::specs::lanes::Vector#lane), [`first_bits`](crate::specs::widening::WideningTable#first_bits).
     #[inline]
     pub fn bits_of_lanes<A>() {}
 
@@ -137,7 +137,7 @@ pub mod laws {
     ///     → IsTrue (holds_below n test) ↔ ((i : ℕ) → i < n → IsTrue (test i))
     /// ```
     ///
-    /// Definitions: [`every_lane`](crate::specs::widening::Widening#every_lane), [`lane_count`](crate::specs::widening::Widening#lane_count), [`lane`](crate::specs::lanes::Lane#lane), [`holds_below`](crate::specs::widening::Widening#holds_below).
+    /// Definitions: [`every_lane`](crate::specs::widening::WideningTable#every_lane), [`lane_count`](crate::specs::widening::WideningTable#lane_count), [`lane`](crate::specs::lanes::Vector#lane), [`holds_below`](crate::specs::widening::WideningTable#holds_below).
     #[inline]
     pub fn tests_of_lanes<A>() {}
 }
@@ -854,7 +854,7 @@ pub mod simd {
         /// ensures: result ≡ lane w32 v 0 ∷ lane w32 v 1 ∷ 0 ∷ 0 ∷ []
         /// ```
         ///
-        /// Definitions: [`lane`](crate::specs::lanes::Lane#lane).
+        /// Definitions: [`lane`](crate::specs::lanes::Vector#lane).
         #[inline(always)]
         fn lower_half_alone(v: V128) -> u32x4 {
             u32::lanes_of(v).shuffle(u32x4::splat(0), [0, 1, 4, 5])
@@ -958,7 +958,7 @@ pub mod simd {
         ///     → result ≡ made.from_low_high W.Item.width L.Item.width W.Item.read row low high
         /// ```
         ///
-        /// Definitions: [`from_low_high`](crate::specs::widening::Widening#from_low_high).
+        /// Definitions: [`from_low_high`](crate::specs::widening::WideningTable#from_low_high).
         #[inline(always)]
         fn from_low_high<W: Lanes, L: FromWide<W>, F: Fn(W::Item) -> L::Item>(
             low: V128,
@@ -1131,7 +1131,7 @@ pub mod simd {
         ///     (λ i. not (nat_eq (field (bits T.width * i) (bits T.width) word) 0))
         /// ```
         ///
-        /// Definitions: [`holds_below`](crate::specs::widening::Widening#holds_below), [`lanes_in_word`](crate::specs::lanes::Words#lanes_in_word), [`field`](crate::specs::lanes::Words#field).
+        /// Definitions: [`holds_below`](crate::specs::widening::WideningTable#holds_below), [`lanes_in_word`](crate::specs::lanes::Words#lanes_in_word), [`field`](crate::specs::lanes::Words#field).
         #[inline(always)]
         fn no_zero_in_word<T: WordLane>(word: u64) -> bool {
             word.wrapping_sub(T::ONES) & !word & T::TOPS == 0
@@ -1145,7 +1145,7 @@ pub mod simd {
         /// ensures: result ≡ first_bits 8 (λ i. nat_le (2 ^ 7) (field (8 * i) 8 word))
         /// ```
         ///
-        /// Definitions: [`first_bits`](crate::specs::widening::Widening#first_bits), [`field`](crate::specs::lanes::Words#field).
+        /// Definitions: [`first_bits`](crate::specs::widening::WideningTable#first_bits), [`field`](crate::specs::lanes::Words#field).
         #[inline(always)]
         fn tops_of_8(word: u64) -> u32 {
             ((word & u8::TOPS).wrapping_mul(0x0002_0408_1020_4081) >> 56) as u32
@@ -1157,7 +1157,7 @@ pub mod simd {
         /// ensures: result ≡ first_bits 1 (λ i. nat_le (2 ^ 63) (field (64 * i) 64 word))
         /// ```
         ///
-        /// Definitions: [`first_bits`](crate::specs::widening::Widening#first_bits), [`field`](crate::specs::lanes::Words#field).
+        /// Definitions: [`first_bits`](crate::specs::widening::WideningTable#first_bits), [`field`](crate::specs::lanes::Words#field).
         #[inline(always)]
         fn tops_of_64(word: u64) -> u32 {
             (word >> 63) as u32
@@ -1512,7 +1512,7 @@ pub mod simd {
         /// ensures lanes: (i : ℕ) → i < 16 → lane w8 result i ≡ 2 ^ (7 - amount)
         /// ```
         ///
-        /// Definitions: [`lane`](crate::specs::lanes::Lane#lane).
+        /// Definitions: [`lane`](crate::specs::lanes::Vector#lane).
         #[inline(always)]
         fn half_shifted(amount: u64) -> V128 {
             V128::from(HALVES_OF_8[amount as usize])
@@ -1651,7 +1651,7 @@ pub mod simd {
         ///     (lane_count Self.Wide.LaneInteger.width)
         /// ```
         ///
-        /// Definitions: [`IsWidening`](crate::specs::widening::WideningProofs#IsWidening), [`lane_count`](crate::specs::lanes::Lane#lane_count).
+        /// Definitions: [`IsWidening`](crate::specs::widening::WideningProofs#IsWidening), [`lane_count`](crate::specs::lanes::Vector#lane_count).
         pub(super) trait ExtendedLane: SimdLane {
             /// The lane of twice the width.
             type Wide: SimdLane;
@@ -1665,7 +1665,7 @@ pub mod simd {
             ///     → Self.Wide.at result i ≡ lane Self.width v i
             /// ```
             ///
-            /// Definitions: [`lane_count`](crate::specs::lanes::Lane#lane_count), [`lane`](crate::specs::lanes::Lane#lane).
+            /// Definitions: [`lane_count`](crate::specs::lanes::Vector#lane_count), [`lane`](crate::specs::lanes::Vector#lane).
             fn low(v: V128) -> <Self::Wide as SimdLane>::Vector;
 
             /// The lanes of the upper half.
@@ -1677,7 +1677,7 @@ pub mod simd {
             ///     → Self.Wide.at result i ≡ lane Self.width v (lane_count Self.Wide.width + i)
             /// ```
             ///
-            /// Definitions: [`lane_count`](crate::specs::lanes::Lane#lane_count), [`lane`](crate::specs::lanes::Lane#lane).
+            /// Definitions: [`lane_count`](crate::specs::lanes::Vector#lane_count), [`lane`](crate::specs::lanes::Vector#lane).
             fn high(v: V128) -> <Self::Wide as SimdLane>::Vector;
 
             /// The lanes of the lower half, the sign copied.
@@ -1689,7 +1689,7 @@ pub mod simd {
             ///     ≡ cast_unsigned Self.Wide.width (signed Self.width (lane Self.width v i))
             /// ```
             ///
-            /// Definitions: [`lane_count`](crate::specs::lanes::Lane#lane_count), [`lane`](crate::specs::lanes::Lane#lane).
+            /// Definitions: [`lane_count`](crate::specs::lanes::Vector#lane_count), [`lane`](crate::specs::lanes::Vector#lane).
             fn low_signed(v: V128) -> <Self::Wide as SimdLane>::Vector;
 
             /// The lanes of the upper half, the sign copied.
@@ -1702,7 +1702,7 @@ pub mod simd {
             ///     (signed Self.width (lane Self.width v (lane_count Self.Wide.width + i)))
             /// ```
             ///
-            /// Definitions: [`lane_count`](crate::specs::lanes::Lane#lane_count), [`lane`](crate::specs::lanes::Lane#lane).
+            /// Definitions: [`lane_count`](crate::specs::lanes::Vector#lane_count), [`lane`](crate::specs::lanes::Vector#lane).
             fn high_signed(v: V128) -> <Self::Wide as SimdLane>::Vector;
 
             /// The products of wide lanes, modulo 2 to the power of their width.
@@ -1714,7 +1714,7 @@ pub mod simd {
             ///     ≡ Self.Wide.at a i * Self.Wide.at b i % 2 ^ bits Self.Wide.width
             /// ```
             ///
-            /// Definitions: [`lane_count`](crate::specs::lanes::Lane#lane_count).
+            /// Definitions: [`lane_count`](crate::specs::lanes::Vector#lane_count).
             fn products(
                 a: <Self::Wide as SimdLane>::Vector,
                 b: <Self::Wide as SimdLane>::Vector,
@@ -1733,7 +1733,7 @@ pub mod simd {
             ///     → Self.Wide.at result i ≡ lane Self.width v (2 * i)
             /// ```
             ///
-            /// Definitions: [`lane_count`](crate::specs::lanes::Lane#lane_count), [`lane`](crate::specs::lanes::Lane#lane).
+            /// Definitions: [`lane_count`](crate::specs::lanes::Vector#lane_count), [`lane`](crate::specs::lanes::Vector#lane).
             fn even(v: V128) -> <Self::Wide as SimdLane>::Vector;
 
             /// The lanes with an odd number.
@@ -1745,7 +1745,7 @@ pub mod simd {
             ///     → Self.Wide.at result i ≡ lane Self.width v (2 * i + 1)
             /// ```
             ///
-            /// Definitions: [`lane_count`](crate::specs::lanes::Lane#lane_count), [`lane`](crate::specs::lanes::Lane#lane).
+            /// Definitions: [`lane_count`](crate::specs::lanes::Vector#lane_count), [`lane`](crate::specs::lanes::Vector#lane).
             fn odd(v: V128) -> <Self::Wide as SimdLane>::Vector;
 
             /// The lanes with an even number, the sign copied.
@@ -1757,7 +1757,7 @@ pub mod simd {
             ///     ≡ cast_unsigned Self.Wide.width (signed Self.width (lane Self.width v (2 * i)))
             /// ```
             ///
-            /// Definitions: [`lane_count`](crate::specs::lanes::Lane#lane_count), [`lane`](crate::specs::lanes::Lane#lane).
+            /// Definitions: [`lane_count`](crate::specs::lanes::Vector#lane_count), [`lane`](crate::specs::lanes::Vector#lane).
             fn even_signed(v: V128) -> <Self::Wide as SimdLane>::Vector;
 
             /// The lanes with an odd number, the sign copied.
@@ -1769,7 +1769,7 @@ pub mod simd {
             ///     ≡ cast_unsigned Self.Wide.width (signed Self.width (lane Self.width v (2 * i + 1)))
             /// ```
             ///
-            /// Definitions: [`lane_count`](crate::specs::lanes::Lane#lane_count), [`lane`](crate::specs::lanes::Lane#lane).
+            /// Definitions: [`lane_count`](crate::specs::lanes::Vector#lane_count), [`lane`](crate::specs::lanes::Vector#lane).
             fn odd_signed(v: V128) -> <Self::Wide as SimdLane>::Vector;
 
             /// The sums of wide lanes, modulo 2 to the power of their width.
@@ -1781,7 +1781,7 @@ pub mod simd {
             ///     ≡ (Self.Wide.at a i + Self.Wide.at b i) % 2 ^ bits Self.Wide.width
             /// ```
             ///
-            /// Definitions: [`lane_count`](crate::specs::lanes::Lane#lane_count).
+            /// Definitions: [`lane_count`](crate::specs::lanes::Vector#lane_count).
             fn sums(
                 a: <Self::Wide as SimdLane>::Vector,
                 b: <Self::Wide as SimdLane>::Vector,
@@ -1956,7 +1956,7 @@ pub mod simd {
         /// ensures lanes: (i : ℕ) → i < 8 → slice_index_or result i (pos 0) ≡ signed w16 (lane w16 v i)
         /// ```
         ///
-        /// Definitions: [`lane`](crate::specs::lanes::Lane#lane).
+        /// Definitions: [`lane`](crate::specs::lanes::Vector#lane).
         #[inline(always)]
         fn i16x8_of(v: V128) -> i16x8 {
             i16x8::from_le_bytes(bytes_of(v))
@@ -1969,7 +1969,7 @@ pub mod simd {
         /// ensures lanes: (i : ℕ) → i < 4 → slice_index_or result i (pos 0) ≡ signed w32 (lane w32 v i)
         /// ```
         ///
-        /// Definitions: [`lane`](crate::specs::lanes::Lane#lane).
+        /// Definitions: [`lane`](crate::specs::lanes::Vector#lane).
         #[inline(always)]
         fn i32x4_of(v: V128) -> i32x4 {
             i32x4::from_le_bytes(bytes_of(v))

@@ -23,8 +23,8 @@ use Rattle.wasmi_c.specs.Types.{u32_of, val_type_of, if_flag, memory_type_of, re
 use Rattle.wasmi_typed.specs.declared.global.Mutability.{Mutability}
 use Rattle.wasmi_typed.specs.declared.global.Mutability.TheVariants.{Const, Var}
 use Rattle.wasmi_typed.specs.declared.typed_ref.TypedRawRef.{TypedRawRef}
-use Rattle.wasmi_store.specs.MemoryType.{MemoryTypeValue}
-use Rattle.wasmi_store.specs.TableType.{TableTypeValue}
+use Rattle.wasmi_store.specs.Memory.{MemoryTypeValue}
+use Rattle.wasmi_store.specs.Table.{TableTypeValue}
 use Rattle.wasmi_ops.specs.declared.vector.ternary.TheConstants.{TERNARIES}
 use Rattle.wasmi_c.specs.Instruction.{load_numbered, store_numbered, binary_numbered, op_numbered, extraction_of, lane_load_of, lane_store_of, replacement_of, lanes_of, unary_numbered}
 use Rattle.wasmi_c.specs.declared.instruction.binary.Binary.{Binary}

@@ -1,12 +1,11 @@
 -- A machine with the limiter that it asks, and the caps that it stays within.
 use Rattle.std.specs.Prelude.{◌≡◌, ◌≤◌, ⊤, Option, Some, None, IfSome}
 use Rattle.wasmi_meter.specs.AnyLimiter.{caps_of, quota_of}
-use Rattle.wasmi_meter.specs.Quota.{cap_of, holdings, IsWithinCaps}
+use Rattle.wasmi_meter.specs.Capped.{cap_of, holdings, IsWithinCaps}
 use Rattle.wasmi_meter.specs.declared.any_limiter.AnyLimiter.{AnyLimiter}
 use Rattle.wasmi_meter.specs.declared.limiter.Kind.{Kind}
 use Rattle.wasmi_meter.specs.declared.quota.Quota.{Quota}
-use Rattle.wasmi_core.specs.State.{State}
-use Rattle.wasmi_core.specs.Totals.{total, HoldsTotals}
+use Rattle.wasmi_core.specs.State.{State, total, HoldsTotals}
 
 -- a machine, and the limiter that it asks
 pub record MachineValue : Type 0 where

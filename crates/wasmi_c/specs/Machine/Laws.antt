@@ -3,9 +3,8 @@ use Rattle.std.specs.Prelude.{◌≡◌, ◌++◌, ◌∷◌, [], List, Option, 
 use Rattle.wasmi_meter.specs.AnyLimiter.{any_limiter_rules, caps_of}
 use Rattle.wasmi_meter.specs.Limiter.{optional_rules}
 use Rattle.wasmi_meter.specs.declared.any_limiter.AnyLimiter.{AnyLimiter}
-use Rattle.wasmi_core.specs.Runs.{Run}
-use Rattle.wasmi_core.specs.State.{State}
-use Rattle.wasmi_core.specs.World.{Turn, world}
+use Rattle.wasmi_core.specs.Steps.{Run}
+use Rattle.wasmi_core.specs.State.{State, Turn, world}
 use Rattle.wasmi_core.specs.declared.calls.Call.{Call}
 use Rattle.wasmi_core.specs.declared.calls.Reply.{Reply}
 use Rattle.wasmi_c.specs.Machine.Caps.{Keeps, MachineValue}

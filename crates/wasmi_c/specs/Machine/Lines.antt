@@ -2,12 +2,11 @@
 use Rattle.std.specs.Prelude.{◌≡◌, ◌≢◌, ◌⊎◌, ◌-◌, ◌^◌, ℕ, List, None, length, nat_lt, if◌then◌else◌}
 use Rattle.wasmi_meter.specs.AnyLimiter.{any_limiter_rules}
 use Rattle.wasmi_meter.specs.Limiter.{optional_rules}
-use Rattle.wasmi_core.specs.Runs.{IsRunOf}
+use Rattle.wasmi_core.specs.Steps.{IsRunOf}
 use Rattle.wasmi_core.specs.declared.calls.Call.{Call}
 use Rattle.wasmi_core.specs.declared.calls.Reply.{Reply}
 use Rattle.wasmi_grammar.specs.declared.header.Header.{Header}
-use Rattle.wasmi_grammar.specs.Lines.{WritesScript, calls_of}
-use Rattle.wasmi_grammar.specs.Refusals.{IsFirstBadLine}
+use Rattle.wasmi_grammar.specs.Lines.{WritesScript, calls_of, IsFirstBadLine}
 use Rattle.wasmi_grammar.specs.declared.script.Script.{Script}
 use Rattle.wasmi_script.specs.Fronts.{FillsFront}
 use Rattle.wasmi_script.specs.Outcomes.{replies_text}

@@ -1,9 +1,8 @@
 -- What a machine is made with, and what a new one has.
 use Rattle.std.specs.Prelude.{◌≡◌, ◌≢◌, ◌⊎◌, ℕ, All, List, map, Option, Some, None, ◌<◌, nat_eq, if◌then◌else◌}
-use Rattle.wasmi_meter.specs.Amounts.{nothing}
+use Rattle.wasmi_meter.specs.Capped.{nothing, holdings, cap_of}
 use Rattle.wasmi_meter.specs.AnswerList.{new_answers}
 use Rattle.wasmi_meter.specs.Meter.{Meter}
-use Rattle.wasmi_meter.specs.Quota.{holdings, cap_of}
 use Rattle.wasmi_meter.specs.declared.answer_list.LimiterAnswer.{LimiterAnswer}
 use Rattle.wasmi_meter.specs.declared.any_limiter.AnyLimiter.{AnyLimiter}
 use Rattle.wasmi_meter.specs.declared.any_limiter.AnyLimiter.TheVariants as limiter

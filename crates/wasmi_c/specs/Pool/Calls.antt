@@ -2,8 +2,7 @@
 use Rattle.std.specs.Prelude.{◌≡◌, ◌⊎◌, ◌≤◌, ◌<◌, ◌∷◌, [], ⊤, ℕ, List, length, slice_get, Option, Some, None, MatchOption, Vec}
 use Rattle.std.specs.Global.{Global}
 use Rattle.wasmi_meter.specs.declared.limiter.Kind.TheVariants.{Bytes, Elements}
-use Rattle.wasmi_core.specs.State.{new_state}
-use Rattle.wasmi_core.specs.Totals.{total}
+use Rattle.wasmi_core.specs.State.{new_state, total}
 use Rattle.wasmi_core.specs.declared.calls.Call.{Call}
 use Rattle.wasmi_core.specs.declared.calls.Reply.{Reply}
 use Rattle.wasmi_budget.specs.Pool.{PoolValue, AddsTenant, IsWithinCaps, RunsTenant, total_of}

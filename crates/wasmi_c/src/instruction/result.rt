@@ -2,7 +2,7 @@
 ghost use Rattle.std.specs.Prelude.{◌≡◌, MatchResult};
 ghost use Rattle.wasmi_types.specs.Trap.{code_number};
 ghost use Rattle.wasmi_raw.specs.RawVal.{raw_of_vector};
-ghost use Rattle.wasmi_ops.specs.RawResults.{as_raw};
+ghost use Rattle.wasmi_ops.specs.ScalarOps.{as_raw};
 ghost use Rattle.wasmi_c.specs.Status.{done_status};
 ghost use Rattle.wasmi_c.specs.Instruction.{Gives, result_of};
 

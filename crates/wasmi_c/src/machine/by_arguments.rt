@@ -2,7 +2,7 @@
 //! call of the machine's list; it leaves a status, and some a word in the caller's place.
 ghost use Rattle.std.specs.Prelude.{◌≡◌, ◌+◌, Some};
 ghost use Rattle.wasmi_meter.specs.AnyLimiter.{caps_of};
-ghost use Rattle.wasmi_core.specs.FuelEffects.{get_fuel_reply};
+ghost use Rattle.wasmi_core.specs.ValueEffects.{get_fuel_reply};
 ghost use Rattle.wasmi_core.specs.MemoryEffects.{load_reply};
 ghost use Rattle.wasmi_core.specs.State.{live_at};
 ghost use Rattle.wasmi_core.specs.declared.calls.Call.TheVariants.{GetFuel, GrowMemory, Store};

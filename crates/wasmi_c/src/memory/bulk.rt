@@ -1,7 +1,7 @@
 //! A range of a memory is written over. `number` is set to the fuel that is needed where less is
 //! left.
 ghost use Rattle.std.specs.Prelude.{◌≡◌};
-ghost use Rattle.wasmi_store.specs.Bulk.{copied, filled};
+ghost use Rattle.wasmi_store.specs.Growth.{copied, filled};
 ghost use Rattle.wasmi_c.specs.MemoryCalls.{CopiesBytesEmbedded, WritesBytesEmbedded, of_memory};
 ghost use Rattle.wasmi_c.specs.Placement.{status_of, written_number};
 

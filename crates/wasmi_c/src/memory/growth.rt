@@ -1,7 +1,7 @@
 //! A memory grows.
 ghost use Rattle.std.specs.Prelude.{◌≡◌, ◌+◌, ◌/◌, false, Some};
-ghost use Rattle.wasmi_meter.specs.Quota.{quota_rules};
-ghost use Rattle.wasmi_store.specs.MemoryType.{MemoryTypeValue, in_bounds, page_bytes};
+ghost use Rattle.wasmi_meter.specs.Capped.{quota_rules};
+ghost use Rattle.wasmi_store.specs.Memory.{MemoryTypeValue, in_bounds, page_bytes};
 ghost use Rattle.wasmi_region.specs.Memory.{memory_in};
 ghost use Rattle.wasmi_c.specs.Host.{is_about, memory_growth};
 ghost use Rattle.wasmi_c.specs.MemoryCalls.{AsksEmbedded, IsNoState, by_pages, of_memory};

@@ -1,6 +1,6 @@
 //! The numbers of a memory that lies with C.
 ghost use Rattle.std.specs.Prelude.{◌≡◌, MatchOption, Some};
-ghost use Rattle.wasmi_store.specs.MemoryType.{MemoryTypeValue, IsValid, named_type};
+ghost use Rattle.wasmi_store.specs.Memory.{MemoryTypeValue, IsValid, named_type};
 ghost use Rattle.wasmi_c.specs.Numbers.{settings_of, IsState};
 
 use crate::types;

@@ -1,7 +1,7 @@
 //! A table grows.
 ghost use Rattle.std.specs.Prelude.{◌≡◌, ◌+◌, ℕ, false, Some, length};
-ghost use Rattle.wasmi_meter.specs.Quota.{quota_rules};
-ghost use Rattle.wasmi_store.specs.TableType.{TableTypeValue, is_indexable};
+ghost use Rattle.wasmi_meter.specs.Capped.{quota_rules};
+ghost use Rattle.wasmi_store.specs.Table.{TableTypeValue, is_indexable};
 ghost use Rattle.wasmi_region.specs.Table.{table_in, region_growth};
 ghost use Rattle.wasmi_c.specs.Host.{is_about};
 ghost use Rattle.wasmi_c.specs.Placement.{GrowsAs, GrowsBy, SettlesBy, grown_number, status_of};

@@ -1,6 +1,6 @@
 //! The numbers of a table that lies with C.
 ghost use Rattle.std.specs.Prelude.{◌≡◌, MatchOption};
-ghost use Rattle.wasmi_store.specs.TableType.{TableTypeValue};
+ghost use Rattle.wasmi_store.specs.Table.{TableTypeValue};
 ghost use Rattle.wasmi_c.specs.Numbers.{table_type_of, IsTable};
 
 use crate::types;

@@ -2,9 +2,8 @@
 //! is slower than `std::simd` (docs/SPEED.md).
 
 ghost use Rattle.std.specs.Prelude.{◌≡◌, ◌∷◌, [], ℕ, ◌%◌, ◌<◌, slice_index, length, nat_lt, if◌then◌else◌};
-ghost use Rattle.wasmi_types.specs.Wrapping.{w8, w16, w32, w64};
-ghost use Rattle.wasmi_lanes.specs.Lane.{lane};
-ghost use Rattle.wasmi_lanes.specs.Vector.{splat_of};
+ghost use Rattle.wasmi_types.specs.Numbers.{w8, w16, w32, w64};
+ghost use Rattle.wasmi_lanes.specs.Vector.{lane, splat_of};
 ghost use Rattle.wasmi_lanewise.specs.VectorTable as vector;
 
 use std::simd::prelude::*;

@@ -3,8 +3,8 @@
 //! Lanes that are read signed are moved by half of their range, and then compared as unsigned ones.
 
 ghost use Rattle.std.specs.Prelude.{◌≡◌, ℕ, ◌-◌, ◌^◌, ◌<◌, nat_lt, if◌then◌else◌};
-ghost use Rattle.wasmi_types.specs.Wrapping.{bits};
-ghost use Rattle.wasmi_lanes.specs.Lane.{lane, lane_count};
+ghost use Rattle.wasmi_types.specs.Numbers.{bits};
+ghost use Rattle.wasmi_lanes.specs.Vector.{lane, lane_count};
 ghost use Rattle.wasmi_lanewise.specs.VectorTable as vector;
 
 use wasmi_lanes::SimdLane;

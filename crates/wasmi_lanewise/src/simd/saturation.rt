@@ -2,8 +2,8 @@
 //! of `std::simd`.
 
 ghost use Rattle.std.specs.Prelude.{◌≡◌, ℕ, ◌+◌, ◌-◌, ◌^◌, ◌<◌, min, ◌*◌, ◌/◌, ◌%◌, nat_lt, slice_index, if◌then◌else◌};
-ghost use Rattle.wasmi_types.specs.Wrapping.{bits, w16, w32, signed};
-ghost use Rattle.wasmi_lanes.specs.Lane.{lane_count};
+ghost use Rattle.wasmi_types.specs.Numbers.{bits, w16, w32, signed};
+ghost use Rattle.wasmi_lanes.specs.Vector.{lane_count};
 ghost use Rattle.wasmi_lanewise.specs.VectorTable as vector;
 ghost use Rattle.std.specs.Int.{cast_unsigned};
 

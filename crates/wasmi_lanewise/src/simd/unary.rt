@@ -1,7 +1,7 @@
 //! Unary instructions, and those that work bit by bit on whole vectors.
 
 ghost use Rattle.std.specs.Prelude.{◌≡◌};
-ghost use Rattle.wasmi_types.specs.Wrapping.{w8, w16, w32, w64};
+ghost use Rattle.wasmi_types.specs.Numbers.{w8, w16, w32, w64};
 ghost use Rattle.wasmi_lanewise.specs.VectorTable as vector;
 
 use crate::simd::words;

@@ -4,8 +4,8 @@
 //! What is generic in a lane type takes the highest bits of a word's lanes from it.
 
 ghost use Rattle.std.specs.Prelude.{◌≡◌, ℕ, ◌-◌, ◌%◌, ◌^◌, ◌<◌, ◌==◌, if◌then◌else◌};
-ghost use Rattle.wasmi_raw.specs.Vector.{vector_of};
-ghost use Rattle.wasmi_types.specs.Wrapping.{bits, w8, w64};
+ghost use Rattle.wasmi_raw.specs.RawVal.{vector_of};
+ghost use Rattle.wasmi_types.specs.Numbers.{bits, w8, w64};
 ghost use Rattle.wasmi_lanes.specs.Words.{field, IsLane, AreMarks, AreFilled, in_each_lane};
 ghost use Rattle.wasmi_lanewise.specs.VectorTable as vector;
 

@@ -2,7 +2,7 @@
 //! runs that find no memory; and what a pool of tenants refuses (`wasmi_script_tests` has scripts of
 //! tenants).
 ghost use Rattle.std.specs.Prelude.{◌≡◌};
-ghost use Rattle.wasmi_meter.specs.Holdings.{Reserves, GivesBack};
+ghost use Rattle.wasmi_meter.specs.Capped.{Reserves, GivesBack};
 ghost use Rattle.wasmi_meter.specs.Limiter.{kind_of};
 
 use super::{func, memory_type, meter, metered, runs_to, same, unmetered};

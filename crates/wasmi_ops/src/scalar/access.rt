@@ -2,7 +2,7 @@
 //! offset.
 ghost use Rattle.std.specs.Prelude.{◌≡◌, ◌+◌};
 ghost use Rattle.wasmi_access.specs.LoadStore.{IsStore};
-ghost use Rattle.wasmi_ops.specs.ScalarAccessOps.{loaded_raw, stored_bytes};
+ghost use Rattle.wasmi_ops.specs.ScalarOps.{loaded_raw, stored_bytes};
 
 use crate::rows::{calls, names};
 use wasmi_access::access::effective_address;

@@ -1,6 +1,6 @@
 //! The scalar instructions of two operands.
 ghost use Rattle.std.specs.Prelude.{◌≡◌};
-ghost use Rattle.wasmi_ops.specs.ScalarBinaryOps.{binary_raw};
+ghost use Rattle.wasmi_ops.specs.ScalarOps.{binary_raw};
 
 use crate::rows::{calls, names};
 use crate::scalar::wide;

@@ -1,6 +1,6 @@
 //! The scalar instructions of one operand.
 ghost use Rattle.std.specs.Prelude.{◌≡◌};
-ghost use Rattle.wasmi_ops.specs.ScalarUnaryOps.{unary_raw};
+ghost use Rattle.wasmi_ops.specs.ScalarOps.{unary_raw};
 
 use crate::rows::{calls, names};
 use wasmi_raw::{RawVal, ReadAs};

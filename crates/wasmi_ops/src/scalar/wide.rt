@@ -2,7 +2,7 @@
 ghost use Rattle.std.specs.Prelude.{◌≡◌, ◌*◌, ◌*ℤ◌};
 ghost use Rattle.std.specs.Int.{w64, w128, cast_unsigned};
 ghost use Rattle.wasmi_raw.specs.RawVal.{raw_of_vector, vector_in};
-ghost use Rattle.wasmi_scalar.specs.Wide.{add128, sub128, unsigned_of};
+ghost use Rattle.wasmi_scalar.specs.Numerics.{add128, sub128, unsigned_of};
 
 use wasmi_raw::{RawVal, V128};
 use wasmi_scalar::wasm;

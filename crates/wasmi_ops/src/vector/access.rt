@@ -1,7 +1,7 @@
 //! The loads and stores of vectors.
 ghost use Rattle.std.specs.Prelude.{◌≡◌, ◌+◌};
 ghost use Rattle.wasmi_access.specs.LoadStore.{IsStore};
-ghost use Rattle.wasmi_ops.specs.VectorAccessOps.{loaded_vector, loaded_lane, stored_lane};
+ghost use Rattle.wasmi_ops.specs.VectorOps.{loaded_vector, loaded_lane, stored_lane};
 
 use crate::rows::{calls, names};
 use wasmi_lanes::{ImmLaneIdx2, ImmLaneIdx4, ImmLaneIdx8, ImmLaneIdx16};

@@ -1,6 +1,6 @@
 //! The vector instructions of two operands.
 ghost use Rattle.std.specs.Prelude.{◌≡◌};
-ghost use Rattle.wasmi_ops.specs.BinaryOps.{binary_vector};
+ghost use Rattle.wasmi_ops.specs.VectorOps.{binary_vector};
 
 use crate::rows::{calls, names};
 use wasmi_lanewise::simd as lanewise;

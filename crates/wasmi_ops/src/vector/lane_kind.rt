@@ -1,6 +1,6 @@
 //! The instructions on one lane without the lane's index: what a name or a number alone tells.
 ghost use Rattle.std.specs.Prelude.{◌≡◌};
-ghost use Rattle.wasmi_ops.specs.LaneKinds.{extract_op, replace_op, load_lane_op, store_lane_op};
+ghost use Rattle.wasmi_ops.specs.LaneOps.{extract_op, replace_op, load_lane_op, store_lane_op};
 
 use crate::rows::{names, on_lane};
 use crate::vector::access::{LoadLaneOp, StoreLaneOp, lane_loads, lane_stores};

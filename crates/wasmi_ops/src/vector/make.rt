@@ -1,6 +1,6 @@
 //! The vector instructions that make a vector of an item.
 ghost use Rattle.std.specs.Prelude.{◌≡◌};
-ghost use Rattle.wasmi_ops.specs.MakeOps.{made_vector};
+ghost use Rattle.wasmi_ops.specs.VectorOps.{made_vector};
 
 use crate::rows::{calls, names};
 use wasmi_lanewise::simd as lanewise;

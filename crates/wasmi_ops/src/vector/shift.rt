@@ -1,6 +1,6 @@
 //! The shifts of lanes.
 ghost use Rattle.std.specs.Prelude.{◌≡◌};
-ghost use Rattle.wasmi_ops.specs.ShiftOps.{shifted_vector};
+ghost use Rattle.wasmi_ops.specs.VectorOps.{shifted_vector};
 
 use crate::rows::{calls, names};
 use wasmi_raw::V128;

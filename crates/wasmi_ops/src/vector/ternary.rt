@@ -1,6 +1,6 @@
 //! The vector instructions of three operands.
 ghost use Rattle.std.specs.Prelude.{◌≡◌};
-ghost use Rattle.wasmi_ops.specs.TernaryOps.{ternary_vector};
+ghost use Rattle.wasmi_ops.specs.VectorOps.{ternary_vector};
 
 use crate::rows::{calls, names};
 use wasmi_lanewise::simd as lanewise;

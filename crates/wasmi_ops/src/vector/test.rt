@@ -1,6 +1,6 @@
 //! The tests of vectors.
 ghost use Rattle.std.specs.Prelude.{◌≡◌};
-ghost use Rattle.wasmi_ops.specs.TestOps.{tested_raw};
+ghost use Rattle.wasmi_ops.specs.VectorOps.{tested_raw};
 
 use crate::rows::{calls, names};
 use wasmi_raw::{RawVal, V128};

@@ -1,6 +1,6 @@
 //! The vector instructions of one operand.
 ghost use Rattle.std.specs.Prelude.{◌≡◌};
-ghost use Rattle.wasmi_ops.specs.UnaryOps.{unary_vector};
+ghost use Rattle.wasmi_ops.specs.VectorOps.{unary_vector};
 
 use crate::rows::{calls, names};
 use wasmi_lanewise::simd as lanewise;

@@ -1,7 +1,7 @@
 //! Products of lanes, of twice their width, and sums of neighbouring lanes and of their products.
 
 ghost use Rattle.std.specs.Prelude.{◌≡◌};
-ghost use Rattle.wasmi_types.specs.Wrapping.{w8, w16, w32, w64};
+ghost use Rattle.wasmi_types.specs.Numbers.{w8, w16, w32, w64};
 ghost use Rattle.wasmi_simd.specs.WideningTable as vector;
 
 use super::wide::{ExtendedLane, PairedLane};

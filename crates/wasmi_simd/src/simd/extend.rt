@@ -1,8 +1,8 @@
 //! Lanes extended to twice their width.
 
 ghost use Rattle.std.specs.Prelude.{◌≡◌, ◌∷◌, []};
-ghost use Rattle.wasmi_types.specs.Wrapping.{w8, w16, w32, w64};
-ghost use Rattle.wasmi_lanes.specs.Lane.{lane};
+ghost use Rattle.wasmi_types.specs.Numbers.{w8, w16, w32, w64};
+ghost use Rattle.wasmi_lanes.specs.Vector.{lane};
 ghost use Rattle.wasmi_simd.specs.WideningTable as vector;
 
 use super::wide::ExtendedLane;

@@ -2,8 +2,8 @@
 
 ghost use Rattle.std.specs.Prelude.{◌≡◌, ℕ};
 ghost use Rattle.std.specs.Int.{cast_unsigned};
-ghost use Rattle.wasmi_types.specs.Wrapping.{w8, w16, w32, clamp_unsigned};
-ghost use Rattle.wasmi_simd.specs.Widening as made;
+ghost use Rattle.wasmi_types.specs.Numbers.{w8, w16, w32, clamp_unsigned};
+ghost use Rattle.wasmi_simd.specs.WideningTable as made;
 ghost use Rattle.wasmi_simd.specs.WideningTable as vector;
 
 use wasmi_lanes::{FromWide, I8x16, I16x8, I32x4, Lanes, clamped_i8, clamped_i16};

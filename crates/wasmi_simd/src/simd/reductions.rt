@@ -1,9 +1,9 @@
 //! Tests of lanes, on the two words of a vector.
 
 ghost use Rattle.std.specs.Prelude.{◌≡◌, ◌-◌, ◌*◌, ◌^◌, not, nat_eq, nat_le};
-ghost use Rattle.wasmi_types.specs.Wrapping.{w8, w16, w32, w64, bits};
+ghost use Rattle.wasmi_types.specs.Numbers.{w8, w16, w32, w64, bits};
 ghost use Rattle.wasmi_lanes.specs.Words.{field, lanes_in_word};
-ghost use Rattle.wasmi_simd.specs.Widening.{first_bits, holds_below};
+ghost use Rattle.wasmi_simd.specs.WideningTable.{first_bits, holds_below};
 ghost use Rattle.wasmi_simd.specs.WideningTable as vector;
 
 use wasmi_lanes::WordLane;

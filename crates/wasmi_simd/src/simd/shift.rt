@@ -5,8 +5,8 @@
 //! lanes moved by half of their range.
 
 ghost use Rattle.std.specs.Prelude.{◌≡◌, ℕ, ◌+◌, ◌-◌, ◌%◌, ◌^◌, ◌<◌, slice_index, replicate};
-ghost use Rattle.wasmi_types.specs.Wrapping.{w8, w16, w32, w64, bits};
-ghost use Rattle.wasmi_lanes.specs.Lane.{lane};
+ghost use Rattle.wasmi_types.specs.Numbers.{w8, w16, w32, w64, bits};
+ghost use Rattle.wasmi_lanes.specs.Vector.{lane};
 ghost use Rattle.wasmi_lanes.specs.Words.{in_each_lane};
 ghost use Rattle.wasmi_simd.specs.WideningTable as vector;
 

@@ -3,8 +3,8 @@
 
 ghost use Rattle.std.specs.Prelude.{◌≡◌, ℕ, pos, ◌+◌, ◌*◌, ◌%◌, ◌^◌, ◌<◌, slice_index, slice_index_or};
 ghost use Rattle.std.specs.Int.{cast_unsigned};
-ghost use Rattle.wasmi_types.specs.Wrapping.{w8, w16, w32, bits, signed};
-ghost use Rattle.wasmi_lanes.specs.Lane.{lane, lane_count};
+ghost use Rattle.wasmi_types.specs.Numbers.{w8, w16, w32, bits, signed};
+ghost use Rattle.wasmi_lanes.specs.Vector.{lane, lane_count};
 ghost use Rattle.wasmi_simd.specs.WideningProofs.{IsWidening, bytes_widened, u16x8_widened, u32x4_widened};
 
 use std::simd::prelude::*;

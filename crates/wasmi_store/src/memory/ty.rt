@@ -1,8 +1,7 @@
 //! The types of linear memories.
 ghost use Rattle.std.specs.Prelude.{◌≡◌, ◌+◌, ◌-◌, ◌*◌, ◌/◌, ◌%◌, ◌^◌, ◌≤◌, ◌<◌, ◌↔◌, ℕ, Option, Some, None, IsTrue, true, false, MatchOption, MatchResult, IsSomeAnd, nat_lt, if◌then◌else◌, min};
-ghost use Rattle.wasmi_types.specs.IndexType.{address_bits};
-ghost use Rattle.wasmi_store.specs.Limits.{IsNoLooser};
-ghost use Rattle.wasmi_store.specs.MemoryType.{page_bytes};
+ghost use Rattle.wasmi_types.specs.Value.{address_bits};
+ghost use Rattle.wasmi_store.specs.Memory.{IsNoLooser, page_bytes};
 
 use std::marker::Model;
 use wasmi_meter::MemoryError;
@@ -16,7 +15,7 @@ pub(super) enum PageSize {
 }
 
 impl PageSize {
-    ghost use Rattle.wasmi_store.specs.MemoryType.{page_bytes, page_log2, page_of_log2};
+    ghost use Rattle.wasmi_store.specs.Memory.{page_bytes, page_log2, page_of_log2};
 
     fn from_log2(log2: u8) -> Option<Self>
         ensures { result ≡ page_of_log2 log2 }
@@ -70,7 +69,7 @@ pub struct MemoryType {
 }
 
 impl Model for MemoryType {
-    ghost use Rattle.wasmi_store.specs.MemoryType.{MemoryTypeValue, IsValid};
+    ghost use Rattle.wasmi_store.specs.Memory.{MemoryTypeValue, IsValid};
 
     ghost Value = { MemoryTypeValue };
 
@@ -85,7 +84,7 @@ impl Model for MemoryType {
 }
 
 impl MemoryType {
-    ghost use Rattle.wasmi_store.specs.MemoryType.{page_bytes, page_log2, minimum_bytes, maximum_bytes, in_bounds, IsSubtype, IsValid, default_settings};
+    ghost use Rattle.wasmi_store.specs.Memory.{page_bytes, page_log2, minimum_bytes, maximum_bytes, in_bounds, IsSubtype, IsValid, default_settings};
     ghost use Rattle.wasmi_types.specs.declared.index_ty.IndexType.TheVariants.{I64};
 
     /// A builder with the defaults: a minimum of 0, no maximum, pages of 64 KiB, 32-bit addresses.
@@ -246,7 +245,7 @@ pub struct MemoryTypeBuilder {
 }
 
 impl Model for MemoryTypeBuilder {
-    ghost use Rattle.wasmi_store.specs.MemoryType.{Settings};
+    ghost use Rattle.wasmi_store.specs.Memory.{Settings};
 
     ghost Value = { Settings };
 
@@ -259,7 +258,7 @@ impl Model for MemoryTypeBuilder {
 }
 
 impl Default for MemoryTypeBuilder {
-    ghost use Rattle.wasmi_store.specs.MemoryType.{default_settings};
+    ghost use Rattle.wasmi_store.specs.Memory.{default_settings};
 
     ghost is_default = { λ b. b ≡ default_settings };
 
@@ -274,7 +273,7 @@ impl Default for MemoryTypeBuilder {
 }
 
 impl MemoryTypeBuilder {
-    ghost use Rattle.wasmi_store.specs.MemoryType.{IsValid, named_type};
+    ghost use Rattle.wasmi_store.specs.Memory.{IsValid, named_type};
     ghost use Rattle.wasmi_types.specs.declared.index_ty.IndexType.TheVariants.{I32, I64};
 
     /// Sets whether addresses have 64 bits. The default is 32 bits.

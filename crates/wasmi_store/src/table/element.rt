@@ -68,7 +68,7 @@ pub struct ElementSegmentRef<'a> {
 const MAX_ITEMS: usize = 4_294_967_295;
 
 impl ElementSegment {
-    ghost use Rattle.wasmi_types.specs.Iteration.{EachBecomes};
+    ghost use Rattle.wasmi_types.specs.Reading.{EachBecomes};
     ghost use Rattle.wasmi_store.specs.Segment.{IsReading, IsReadingOf, segment_of, dropped};
 
     /// A segment of references of a type, read from an iterator as `read` does.

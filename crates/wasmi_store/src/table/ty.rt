@@ -1,6 +1,6 @@
 //! The types of tables.
 ghost use Rattle.std.specs.Prelude.{◌≡◌, ◌≤◌, ◌+◌, ◌-◌, ◌^◌, ◌↔◌, IfSome, IsTrue, true, false, MatchOption, MatchResult};
-ghost use Rattle.wasmi_types.specs.IndexType.{address_bits};
+ghost use Rattle.wasmi_types.specs.Value.{address_bits};
 
 use crate::memory::is_no_looser;
 use std::marker::Model;
@@ -20,7 +20,7 @@ pub struct TableType {
 }
 
 impl Model for TableType {
-    ghost use Rattle.wasmi_store.specs.TableType.{TableTypeValue, IsValid};
+    ghost use Rattle.wasmi_store.specs.Table.{TableTypeValue, IsValid};
 
     ghost Value = { TableTypeValue };
 
@@ -40,7 +40,7 @@ impl Model for TableType {
 }
 
 impl TableType {
-    ghost use Rattle.wasmi_store.specs.TableType.{IsSubtype, IsValid, is_indexable, is_within_maximum, same_type};
+    ghost use Rattle.wasmi_store.specs.Table.{IsSubtype, IsValid, is_indexable, is_within_maximum, same_type};
     ghost use Rattle.wasmi_types.specs.declared.index_ty.IndexType.TheVariants.{I32, I64};
 
     /// A type with 32-bit indices. The minimum isn't above the maximum.

@@ -1,6 +1,6 @@
 //! Costs, and meters that are off.
 ghost use Rattle.std.specs.Prelude.{◌≡◌, None, Some, IfOk, if◌then◌else◌};
-ghost use Rattle.wasmi_meter.specs.Costs.{costs_of, default_costs};
+ghost use Rattle.wasmi_meter.specs.Meter.{costs_of, default_costs};
 
 use super::same;
 use std::alloc::AllocError;

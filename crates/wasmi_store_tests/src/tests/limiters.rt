@@ -1,7 +1,6 @@
 //! Quotas, references to limiters, and what a lender knows of its limiter afterwards.
 ghost use Rattle.std.specs.Prelude.{None};
-ghost use Rattle.wasmi_meter.specs.Limiter.{optional_rules};
-ghost use Rattle.wasmi_meter.specs.LimiterRef.{lent_limiter, KeepsLoan};
+ghost use Rattle.wasmi_meter.specs.Limiter.{optional_rules, lent_limiter, KeepsLoan};
 ghost use Rattle.wasmi_meter.specs.declared.limiter.Kind.TheVariants.{Bytes};
 
 use super::recorder::{Recorder, memory_question, same_record};

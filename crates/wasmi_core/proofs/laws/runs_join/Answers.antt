@@ -1,5 +1,5 @@
 use Rattle.wasmi_meter.specs.Limiter.{optional_rules}
-use Rattle.wasmi_core.proofs.TurnLemmas.{runs_joined, runs_of_calls_joined}
+use Rattle.wasmi_core.proofs.StoreLemmas.{runs_joined, runs_of_calls_joined}
 use Rattle.wasmi_core.proofs.laws.runs_join.Goals as goal
 
 pub returns-clause-turns : goal.returns-clause-turns

@@ -1,8 +1,8 @@
 use Rattle.std.proofs.Common.{◌+◌, [], ◌∷◌, ◌++◌, ◌∙◌, refl, ap, arith, rules}
 use Rattle.std.proofs.lemmas.List.{map_push}
 use Rattle.wasmi_meter.specs.Limiter.{optional_rules}
-use Rattle.wasmi_core.specs.World.{Turn}
-use Rattle.wasmi_core.proofs.TurnLemmas.{Run-push, calls_more}
+use Rattle.wasmi_core.specs.State.{Turn}
+use Rattle.wasmi_core.proofs.StoreLemmas.{Run-push, calls_more}
 use Rattle.wasmi_core.proofs.running.run.Goals as goal
 
 -- the turn of this call stands after the turns so far

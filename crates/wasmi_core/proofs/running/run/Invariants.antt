@@ -1,10 +1,8 @@
 use Rattle.std.proofs.Common.{◌≡◌, ◌≤◌, List, map, length, take, vec_len}
 use Rattle.std.specs.Vec.{vec_capacity}
-use Rattle.wasmi_meter.specs.Limiter.{optional_rules}
-use Rattle.wasmi_meter.specs.LimiterRef.{lent_limiter, KeepsLoan}
-use Rattle.wasmi_core.specs.Validity.{IsValid}
-use Rattle.wasmi_core.specs.World.{Turn, world}
-use Rattle.wasmi_core.specs.Runs.{Run}
+use Rattle.wasmi_meter.specs.Limiter.{optional_rules, lent_limiter, KeepsLoan}
+use Rattle.wasmi_core.specs.State.{IsValid, Turn, world}
+use Rattle.wasmi_core.specs.Steps.{Run}
 use Rattle.wasmi_core.proofs.running.run.Given as goal
 
 -- the calls so far are a run, and there is room for the replies to the rest

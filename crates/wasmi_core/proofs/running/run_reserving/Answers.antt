@@ -1,4 +1,4 @@
-use Rattle.wasmi_core.specs.World.{world}
+use Rattle.wasmi_core.specs.State.{world}
 use Rattle.wasmi_core.proofs.HoldingLemmas.{run_holds}
 use Rattle.wasmi_core.proofs.running.run_reserving.Goals as goal
 

@@ -1,8 +1,8 @@
 use Rattle.std.proofs.Common.{Some, subst}
 use Rattle.wasmi_meter.specs.Limiter.{optional_rules}
-use Rattle.wasmi_meter.specs.Quota.{quota_rules}
-use Rattle.wasmi_core.specs.World.{world}
-use Rattle.wasmi_core.specs.Runs.{IsRunOf}
+use Rattle.wasmi_meter.specs.Capped.{quota_rules}
+use Rattle.wasmi_core.specs.State.{world}
+use Rattle.wasmi_core.specs.Steps.{IsRunOf}
 use Rattle.wasmi_example_callers.proofs.HostLemmas.{run_capped}
 use Rattle.wasmi_example_callers.proofs.host.run_plugin.Goals as goal
 

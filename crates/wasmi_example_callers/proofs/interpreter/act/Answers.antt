@@ -1,6 +1,6 @@
 use Rattle.std.proofs.Common.{Some, sym, subst}
 use Rattle.wasmi_meter.specs.Limiter.{optional_rules}
-use Rattle.wasmi_core.specs.World.{world}
+use Rattle.wasmi_core.specs.State.{world}
 use Rattle.wasmi_example_callers.specs.Interpreter.{CarriesOut}
 use Rattle.wasmi_example_callers.proofs.InterpreterLemmas.{answered}
 use Rattle.wasmi_example_callers.proofs.interpreter.act.Goals as goal

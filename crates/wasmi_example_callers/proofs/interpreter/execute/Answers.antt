@@ -1,6 +1,6 @@
 use Rattle.std.proofs.Common.{◌≡◌, Some, None, ◌++◌, refl, subst, arith}
 use Rattle.wasmi_meter.specs.Limiter.{optional_rules}
-use Rattle.wasmi_core.specs.World.{world}
+use Rattle.wasmi_core.specs.State.{world}
 use Rattle.wasmi_example_callers.specs.Interpreter.{Reaches}
 use Rattle.wasmi_example_callers.proofs.InterpreterLemmas.{reaches_more, execution, execution_run}
 use Rattle.wasmi_example_callers.proofs.interpreter.execute.Goals as goal

@@ -1,6 +1,6 @@
 use Rattle.std.proofs.Common.{Some, List}
 use Rattle.wasmi_meter.specs.Limiter.{optional_rules}
-use Rattle.wasmi_core.specs.World.{Turn, world}
+use Rattle.wasmi_core.specs.State.{Turn, world}
 use Rattle.wasmi_example_callers.specs.Interpreter.{Reaches}
 use Rattle.wasmi_example_callers.proofs.interpreter.execute.Given as goal
 

@@ -1,8 +1,8 @@
 use Rattle.std.proofs.Common.{◌≡◌, ◌∙◌, Some, [], ◌∷◌, ap, sym, subst}
 use Rattle.wasmi_meter.specs.Limiter.{optional_rules}
 use Rattle.wasmi_core.specs.declared.calls.Call.TheVariants.{GrowMemory, SetRegister}
-use Rattle.wasmi_core.specs.World.{world}
-use Rattle.wasmi_core.specs.Runs.{AreTurns}
+use Rattle.wasmi_core.specs.State.{world}
+use Rattle.wasmi_core.specs.Steps.{AreTurns}
 use Rattle.wasmi_example_callers.specs.Interpreter.{grow_result}
 use Rattle.wasmi_example_callers.proofs.InterpreterLemmas.{answered, answered_twice, grown, ungrown}
 use Rattle.wasmi_example_callers.proofs.interpreter.grow.Goals.{in-Number, in-Memory}

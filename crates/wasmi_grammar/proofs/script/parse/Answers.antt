@@ -12,9 +12,8 @@ use Rattle.std.specs.List.{enumerate_from}
 use Rattle.std.specs.Slice.Iter.{split_rest, split_done, split_callee, split_steps}
 use Rattle.wasmi_operands.specs.LineWords.{words_in}
 use Rattle.wasmi_grammar.specs.declared.script.Script.{Script}
-use Rattle.wasmi_grammar.specs.Lines.{AcceptsLine, AcceptsLines, AreTaken, lines_in}
+use Rattle.wasmi_grammar.specs.Lines.{AcceptsLine, AcceptsLines, AreTaken, lines_in, IsBadLine, IsFirstBadLine}
 use Rattle.wasmi_grammar.specs.Parts.{parts_in, calls_in}
-use Rattle.wasmi_grammar.specs.Refusals.{IsBadLine, IsFirstBadLine}
 use Rattle.wasmi_grammar.proofs.TextsLemmas.{retell}
 use Rattle.wasmi_grammar.proofs.LinesLemmas.{one_more, without_numbers, stops_at, added_count}
 use Rattle.wasmi_grammar.proofs.script.parse.Goals as goal

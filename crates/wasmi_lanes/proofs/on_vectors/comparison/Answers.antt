@@ -1,7 +1,6 @@
 use Rattle.std.proofs.Common.{◌≡◌, ◌∙◌, ap, ap₂, sym, Bool, if◌then◌else◌, ◌-◌, ◌^◌}
-use Rattle.wasmi_lanes.specs.Lane.{lane}
-use Rattle.wasmi_lanes.specs.Vector.{comparison_of_lanes}
-use Rattle.wasmi_types.specs.Wrapping.{bits}
+use Rattle.wasmi_lanes.specs.Vector.{lane, comparison_of_lanes}
+use Rattle.wasmi_types.specs.Numbers.{bits}
 use Rattle.wasmi_lanes.proofs.VectorLemmas.{related_lanes, image_of_choice, lane_below}
 use Rattle.wasmi_lanes.proofs.on_vectors.comparison.Goals as goal
 

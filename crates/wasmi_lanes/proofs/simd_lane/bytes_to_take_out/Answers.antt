@@ -1,6 +1,6 @@
 use Rattle.std.proofs.Common.{◌≡◌, ◌+◌, ◌*◌, ◌^◌, ap, arith, ◌∙◌}
-use Rattle.wasmi_types.specs.Wrapping.{w8}
-use Rattle.wasmi_lanes.specs.Lane.{lane}
+use Rattle.wasmi_types.specs.Numbers.{w8}
+use Rattle.wasmi_lanes.specs.Vector.{lane}
 use Rattle.wasmi_lanes.proofs.SimdLaneLemmas.{digit_at}
 use Rattle.wasmi_lanes.proofs.simd_lane.bytes_to_take_out.Goals as goal
 

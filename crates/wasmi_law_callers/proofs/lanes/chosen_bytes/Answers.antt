@@ -1,6 +1,6 @@
 use Rattle.std.proofs.Common.{ap, ◌∙◌}
-use Rattle.wasmi_types.specs.Wrapping.{w8}
-use Rattle.wasmi_lanes.specs.Lane.{lane}
+use Rattle.wasmi_types.specs.Numbers.{w8}
+use Rattle.wasmi_lanes.specs.Vector.{lane}
 use Rattle.wasmi_law_callers.proofs.lanes.chosen_bytes.Goals as goal
 
 pub returns : goal.returns

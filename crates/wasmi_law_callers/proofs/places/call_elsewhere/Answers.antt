@@ -1,6 +1,6 @@
 use Rattle.std.proofs.Common.{Some}
 use Rattle.wasmi_meter.specs.Limiter.{optional_rules}
-use Rattle.wasmi_core.specs.World.{world}
+use Rattle.wasmi_core.specs.State.{world}
 use Rattle.wasmi_core.specs.declared.calls.Reply.TheVariants.{Done}
 use Rattle.wasmi_laws.specs.Places.{store_call}
 use Rattle.wasmi_law_callers.proofs.RunsLemmas.{answers_as}

@@ -1,6 +1,6 @@
 use Rattle.std.proofs.Common.{Some, [], refl, ◌∷◌}
 use Rattle.wasmi_meter.specs.Limiter.{optional_rules}
-use Rattle.wasmi_core.specs.World.{Turn, world}
+use Rattle.wasmi_core.specs.State.{Turn, world}
 use Rattle.wasmi_laws.specs.Places.{store_call}
 use Rattle.wasmi_law_callers.proofs.RunsLemmas.{answers_call, stores_apart}
 use Rattle.wasmi_law_callers.proofs.places.call_in_either_order.Goals as goal

@@ -1,7 +1,7 @@
 use Rattle.std.proofs.Common.{Some, subst, sym}
 use Rattle.std.specs.Prelude.{All}
 use Rattle.wasmi_meter.specs.Limiter.{optional_rules}
-use Rattle.wasmi_core.specs.World.{world}
+use Rattle.wasmi_core.specs.State.{world}
 use Rattle.wasmi_core.specs.declared.calls.Reply.TheVariants.{Done}
 use Rattle.wasmi_laws.specs.Places.{LeavesAlone, MemoryAt, load_call, store_call}
 use Rattle.wasmi_law_callers.proofs.RunsLemmas.{answers_as, answers_call}

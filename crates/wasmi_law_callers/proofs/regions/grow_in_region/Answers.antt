@@ -1,4 +1,4 @@
-use Rattle.wasmi_meter.specs.LimiterRef.{lent_limiter}
+use Rattle.wasmi_meter.specs.Limiter.{lent_limiter}
 use Rattle.wasmi_region.specs.Memory.{memory_in}
 use Rattle.wasmi_law_callers.proofs.regions.grow_in_region.Goals as goal
 

@@ -2,9 +2,9 @@ use Rattle.std.proofs.Common.{Option, Some, ap, sym, ◌∙◌, subst}
 use Rattle.std.proofs.lemmas.Option.{same_Some}
 use Rattle.wasmi_meter.specs.declared.quota.Quota.{Quota}
 use Rattle.wasmi_meter.specs.Limiter.{optional_rules}
-use Rattle.wasmi_meter.specs.Quota.{quota_rules}
-use Rattle.wasmi_core.specs.World.{World, world}
-use Rattle.wasmi_core.specs.Runs.{Run}
+use Rattle.wasmi_meter.specs.Capped.{quota_rules}
+use Rattle.wasmi_core.specs.State.{World, world}
+use Rattle.wasmi_core.specs.Steps.{Run}
 use Rattle.wasmi_law_callers.proofs.RunsLemmas.{replies_have}
 use Rattle.wasmi_law_callers.proofs.runs.run_twice.Goals as goal
 

@@ -1,6 +1,6 @@
 use Rattle.std.proofs.Common.{Option, ap}
 use Rattle.wasmi_meter.specs.declared.limiter.NoLimits.{NoLimits}
-use Rattle.wasmi_core.specs.World.{World}
+use Rattle.wasmi_core.specs.State.{World}
 use Rattle.wasmi_law_callers.proofs.runs.run_twice_unlimited.Goals as goal
 
 pub returns : goal.returns

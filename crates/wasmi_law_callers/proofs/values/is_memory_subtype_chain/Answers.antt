@@ -1,5 +1,5 @@
 use Rattle.std.proofs.Common.{length, refl, arith}
-use Rattle.wasmi_store.specs.MemoryType.{IsSubtype}
+use Rattle.wasmi_store.specs.Memory.{IsSubtype}
 use Rattle.wasmi_law_callers.proofs.LanesLemmas.{next_reaches}
 use Rattle.wasmi_law_callers.proofs.values.is_memory_subtype_chain.Goals as goal
 

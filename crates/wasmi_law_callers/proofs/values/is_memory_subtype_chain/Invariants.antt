@@ -1,4 +1,4 @@
-use Rattle.wasmi_store.specs.MemoryType.{IsSubtype}
+use Rattle.wasmi_store.specs.Memory.{IsSubtype}
 use Rattle.wasmi_law_callers.proofs.LanesLemmas.{RelatesNext}
 use Rattle.wasmi_law_callers.proofs.values.is_memory_subtype_chain.Given as goal
 

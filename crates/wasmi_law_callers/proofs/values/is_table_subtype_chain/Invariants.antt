@@ -1,4 +1,4 @@
-use Rattle.wasmi_store.specs.TableType.{IsSubtype}
+use Rattle.wasmi_store.specs.Table.{IsSubtype}
 use Rattle.wasmi_law_callers.proofs.LanesLemmas.{RelatesNext}
 use Rattle.wasmi_law_callers.proofs.values.is_table_subtype_chain.Given as goal
 

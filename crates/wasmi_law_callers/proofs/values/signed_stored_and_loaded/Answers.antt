@@ -4,8 +4,8 @@ use Rattle.std.proofs.lemmas.Int.{to_z-of_z}
 use Rattle.std.specs.Int.{cast_unsigned}
 use Rattle.wasmi_types.specs.declared.trap.TrapCode.{TrapCode}
 use Rattle.wasmi_types.specs.declared.trap.TrapCode.TheVariants.{MemoryOutOfBounds}
-use Rattle.wasmi_types.specs.Wrapping.{w32, wrap, signed}
-use Rattle.wasmi_access.proofs.WrapLemmas.{wrap_below, wrap_signed}
+use Rattle.wasmi_types.specs.Numbers.{w32, wrap, signed}
+use Rattle.wasmi_access.proofs.ByteLemmas.{wrap_below, wrap_signed}
 use Rattle.wasmi_law_callers.proofs.values.signed_stored_and_loaded.Goals as goal
 
 pub returns : goal.returns

@@ -1,7 +1,6 @@
 use Rattle.std.proofs.Common.{Option, sym}
 use Rattle.std.proofs.lemmas.Result.{err_from_is_err_and}
-use Rattle.wasmi_meter.specs.Limiter.{optional_rules}
-use Rattle.wasmi_meter.specs.LimiterRef.{lent_limiter}
+use Rattle.wasmi_meter.specs.Limiter.{optional_rules, lent_limiter}
 use Rattle.wasmi_store.proofs.GrowthLemmas.{grows_denied}
 use Rattle.wasmi_region.proofs.TableLemmas as table
 use Rattle.wasmi_region.proofs.table.grow.Given as given

@@ -1,6 +1,6 @@
 use Rattle.std.proofs.Common.{◌≡◌, ◌∙◌, ap, arith, length, set, sym}
 use Rattle.std.proofs.lemmas.List.{set-get_or}
-use Rattle.wasmi_core.specs.World.{world}
+use Rattle.wasmi_core.specs.State.{world}
 use Rattle.wasmi_budget.specs.Pool.{PoolValue}
 use Rattle.wasmi_budget.proofs.PoolLemmas.{given_inside, read_given, given_holds, given_runs, given_stays, given_fits, given_kept}
 use Rattle.wasmi_budget.proofs.pool.Pool.run.Goals as goal

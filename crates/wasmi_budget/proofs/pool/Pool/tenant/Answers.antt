@@ -1,5 +1,5 @@
 use Rattle.std.proofs.Common.{◌∙◌, ap, sym}
-use Rattle.wasmi_meter.specs.Amounts.{amounts_of}
+use Rattle.wasmi_meter.specs.Capped.{amounts_of}
 use Rattle.wasmi_meter.specs.declared.limiter.Kind.TheVariants.{Bytes, Elements}
 use Rattle.wasmi_budget.specs.Pool.{PoolValue, total_of}
 use Rattle.wasmi_budget.proofs.PoolLemmas.{held_within, tenant_beside}

@@ -1,6 +1,5 @@
 use Rattle.std.proofs.Common.{refl, rules}
-use Rattle.wasmi_meter.specs.Limiter.{optional_rules}
-use Rattle.wasmi_meter.specs.LimiterRef.{lent_limiter}
+use Rattle.wasmi_meter.specs.Limiter.{optional_rules, lent_limiter}
 use Rattle.wasmi_store.proofs.GrowthLemmas.{of_loan}
 use Rattle.wasmi_c.specs.TableCalls.{by_elements, of_table}
 use Rattle.wasmi_c.specs.Numbers.{embedded}

@@ -1,6 +1,5 @@
-use Rattle.wasmi_meter.specs.Limiter.{optional_rules}
-use Rattle.wasmi_meter.specs.LimiterRef.{lent_limiter}
-use Rattle.wasmi_core.specs.World.{world}
+use Rattle.wasmi_meter.specs.Limiter.{optional_rules, lent_limiter}
+use Rattle.wasmi_core.specs.State.{world}
 use Rattle.wasmi_core.specs.declared.calls.Call.TheVariants.{GrowMemory}
 use Rattle.wasmi_core.proofs.ValidityLemmas.{answer_is_valid}
 use Rattle.wasmi_core.proofs.machine.Machine.grow_memory.Goals as goal

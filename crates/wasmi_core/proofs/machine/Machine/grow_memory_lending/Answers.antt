@@ -1,8 +1,7 @@
 use Rattle.std.proofs.Common.{Some, rules}
-use Rattle.wasmi_meter.specs.Limiter.{optional_rules}
-use Rattle.wasmi_meter.specs.LimiterRef.{lent_limiter}
+use Rattle.wasmi_meter.specs.Limiter.{optional_rules, lent_limiter}
 use Rattle.wasmi_core.specs.declared.calls.Call.TheVariants.{GrowMemory}
-use Rattle.wasmi_core.proofs.TurnLemmas.{answers_by}
+use Rattle.wasmi_core.proofs.StoreLemmas.{answers_by}
 use Rattle.wasmi_core.proofs.machine.Machine.grow_memory_lending.Goals as goal
 
 pub returns-clause-step : goal.returns-clause-step

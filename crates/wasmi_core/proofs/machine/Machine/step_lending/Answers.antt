@@ -1,6 +1,6 @@
 use Rattle.std.proofs.Common.{rules}
 use Rattle.wasmi_meter.specs.Limiter.{optional_rules}
-use Rattle.wasmi_core.proofs.TurnLemmas.{answers_by}
+use Rattle.wasmi_core.proofs.StoreLemmas.{answers_by}
 use Rattle.wasmi_core.proofs.machine.Machine.step_lending.Goals as goal
 
 pub returns-clause-step : goal.returns-clause-step

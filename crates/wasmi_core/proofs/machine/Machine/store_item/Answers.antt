@@ -1,6 +1,6 @@
 use Rattle.std.proofs.Common.{◌+◌, Some}
 use Rattle.wasmi_core.proofs.MemoryEffectsLemmas.{vector_store_valid}
-use Rattle.wasmi_ops.specs.ScalarAccessOps.{stored_bytes}
+use Rattle.wasmi_ops.specs.ScalarOps.{stored_bytes}
 use Rattle.wasmi_core.proofs.machine.Machine.store_item.Goals as goal
 
 pub invariant_of-self : goal.invariant_of-self

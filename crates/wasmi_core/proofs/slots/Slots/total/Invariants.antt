@@ -1,6 +1,6 @@
 use Rattle.std.proofs.Common.{◌≡◌, ◌≤◌, ◌*◌, ◌^◌, ◌-◌, ℕ, take}
 use Rattle.std.specs.Prelude.{sum_by}
-use Rattle.wasmi_core.specs.Totals.{slot_count}
+use Rattle.wasmi_core.specs.State.{slot_count}
 use Rattle.wasmi_core.proofs.slots.Slots.total.Given as goal
 
 -- the sum so far, and that it fits

@@ -1,5 +1,5 @@
 use Rattle.wasmi_core.proofs.StoreLemmas.{changes, alters, replies}
-use Rattle.wasmi_meter.specs.LimiterRef.{lent_limiter}
+use Rattle.wasmi_meter.specs.Limiter.{lent_limiter}
 use Rattle.wasmi_core.proofs.store.MachineStore.step.Goals as goal
 
 pub returns-in-SetFuel-clause-step : goal.returns-in-SetFuel-clause-step

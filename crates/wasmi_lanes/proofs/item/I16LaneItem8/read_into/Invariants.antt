@@ -1,6 +1,6 @@
 use Rattle.std.proofs.Common.{ℕ, ◌<◌, ◌≡◌, length, slice_index_or, pos}
-use Rattle.wasmi_types.specs.Wrapping.{w16, signed}
-use Rattle.wasmi_lanes.specs.Lane.{lane}
+use Rattle.wasmi_types.specs.Numbers.{w16, signed}
+use Rattle.wasmi_lanes.specs.Vector.{lane}
 use Rattle.wasmi_lanes.proofs.item.I16LaneItem8.read_into.Given as goal
 
 abbrev pub invariant-loop-i : goal.invariant-loop-i

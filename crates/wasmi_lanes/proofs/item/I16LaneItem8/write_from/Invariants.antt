@@ -1,5 +1,5 @@
 use Rattle.std.proofs.Common.{ℕ, ◌<◌, ◌≡◌, length, slice_index_or, pos}
-use Rattle.wasmi_types.specs.Wrapping.{w16, signed}
+use Rattle.wasmi_types.specs.Numbers.{w16, signed}
 use Rattle.wasmi_lanes.proofs.item.I16LaneItem8.write_from.Given as goal
 
 abbrev pub invariant-loop-i : goal.invariant-loop-i

@@ -1,6 +1,6 @@
 use Rattle.std.proofs.Common.{ℕ, ◌<◌, ◌≡◌, length, slice_index_or, pos}
-use Rattle.wasmi_types.specs.Wrapping.{w32, signed}
-use Rattle.wasmi_lanes.specs.Lane.{lane}
+use Rattle.wasmi_types.specs.Numbers.{w32, signed}
+use Rattle.wasmi_lanes.specs.Vector.{lane}
 use Rattle.wasmi_lanes.proofs.item.I32LaneItem4.read_into.Given as goal
 
 abbrev pub invariant-loop-i : goal.invariant-loop-i

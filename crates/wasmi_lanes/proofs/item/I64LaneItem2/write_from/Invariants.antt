@@ -1,5 +1,5 @@
 use Rattle.std.proofs.Common.{ℕ, ◌<◌, ◌≡◌, length, slice_index_or, pos}
-use Rattle.wasmi_types.specs.Wrapping.{w64, signed}
+use Rattle.wasmi_types.specs.Numbers.{w64, signed}
 use Rattle.wasmi_lanes.proofs.item.I64LaneItem2.write_from.Given as goal
 
 abbrev pub invariant-loop-i : goal.invariant-loop-i

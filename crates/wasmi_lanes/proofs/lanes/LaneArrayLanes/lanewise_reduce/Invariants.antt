@@ -1,5 +1,5 @@
 use Rattle.std.proofs.Common.{slice_index_or}
-use Rattle.wasmi_lanes.specs.Lane.{ReducesTo}
+use Rattle.wasmi_lanes.specs.Vector.{ReducesTo}
 use Rattle.wasmi_lanes.proofs.lanes.LaneArrayLanes.lanewise_reduce.Given as goal
 
 abbrev pub invariant-loop-i : goal.invariant-loop-i

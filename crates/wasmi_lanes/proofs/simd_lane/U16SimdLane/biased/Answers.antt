@@ -1,4 +1,4 @@
-use Rattle.wasmi_types.specs.Wrapping.{w16}
+use Rattle.wasmi_types.specs.Numbers.{w16}
 use Rattle.wasmi_lanes.proofs.SimdLaneLemmas.{added_at}
 use Rattle.wasmi_lanes.proofs.simd_lane.U16SimdLane.biased.Goals as goal
 

@@ -1,4 +1,4 @@
-use Rattle.wasmi_types.specs.Wrapping.{w32}
+use Rattle.wasmi_types.specs.Numbers.{w32}
 use Rattle.wasmi_lanes.proofs.SimdLaneLemmas.{chosen_where_less}
 use Rattle.wasmi_lanes.proofs.simd_lane.U32SimdLane.choose_if_less.Goals as goal
 

@@ -1,5 +1,5 @@
 use Rattle.std.proofs.Common.{replicate, ap, refl, ◌∙◌, rules}
-use Rattle.wasmi_types.specs.Wrapping.{w16}
+use Rattle.wasmi_types.specs.Numbers.{w16}
 use Rattle.wasmi_lanes.proofs.VariableLaneLemmas.{lane_written}
 use Rattle.wasmi_lanes.proofs.variable_lane.U16VariableLane.with_lane.Goals as goal
 

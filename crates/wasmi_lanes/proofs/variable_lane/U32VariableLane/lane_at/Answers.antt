@@ -1,6 +1,6 @@
 use Rattle.std.proofs.Common.{ℕ, ◌≡◌, ◌+◌, ◌*◌, ◌<◌, ◌∙◌, ap₂, arith}
-use Rattle.wasmi_types.specs.Wrapping.{w8}
-use Rattle.wasmi_lanes.specs.Lane.{lane}
+use Rattle.wasmi_types.specs.Numbers.{w8}
+use Rattle.wasmi_lanes.specs.Vector.{lane}
 use Rattle.wasmi_lanes.proofs.VariableLaneLemmas.{IsByteAt, byte_picked, first_four_bytes, joined_halves}
 use Rattle.wasmi_lanes.proofs.variable_lane.U32VariableLane.lane_at.Goals as goal
 

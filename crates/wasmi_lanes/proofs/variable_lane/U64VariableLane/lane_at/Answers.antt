@@ -1,6 +1,6 @@
 use Rattle.std.proofs.Common.{◌≡◌, ◌∙◌, ap, arith, sym}
-use Rattle.wasmi_types.specs.Wrapping.{w64}
-use Rattle.wasmi_lanes.specs.Lane.{lane}
+use Rattle.wasmi_types.specs.Numbers.{w64}
+use Rattle.wasmi_lanes.specs.Vector.{lane}
 use Rattle.wasmi_lanes.proofs.variable_lane.U64VariableLane.lane_at.Goals as goal
 
 pub returns-then-from-eq0 : goal.returns-then-from-eq0

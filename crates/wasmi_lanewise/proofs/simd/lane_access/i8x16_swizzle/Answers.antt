@@ -1,8 +1,7 @@
 use Rattle.std.proofs.Common.{◌∙◌, refl, ap, slice_index, nat_lt, if◌then◌else◌}
-use Rattle.wasmi_lanes.specs.Lane.{lane}
-use Rattle.wasmi_lanes.specs.Vector.{unary_of_lanes}
+use Rattle.wasmi_lanes.specs.Vector.{lane, unary_of_lanes}
 use Rattle.wasmi_lanes.proofs.VectorLemmas.{lanes_make_vector}
-use Rattle.wasmi_types.specs.Wrapping.{w8}
+use Rattle.wasmi_types.specs.Numbers.{w8}
 use Rattle.wasmi_lanewise.proofs.ChosenLemmas.{below_or_zero}
 use Rattle.wasmi_lanewise.proofs.simd.lane_access.i8x16_swizzle.Goals as goal
 

@@ -1,8 +1,7 @@
 use Rattle.std.proofs.Common.{ℕ, zero, suc, ◌≡◌, ◌+◌, ◌*◌, ◌%◌, ◌<◌, ◌^◌, ◌∷◌, [], ◌∙◌, refl, ap, arith, mod-eq_of_lt}
 use Rattle.std.specs.Simd.Lanes.{number_l}
-use Rattle.wasmi_types.specs.Wrapping.{w32, w64}
-use Rattle.wasmi_lanes.specs.Lane.{lane}
-use Rattle.wasmi_lanes.specs.Vector.{splat_of}
+use Rattle.wasmi_types.specs.Numbers.{w32, w64}
+use Rattle.wasmi_lanes.specs.Vector.{lane, splat_of}
 use Rattle.wasmi_lanes.proofs.SimdLaneLemmas.{number_of_digits}
 use Rattle.wasmi_lanes.proofs.VectorLemmas.{lanes_make_vector}
 use Rattle.wasmi_lanewise.proofs.simd.lane_access.same_words.Goals as goal

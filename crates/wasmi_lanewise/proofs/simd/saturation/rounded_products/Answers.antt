@@ -1,5 +1,5 @@
 use Rattle.std.proofs.Common.{◌+◌, ◌*◌, ◌/◌, ◌%◌, ◌^◌, ◌∙◌, ap, ap₂}
-use Rattle.wasmi_types.specs.Wrapping.{w16}
+use Rattle.wasmi_types.specs.Numbers.{w16}
 use Rattle.wasmi_lanes.specs.Vector.{binary_of_lanes}
 use Rattle.wasmi_lanewise.proofs.OrderLemmas.{rows_make_vector}
 use Rattle.wasmi_lanewise.proofs.SaturationLemmas.{extended, doubled, rounded, rounded_product}

@@ -1,5 +1,5 @@
 use Rattle.std.proofs.Common.{count_ones, refl, arith}
-use Rattle.wasmi_types.specs.Wrapping.{w8}
+use Rattle.wasmi_types.specs.Numbers.{w8}
 use Rattle.wasmi_lanes.specs.Vector.{unary_of_lanes}
 use Rattle.wasmi_lanes.proofs.WordVectorLemmas.{words_make_unary}
 use Rattle.wasmi_lanewise.proofs.CountLemmas.{counts_below, counts_at}

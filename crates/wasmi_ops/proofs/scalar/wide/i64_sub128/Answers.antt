@@ -1,7 +1,7 @@
 use Rattle.std.proofs.Common.{rules}
 use Rattle.wasmi_raw.specs.RawVal.{vector_in}
-use Rattle.wasmi_scalar.specs.Wide.{sub128, unsigned_of}
-use Rattle.wasmi_ops.proofs.WideLemmas.{answer_of_words}
+use Rattle.wasmi_scalar.specs.Numerics.{sub128, unsigned_of}
+use Rattle.wasmi_ops.proofs.ScalarOpsLemmas.{answer_of_words}
 use Rattle.wasmi_ops.proofs.scalar.wide.i64_sub128.Goals as goal
 
 pub returns : goal.returns

@@ -1,7 +1,7 @@
 use Rattle.std.proofs.Common.{ℕ, zero, suc, ◌≡◌, ◌<◌, ◌%◌, ◌^◌, ◌∷◌, [], ◌∙◌, refl, ap, sym, arith, get_or}
 use Rattle.std.proofs.Math.Nat.{div-eq_of_lt}
-use Rattle.wasmi_types.specs.Wrapping.{w32, w64}
-use Rattle.wasmi_lanes.specs.Lane.{lane}
+use Rattle.wasmi_types.specs.Numbers.{w32, w64}
+use Rattle.wasmi_lanes.specs.Vector.{lane}
 use Rattle.wasmi_lanes.proofs.VectorLemmas.{lanes_make_vector}
 use Rattle.wasmi_simd.proofs.WideningLemmas.{low_zero_is}
 use Rattle.wasmi_simd.proofs.simd.extend.v128_low64_zero.Goals as goal

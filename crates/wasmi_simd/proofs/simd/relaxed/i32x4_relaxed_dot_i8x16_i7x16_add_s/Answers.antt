@@ -1,5 +1,5 @@
 use Rattle.std.proofs.Common.{◌+◌, ◌%◌, ◌^◌, ◌∙◌, refl, ap}
-use Rattle.wasmi_types.specs.Wrapping.{w16, w32}
+use Rattle.wasmi_types.specs.Numbers.{w16, w32}
 use Rattle.wasmi_lanes.specs.Vector.{binary_of_lanes}
 use Rattle.wasmi_lanewise.specs.VectorTable.{add}
 use Rattle.wasmi_lanewise.proofs.OrderLemmas.{rows_make_vector}

@@ -1,7 +1,6 @@
 use Rattle.std.proofs.Common.{ℕ, ◌+◌, ◌-◌, ◌%◌, ◌/◌, ◌^◌, ◌∙◌, ap, ap₂, refl, arith}
-use Rattle.wasmi_types.specs.Wrapping.{w8}
-use Rattle.wasmi_lanes.specs.Lane.{lane}
-use Rattle.wasmi_lanes.specs.Vector.{unary_of_lanes}
+use Rattle.wasmi_types.specs.Numbers.{w8}
+use Rattle.wasmi_lanes.specs.Vector.{lane, unary_of_lanes}
 use Rattle.wasmi_lanes.proofs.VectorLemmas.{lane_below, lanes_make_vector, lane_of_lanes}
 use Rattle.wasmi_simd.proofs.ShiftLemmas.{moved_and_back}
 use Rattle.wasmi_simd.proofs.simd.shift.i8x16_shr_s.Goals as goal

@@ -1,5 +1,5 @@
 use Rattle.std.proofs.Common.{refl}
-use Rattle.wasmi_types.specs.Wrapping.{w32}
+use Rattle.wasmi_types.specs.Numbers.{w32}
 use Rattle.wasmi_simd.proofs.HalfLemmas.{signed_read_at}
 use Rattle.wasmi_simd.proofs.simd.wide.i32x4_of.Goals as goal
 

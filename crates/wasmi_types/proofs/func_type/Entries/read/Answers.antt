@@ -1,5 +1,5 @@
 use Rattle.std.proofs.Common.{inr, refl}
-use Rattle.wasmi_types.proofs.SoFarLemmas.{SoFar-next, SoFar-refused}
+use Rattle.wasmi_types.proofs.ReadingLemmas.{SoFar-next, SoFar-refused}
 use Rattle.wasmi_types.proofs.func_type.Entries.read.Goals as goal
 
 pub returns-in-Err-clause-err : goal.returns-in-Err-clause-err

@@ -1,5 +1,5 @@
 use Rattle.std.proofs.Common.{◌-◌}
-use Rattle.wasmi_types.proofs.SoFarLemmas.{SoFar}
+use Rattle.wasmi_types.proofs.ReadingLemmas.{SoFar}
 use Rattle.wasmi_types.proofs.func_type.Entries.read.Given as goal
 
 abbrev pub invariant-loop-count : goal.invariant-loop-count

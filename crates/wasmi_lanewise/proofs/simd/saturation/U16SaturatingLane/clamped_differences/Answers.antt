@@ -1,4 +1,4 @@
-use Rattle.wasmi_types.specs.Wrapping.{w16}
+use Rattle.wasmi_types.specs.Numbers.{w16}
 use Rattle.wasmi_lanewise.proofs.SaturationLemmas.{difference_at}
 use Rattle.wasmi_lanewise.proofs.simd.saturation.U16SaturatingLane.clamped_differences.Goals as goal
 

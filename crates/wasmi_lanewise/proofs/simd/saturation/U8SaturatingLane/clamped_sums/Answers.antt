@@ -1,4 +1,4 @@
-use Rattle.wasmi_types.specs.Wrapping.{w8}
+use Rattle.wasmi_types.specs.Numbers.{w8}
 use Rattle.wasmi_lanewise.proofs.SaturationLemmas.{sum_at}
 use Rattle.wasmi_lanewise.proofs.simd.saturation.U8SaturatingLane.clamped_sums.Goals as goal
 

@@ -1,5 +1,5 @@
 use Rattle.std.proofs.Common.{◌∙◌, refl}
-use Rattle.wasmi_types.specs.Wrapping.{w16}
+use Rattle.wasmi_types.specs.Numbers.{w16}
 use Rattle.wasmi_simd.proofs.ShiftLemmas.{mask_at}
 use Rattle.wasmi_simd.proofs.simd.shift.U16NarrowLane.shift_masks.Goals as goal
 

@@ -1,6 +1,6 @@
 use Rattle.std.proofs.Common.{◌≡◌, ◌+◌, ◌∙◌, length, ap, arith, rules}
-use Rattle.wasmi_types.specs.Wrapping.{w8}
-use Rattle.wasmi_lanes.specs.Lane.{lane}
+use Rattle.wasmi_types.specs.Numbers.{w8}
+use Rattle.wasmi_lanes.specs.Vector.{lane}
 use Rattle.wasmi_simd.proofs.HalfLemmas.{extracted_at}
 use Rattle.wasmi_simd.proofs.simd.wide.U8ExtendedLane.low.Goals as goal
 

@@ -1,6 +1,6 @@
 use Rattle.std.proofs.Common.{◌≡◌, [], ◌-◌, ◌≤◌, length}
 use Rattle.std.specs.Vec.{vec_capacity}
-use Rattle.wasmi_types.proofs.SoFarLemmas.{SoFar}
+use Rattle.wasmi_types.proofs.ReadingLemmas.{SoFar}
 use Rattle.wasmi_store.specs.Segment.{most_items}
 use Rattle.wasmi_store.proofs.table.element.ElementSegment.read.Given as goal
 

@@ -1,14 +1,61 @@
--- The scalar instructions of two operands.
-use Rattle.std.specs.Prelude.{ℕ, ℤ, Bool, ◌*◌, ◌*ℤ◌, Result, Ok, List, codes}
-use Rattle.std.specs.Int.{Width, w32, w64, w128, cast_unsigned}
+-- The scalar instructions: a row for each, its name and what it gives, as raw values.
+use Rattle.std.specs.Prelude.{Bool, ℤ, Result, Ok, Err, ℕ, List, codes, ◌*◌, ◌*ℤ◌, ◌/◌, ◌%◌, ◌^◌, pos}
+use Rattle.std.specs.Int.{Width, cast_unsigned, from_bool, w8, w16, w32, w64, int_wrap, w128, cast_signed}
 use Rattle.wasmi_types.specs.declared.trap.TrapCode.{TrapCode}
 use Rattle.wasmi_raw.specs.declared.raw.RawVal.{RawVal}
-use Rattle.wasmi_raw.specs.RawVal.{raw_of, raw_of_vector, signed_in, unsigned_in, vector_in}
-use Rattle.wasmi_scalar.specs.Numerics.{iadd, isub, imul, idiv_s, idiv_u, irem_s, irem_u, iand, ior, ixor, ishl, ishr_s, ishr_u, irotl, irotr, ieq, ine, ilt_s, ilt_u, igt_s, igt_u, ile_s, ile_u, ige_s, ige_u}
-use Rattle.wasmi_scalar.specs.Wide.{add128, sub128}
-use Rattle.wasmi_ops.specs.RawResults.{as_raw, signed_raw, bool_raw}
+use Rattle.wasmi_raw.specs.RawVal.{raw_of, signed_in, unsigned_in, raw_of_vector, vector_in}
+use Rattle.wasmi_scalar.specs.Numerics.{iclz, ictz, ipopcnt, ieqz, iadd, isub, imul, idiv_s, idiv_u, irem_s, irem_u, iand, ior, ixor, ishl, ishr_s, ishr_u, irotl, irotr, ieq, ine, ilt_s, ilt_u, igt_s, igt_u, ile_s, ile_u, ige_s, ige_u, add128, sub128}
+use Rattle.wasmi_ops.specs.declared.scalar.unary.ScalarUnaryOp.{ScalarUnaryOp}
 use Rattle.wasmi_ops.specs.declared.scalar.binary.ScalarBinaryOp.{ScalarBinaryOp}
+use mir.Val.{bits}
+use Rattle.wasmi_types.specs.Numbers.{le_bytes}
+use Rattle.wasmi_access.specs.LoadStore.{loaded}
+use Rattle.wasmi_ops.specs.declared.scalar.access.LoadOp.{LoadOp}
+use Rattle.wasmi_ops.specs.declared.scalar.access.StoreOp.{StoreOp}
+use Rattle.wasmi_ops.specs.declared.scalar.unary.ScalarUnaryOp.TheVariants as unary
 use Rattle.wasmi_ops.specs.declared.scalar.binary.ScalarBinaryOp.TheVariants as binary
+use Rattle.wasmi_ops.specs.declared.scalar.access.LoadOp.TheVariants as load
+use Rattle.wasmi_ops.specs.declared.scalar.access.StoreOp.TheVariants as store
+
+-- the raw value of a signed number of a width
+abbrev pub signed_raw : Width → ℤ → RawVal
+signed_raw w z = raw_of (cast_unsigned w z)
+
+-- the raw value of a Boolean, 0 or 1
+abbrev pub bool_raw : Bool → RawVal
+bool_raw flag = raw_of (from_bool flag)
+
+-- an answer as a raw value; a trap stays
+abbrev pub as_raw : {A : Type 0} → (A → RawVal) → Result A TrapCode → Result RawVal TrapCode
+as_raw raw (Ok value) = Ok (raw value)
+as_raw raw (Err trap) = Err trap
+
+-- each instruction of one raw value: its name, and what it gives
+abbrev pub scalar_unary_row : ScalarUnaryOp → List ℕ × (RawVal → RawVal)
+scalar_unary_row unary.I32Clz = (codes "i32_clz", λ raw. signed_raw w32 (iclz w32 (signed_in w32 raw)))
+scalar_unary_row unary.I32Ctz = (codes "i32_ctz", λ raw. signed_raw w32 (ictz w32 (signed_in w32 raw)))
+scalar_unary_row unary.I32Popcnt = (codes "i32_popcnt", λ raw. signed_raw w32 (ipopcnt w32 (signed_in w32 raw)))
+scalar_unary_row unary.I32Eqz = (codes "i32_eqz", λ raw. bool_raw (ieqz (signed_in w32 raw)))
+scalar_unary_row unary.I64Clz = (codes "i64_clz", λ raw. signed_raw w64 (iclz w64 (signed_in w64 raw)))
+scalar_unary_row unary.I64Ctz = (codes "i64_ctz", λ raw. signed_raw w64 (ictz w64 (signed_in w64 raw)))
+scalar_unary_row unary.I64Popcnt = (codes "i64_popcnt", λ raw. signed_raw w64 (ipopcnt w64 (signed_in w64 raw)))
+scalar_unary_row unary.I64Eqz = (codes "i64_eqz", λ raw. bool_raw (ieqz (signed_in w64 raw)))
+scalar_unary_row unary.I32WrapI64 = (codes "i32_wrap_i64", λ raw. signed_raw w32 (int_wrap w32 (signed_in w64 raw)))
+scalar_unary_row unary.I64ExtendI32S = (codes "i64_extend_i32_s", λ raw. signed_raw w64 (signed_in w32 raw))
+scalar_unary_row unary.I64ExtendI32U = (codes "i64_extend_i32_u", λ raw. raw_of (unsigned_in w32 raw))
+scalar_unary_row unary.I32Extend8S = (codes "i32_extend8_s", λ raw. signed_raw w32 (int_wrap w8 (signed_in w32 raw)))
+scalar_unary_row unary.I32Extend16S = (codes "i32_extend16_s", λ raw. signed_raw w32 (int_wrap w16 (signed_in w32 raw)))
+scalar_unary_row unary.I64Extend8S = (codes "i64_extend8_s", λ raw. signed_raw w64 (int_wrap w8 (signed_in w64 raw)))
+scalar_unary_row unary.I64Extend16S = (codes "i64_extend16_s", λ raw. signed_raw w64 (int_wrap w16 (signed_in w64 raw)))
+scalar_unary_row unary.I64Extend32S = (codes "i64_extend32_s", λ raw. signed_raw w64 (int_wrap w32 (signed_in w64 raw)))
+
+-- what an instruction of one raw value gives
+abbrev pub unary_raw : ScalarUnaryOp → RawVal → RawVal
+unary_raw op = (scalar_unary_row op).1
+
+-- the name of a scalar instruction of one operand
+abbrev pub scalar_unary_name : ScalarUnaryOp → List ℕ
+scalar_unary_name op = (scalar_unary_row op).0
 
 -- what an instruction of two raw values gives, or its trap
 abbrev pub RawOperation : Type 0
@@ -108,3 +155,60 @@ binary_raw op = (scalar_binary_row op).1
 -- the name of a scalar instruction of two operands
 abbrev pub scalar_binary_name : ScalarBinaryOp → List ℕ
 scalar_binary_name op = (scalar_binary_row op).0
+
+-- what a load from an address in a memory of these bytes gives, or its trap
+abbrev pub RawLoad : Type 0
+RawLoad = List ℕ → ℕ → Result RawVal TrapCode
+
+-- the load of a number of a narrow width, sign-extended to a width
+abbrev pub sign_extended : Width → Width → RawLoad
+sign_extended w narrow bytes a = as_raw (signed_raw w) (loaded (bits narrow / 8) (cast_signed narrow) bytes a)
+
+-- the load of a number of a narrow width, zero-extended to a width
+abbrev pub zero_extended : Width → Width → RawLoad
+zero_extended w narrow bytes a = as_raw (signed_raw w) (loaded (bits narrow / 8) pos bytes a)
+
+-- the load of a value of a width
+abbrev pub unextended : Width → RawLoad
+unextended w bytes a = as_raw raw_of (loaded (bits w / 8) (λ number. number) bytes a)
+
+-- each load: its name, and the load
+abbrev pub load_row : LoadOp → List ℕ × RawLoad
+load_row load.I32Load8S = (codes "i32_load8_s", sign_extended w32 w8)
+load_row load.I32Load8U = (codes "i32_load8_u", zero_extended w32 w8)
+load_row load.I32Load16S = (codes "i32_load16_s", sign_extended w32 w16)
+load_row load.I32Load16U = (codes "i32_load16_u", zero_extended w32 w16)
+load_row load.I64Load8S = (codes "i64_load8_s", sign_extended w64 w8)
+load_row load.I64Load8U = (codes "i64_load8_u", zero_extended w64 w8)
+load_row load.I64Load16S = (codes "i64_load16_s", sign_extended w64 w16)
+load_row load.I64Load16U = (codes "i64_load16_u", zero_extended w64 w16)
+load_row load.I64Load32S = (codes "i64_load32_s", sign_extended w64 w32)
+load_row load.I64Load32U = (codes "i64_load32_u", zero_extended w64 w32)
+load_row load.LoadU32 = (codes "load_u32", unextended w32)
+load_row load.LoadU64 = (codes "load_u64", unextended w64)
+
+-- the load of each instruction
+abbrev pub loaded_raw : LoadOp → RawLoad
+loaded_raw op = (load_row op).1
+
+-- the name of a scalar load
+abbrev pub load_name : LoadOp → List ℕ
+load_name op = (load_row op).0
+
+-- each store: its name, and the bytes that it writes, the low ones of the value
+abbrev pub store_row : StoreOp → List ℕ × (RawVal → List ℕ)
+store_row store.I32Store8 = (codes "i32_store8", λ value. le_bytes 1 (value.lo % 2 ^ 8))
+store_row store.I32Store16 = (codes "i32_store16", λ value. le_bytes 2 (value.lo % 2 ^ 16))
+store_row store.I64Store8 = (codes "i64_store8", λ value. le_bytes 1 (value.lo % 2 ^ 8))
+store_row store.I64Store16 = (codes "i64_store16", λ value. le_bytes 2 (value.lo % 2 ^ 16))
+store_row store.I64Store32 = (codes "i64_store32", λ value. le_bytes 4 (value.lo % 2 ^ 32))
+store_row store.Store32 = (codes "store32", λ value. le_bytes 4 (value.lo % 2 ^ 32))
+store_row store.Store64 = (codes "store64", λ value. le_bytes 8 value.lo)
+
+-- the bytes that a store writes: the low ones of the value
+abbrev pub stored_bytes : StoreOp → RawVal → List ℕ
+stored_bytes op = (store_row op).1
+
+-- the name of a scalar store
+abbrev pub store_name : StoreOp → List ℕ
+store_name op = (store_row op).0

@@ -1,4 +1,4 @@
--- Scalar loads from the front of the bytes at an address, and past the end.
+-- Scalar loads from the front of the bytes at an address, and past the end; operations on numbers of two words.
 use Rattle.std.proofs.Common.{◌≡◌, ℕ, ◌≤◌, ◌<◌, ◌^◌, List, length, drop, ap, arith}
 use Rattle.std.specs.Prelude.{Err, pos}
 use Rattle.std.specs.Int.{w8, w16, w32, w64, cast_signed}
@@ -6,10 +6,9 @@ use Rattle.std.proofs.lemmas.Grind.{common_steps}
 use Rattle.std.proofs.lemmas.List.{length-drop}
 use Rattle.wasmi_types.specs.declared.trap.TrapCode.TheVariants.{MemoryOutOfBounds}
 use Rattle.wasmi_raw.specs.declared.raw.RawVal.{RawVal}
-use Rattle.wasmi_raw.specs.RawVal.{raw_of}
+use Rattle.wasmi_raw.specs.RawVal.{raw_of, raw_of_vector}
 use Rattle.wasmi_access.specs.LoadStore.{loaded}
-use Rattle.wasmi_ops.specs.RawResults.{as_raw, signed_raw}
-use Rattle.wasmi_ops.specs.ScalarAccessOps.{RawLoad, loaded_raw}
+use Rattle.wasmi_ops.specs.ScalarOps.{as_raw, signed_raw, RawLoad, loaded_raw}
 use Rattle.wasmi_ops.specs.declared.scalar.access.LoadOp.{LoadOp}
 use Rattle.wasmi_ops.specs.declared.scalar.access.LoadOp.TheVariants as load
 
@@ -53,3 +52,9 @@ pub raw_past : (op : LoadOp) (memory : List ℕ) (a : ℕ) → length memory < a
 raw_past op memory a past =
     each_load (λ load. load memory a ≡ Err MemoryOutOfBounds)
     (λ V n value raw. ap (as_raw raw) (loaded_past n value memory a past)) op
+
+-- an operation on the numbers of two pairs of words, as a raw value
+pub answer_of_words : (f : ℕ → ℕ → ℕ) (result : RawVal) (number left right lhs rhs : ℕ)
+    → result ≡ raw_of_vector number → number ≡ f left right → left ≡ lhs → right ≡ rhs
+    → result ≡ raw_of_vector (f lhs rhs)
+answer_of_words f result number left right lhs rhs is given l r = grind arith
