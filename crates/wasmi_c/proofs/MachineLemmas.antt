@@ -18,16 +18,14 @@ use Rattle.wasmi_core.specs.Steps.{IsRunOf, Run, RepliesWith}
 use Rattle.wasmi_core.specs.State.{State, live_at, with_memories, HoldsTotals, total, Turn, world}
 use Rattle.wasmi_core.specs.declared.calls.Call.{Call}
 use Rattle.wasmi_core.specs.declared.calls.Reply.{Reply}
-use Rattle.wasmi_c.specs.Machine.Caps.{IsCapped, IsKept, Keeps, MachineValue}
-use Rattle.wasmi_c.specs.Machine.Laws.{QuotasAreKept, CallsAreRuns}
+use Rattle.wasmi_c.specs.Machine.Laws.{IsCapped, IsKept, Keeps, MachineValue, QuotasAreKept, CallsAreRuns}
 use Rattle.wasmi_grammar.specs.declared.script.Script.{Script}
 use Rattle.wasmi_grammar.specs.Lines.{WritesScript, calls_of, IsFirstBadLine}
 use Rattle.wasmi_script.specs.Outcomes.{replies_text}
-use Rattle.wasmi_c.specs.Machine.Lines.{MachineRuns, RefusesLines, RunsLines, WritesOut, no_header}
+use Rattle.wasmi_c.specs.Machine.Calls.{MachineRuns, RefusesLines, RunsLines, WritesOut, no_header, RepliesToCopy, RepliesToSegment, RepliesInStatus, RepliesInWord, item_load, item_load_in, item_load_numbered, item_store_in, item_store_numbered, vector_binary_in, vector_binary_numbered, word_after, MachineReplies, RepliesInStruct, RepliesToStruct}
 use Rattle.wasmi_c.specs.declared.machine.reply_struct.ReplyStruct.{ReplyStruct}
 use Rattle.wasmi_types.specs.declared.value.RefType.{RefType}
 use Rattle.wasmi_core.specs.declared.calls.Call.TheVariants.{NewSegment, Binary, GetFuel, Load, Store}
-use Rattle.wasmi_c.specs.Machine.Calls.{RepliesToCopy, RepliesToSegment, RepliesInStatus, RepliesInWord, item_load, item_load_in, item_load_numbered, item_store_in, item_store_numbered, vector_binary_in, vector_binary_numbered, word_after, MachineReplies, RepliesInStruct, RepliesToStruct}
 use Rattle.wasmi_c.specs.Machine.Replies.{only, reply_struct, status_of, with_number}
 use Rattle.wasmi_c.specs.Status.{bad_line_status, header_line_status, no_call_status, no_room_status}
 use Rattle.wasmi_c.specs.Types.{reference_type_of}

@@ -1,8 +1,7 @@
 -- What the run of a script leaves.
 use Rattle.std.proofs.Common.{◌≡◌, ◌≤◌, ◌<◌, ◌⊎◌, ◌++◌, ℕ, List, [], Some, length, drop, inl, inr}
 use Rattle.wasmi_script.specs.declared.replaying.Status.{Status}
-use Rattle.wasmi_script.specs.Status.{status_number}
-use Rattle.wasmi_script.specs.Outcomes.{Replays}
+use Rattle.wasmi_script.specs.Outcomes.{status_number, Replays}
 use Rattle.wasmi_c.specs.Script.{AnswersScript, StandsIn, IsTooLongFor}
 use Rattle.wasmi_c.specs.Status.{text_too_short_status}
 

@@ -4,7 +4,7 @@ use Rattle.wasmi_meter.specs.Attempt.{Request, AttemptOutcome, Unasked, Denied, 
 use Rattle.wasmi_meter.specs.Limiter.{Answer, NoticeAnswer, Rules, AskedIf, NoticedIf, optional_rules}
 use Rattle.wasmi_store.specs.Growth.{Growth}
 use Rattle.wasmi_c.specs.Host.{fresh, host_rules}
-use Rattle.wasmi_c.specs.Settlements.{Limited, limiter_after, Allows, SettlesGrowth, SettlesCreation}
+use Rattle.wasmi_c.specs.Placement.{Limited, limiter_after, Allows, SettlesGrowth, SettlesCreation}
 use Rattle.wasmi_c.specs.declared.host.HostAnswers.{HostAnswers}
 
 -- where the answers are as they began, nobody was asked or told

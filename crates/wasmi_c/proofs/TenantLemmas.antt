@@ -11,9 +11,9 @@ use Rattle.wasmi_budget.specs.Pool.{PoolValue, RunsTenant}
 use Rattle.wasmi_grammar.specs.Lines.{WritesScript, calls_of, IsFirstBadLine}
 use Rattle.wasmi_grammar.specs.declared.script.Script.{Script}
 use Rattle.wasmi_script.specs.Outcomes.{replies_text}
-use Rattle.wasmi_c.specs.Machine.Lines.{RefusesLines, WritesOut, no_header}
+use Rattle.wasmi_c.specs.Machine.Calls.{RefusesLines, WritesOut, no_header}
 use Rattle.wasmi_c.specs.Machine.Replies.{only, reply_struct, with_number}
-use Rattle.wasmi_c.specs.Pool.Calls.{RefusesTenant, RunsTenantLines, TenantReplies, TenantRepliesToCopy}
+use Rattle.wasmi_c.specs.Pool.{RefusesTenant, RunsTenantLines, TenantReplies, TenantRepliesToCopy}
 use Rattle.wasmi_c.specs.Status.{bad_line_status, header_line_status, no_room_status}
 use Rattle.wasmi_c.specs.declared.machine.reply_struct.ReplyStruct.{ReplyStruct}
 

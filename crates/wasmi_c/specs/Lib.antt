@@ -9,7 +9,6 @@ pub mod Numbers
 pub mod Placement
 pub mod Pool
 pub mod Script
-pub mod Settlements
 pub mod SharedQuota
 pub mod Status
 pub mod TableCalls

@@ -1,9 +1,6 @@
 -- A machine behind a handle.
-pub mod Caps
 pub mod NewMachines
 pub mod CallStructs
 pub mod Replies
 pub mod Calls
-pub mod Lines
 pub mod Laws
-pub mod Lending

@@ -1,8 +1,7 @@
 -- What the run of a script leaves in the bytes of a caller.
 use Rattle.std.specs.Prelude.{◌≡◌, ◌≤◌, ◌<◌, ◌⊎◌, ◌++◌, ℕ, List, [], Some, length, drop}
 use Rattle.wasmi_script.specs.declared.replaying.Status.{Status}
-use Rattle.wasmi_script.specs.Status.{status_number}
-use Rattle.wasmi_script.specs.Outcomes.{Replays}
+use Rattle.wasmi_script.specs.Outcomes.{status_number, Replays}
 use Rattle.wasmi_c.specs.Status.{text_too_short_status}
 
 -- a text stands at the front of bytes that it fits, and the bytes after it stay

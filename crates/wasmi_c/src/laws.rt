@@ -2,7 +2,7 @@
 //! quota. These functions do nothing: each states a law as its contract.
 ghost use Rattle.wasmi_meter.specs.Limiter.{optional_rules};
 ghost use Rattle.wasmi_c.specs.SharedQuota.{OneQuotaHoldsAll};
-ghost use Rattle.wasmi_c.specs.Settlements.{SettlementsAreGrowths, TableSettlementsAreGrowths, SettlementsAreCreations, TableSettlementsAreCreations};
+ghost use Rattle.wasmi_c.specs.Placement.{SettlementsAreGrowths, TableSettlementsAreGrowths, SettlementsAreCreations, TableSettlementsAreCreations};
 
 use wasmi_meter::ResourceLimiter;
 

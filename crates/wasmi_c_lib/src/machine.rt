@@ -1,8 +1,7 @@
 //! A machine by a handle.
 ghost use Rattle.std.specs.Prelude.{◌≡◌, ℕ, List, None, Some};
 ghost use Rattle.wasmi_core.specs.declared.calls.Call.TheVariants.{GetFuel, GrowMemory, Write};
-ghost use Rattle.wasmi_c.specs.Machine.Calls.{RepliesInStatus, RepliesInWord, item_load, item_store, vector_binary, OnHeld, ReadsOut, RepliesToCopy, RepliesToSegment, RepliesToStruct, PaysFuel, no_totals, totals_of};
-ghost use Rattle.wasmi_c.specs.Machine.Lines.{RunsLines};
+ghost use Rattle.wasmi_c.specs.Machine.Calls.{RepliesInStatus, RepliesInWord, item_load, item_store, vector_binary, OnHeld, ReadsOut, RepliesToCopy, RepliesToSegment, RepliesToStruct, PaysFuel, no_totals, totals_of, RunsLines};
 ghost use Rattle.wasmi_c.specs.Machine.NewMachines.{IsNewMachine, MakesMachine, MakesWithAnswers};
 ghost use Rattle.wasmi_c.specs.Machine.Replies.{only};
 ghost use Rattle.wasmi_c.specs.Status.{no_machine_status};

@@ -3,7 +3,7 @@
 ghost use Rattle.std.specs.Prelude.{◌≡◌, ◌≢◌, ℕ, Some, true, Option, length};
 ghost use Rattle.wasmi_core.specs.declared.calls.Call.{Call};
 ghost use Rattle.wasmi_c.specs.Machine.CallStructs.{call_of};
-ghost use Rattle.wasmi_c.specs.Machine.Caps.{MachineValue};
+ghost use Rattle.wasmi_c.specs.Machine.Laws.{MachineValue};
 ghost use Rattle.wasmi_budget.specs.Pool.{PoolValue};
 ghost use Rattle.wasmi_law_callers.specs.Runs.{KeepsTenant, RunsBoth};
 ghost use Rattle.wasmi_meter.specs.Capped.{IsWithinCaps};
@@ -15,9 +15,8 @@ ghost use Rattle.wasmi_region.specs.Memory as memories;
 ghost use Rattle.wasmi_region.specs.Memory.{memory_in};
 ghost use Rattle.wasmi_region.specs.Table as tables;
 ghost use Rattle.wasmi_region.specs.Table.{table_in, creation_in, growth_in, MakesTableIn};
-ghost use Rattle.wasmi_c.specs.Settlements.{Limited, Allows, limiter_after};
+ghost use Rattle.wasmi_c.specs.Placement.{Limited, Allows, limiter_after, GrowsAs};
 ghost use Rattle.wasmi_c.specs.MemoryCalls.{by_pages, of_memory};
-ghost use Rattle.wasmi_c.specs.Placement.{GrowsAs};
 ghost use Rattle.wasmi_c.specs.TableCalls.{by_elements, of_table};
 
 use std::alloc::Global;

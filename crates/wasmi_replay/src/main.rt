@@ -4,8 +4,7 @@
 ghost use Rattle.std.specs.Prelude.{◌≡◌};
 ghost use Rattle.std.specs.Process.{exit_status};
 ghost use Rattle.wasmi_script.specs.declared.replaying.Status.{Status as ReplayStatus};
-ghost use Rattle.wasmi_script.specs.Outcomes.{Replays};
-ghost use Rattle.wasmi_script.specs.Status.{status_number};
+ghost use Rattle.wasmi_script.specs.Outcomes.{Replays, status_number};
 
 use std::alloc::Global;
 use std::io::{Read, Write};

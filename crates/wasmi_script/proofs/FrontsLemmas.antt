@@ -8,7 +8,7 @@ use Rattle.std.proofs.lemmas.List.Concat.{flat_map-append}
 use Rattle.std.proofs.lemmas.List.{drop-drop, drop_all, drop_at, drop_min, take-append-drop, take-append-le, take_all, take_at, take_min}
 use Rattle.std.proofs.Math.Seq.{take-append-add}
 use borrow.Rule.Slice.PartMut.{put_mid}
-use Rattle.wasmi_script.specs.Fronts.{AddsToFront, FillsFront, HasFront}
+use Rattle.wasmi_script.specs.Printing.{AddsToFront, FillsFront, HasFront}
 
 -- one text after the other
 pub adds_then : (s t a b c : List ℕ) (i j k : ℕ) → AddsToFront s a i b j → AddsToFront t b j c k

@@ -6,8 +6,7 @@ use Rattle.wasmi_grammar.specs.declared.error.ParseError.TheVariants.{OutOfMemor
 use Rattle.wasmi_grammar.specs.declared.header.LimiterLine.{LimiterLine}
 use Rattle.wasmi_grammar.specs.declared.header.LimiterLine.TheVariants.{Answers}
 use Rattle.wasmi_meter.specs.AnswerList.{notice_answer_by, AnswersAhead, answer_list_rules}
-use Rattle.wasmi_script.specs.Outcomes.{ReplayOutcome, IsOutcomeOf, outcome_text}
-use Rattle.wasmi_script.specs.Status.{status_after}
+use Rattle.wasmi_script.specs.Outcomes.{ReplayOutcome, IsOutcomeOf, outcome_text, status_after}
 use Rattle.wasmi_meter.specs.Limiter.{optional_rules}
 use Rattle.wasmi_core.specs.declared.calls.Call.{Call}
 use Rattle.wasmi_core.specs.declared.calls.Reply.{Reply}

@@ -1,8 +1,9 @@
 -- What a replay prints, why a script isn't run, and how a replay ends.
-use Rattle.std.specs.Prelude.{◌<◌, ⊤, ℕ, List, Option, IfSome, length, ◌≡◌, ◌≤◌, ◌⊎◌, [], ◌++◌, codes, flat_map, Result, Ok, Err}
-use Rattle.wasmi_grammar.specs.declared.error.ParseError.TheVariants.{BadCommand, OutOfMemory}
+use Rattle.std.specs.Prelude.{ℕ, Result, Ok, Err, ◌<◌, ⊤, List, Option, IfSome, length, ◌≡◌, ◌≤◌, ◌⊎◌, [], ◌++◌, codes, flat_map}
 use Rattle.wasmi_script.specs.declared.error.ReplayError.{ReplayError}
 use Rattle.wasmi_script.specs.declared.error.ReplayError.TheVariants.{Parse, TooLong, ReadFault}
+use Rattle.wasmi_script.specs.declared.replaying.Status.{Status}
+use Rattle.wasmi_script.specs.declared.replaying.Status.TheVariants.{Answered, BadScript, OutOfMemory, Fault}
 use Rattle.std.specs.Io.KnownBytes.{Appends}
 use Rattle.std.specs.Fmt.{decimal}
 use Rattle.std.specs.List.{zip, enumerate_from}
@@ -13,13 +14,26 @@ use Rattle.wasmi_core.specs.State.{State, total}
 use Rattle.wasmi_script.specs.declared.running.Held.{Held}
 use Rattle.wasmi_script.specs.declared.running.Held.TheVariants.{Nothing, Quota, Tenants}
 use Rattle.wasmi_script.specs.declared.printing.Replayed.{Replayed}
-use Rattle.wasmi_script.specs.declared.replaying.Status.{Status}
-use Rattle.wasmi_script.specs.declared.replaying.Status.TheVariants.{Fault}
 use Rattle.wasmi_grammar.specs.Lines.{WritesScript, calls_of, IsFirstBadLine}
 use Rattle.wasmi_script.specs.Printing.{AppendsFront, line}
 use Rattle.wasmi_script.specs.ScriptRuns.{IsReplayOf}
-use Rattle.wasmi_script.specs.Status.{status_after}
 use Rattle.wasmi_script.specs.Texts.{reply_text, error_text}
+use Rattle.wasmi_grammar.specs.declared.error.ParseError.TheVariants as Errors
+
+-- the number that a process ends with
+abbrev pub status_number : Status → ℕ
+status_number Answered = 0
+status_number BadScript = 2
+status_number OutOfMemory = 3
+status_number Fault = 4
+
+-- how a replay ends whose lines could be printed
+abbrev pub status_after : {A : Type 0} → Result A ReplayError → Status
+status_after (Ok replayed) = Answered
+status_after (Err (Parse (Errors.BadCommand line))) = BadScript
+status_after (Err (Parse Errors.OutOfMemory)) = OutOfMemory
+status_after (Err TooLong) = BadScript
+status_after (Err ReadFault) = Fault
 
 -- the most bytes that a script may have
 abbrev pub script_limit : ℕ
@@ -27,8 +41,8 @@ script_limit = 1048576
 
 -- why the bytes that a reader has left aren't read
 abbrev pub IsReadError : Option (List ℕ) → ReplayError → Type 0
-IsReadError left (Parse (BadCommand number)) = ⊥
-IsReadError left (Parse OutOfMemory) = ⊤
+IsReadError left (Parse (Errors.BadCommand number)) = ⊥
+IsReadError left (Parse Errors.OutOfMemory) = ⊤
 IsReadError left TooLong = IfSome left (λ bytes. script_limit < length bytes)
 IsReadError left ReadFault = ⊤
 
@@ -71,8 +85,8 @@ outcome_text (Err error) = line (error_text error)
 abbrev pub IsOutcomeOf : List ℕ → ReplayOutcome → Type 0
 IsOutcomeOf bytes (Ok replayed) =
     (length bytes ≤ script_limit) × WritesScript bytes replayed.script × IsReplayOf replayed.script replayed.ran
-IsOutcomeOf bytes (Err (Parse (BadCommand number))) = (length bytes ≤ script_limit) × IsFirstBadLine bytes number
-IsOutcomeOf bytes (Err (Parse OutOfMemory)) = ⊤
+IsOutcomeOf bytes (Err (Parse (Errors.BadCommand number))) = (length bytes ≤ script_limit) × IsFirstBadLine bytes number
+IsOutcomeOf bytes (Err (Parse Errors.OutOfMemory)) = ⊤
 IsOutcomeOf bytes (Err TooLong) = script_limit < length bytes
 IsOutcomeOf bytes (Err ReadFault) = ⊤
 

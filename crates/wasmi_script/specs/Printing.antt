@@ -1,9 +1,9 @@
--- What of a text reaches a writer.
-use Rattle.std.specs.Prelude.{◌≡◌, ◌<◌, ℕ, List, ◌++◌, codes, length, IfSome}
+-- What of a text reaches a writer, or the front of bytes.
+use Rattle.std.specs.Prelude.{◌≡◌, ◌<◌, ℕ, List, ◌++◌, codes, length, IfSome, Option, ◌-◌, ◌^◌, [], take, drop, min, None, Some}
 use Rattle.std.specs.Io.KnownBytes.{Appends}
-use Rattle.std.specs.declared.option.Option.{Option}
 use Rattle.wasmi_script.specs.declared.printing.Printer.{Printer}
 use Rattle.wasmi_script.specs.declared.printing.TheConstants.{LONGEST}
+use Rattle.std.specs.Fmt.{decimal}
 
 -- a text as a line
 abbrev pub line : List ℕ → List ℕ
@@ -48,3 +48,24 @@ pub record Sends {W : Type 0} (contents : W → Option (List ℕ)) (old new : Pr
 pub record SendsFront {W : Type 0} (contents : W → Option (List ℕ)) (old new : Printer W) : Type 0 where
   pub writer : new.writer.ghost_name ≡ old.writer.ghost_name
   pub sent : AppendsFront (contents old.writer.now) (contents new.writer.now) old.chunk.bytes
+
+-- as much of a text as fits stands at the front of bytes, and those after it stay
+abbrev pub FillsFront : List ℕ → List ℕ → List ℕ → Type 0
+FillsFront text old new = new ≡ take (length old) text ++ drop (length text) old
+
+-- as much of a text as fits stands at the front of bytes, which are else as they were at the start, and a number is the
+-- text's length, or 2^64 - 1 if it is longer
+pub record HasFront (text start bytes : List ℕ) (written : ℕ) : Type 0 where
+  pub front : FillsFront text start bytes
+  pub count : written ≡ min (length text) (2 ^ 64 - 1)
+
+-- One text more is written to the front of bytes: whatever text was there before and whatever the bytes were at the
+-- start, that text followed by this one is there afterwards.
+abbrev pub AddsToFront : List ℕ → List ℕ → ℕ → List ℕ → ℕ → Type 0
+AddsToFront text bytes written bytes' written' = (before start : List ℕ) → HasFront before start bytes written
+    → HasFront (before ++ text) start bytes' written'
+
+-- a number, if there is one, after what stands before it
+abbrev pub number_text : List ℕ → Option ℕ → List ℕ
+number_text before None = []
+number_text before (Some number) = before ++ decimal number

@@ -13,7 +13,7 @@ use Rattle.wasmi_script.specs.declared.error.ReplayError.{ReplayError}
 use Rattle.wasmi_script.specs.declared.error.ReplayError.TheVariants.{Parse, TooLong, ReadFault}
 use Rattle.wasmi_grammar.specs.declared.error.ParseError.TheVariants.{BadCommand, OutOfMemory}
 use Rattle.wasmi_operands.specs.Names.{reference_word}
-use Rattle.wasmi_script.specs.Fronts.{number_text}
+use Rattle.wasmi_script.specs.Printing.{number_text}
 use Rattle.wasmi_script.specs.declared.wording.Wording.{Wording}
 use Rattle.wasmi_core.specs.declared.calls.Reply.TheVariants as reply
 

@@ -2,9 +2,8 @@
 //! texts that are written to the front of bytes, one after the other, as far as they fit.
 ghost use Rattle.std.specs.Prelude.{◌≡◌, ◌-◌, ◌^◌, length, min};
 ghost use Rattle.std.specs.Fmt.{decimal};
-ghost use Rattle.wasmi_script.specs.Fronts.{AddsToFront, FillsFront, number_text};
+ghost use Rattle.wasmi_script.specs.Printing.{AddsToFront, FillsFront, number_text, line};
 ghost use Rattle.wasmi_script.specs.Outcomes.{replies_text};
-ghost use Rattle.wasmi_script.specs.Printing.{line};
 ghost use Rattle.wasmi_script.specs.Texts.{bytes_text, reply_text};
 
 use crate::printing::bytes_of;

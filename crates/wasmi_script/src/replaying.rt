@@ -2,8 +2,7 @@
 ghost use Rattle.std.specs.Prelude.{◌≡◌, ◌+◌, ◌≤◌, vec_len, IfOk, IfErr, IfSome};
 ghost use Rattle.std.specs.Io.KnownBytes.{ReadConsumes};
 ghost use Rattle.std.specs.Io.{ReadsAtMost};
-ghost use Rattle.wasmi_script.specs.Outcomes.{IsReadError, script_limit, IsOutcomeOfReader, Replays};
-ghost use Rattle.wasmi_script.specs.Status.{status_number, status_after};
+ghost use Rattle.wasmi_script.specs.Outcomes.{IsReadError, script_limit, IsOutcomeOfReader, Replays, status_number, status_after};
 
 use crate::error::ReplayError;
 use crate::printing::{Replayed, print};

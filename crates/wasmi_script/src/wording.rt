@@ -2,7 +2,7 @@
 ghost use Rattle.std.specs.Prelude.{◌≡◌, ◌++◌, codes};
 ghost use Rattle.std.specs.Fmt.{decimal};
 ghost use Rattle.wasmi_meter.specs.Texts.{fuel_error_text, memory_error_text, table_error_text};
-ghost use Rattle.wasmi_script.specs.Fronts.{AddsToFront};
+ghost use Rattle.wasmi_script.specs.Printing.{AddsToFront};
 ghost use Rattle.wasmi_script.specs.Texts.{head_text, kind_text, wording_text};
 ghost use Rattle.wasmi_store.specs.Segment.{segment_error_text};
 ghost use Rattle.wasmi_typed.specs.Global.{global_error_text};

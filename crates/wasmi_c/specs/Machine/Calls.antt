@@ -1,5 +1,5 @@
 -- What a call does to a machine with its limiter.
-use Rattle.std.specs.Prelude.{◌≡◌, ◌⊎◌, ◌≤◌, ◌<◌, ◌-◌, ℕ, List, length, Option, Some, None, MatchOption, Vec}
+use Rattle.std.specs.Prelude.{◌≡◌, ◌⊎◌, ◌≤◌, ◌<◌, ◌-◌, ℕ, List, length, Option, Some, None, MatchOption, Vec, ◌≢◌, ◌^◌, nat_lt, if◌then◌else◌}
 use Rattle.std.specs.Global.{Global}
 use Rattle.std.specs.Option.{option_and_then, option_map}
 use Rattle.wasmi_types.specs.Access.{at}
@@ -12,31 +12,40 @@ use Rattle.wasmi_meter.specs.declared.error.MemoryError.TheVariants.{OutOfBounds
 use Rattle.wasmi_meter.specs.declared.fuel.FuelError.TheVariants.{FuelMeteringDisabled, OutOfFuel}
 use Rattle.wasmi_meter.specs.declared.limiter.Kind.TheVariants.{Bytes, Elements}
 use Rattle.wasmi_core.specs.State.{State, live_at, total, World, world}
-use Rattle.wasmi_core.specs.Steps.{RepliesWith}
+use Rattle.wasmi_core.specs.Steps.{RepliesWith, IsRunOf}
 use Rattle.wasmi_core.specs.declared.calls.Call.{Call}
 use Rattle.wasmi_core.specs.declared.calls.Call.TheVariants.{NewSegment}
 use Rattle.wasmi_core.specs.declared.calls.Reply.{Reply}
 use Rattle.wasmi_c.specs.Machine.CallStructs.{call_of}
-use Rattle.wasmi_c.specs.Machine.Caps.{MachineValue, StaysWithinCaps}
+use Rattle.wasmi_c.specs.Machine.Laws.{MachineValue, StaysWithinCaps}
 use Rattle.wasmi_c.specs.Machine.Replies.{only, with_number, memory_refusal, fuel_refusal, reply_struct, status_of}
-use Rattle.wasmi_c.specs.Status.{done_status, no_call_status, no_machine_status, no_room_status, no_such_status}
+use Rattle.wasmi_c.specs.Status.{done_status, no_call_status, no_machine_status, no_room_status, no_such_status, bad_line_status, header_line_status, text_cut_status}
 use Rattle.wasmi_c.specs.Types.{reference_type_of}
 use Rattle.wasmi_c.specs.declared.machine.call_struct.CallStruct.{CallStruct}
 use Rattle.wasmi_c.specs.declared.machine.limits.Totals.{Totals}
 use Rattle.wasmi_c.specs.declared.machine.reply_struct.ReplyStruct.{ReplyStruct}
-use Rattle.wasmi_meter.specs.declared.error.MemoryError.TheVariants as errors
 use Rattle.wasmi_ops.specs.declared.scalar.access.LoadOp.{LoadOp}
 use Rattle.wasmi_ops.specs.declared.scalar.access.StoreOp.{StoreOp}
 use Rattle.wasmi_ops.specs.declared.vector.binary.BinaryOp.{BinaryOp}
-use Rattle.wasmi_core.specs.declared.calls.Call.TheVariants as calls
-use Rattle.wasmi_core.specs.declared.calls.Reply.TheVariants as replies
 use Rattle.wasmi_c.specs.Instruction.{load_numbered, store_numbered, binary_numbered}
 use Rattle.wasmi_c.specs.declared.instruction.binary.Binary.{Binary}
-use Rattle.wasmi_c.specs.declared.instruction.binary.Binary.TheVariants as two
 use Rattle.wasmi_c.specs.declared.instruction.load.Load.{Load}
-use Rattle.wasmi_c.specs.declared.instruction.load.Load.TheVariants as load
 use Rattle.wasmi_c.specs.declared.instruction.store.Store.{Store}
+use Rattle.std.specs.Borrow.{Fml, Lends, MutBor}
+use Rattle.wasmi_c.specs.declared.machine.machine_box.MachineBox.{MachineBox}
+use Rattle.wasmi_grammar.specs.declared.header.Header.{Header}
+use Rattle.wasmi_grammar.specs.Lines.{WritesScript, calls_of, IsFirstBadLine}
+use Rattle.wasmi_grammar.specs.declared.script.Script.{Script}
+use Rattle.wasmi_script.specs.Printing.{FillsFront}
+use Rattle.wasmi_script.specs.Outcomes.{replies_text}
+use Rattle.wasmi_meter.specs.declared.error.MemoryError.TheVariants as errors
+use Rattle.wasmi_core.specs.declared.calls.Call.TheVariants as calls
+use Rattle.wasmi_core.specs.declared.calls.Reply.TheVariants as replies
+use Rattle.wasmi_c.specs.declared.instruction.binary.Binary.TheVariants as two
+use Rattle.wasmi_c.specs.declared.instruction.load.Load.TheVariants as load
 use Rattle.wasmi_c.specs.declared.instruction.store.Store.TheVariants as store
+use Rattle.wasmi_c.specs.contracts.machine.limited_machine.LimitedMachine as machine
+use Rattle.wasmi_c.specs.contracts.machine.machine_box.MachineBox as box
 
 -- a machine with its limiter, as the laws of machines see it
 abbrev pub world_of : MachineValue → World (Option AnyLimiter)
@@ -171,3 +180,56 @@ unfoldable pub RepliesInStatus : Option Call → MachineValue → ℕ → Machin
 RepliesInStatus called machine status machine' = MatchOption called
     ((status ≡ no_call_status) × (machine' ≡ machine))
     (λ one. (full : Reply) × MachineReplies one machine full machine' × (status ≡ status_of full))
+
+-- a box with this machine
+abbrev pub with_machine : MachineBox → MachineValue → MachineBox
+with_machine from held = record from { held = Some held }
+
+-- a box whose machine is lent ends with the last value that the machine gets
+abbrev pub LendsMachine : MutBor MachineBox → MutBor MachineValue → Fml
+LendsMachine lender lent = Lends box.the_row machine.the_row lender lent (with_machine lender.now)
+
+-- the reply that has the length of a text, or says that the text has 2 ^ 64 - 1 bytes or more
+abbrev pub length_reply : ℕ → ReplyStruct
+length_reply count = if nat_lt count (2 ^ 64 - 1)
+    then with_number done_status count
+    else with_number text_cut_status (2 ^ 64 - 1)
+
+-- as much of a text as fits stands at the front of bytes, those after it stay, and the reply has the text's length
+pub record WritesOut (text old : List ℕ) (reply : ReplyStruct) (new : List ℕ) : Type 0 where
+  pub front : FillsFront text old new
+  pub length_told : reply ≡ length_reply (length text)
+
+-- a machine replies to calls: a run of its machine under its limiter
+abbrev pub MachineRuns : List Call → MachineValue → List Reply → MachineValue → Type 0
+MachineRuns calls machine replies machine' =
+    IsRunOf (optional_rules any_limiter_rules) calls (world_of machine) replies (world_of machine')
+
+-- no header line
+abbrev pub no_header : Header
+no_header = record { meter = None; limiter = None; region = None }
+
+-- the calls of a script without header lines are run, and bytes are filled with the text of the replies
+pub record RunsScriptBy (Runs : List Call → List Reply → Type 0) (script : Script) (old : List ℕ) (reply : ReplyStruct)
+    (new : List ℕ) : Type 0 where
+  pub headless : script.header ≡ no_header
+  pub replies : List Reply
+  pub run : Runs (calls_of script) replies
+  pub text : WritesOut (replies_text (calls_of script) replies) old reply new
+
+-- a script without header lines is run on a machine
+abbrev pub RunsScript : Script → MachineValue → List ℕ → ReplyStruct → List ℕ → MachineValue → Type 0
+RunsScript script machine old reply new machine' =
+    RunsScriptBy (λ calls replies. MachineRuns calls machine replies machine') script old reply new
+
+-- Lines that aren't run have a first bad line, or are a script with header lines, or memory is refused for their calls
+-- or replies.
+abbrev pub RefusesLines : List ℕ → ReplyStruct → Type 0
+RefusesLines lines reply = ((number : ℕ) × IsFirstBadLine lines number × (reply ≡ with_number bad_line_status number))
+    ⊎ ((script : Script) × WritesScript lines script × (script.header ≢ no_header) × (reply ≡ only header_line_status))
+    ⊎ (reply ≡ only no_room_status)
+
+-- lines are run on a machine as the script that they write, or they are refused, and nothing has changed
+unfoldable pub RunsLines : List ℕ → MachineValue → List ℕ → ReplyStruct → List ℕ → MachineValue → Type 0
+RunsLines lines machine old reply new machine' = (RefusesLines lines reply × (new ≡ old) × (machine' ≡ machine))
+    ⊎ ((script : Script) × WritesScript lines script × RunsScript script machine old reply new machine')

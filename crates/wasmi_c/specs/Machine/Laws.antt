@@ -1,17 +1,44 @@
 -- What holds of all calls and runs of a machine.
-use Rattle.std.specs.Prelude.{◌≡◌, ◌++◌, ◌∷◌, [], List, Option, Some}
-use Rattle.wasmi_meter.specs.AnyLimiter.{any_limiter_rules, caps_of}
-use Rattle.wasmi_meter.specs.Limiter.{optional_rules}
+use Rattle.std.specs.Prelude.{◌≡◌, ◌≤◌, ⊤, Option, Some, None, IfSome, ◌++◌, ◌∷◌, [], List}
+use Rattle.wasmi_meter.specs.AnyLimiter.{caps_of, quota_of, any_limiter_rules}
+use Rattle.wasmi_meter.specs.Capped.{cap_of, holdings, IsWithinCaps}
 use Rattle.wasmi_meter.specs.declared.any_limiter.AnyLimiter.{AnyLimiter}
+use Rattle.wasmi_meter.specs.declared.limiter.Kind.{Kind}
+use Rattle.wasmi_meter.specs.declared.quota.Quota.{Quota}
+use Rattle.wasmi_core.specs.State.{State, total, HoldsTotals, Turn, world}
+use Rattle.wasmi_meter.specs.Limiter.{optional_rules}
 use Rattle.wasmi_core.specs.Steps.{Run}
-use Rattle.wasmi_core.specs.State.{State, Turn, world}
 use Rattle.wasmi_core.specs.declared.calls.Call.{Call}
 use Rattle.wasmi_core.specs.declared.calls.Reply.{Reply}
-use Rattle.wasmi_c.specs.Machine.Caps.{Keeps, MachineValue}
-use Rattle.wasmi_c.specs.Machine.Calls.{MachineReplies}
-use Rattle.wasmi_c.specs.Machine.Lines.{MachineRuns}
+use Rattle.wasmi_c.specs.Machine.Calls.{MachineReplies, MachineRuns}
 use Rattle.wasmi_c.specs.Machine.Replies.{reply_struct}
 use Rattle.wasmi_c.specs.declared.machine.reply_struct.ReplyStruct.{ReplyStruct}
+
+-- a machine, and the limiter that it asks
+pub record MachineValue : Type 0 where
+  pub state : State
+  pub limiter : AnyLimiter
+
+-- the quota holds what the machine has, and no more than its caps
+pub record IsKept (state : State) (quota : Quota) : Type 0 where
+  pub totals : HoldsTotals (holdings quota) state
+  pub within : IsWithinCaps quota
+
+-- a limiter that is a quota holds what a machine has
+abbrev pub Keeps : State → AnyLimiter → Type 0
+Keeps state limiter = IfSome (quota_of limiter) (IsKept state)
+
+-- the machine has no more bytes and no more elements than its caps, if it has caps
+abbrev pub IsCapped : MachineValue → Type 0
+IsCapped machine =
+    (kind : Kind) → IfSome (quota_of machine.limiter) (λ quota. total machine.state kind ≤ cap_of quota kind)
+
+-- the machine of a handle is within its caps, and they are those of the machine that was there before, if one was
+abbrev pub StaysWithinCaps : Option MachineValue → Option MachineValue → Type 0
+StaysWithinCaps held None = ⊤
+StaysWithinCaps None (Some machine') = IsCapped machine'
+StaysWithinCaps (Some machine) (Some machine') =
+    IsCapped machine' × (caps_of machine'.limiter ≡ caps_of machine.limiter)
 
 -- in a run a quota goes on to hold what its machine has, within the same caps, and no limiter becomes a quota
 abbrev pub QuotasAreKept : Type 0

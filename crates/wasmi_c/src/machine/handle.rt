@@ -2,8 +2,7 @@
 //! where it is. `include/wasmi_machine.h` says which statuses they return, in which order.
 ghost use Rattle.std.specs.Prelude.{◌≡◌, Some, None, is_some, MatchOption, ℕ, List};
 ghost use Rattle.wasmi_core.specs.declared.calls.Call.TheVariants.{GetFuel, GrowMemory, Write};
-ghost use Rattle.wasmi_c.specs.Machine.Calls.{RepliesInStatus, RepliesInWord, item_load, item_store, vector_binary, OnHeld, ReadsOut, RepliesToCopy, RepliesToSegment, RepliesToStruct, PaysFuel, no_totals, totals_of};
-ghost use Rattle.wasmi_c.specs.Machine.Lines.{RunsLines};
+ghost use Rattle.wasmi_c.specs.Machine.Calls.{RepliesInStatus, RepliesInWord, item_load, item_store, vector_binary, OnHeld, ReadsOut, RepliesToCopy, RepliesToSegment, RepliesToStruct, PaysFuel, no_totals, totals_of, RunsLines};
 ghost use Rattle.wasmi_c.specs.Machine.NewMachines.{IsNewMachine, MakesMachine, MakesWithAnswers};
 ghost use Rattle.wasmi_c.specs.Machine.Replies.{only};
 ghost use Rattle.wasmi_c.specs.Status.{no_machine_status};
@@ -43,7 +42,7 @@ pub struct Handle {
 }
 
 impl Handle {
-    ghost use Rattle.wasmi_c.specs.Machine.Caps.{IsCapped};
+    ghost use Rattle.wasmi_c.specs.Machine.Laws.{IsCapped};
 
     fn empty(alloc: Global) -> Handle
         ensures { result.machine.held ≡ None }

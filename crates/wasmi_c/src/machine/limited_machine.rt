@@ -4,10 +4,9 @@ ghost use Rattle.wasmi_meter.specs.AnyLimiter.{caps_of};
 ghost use Rattle.wasmi_core.specs.MemoryEffects.{load_reply};
 ghost use Rattle.wasmi_core.specs.State.{live_at};
 ghost use Rattle.wasmi_core.specs.declared.calls.Call.TheVariants.{NewSegment, Write};
-ghost use Rattle.wasmi_c.specs.Machine.Calls.{ReadsOut};
+ghost use Rattle.wasmi_c.specs.Machine.Calls.{ReadsOut, MachineRuns, RunsLines, WritesOut, no_header};
 ghost use Rattle.wasmi_grammar.specs.Lines.{WritesScript};
 ghost use Rattle.wasmi_script.specs.Outcomes.{replies_text};
-ghost use Rattle.wasmi_c.specs.Machine.Lines.{MachineRuns, RunsLines, WritesOut, no_header};
 
 use crate::machine::call_struct::CallStruct;
 use crate::machine::laws;
@@ -33,7 +32,7 @@ pub struct LimitedMachine {
 }
 
 impl Model for LimitedMachine {
-    ghost use Rattle.wasmi_c.specs.Machine.Caps.{MachineValue, Keeps};
+    ghost use Rattle.wasmi_c.specs.Machine.Laws.{MachineValue, Keeps};
 
     ghost Value = { MachineValue };
 
@@ -44,7 +43,7 @@ impl Model for LimitedMachine {
 
 impl LimitedMachine {
     ghost use Rattle.wasmi_c.specs.Machine.Calls.{MachineReplies, RepliesInStruct, RepliesToCopy, RepliesToSegment, RepliesToStruct, PaysFuel, totals_of};
-    ghost use Rattle.wasmi_c.specs.Machine.Caps.{IsCapped};
+    ghost use Rattle.wasmi_c.specs.Machine.Laws.{IsCapped};
     ghost use Rattle.wasmi_c.specs.Machine.NewMachines.{IsNewMachine, IsNewWithAnswers};
     ghost use Rattle.wasmi_c.specs.Machine.Replies.{reply_struct};
 

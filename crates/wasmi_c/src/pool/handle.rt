@@ -4,7 +4,7 @@ ghost use Rattle.std.specs.Prelude.{◌≡◌, Some, None, is_some, MatchOption,
 ghost use Rattle.wasmi_core.specs.declared.calls.Call.TheVariants.{Write};
 ghost use Rattle.wasmi_c.specs.Machine.Calls.{ActsOnHeld};
 ghost use Rattle.wasmi_c.specs.Machine.Replies.{only};
-ghost use Rattle.wasmi_c.specs.Pool.Calls.{AddsNewTenant, KeepsCaps, MakesPool, RunsTenantLines, TenantReadsOut, TenantRepliesToCopy, TenantRepliesToStruct, no_pool_totals, pool_totals, tenant_totals};
+ghost use Rattle.wasmi_c.specs.Pool.{AddsNewTenant, KeepsCaps, MakesPool, RunsTenantLines, TenantReadsOut, TenantRepliesToCopy, TenantRepliesToStruct, no_pool_totals, pool_totals, tenant_totals};
 ghost use Rattle.wasmi_c.specs.Status.{no_pool_status};
 ghost use Rattle.wasmi_c.specs.declared.machine.reply_struct.ReplyStruct.{ReplyStruct};
 

@@ -31,7 +31,7 @@ impl Model for TenantPool {
 impl TenantPool {
     ghost use Rattle.wasmi_budget.specs.Pool.{IsWithinCaps, RunsTenant};
     ghost use Rattle.wasmi_grammar.specs.Lines.{WritesScript};
-    ghost use Rattle.wasmi_c.specs.Pool.Calls.{AddsNewTenant, RefusesTenant, RunsTenantLines, TenantReadsOut, TenantReplies, TenantRepliesToCopy, TenantRepliesToStruct, new_pool, pool_totals, tenant_totals};
+    ghost use Rattle.wasmi_c.specs.Pool.{AddsNewTenant, RefusesTenant, RunsTenantLines, TenantReadsOut, TenantReplies, TenantRepliesToCopy, TenantRepliesToStruct, new_pool, pool_totals, tenant_totals};
 
     /// A pool with these caps and no tenant. It takes no memory.
     pub fn new(alloc: Global, bytes: u64, elements: u64) -> TenantPool

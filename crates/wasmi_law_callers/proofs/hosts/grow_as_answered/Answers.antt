@@ -2,7 +2,7 @@ use Rattle.std.proofs.Common.{Some}
 use Rattle.wasmi_region.specs.Memory.{memory_in}
 use Rattle.wasmi_c.specs.MemoryCalls.{by_pages, of_memory}
 use Rattle.wasmi_c.specs.Numbers.{meter_of}
-use Rattle.wasmi_c.specs.Settlements.{limiter_after}
+use Rattle.wasmi_c.specs.Placement.{limiter_after}
 use Rattle.wasmi_c.proofs.PlacementLemmas.{under}
 use Rattle.wasmi_law_callers.proofs.hosts.grow_as_answered.Goals as goal
 

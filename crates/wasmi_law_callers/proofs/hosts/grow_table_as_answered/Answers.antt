@@ -1,7 +1,7 @@
 use Rattle.std.proofs.Common.{Some, length}
 use Rattle.wasmi_region.specs.Table.{table_in}
 use Rattle.wasmi_c.specs.Numbers.{meter_of}
-use Rattle.wasmi_c.specs.Settlements.{limiter_after}
+use Rattle.wasmi_c.specs.Placement.{limiter_after}
 use Rattle.wasmi_c.specs.TableCalls.{by_elements, of_table}
 use Rattle.wasmi_c.proofs.PlacementLemmas.{under}
 use Rattle.wasmi_law_callers.proofs.hosts.grow_table_as_answered.Goals as goal

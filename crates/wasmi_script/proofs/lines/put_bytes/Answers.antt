@@ -1,6 +1,6 @@
 use Rattle.std.proofs.Common.{◌≡◌, ◌++◌, ap, codes, get_or, rules, subst, sym, take, ◌∙◌}
 use Rattle.std.specs.Fmt.{decimal}
-use Rattle.wasmi_script.specs.Fronts.{AddsToFront}
+use Rattle.wasmi_script.specs.Printing.{AddsToFront}
 use Rattle.wasmi_script.specs.Texts.{bytes_text}
 use Rattle.wasmi_script.proofs.FrontsLemmas.{adds_then}
 use Rattle.wasmi_script.proofs.PrintingLemmas.{texts_more}

@@ -4,8 +4,7 @@ use Rattle.std.proofs.lemmas.Iterator.Consumers.{YieldsList-end}
 use Rattle.std.proofs.lemmas.List.Folds.{flat_map-map}
 use Rattle.wasmi_core.specs.declared.calls.Call.{Call}
 use Rattle.wasmi_core.specs.declared.calls.Reply.{Reply}
-use Rattle.wasmi_script.specs.Fronts.{AddsToFront}
-use Rattle.wasmi_script.specs.Printing.{line}
+use Rattle.wasmi_script.specs.Printing.{AddsToFront, line}
 use Rattle.wasmi_script.specs.Texts.{reply_text}
 use Rattle.wasmi_script.proofs.FrontsLemmas.{adds_more}
 use Rattle.wasmi_script.proofs.lines.put_lines.Goals as goal

@@ -1,6 +1,5 @@
 use Rattle.std.proofs.Common.{flat_map}
-use Rattle.wasmi_script.specs.Fronts.{AddsToFront}
-use Rattle.wasmi_script.specs.Printing.{line}
+use Rattle.wasmi_script.specs.Printing.{AddsToFront, line}
 use Rattle.wasmi_script.specs.Texts.{reply_text}
 use Rattle.wasmi_script.proofs.lines.put_lines.Given as goal
 
