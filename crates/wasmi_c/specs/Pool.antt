@@ -18,7 +18,6 @@ use Rattle.wasmi_c.specs.declared.machine.limits.Limits.{Limits}
 use Rattle.wasmi_c.specs.declared.machine.limits.Totals.{Totals}
 use Rattle.wasmi_c.specs.declared.machine.reply_struct.ReplyStruct.{ReplyStruct}
 
-
 -- a pool with these caps and no tenant
 abbrev pub new_pool : ℕ → ℕ → PoolValue
 new_pool bytes elements = record { caps = record { bytes = bytes; elements = elements }; machines = [] }

@@ -157,7 +157,7 @@ mod lines {
     /// ensures length: result ≡ min (length (replies_text calls.now replies.now)) (2 ^ 64 - 1)
     /// ```
     ///
-    /// Definitions: [`FillsFront`](crate::specs::script::Fronts#FillsFront), [`replies_text`](crate::specs::script::Outcomes#replies_text).
+    /// Definitions: [`FillsFront`](crate::specs::script::Printing#FillsFront), [`replies_text`](crate::specs::script::Outcomes#replies_text).
     #[inline]
     pub fn write_lines(bytes: &mut [u8], calls: &[Call], replies: &[Reply]) -> usize {
         put_lines(bytes, 0, calls, replies)
@@ -171,7 +171,7 @@ mod lines {
     /// ensures: AddsToFront (replies_text calls.now replies.now) bytes.old written bytes.new result
     /// ```
     ///
-    /// Definitions: [`AddsToFront`](crate::specs::script::Fronts#AddsToFront), [`replies_text`](crate::specs::script::Outcomes#replies_text).
+    /// Definitions: [`AddsToFront`](crate::specs::script::Printing#AddsToFront), [`replies_text`](crate::specs::script::Outcomes#replies_text).
     #[inline]
     fn put_lines(bytes: &mut [u8], written: usize, calls: &[Call], replies: &[Reply]) -> usize {
         let mut end = written;
@@ -190,7 +190,7 @@ mod lines {
     ///     result
     /// ```
     ///
-    /// Definitions: [`AddsToFront`](crate::specs::script::Fronts#AddsToFront), [`line`](crate::specs::script::Printing#line), [`reply_text`](crate::specs::script::Texts#reply_text).
+    /// Definitions: [`AddsToFront`](crate::specs::script::Printing#AddsToFront), [`line`](crate::specs::script::Printing#line), [`reply_text`](crate::specs::script::Texts#reply_text).
     #[inline]
     fn put_line(bytes: &mut [u8], written: usize, call: &Call, reply: &Reply) -> usize {
         let worded = Wording::of(call, reply).put(bytes, written);
@@ -206,7 +206,7 @@ mod lines {
     /// ensures: AddsToFront (bytes_text told.now) bytes.old written bytes.new result
     /// ```
     ///
-    /// Definitions: [`AddsToFront`](crate::specs::script::Fronts#AddsToFront), [`bytes_text`](crate::specs::script::Texts#bytes_text).
+    /// Definitions: [`AddsToFront`](crate::specs::script::Printing#AddsToFront), [`bytes_text`](crate::specs::script::Texts#bytes_text).
     #[inline]
     fn put_bytes(bytes: &mut [u8], written: usize, told: &[u8]) -> usize {
         let mut end = written;
@@ -226,7 +226,7 @@ mod lines {
     /// ensures: AddsToFront text.now bytes.old written bytes.new result
     /// ```
     ///
-    /// Definitions: [`AddsToFront`](crate::specs::script::Fronts#AddsToFront).
+    /// Definitions: [`AddsToFront`](crate::specs::script::Printing#AddsToFront).
     #[inline]
     pub fn put(bytes: &mut [u8], written: usize, text: &[u8]) -> usize {
         let start = written.min(bytes.len());
@@ -243,7 +243,7 @@ mod lines {
     /// ensures: AddsToFront (decimal number) bytes.old written bytes.new result
     /// ```
     ///
-    /// Definitions: [`AddsToFront`](crate::specs::script::Fronts#AddsToFront).
+    /// Definitions: [`AddsToFront`](crate::specs::script::Printing#AddsToFront).
     #[inline]
     pub fn put_number(bytes: &mut [u8], written: usize, number: u64) -> usize {
         let digit = [b'0' + (number % 10) as u8];
@@ -262,7 +262,7 @@ mod lines {
     /// ensures: AddsToFront (number_text before.now number) bytes.old written bytes.new result
     /// ```
     ///
-    /// Definitions: [`AddsToFront`](crate::specs::script::Fronts#AddsToFront), [`number_text`](crate::specs::script::Fronts#number_text).
+    /// Definitions: [`AddsToFront`](crate::specs::script::Printing#AddsToFront), [`number_text`](crate::specs::script::Printing#number_text).
     #[inline]
     pub fn put_optional(
         bytes: &mut [u8],
@@ -762,7 +762,7 @@ mod replaying {
         /// ensures: result ≡ status_number self
         /// ```
         ///
-        /// Definitions: [`status_number`](crate::specs::script::Status#status_number).
+        /// Definitions: [`status_number`](crate::specs::script::Outcomes#status_number).
         #[inline]
         pub fn code(self) -> u8 {
             match self {
@@ -820,7 +820,7 @@ mod replaying {
     /// ensures: result ≡ status_after outcome.now
     /// ```
     ///
-    /// Definitions: [`status_after`](crate::specs::script::Status#status_after).
+    /// Definitions: [`status_after`](crate::specs::script::Outcomes#status_after).
     #[inline]
     fn status_of(outcome: &Result<Replayed, ReplayError>) -> Status {
         match outcome {
@@ -1380,7 +1380,7 @@ mod wording {
         /// ensures: AddsToFront (wording_text self) bytes.old written bytes.new result
         /// ```
         ///
-        /// Definitions: [`AddsToFront`](crate::specs::script::Fronts#AddsToFront), [`wording_text`](crate::specs::script::Texts#wording_text).
+        /// Definitions: [`AddsToFront`](crate::specs::script::Printing#AddsToFront), [`wording_text`](crate::specs::script::Texts#wording_text).
         #[inline]
         pub fn put(self, bytes: &mut [u8], written: usize) -> usize {
             let started = put(bytes, written, self.start.as_bytes());

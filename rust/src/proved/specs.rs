@@ -6524,8 +6524,7 @@ use Rattle.wasmi_grammar.specs.declared.error.ParseError.TheVariants.{OutOfMemor
 use Rattle.wasmi_grammar.specs.declared.header.LimiterLine.{LimiterLine}
 use Rattle.wasmi_grammar.specs.declared.header.LimiterLine.TheVariants.{Answers}
 use Rattle.wasmi_meter.specs.AnswerList.{<a href="../../meter/AnswerList/index.html#notice_answer_by">notice_answer_by</a>, <a href="../../meter/AnswerList/index.html#AnswersAhead">AnswersAhead</a>, <a href="../../meter/AnswerList/index.html#answer_list_rules">answer_list_rules</a>}
-use Rattle.wasmi_script.specs.Outcomes.{<a href="../../script/Outcomes/index.html#ReplayOutcome">ReplayOutcome</a>, <a href="../../script/Outcomes/index.html#IsOutcomeOf">IsOutcomeOf</a>, <a href="../../script/Outcomes/index.html#outcome_text">outcome_text</a>}
-use Rattle.wasmi_script.specs.Status.{<a href="../../script/Status/index.html#status_after">status_after</a>}
+use Rattle.wasmi_script.specs.Outcomes.{<a href="../../script/Outcomes/index.html#ReplayOutcome">ReplayOutcome</a>, <a href="../../script/Outcomes/index.html#IsOutcomeOf">IsOutcomeOf</a>, <a href="../../script/Outcomes/index.html#outcome_text">outcome_text</a>, <a href="../../script/Outcomes/index.html#status_after">status_after</a>}
 use Rattle.wasmi_meter.specs.Limiter.{<a href="../../meter/Limiter/index.html#optional_rules">optional_rules</a>}
 use Rattle.wasmi_core.specs.declared.calls.Call.{Call}
 use Rattle.wasmi_core.specs.declared.calls.Reply.{Reply}
@@ -6548,7 +6547,7 @@ abbrev pub <b id="IsDecided">IsDecided</b> : <a href="../../script/Outcomes/inde
 -- two outcomes print the same text and end in the same way
 pub record <b id="EndAlike">EndAlike</b> (outcome outcome&#x27; : <a href="../../script/Outcomes/index.html#ReplayOutcome">ReplayOutcome</a>) : Type 0 where
   pub <b id="text">text</b> : <a href="../../script/Outcomes/index.html#outcome_text">outcome_text</a> outcome ≡ <a href="../../script/Outcomes/index.html#outcome_text">outcome_text</a> outcome&#x27;
-  pub <b id="status">status</b> : <a href="../../script/Status/index.html#status_after">status_after</a> outcome ≡ <a href="../../script/Status/index.html#status_after">status_after</a> outcome&#x27;
+  pub <b id="status">status</b> : <a href="../../script/Outcomes/index.html#status_after">status_after</a> outcome ≡ <a href="../../script/Outcomes/index.html#status_after">status_after</a> outcome&#x27;
 
 -- two outcomes of the same bytes that these decide end alike
 abbrev pub <b id="OutcomesAreOne">OutcomesAreOne</b> : Type 0
@@ -6577,40 +6576,13 @@ abbrev pub <b id="QuietListsDecideReplies">QuietListsDecideReplies</b> : Type 0
 </code></pre>
 "####]
     pub mod Decided {}
-    #[doc = r####"Texts that are written to the front of bytes, one after the other, as far as they fit.
-
-<pre><code>use Rattle.std.specs.Prelude.{◌≡◌, ℕ, ◌-◌, ◌^◌, List, [], ◌++◌, length, take, drop, min, Option, None, Some}
-use Rattle.std.specs.Fmt.{decimal}
-
--- as much of a text as fits stands at the front of bytes, and those after it stay
-abbrev pub <b id="FillsFront">FillsFront</b> : List ℕ → List ℕ → List ℕ → Type 0
-<a href="../../script/Fronts/index.html#FillsFront">FillsFront</a> text old new = new ≡ take (length old) text ++ drop (length text) old
-
--- as much of a text as fits stands at the front of bytes, which are else as they were at the start, and a number is the
--- text&#x27;s length, or 2^64 - 1 if it is longer
-pub record <b id="HasFront">HasFront</b> (text start bytes : List ℕ) (written : ℕ) : Type 0 where
-  pub <b id="front">front</b> : <a href="../../script/Fronts/index.html#FillsFront">FillsFront</a> text start bytes
-  pub <b id="count">count</b> : written ≡ min (length text) (2 ^ 64 - 1)
-
--- One text more is written to the front of bytes: whatever text was there before and whatever the bytes were at the
--- start, that text followed by this one is there afterwards.
-abbrev pub <b id="AddsToFront">AddsToFront</b> : List ℕ → List ℕ → ℕ → List ℕ → ℕ → Type 0
-<a href="../../script/Fronts/index.html#AddsToFront">AddsToFront</a> text bytes written bytes&#x27; written&#x27; = (before start : List ℕ) → <a href="../../script/Fronts/index.html#HasFront">HasFront</a> before start bytes written
-    → <a href="../../script/Fronts/index.html#HasFront">HasFront</a> (before ++ text) start bytes&#x27; written&#x27;
-
--- a number, if there is one, after what stands before it
-abbrev pub <b id="number_text">number_text</b> : List ℕ → Option ℕ → List ℕ
-<a href="../../script/Fronts/index.html#number_text">number_text</a> before None = []
-<a href="../../script/Fronts/index.html#number_text">number_text</a> before (Some number) = before ++ decimal number
-</code></pre>
-"####]
-    pub mod Fronts {}
     #[doc = r####"What a replay prints, why a script isn't run, and how a replay ends.
 
-<pre><code>use Rattle.std.specs.Prelude.{◌&lt;◌, ⊤, ℕ, List, Option, IfSome, length, ◌≡◌, ◌≤◌, ◌⊎◌, [], ◌++◌, codes, flat_map, Result, Ok, Err}
-use Rattle.wasmi_grammar.specs.declared.error.ParseError.TheVariants.{BadCommand, OutOfMemory}
+<pre><code>use Rattle.std.specs.Prelude.{ℕ, Result, Ok, Err, ◌&lt;◌, ⊤, List, Option, IfSome, length, ◌≡◌, ◌≤◌, ◌⊎◌, [], ◌++◌, codes, flat_map}
 use Rattle.wasmi_script.specs.declared.error.ReplayError.{ReplayError}
 use Rattle.wasmi_script.specs.declared.error.ReplayError.TheVariants.{Parse, TooLong, ReadFault}
+use Rattle.wasmi_script.specs.declared.replaying.Status.{Status}
+use Rattle.wasmi_script.specs.declared.replaying.Status.TheVariants.{Answered, BadScript, OutOfMemory, Fault}
 use Rattle.std.specs.Io.KnownBytes.{Appends}
 use Rattle.std.specs.Fmt.{decimal}
 use Rattle.std.specs.List.{zip, enumerate_from}
@@ -6621,13 +6593,26 @@ use Rattle.wasmi_core.specs.State.{<a href="../../machine/State/index.html#State
 use Rattle.wasmi_script.specs.declared.running.Held.{Held}
 use Rattle.wasmi_script.specs.declared.running.Held.TheVariants.{<a href="../../machine/Exchange/index.html#Nothing">Nothing</a>, Quota, Tenants}
 use Rattle.wasmi_script.specs.declared.printing.Replayed.{Replayed}
-use Rattle.wasmi_script.specs.declared.replaying.Status.{Status}
-use Rattle.wasmi_script.specs.declared.replaying.Status.TheVariants.{Fault}
 use Rattle.wasmi_grammar.specs.Lines.{<a href="../../grammar/Lines/index.html#WritesScript">WritesScript</a>, <a href="../../grammar/Lines/index.html#calls_of">calls_of</a>, <a href="../../grammar/Lines/index.html#IsFirstBadLine">IsFirstBadLine</a>}
 use Rattle.wasmi_script.specs.Printing.{<a href="../../script/Printing/index.html#AppendsFront">AppendsFront</a>, <a href="../../script/Printing/index.html#line">line</a>}
 use Rattle.wasmi_script.specs.ScriptRuns.{<a href="../../script/ScriptRuns/index.html#IsReplayOf">IsReplayOf</a>}
-use Rattle.wasmi_script.specs.Status.{<a href="../../script/Status/index.html#status_after">status_after</a>}
 use Rattle.wasmi_script.specs.Texts.{<a href="../../script/Texts/index.html#reply_text">reply_text</a>, <a href="../../script/Texts/index.html#error_text">error_text</a>}
+use Rattle.wasmi_grammar.specs.declared.error.ParseError.TheVariants as Errors
+
+-- the number that a process ends with
+abbrev pub <b id="status_number">status_number</b> : Status → ℕ
+<a href="../../script/Outcomes/index.html#status_number">status_number</a> Answered = 0
+<a href="../../script/Outcomes/index.html#status_number">status_number</a> BadScript = 2
+<a href="../../script/Outcomes/index.html#status_number">status_number</a> OutOfMemory = 3
+<a href="../../script/Outcomes/index.html#status_number">status_number</a> Fault = 4
+
+-- how a replay ends whose lines could be printed
+abbrev pub <b id="status_after">status_after</b> : {A : Type 0} → Result A ReplayError → Status
+<a href="../../script/Outcomes/index.html#status_after">status_after</a> (Ok replayed) = Answered
+<a href="../../script/Outcomes/index.html#status_after">status_after</a> (Err (Parse (Errors.BadCommand <a href="../../script/Printing/index.html#line">line</a>))) = BadScript
+<a href="../../script/Outcomes/index.html#status_after">status_after</a> (Err (Parse Errors.OutOfMemory)) = OutOfMemory
+<a href="../../script/Outcomes/index.html#status_after">status_after</a> (Err TooLong) = BadScript
+<a href="../../script/Outcomes/index.html#status_after">status_after</a> (Err ReadFault) = Fault
 
 -- the most bytes that a script may have
 abbrev pub <b id="script_limit">script_limit</b> : ℕ
@@ -6635,8 +6620,8 @@ abbrev pub <b id="script_limit">script_limit</b> : ℕ
 
 -- why the bytes that a reader has left aren&#x27;t read
 abbrev pub <b id="IsReadError">IsReadError</b> : Option (List ℕ) → ReplayError → Type 0
-<a href="../../script/Outcomes/index.html#IsReadError">IsReadError</a> left (Parse (BadCommand number)) = ⊥
-<a href="../../script/Outcomes/index.html#IsReadError">IsReadError</a> left (Parse OutOfMemory) = ⊤
+<a href="../../script/Outcomes/index.html#IsReadError">IsReadError</a> left (Parse (Errors.BadCommand number)) = ⊥
+<a href="../../script/Outcomes/index.html#IsReadError">IsReadError</a> left (Parse Errors.OutOfMemory) = ⊤
 <a href="../../script/Outcomes/index.html#IsReadError">IsReadError</a> left TooLong = IfSome left (λ bytes. <a href="../../script/Outcomes/index.html#script_limit">script_limit</a> &lt; length bytes)
 <a href="../../script/Outcomes/index.html#IsReadError">IsReadError</a> left ReadFault = ⊤
 
@@ -6679,15 +6664,15 @@ abbrev pub <b id="outcome_text">outcome_text</b> : <a href="../../script/Outcome
 abbrev pub <b id="IsOutcomeOf">IsOutcomeOf</b> : List ℕ → <a href="../../script/Outcomes/index.html#ReplayOutcome">ReplayOutcome</a> → Type 0
 <a href="../../script/Outcomes/index.html#IsOutcomeOf">IsOutcomeOf</a> bytes (Ok replayed) =
     (length bytes ≤ <a href="../../script/Outcomes/index.html#script_limit">script_limit</a>) × <a href="../../grammar/Lines/index.html#WritesScript">WritesScript</a> bytes replayed.script × <a href="../../script/ScriptRuns/index.html#IsReplayOf">IsReplayOf</a> replayed.script replayed.ran
-<a href="../../script/Outcomes/index.html#IsOutcomeOf">IsOutcomeOf</a> bytes (Err (Parse (BadCommand number))) = (length bytes ≤ <a href="../../script/Outcomes/index.html#script_limit">script_limit</a>) × <a href="../../grammar/Lines/index.html#IsFirstBadLine">IsFirstBadLine</a> bytes number
-<a href="../../script/Outcomes/index.html#IsOutcomeOf">IsOutcomeOf</a> bytes (Err (Parse OutOfMemory)) = ⊤
+<a href="../../script/Outcomes/index.html#IsOutcomeOf">IsOutcomeOf</a> bytes (Err (Parse (Errors.BadCommand number))) = (length bytes ≤ <a href="../../script/Outcomes/index.html#script_limit">script_limit</a>) × <a href="../../grammar/Lines/index.html#IsFirstBadLine">IsFirstBadLine</a> bytes number
+<a href="../../script/Outcomes/index.html#IsOutcomeOf">IsOutcomeOf</a> bytes (Err (Parse Errors.OutOfMemory)) = ⊤
 <a href="../../script/Outcomes/index.html#IsOutcomeOf">IsOutcomeOf</a> bytes (Err TooLong) = <a href="../../script/Outcomes/index.html#script_limit">script_limit</a> &lt; length bytes
 <a href="../../script/Outcomes/index.html#IsOutcomeOf">IsOutcomeOf</a> bytes (Err ReadFault) = ⊤
 
 -- the writer has got the whole text and the status is the outcome&#x27;s, or it has got a front of the text and failed
 abbrev pub <b id="PrintsOutcome">PrintsOutcome</b> : Option (List ℕ) → Option (List ℕ) → <a href="../../script/Outcomes/index.html#ReplayOutcome">ReplayOutcome</a> → Status → Type 0
 <a href="../../script/Outcomes/index.html#PrintsOutcome">PrintsOutcome</a> old new <a href="../../script/Outcomes/index.html#outcome">outcome</a> status =
-    (Appends old new (<a href="../../script/Outcomes/index.html#outcome_text">outcome_text</a> <a href="../../script/Outcomes/index.html#outcome">outcome</a>) × (status ≡ <a href="../../script/Status/index.html#status_after">status_after</a> <a href="../../script/Outcomes/index.html#outcome">outcome</a>))
+    (Appends old new (<a href="../../script/Outcomes/index.html#outcome_text">outcome_text</a> <a href="../../script/Outcomes/index.html#outcome">outcome</a>) × (status ≡ <a href="../../script/Outcomes/index.html#status_after">status_after</a> <a href="../../script/Outcomes/index.html#outcome">outcome</a>))
     ⊎ (<a href="../../script/Printing/index.html#AppendsFront">AppendsFront</a> old new (<a href="../../script/Outcomes/index.html#outcome_text">outcome_text</a> <a href="../../script/Outcomes/index.html#outcome">outcome</a>) × (status ≡ Fault))
 
 -- an outcome of some bytes, which are those of a reader where it tells them
@@ -6703,13 +6688,13 @@ pub record <b id="Replays">Replays</b> (given old new : Option (List ℕ)) (stat
 </code></pre>
 "####]
     pub mod Outcomes {}
-    #[doc = r####"What of a text reaches a writer.
+    #[doc = r####"What of a text reaches a writer, or the front of bytes.
 
-<pre><code>use Rattle.std.specs.Prelude.{◌≡◌, ◌&lt;◌, ℕ, List, ◌++◌, codes, length, IfSome}
+<pre><code>use Rattle.std.specs.Prelude.{◌≡◌, ◌&lt;◌, ℕ, List, ◌++◌, codes, length, IfSome, Option, ◌-◌, ◌^◌, [], take, drop, min, None, Some}
 use Rattle.std.specs.Io.KnownBytes.{Appends}
-use Rattle.std.specs.declared.option.Option.{Option}
 use Rattle.wasmi_script.specs.declared.printing.Printer.{Printer}
 use Rattle.wasmi_script.specs.declared.printing.TheConstants.{LONGEST}
+use Rattle.std.specs.Fmt.{decimal}
 
 -- a text as a line
 abbrev pub <b id="line">line</b> : List ℕ → List ℕ
@@ -6721,12 +6706,12 @@ abbrev pub <b id="IsShort">IsShort</b> : Option (List ℕ) → Type 0
 
 -- known bytes grow by the front of a text, up to some place in it
 abbrev pub <b id="AppendsFront">AppendsFront</b> : Option (List ℕ) → Option (List ℕ) → List ℕ → Type 0
-<a href="../../script/Printing/index.html#AppendsFront">AppendsFront</a> old new text = (front : List ℕ) × (rest : List ℕ) × (text ≡ front ++ rest) × Appends old new front
+<a href="../../script/Printing/index.html#AppendsFront">AppendsFront</a> old new text = (<a href="../../script/Printing/index.html#front">front</a> : List ℕ) × (rest : List ℕ) × (text ≡ <a href="../../script/Printing/index.html#front">front</a> ++ rest) × Appends old new <a href="../../script/Printing/index.html#front">front</a>
 
 -- a text comes after what waits: known bytes grow by the front of both, and the rest waits
 abbrev pub <b id="AddsText">AddsText</b> : Option (List ℕ) → Option (List ℕ) → List ℕ → List ℕ → List ℕ → Type 0
 <a href="../../script/Printing/index.html#AddsText">AddsText</a> old new waiting waiting&#x27; text =
-    (front : List ℕ) × (waiting ++ text ≡ front ++ waiting&#x27;) × Appends old new front
+    (<a href="../../script/Printing/index.html#front">front</a> : List ℕ) × (waiting ++ text ≡ <a href="../../script/Printing/index.html#front">front</a> ++ waiting&#x27;) × Appends old new <a href="../../script/Printing/index.html#front">front</a>
 
 -- A printer before and after a text is printed, by the bytes that its writer is known to have: it keeps its writer,
 -- and the text comes after what waits.
@@ -6754,6 +6739,27 @@ pub record <b id="Sends">Sends</b> {W : Type 0} (contents : W → Option (List �
 pub record <b id="SendsFront">SendsFront</b> {W : Type 0} (contents : W → Option (List ℕ)) (old new : Printer W) : Type 0 where
   pub <b id="writer">writer</b> : new.writer.ghost_name ≡ old.writer.ghost_name
   pub <b id="sent">sent</b> : <a href="../../script/Printing/index.html#AppendsFront">AppendsFront</a> (contents old.writer.now) (contents new.writer.now) old.chunk.bytes
+
+-- as much of a text as fits stands at the front of bytes, and those after it stay
+abbrev pub <b id="FillsFront">FillsFront</b> : List ℕ → List ℕ → List ℕ → Type 0
+<a href="../../script/Printing/index.html#FillsFront">FillsFront</a> text old new = new ≡ take (length old) text ++ drop (length text) old
+
+-- as much of a text as fits stands at the front of bytes, which are else as they were at the start, and a number is the
+-- text&#x27;s length, or 2^64 - 1 if it is longer
+pub record <b id="HasFront">HasFront</b> (text start bytes : List ℕ) (written : ℕ) : Type 0 where
+  pub <b id="front">front</b> : <a href="../../script/Printing/index.html#FillsFront">FillsFront</a> text start bytes
+  pub <b id="count">count</b> : written ≡ min (length text) (2 ^ 64 - 1)
+
+-- One text more is written to the front of bytes: whatever text was there before and whatever the bytes were at the
+-- start, that text followed by this one is there afterwards.
+abbrev pub <b id="AddsToFront">AddsToFront</b> : List ℕ → List ℕ → ℕ → List ℕ → ℕ → Type 0
+<a href="../../script/Printing/index.html#AddsToFront">AddsToFront</a> text bytes written bytes&#x27; written&#x27; = (before start : List ℕ) → <a href="../../script/Printing/index.html#HasFront">HasFront</a> before start bytes written
+    → <a href="../../script/Printing/index.html#HasFront">HasFront</a> (before ++ text) start bytes&#x27; written&#x27;
+
+-- a number, if there is one, after what stands before it
+abbrev pub <b id="number_text">number_text</b> : List ℕ → Option ℕ → List ℕ
+<a href="../../script/Printing/index.html#number_text">number_text</a> before None = []
+<a href="../../script/Printing/index.html#number_text">number_text</a> before (Some number) = before ++ decimal number
 </code></pre>
 "####]
     pub mod Printing {}
@@ -6852,32 +6858,6 @@ abbrev pub <b id="IsReplayOf">IsReplayOf</b> : Script → <a href="../../budget/
 </code></pre>
 "####]
     pub mod ScriptRuns {}
-    #[doc = r####"How the program ends.
-
-<pre><code>use Rattle.std.specs.Prelude.{ℕ, Result, Ok, Err}
-use Rattle.wasmi_script.specs.declared.error.ReplayError.{ReplayError}
-use Rattle.wasmi_script.specs.declared.error.ReplayError.TheVariants.{Parse, TooLong, ReadFault}
-use Rattle.wasmi_grammar.specs.declared.error.ParseError.TheVariants as Errors
-use Rattle.wasmi_script.specs.declared.replaying.Status.{Status}
-use Rattle.wasmi_script.specs.declared.replaying.Status.TheVariants.{Answered, BadScript, OutOfMemory, Fault}
-
--- the number that a process ends with
-abbrev pub <b id="status_number">status_number</b> : Status → ℕ
-<a href="../../script/Status/index.html#status_number">status_number</a> Answered = 0
-<a href="../../script/Status/index.html#status_number">status_number</a> BadScript = 2
-<a href="../../script/Status/index.html#status_number">status_number</a> OutOfMemory = 3
-<a href="../../script/Status/index.html#status_number">status_number</a> Fault = 4
-
--- how a replay ends whose lines could be printed
-abbrev pub <b id="status_after">status_after</b> : {A : Type 0} → Result A ReplayError → Status
-<a href="../../script/Status/index.html#status_after">status_after</a> (Ok replayed) = Answered
-<a href="../../script/Status/index.html#status_after">status_after</a> (Err (Parse (Errors.BadCommand line))) = BadScript
-<a href="../../script/Status/index.html#status_after">status_after</a> (Err (Parse Errors.OutOfMemory)) = OutOfMemory
-<a href="../../script/Status/index.html#status_after">status_after</a> (Err TooLong) = BadScript
-<a href="../../script/Status/index.html#status_after">status_after</a> (Err ReadFault) = Fault
-</code></pre>
-"####]
-    pub mod Status {}
     #[doc = r####"What the program prints of a reply, as a wording or whole, and why it runs no script.
 
 <pre><code>use Rattle.std.specs.Prelude.{ℕ, List, [], ◌++◌, codes, flat_map, Option, None, Some}
@@ -6894,7 +6874,7 @@ use Rattle.wasmi_script.specs.declared.error.ReplayError.{ReplayError}
 use Rattle.wasmi_script.specs.declared.error.ReplayError.TheVariants.{Parse, TooLong, ReadFault}
 use Rattle.wasmi_grammar.specs.declared.error.ParseError.TheVariants.{BadCommand, OutOfMemory}
 use Rattle.wasmi_operands.specs.Names.{<a href="../../operands/Names/index.html#reference_word">reference_word</a>}
-use Rattle.wasmi_script.specs.Fronts.{<a href="../../script/Fronts/index.html#number_text">number_text</a>}
+use Rattle.wasmi_script.specs.Printing.{<a href="../../script/Printing/index.html#number_text">number_text</a>}
 use Rattle.wasmi_script.specs.declared.wording.Wording.{Wording}
 use Rattle.wasmi_core.specs.declared.calls.Reply.TheVariants as reply
 
@@ -6953,7 +6933,7 @@ abbrev pub <b id="error_text">error_text</b> : ReplayError → List ℕ
 -- the words of a wording, and then its numbers, the second after a space
 abbrev pub <b id="wording_text">wording_text</b> : Wording → List ℕ
 <a href="../../script/Texts/index.html#wording_text">wording_text</a> wording =
-    wording.start.now ++ (wording.words.now ++ (<a href="../../script/Fronts/index.html#number_text">number_text</a> [] wording.first ++ <a href="../../script/Fronts/index.html#number_text">number_text</a> (codes " ") wording.second))
+    wording.start.now ++ (wording.words.now ++ (<a href="../../script/Printing/index.html#number_text">number_text</a> [] wording.first ++ <a href="../../script/Printing/index.html#number_text">number_text</a> (codes " ") wording.second))
 </code></pre>
 "####]
     pub mod Texts {}
