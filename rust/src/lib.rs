@@ -126,7 +126,6 @@ mod examples;
 
 mod float;
 mod func_type;
-mod lane_index;
 #[cfg(doc)]
 pub mod laws {
     //! What holds of all values, memories, runs and scripts, beyond what the contract of one function says.

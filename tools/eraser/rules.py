@@ -154,9 +154,10 @@ class File(Source):
             return []
         if is_public and (unknown := [it for it in required if it not in REQUIRES]):
             raise Unknown(f"{name} requires {unknown[0]}")
-        of_trait = OF_TRAITS.get(name)
-        is_of_trait = of_trait and set(re.findall(r"\w+", head)).issuperset(re.findall(r"\w+", of_trait[0]))
-        return [REQUIRES[it] for it in required if is_public] + [of_trait] * bool(is_of_trait)
+        tests = [REQUIRES[it] for it in required if is_public]
+        if (of_trait := OF_TRAITS.get(name)) and (named := re.search(of_trait[0], head)):
+            tests.append((of_trait[1].format(*named.groups()), of_trait[2]))
+        return tests
 
     def docs(self, title, lines, found, after=""):
         """A section of an item's docs, with the links of a contract."""

@@ -40,8 +40,9 @@ REQUIRES = {
          "what the limiter holds isn't the machine's totals"),
 }
 
-# The same of functions of public traits: an implementation here that uses the parameters has the test, or hands them on to one that has it.
-OF_TRAITS = {"growing": GROWS, "memory_growing": None, "table_growing": None}
+# The same of functions of public traits, whatever an implementation here calls the parameters that it uses: those of a pattern, the test
+# of them, and what it says. Or it hands them on to one that has the test.
+OF_TRAITS = {"growing": (r"(\w{2,}): usize, (\w{2,}): usize", "{} <= {}", GROWS[1]), "memory_growing": None, "table_growing": None}
 
 # What has no test, and why. The callers of a function that Rust doesn't export are proved.
 NO_TEST_CAN = "a closure or an iterator that panics"

@@ -1,5 +1,5 @@
 -- What calls and lines do to a machine with its limiter.
-use Rattle.std.proofs.Common.{◌≡◌, Some, Ok, Err, List, Result, IfOk, OnErr, [], ◌∷◌, refl, sym, subst, ap, arith, ℕ, inl, inr, ◌∙◌, ◌+◌, Option, None, sum}
+use Rattle.std.proofs.Common.{◌≡◌, Some, Ok, Err, List, Result, IfOk, OnErr, [], ◌∷◌, refl, sym, subst, ap, arith, ℕ, inl, inr, ◌∙◌, ◌+◌, Option, None, sum, ◌≤◌, ◌<◌, ◌⊎◌, ◌++◌, length, drop}
 use Rattle.std.proofs.lemmas.Option.{same_Some}
 use Rattle.std.specs.Global.{Global}
 use Rattle.std.specs.Prelude.{◌≢◌, Vec, IfSome, MatchOption}
@@ -9,7 +9,6 @@ use Rattle.wasmi_meter.specs.AnyLimiter.{any_limiter_rules, caps_of}
 use Rattle.wasmi_meter.specs.Limiter.{optional_rules}
 use Rattle.wasmi_meter.specs.Capped.{holdings, quota_rules, IsWithinCaps, SameCaps}
 use Rattle.wasmi_meter.specs.declared.any_limiter.AnyLimiter.{AnyLimiter}
-use Rattle.wasmi_meter.specs.declared.any_limiter.AnyLimiter.TheVariants as limiter
 use Rattle.wasmi_meter.specs.declared.limiter.Kind.TheVariants.{Bytes, Elements}
 use Rattle.wasmi_meter.specs.declared.quota.Quota.{Quota}
 use Rattle.wasmi_core.specs.Determinism.{RelatesByKind, RunsKeepKind}
@@ -21,13 +20,13 @@ use Rattle.wasmi_core.specs.declared.calls.Reply.{Reply}
 use Rattle.wasmi_c.specs.Machine.Laws.{IsCapped, IsKept, Keeps, MachineValue, QuotasAreKept, CallsAreRuns}
 use Rattle.wasmi_grammar.specs.declared.script.Script.{Script}
 use Rattle.wasmi_grammar.specs.Lines.{WritesScript, calls_of, IsFirstBadLine}
-use Rattle.wasmi_script.specs.Outcomes.{replies_text}
+use Rattle.wasmi_script.specs.Outcomes.{replies_text, status_number, Replays}
 use Rattle.wasmi_c.specs.Machine.Calls.{MachineRuns, RefusesLines, RunsLines, WritesOut, no_header, RepliesToCopy, RepliesToSegment, RepliesInStatus, RepliesInWord, item_load, item_load_in, item_load_numbered, item_store_in, item_store_numbered, vector_binary_in, vector_binary_numbered, word_after, MachineReplies, RepliesInStruct, RepliesToStruct}
 use Rattle.wasmi_c.specs.declared.machine.reply_struct.ReplyStruct.{ReplyStruct}
 use Rattle.wasmi_types.specs.declared.value.RefType.{RefType}
 use Rattle.wasmi_core.specs.declared.calls.Call.TheVariants.{NewSegment, Binary, GetFuel, Load, Store}
 use Rattle.wasmi_c.specs.Machine.Replies.{only, reply_struct, status_of, with_number}
-use Rattle.wasmi_c.specs.Status.{bad_line_status, header_line_status, no_call_status, no_room_status}
+use Rattle.wasmi_c.specs.Status.{bad_line_status, header_line_status, no_call_status, no_room_status, text_too_short_status}
 use Rattle.wasmi_c.specs.Types.{reference_type_of}
 use Rattle.wasmi_ops.specs.ScalarOps.{stored_bytes}
 use Rattle.wasmi_ops.specs.declared.scalar.access.LoadOp.{LoadOp}
@@ -39,14 +38,17 @@ use Rattle.wasmi_core.specs.ValueEffects.{get_fuel_reply}
 use Rattle.wasmi_core.specs.MemoryEffects.{StoresMemoryAt, load_reply}
 use Rattle.wasmi_c.specs.Instruction.{load_numbered, store_numbered, binary_numbered}
 use Rattle.wasmi_c.specs.Machine.CallStructs.{call_as, call_of, kind_of, binary_as, load_as, store_as}
+use Rattle.wasmi_c.specs.declared.machine.call_struct.CallStruct.{CallStruct}
+use Rattle.wasmi_c.specs.declared.machine.kind.Kind.TheVariants.{Memory, Register}
+use Rattle.wasmi_script.specs.declared.replaying.Status.{Status}
+use Rattle.wasmi_c.specs.Script.{AnswersScript, StandsIn, IsTooLongFor}
+use Rattle.wasmi_meter.specs.declared.any_limiter.AnyLimiter.TheVariants as limiter
 use Rattle.wasmi_c.specs.declared.instruction.binary.Binary as binaries
 use Rattle.wasmi_c.specs.declared.instruction.binary.Binary.TheVariants as two
 use Rattle.wasmi_c.specs.declared.instruction.load.Load as loads
 use Rattle.wasmi_c.specs.declared.instruction.load.Load.TheVariants as item
 use Rattle.wasmi_c.specs.declared.instruction.store.Store as stores
 use Rattle.wasmi_c.specs.declared.instruction.store.Store.TheVariants as stored
-use Rattle.wasmi_c.specs.declared.machine.call_struct.CallStruct.{CallStruct}
-use Rattle.wasmi_c.specs.declared.machine.kind.Kind.TheVariants.{Memory, Register}
 use Rattle.wasmi_c.specs.declared.machine.kind.MemoryCall.TheVariants as kinds
 use Rattle.wasmi_c.specs.declared.machine.kind.RegisterCall.TheVariants as registers
 
@@ -382,3 +384,26 @@ pub struct_loaded : (numbers : CallStruct) (op : LoadOp) (machine : MachineValue
 struct_loaded numbers op machine reply is told =
     struct_told numbers (Load op numbers.index numbers.ptr numbers.offset) machine _ reply machine is
     (0, 0, record { free = (refl, refl); effect = refl; after = refl }) told
+
+module _ (script old new printed : List ℕ) (needed status : ℕ) (ended : Status)
+    (replays : Replays (Some script) (Some []) (Some printed) ended) (counted : needed ≡ length printed) where
+  -- a script is answered where what it prints stands at the front or doesn't fit
+  answers : (StandsIn printed old new × (status ≡ status_number ended))
+      ⊎ (IsTooLongFor printed old new × (status ≡ text_too_short_status)) → AnswersScript script old new needed status
+  answers answered = record {
+    printed = printed;
+    ended = ended;
+    replays = replays;
+    length_needed = counted;
+    answered = answered;
+  }
+
+  -- a text that fits stands at the front
+  pub stands : length printed ≤ length old → new ≡ printed ++ drop (length printed) old → status ≡ status_number ended
+      → AnswersScript script old new needed status
+  stands fits written is = answers (inl ((fits, written), is))
+
+  -- one that doesn't fit isn't written
+  pub too_long : length old < length printed → new ≡ old → status ≡ text_too_short_status
+      → AnswersScript script old new needed status
+  too_long longer same is = answers (inr ((longer, same), is))

@@ -1,9 +1,9 @@
 -- Growths of and writes to what lies with C: what they take of its meter, and under which limiter they are.
-use Rattle.std.proofs.Common.{◌≡◌, Bool, true, false, ℕ, ◌-◌, Option, Some, None, Result, refl, ap, inl, inr, arith, Ok, Err, List, take}
+use Rattle.std.proofs.Common.{◌≡◌, Bool, true, false, ℕ, ◌-◌, Option, Some, None, Result, refl, ap, inl, inr, arith, Ok, Err, List, take, ◌∙◌}
 use Rattle.std.specs.Prelude.{MatchBool, nat_eq, if◌then◌else◌}
 use Rattle.std.specs.Option.{option_map, unwrap_or}
 use Rattle.wasmi_meter.specs.declared.fuel.CustomFuelCosts.{CustomFuelCosts}
-use Rattle.wasmi_meter.specs.Limiter.{Rules, Question, Answer, Failure, NoticeAnswer, optional_rules}
+use Rattle.wasmi_meter.specs.Limiter.{Rules, Question, Answer, Failure, NoticeAnswer, optional_rules, AskedIf, NoticedIf}
 use Rattle.wasmi_meter.specs.Meter.{Meter, meter_after}
 use Rattle.wasmi_store.specs.Growth.{Growth, Grows, metered_value, metered, BulkWrites, bytes_due}
 use Rattle.wasmi_c.specs.Numbers.{meter_of, with_left, KeepsMeter, MeteredRegion, SameRest, limiter_of, quota_numbers_rules, Embedded, embedded}
@@ -12,10 +12,12 @@ use Rattle.wasmi_meter.specs.declared.error.MemoryError.{MemoryError}
 use Rattle.wasmi_meter.specs.declared.error.MemoryError.TheVariants.{OutOfFuel}
 use Rattle.wasmi_meter.specs.Attempt.{covers, Request, AttemptOutcome, Unasked, Denied, Met, Failed, Follows}
 use Rattle.wasmi_c.specs.MemoryCalls.{WritesBytesAs, of_memory}
-use Rattle.wasmi_c.specs.Placement.{status_of, written_number, Placement, GrowsAs}
+use Rattle.wasmi_c.specs.Placement.{status_of, written_number, Placement, GrowsAs, Limited, limiter_after, Allows, SettlesGrowth, SettlesCreation}
 use Rattle.wasmi_meter.specs.declared.quota.Quota.{Quota}
 use Rattle.wasmi_meter.specs.Capped.{quota_rules}
 use Rattle.wasmi_c.specs.declared.quota.QuotaNumbers.{QuotaNumbers}
+use Rattle.wasmi_c.specs.Host.{fresh, host_rules}
+use Rattle.wasmi_c.specs.declared.host.HostAnswers.{HostAnswers}
 
 -- a meter of which nothing is taken
 pub none_taken : (left : Option ℕ) (costs : CustomFuelCosts)
@@ -216,3 +218,93 @@ module _ {H T V E : Type 0} (p : Placement H T V E) (growth : List ℕ → V →
       (embedded h' region' m' (limiter_of q') n')
   by_quota q q' g =
       under g (limiter_of q) (limiter_of q') (growth_as_quota _ _ _ _ _ q q' g.result g.grows.0 g.grows.1)
+
+-- where the answers are as they began, nobody was asked or told
+untouched : {S : Type 0} (a a' : HostAnswers) (l : Limited S) → a' ≡ fresh a → limiter_after a' l ≡ l.before
+untouched a a' l same = rw same refl
+
+module _ {V E S : Type 0} (rules : Rules S) (e : Request V E) (a a' : HostAnswers) (l : Limited S)
+    (allows : Allows rules e a' l) where
+  -- an answer to the question is one by the rules, and the limiter is then what it was after the question
+  by_answer : (answer : Answer)
+      → AskedIf host_rules (Some (fresh a)) e.question answer (Some a')
+      → rules.asked l.before e.question answer (limiter_after a' l)
+  by_answer answer asks =
+      let was_asked : a'.asked ≡ 1 = ap (λ (h : HostAnswers). h.asked) asks.1 in
+      let kept : a'.answer ≡ a.answer = ap (λ (h : HostAnswers). h.answer) asks.1 in
+      let state : limiter_after a' l ≡ l.asked = rw asks.1 refl in
+      rw (state, asks.0, ← kept) (allows.asks was_asked)
+
+  -- a failure after the permission is one by the rules, and the limiter is then what it was after the notice
+  by_failure : (cause : E) (notice_answer : NoticeAnswer) (permitted : Option HostAnswers)
+      → AskedIf host_rules (Some (fresh a)) e.question (Ok true) permitted
+      → NoticedIf host_rules permitted (e.notice cause) notice_answer (Some a')
+      → (p : S) × rules.asked l.before e.question (Ok true) p
+      × rules.noticed p (e.notice cause) notice_answer (limiter_after a' l)
+  by_failure cause notice_answer None asks tells = absurd asks
+  by_failure cause notice_answer (Some b) asks tells =
+      let was_asked : a'.asked ≡ 1 =
+      ap (λ (h : HostAnswers). h.asked) tells.1 ∙ ap (λ (h : HostAnswers). h.asked) asks.1 in
+      let was_told : a'.told ≡ 1 = ap (λ (h : HostAnswers). h.told) tells.1 in
+      let answered : a'.answer ≡ a.answer =
+      ap (λ (h : HostAnswers). h.answer) tells.1 ∙ ap (λ (h : HostAnswers). h.answer) asks.1 in
+      let noticed : a'.notice_answer ≡ b.notice_answer = ap (λ (h : HostAnswers). h.notice_answer) tells.1 in
+      let state : limiter_after a' l ≡ l.told = rw tells.1 refl in (
+        l.asked,
+        rw asks.0 (rw answered at allows.asks was_asked),
+        rw (state, tells.0, ← noticed) (allows.tells was_told cause),
+      )
+
+  -- so is each end of an attempt
+  by_outcome : (outcome : AttemptOutcome E)
+      → Follows e (optional_rules host_rules) (Some (fresh a)) outcome (Some a')
+      → Follows e rules l.before outcome (limiter_after a' l)
+  by_outcome (Unasked cause) same = let e : a' ≡ fresh a = cc in untouched a a' l e
+  by_outcome (Denied answer) asks = by_answer answer asks
+  by_outcome Met asks = by_answer (Ok true) asks
+  by_outcome (Failed cause notice_answer) fails = by_failure cause notice_answer fails.0 fails.1 fails.2
+
+-- so is a growth
+pub settled_growth : {V E S : Type 0} (rules : Rules S) (g : Growth V E) (x : V)
+    → SettlesGrowth rules g x
+settled_growth rules g x x' m m' a a' l result charge grows allows =
+    elim grows [
+      | inl none ↦
+          let value : x' ≡ x = ap (λ s. s.value) none.same in
+          let meter : m' ≡ m = ap (λ s. s.meter) none.same in
+          let answers : Some a' ≡ Some (fresh a) = ap (λ s. s.limiter) none.same in
+          let e : a' ≡ fresh a = cc in
+          inl (record {
+            none = none.none;
+            answered = none.answered;
+            uncharged = none.uncharged;
+            same = rw (value, meter, untouched a a' l e) refl;
+          })
+      | inr some ↦ inr (record {
+        some = some.some;
+        outcome = some.outcome;
+        attempt = record {
+          may_end = some.attempt.may_end;
+          follows = by_outcome rules g.request a a' l allows some.outcome some.attempt.follows;
+          charged = some.attempt.charged;
+          meter = some.attempt.meter;
+          value = some.attempt.value;
+        };
+        answered = some.answered;
+      })
+    ]
+
+-- and a creation
+pub settled_creation : {T E S : Type 0} (rules : Rules S) (e : Request (Unit {0}) E) (made : T)
+    → SettlesCreation rules e made
+settled_creation rules e made a a' l result makes allows = (
+  makes.0,
+  record {
+    may_end = makes.1.may_end;
+    follows = by_outcome rules e a a' l allows makes.0 makes.1.follows;
+    charged = makes.1.charged;
+    meter = makes.1.meter;
+    value = makes.1.value;
+  },
+  makes.2,
+)

@@ -1,5 +1,4 @@
 pub mod PrintingLemmas
-pub mod FrontsLemmas
 pub mod OutcomesLemmas
 pub mod LengthLemmas
 pub mod DecidedLemmas

@@ -1,8 +1,6 @@
 //! What the tests share: comparisons, types, meters, and memories and tables.
-mod fuel;
 mod limiters;
 mod memories;
-mod recorder;
 mod tables;
 
 use std::alloc::Global;

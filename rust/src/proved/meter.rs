@@ -202,6 +202,7 @@ mod any_limiter {
     impl LimiterByKind for AnyLimiter {
         #[inline]
         fn growing(&mut self, kind: Kind, from: usize, to: usize) -> Result<bool, LimiterError> {
+            assert!(from <= to, "the desired size is below the current one");
             match self {
                 AnyLimiter::Unlimited => Ok(true),
                 AnyLimiter::Quota(quota) => quota.growing(kind, from, to),
@@ -322,6 +323,7 @@ mod capped {
     impl<L: CappedLimiter> LimiterByKind for L {
         #[inline]
         fn growing(&mut self, kind: Kind, from: usize, to: usize) -> Result<bool, LimiterError> {
+            assert!(from <= to, "the desired size is below the current one");
             Ok(self.take(kind, (to - from) as u64))
         }
 

@@ -1,6 +1,6 @@
 //! Linear memories and their buffers: types, and how they are made, grow, are read and are written;
 //! what the lender of a region finds in it after the loan.
-use super::recorder::{COMPLAINT, Failure, Recorder, memory_question, same_record};
+use super::limiters::{COMPLAINT, Failure, Recorder, memory_question, same_record};
 use super::{
     SUBTYPES, ample_memory, build_type, grow, lent_memory, metered, new_memory, page_type, same,
 };

@@ -1,6 +1,6 @@
 //! Tables: their types, and how they grow, are filled, copied and initialized; element segments,
 //! and the iterators that they are read of.
-use super::recorder::{COMPLAINT, Failure, Recorder, same_record, table_question};
+use super::limiters::{COMPLAINT, Failure, Recorder, same_record, table_question};
 use super::{
     SUBTYPES, external, five_functions, func, metered, metered_at, same, same_elements, table_of,
 };

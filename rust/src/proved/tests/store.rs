@@ -1,83 +1,16 @@
 //! What the tests share: comparisons, types, meters, and memories and tables.
-mod fuel {
-    //! Costs, and meters that are off.
+mod limiters {
+    //! Meters, quotas, references to limiters, a limiter that records what it is asked and told, and what a
+    //! lender knows of its limiter afterwards.
 
     use super::same;
-    use crate::proved::meter::{Fuel, FuelCostsProvider, FuelError, TableError};
+    use crate::proved::meter::{
+        Fuel, FuelCostsProvider, FuelError, Kind, LimiterError, MemoryError, NoLimits, Quota,
+        ResourceLimiter, ResourceLimiterRef, TableError,
+    };
     use crate::proved::raw::RawRef;
     use crate::rattle::TryClone;
     use crate::rattle::alloc::AllocError;
-
-    /// The same costs once more.
-    ///
-    /// # Contract
-    ///
-    /// ```text
-    /// ensures: IfOk result (λ same. costs_of same ≡ costs_of provider.now)
-    /// ```
-    fn same_costs(provider: &FuelCostsProvider) -> Result<FuelCostsProvider, AllocError> {
-        provider.try_clone()
-    }
-
-    /// A meter at the costs that stand where none are chosen.
-    ///
-    /// # Contract
-    ///
-    /// ```text
-    /// ensures: result ≡ record { left = (if enabled then Some 0 else None); costs = default_costs }
-    /// ```
-    fn default_meter(enabled: bool) -> Fuel {
-        Fuel::new(enabled, FuelCostsProvider::default())
-    }
-
-    #[test]
-    fn a_reference_has_four_bytes() {
-        let provider = same_costs(&FuelCostsProvider::default()).expect("a clone");
-        let of_15 = provider.fuel_for_copying_values::<RawRef>(15);
-        let of_16 = provider.fuel_for_copying_values::<RawRef>(16);
-        same("the default costs", [of_15, of_16], [0, 1]);
-    }
-
-    #[test]
-    fn a_meter_that_is_off_calls_no_closure() {
-        let mut fuel = default_meter(false);
-        let mut is_called = false;
-        let off = FuelError::FuelMeteringDisabled;
-        same("setting 5", fuel.set_fuel(5), Err(off));
-        let answers = [
-            fuel.consume_fuel_unchecked(0),
-            fuel.consume_fuel_unchecked(1),
-        ];
-        let expected = [Ok(0), Err(FuelError::out_of_fuel(1))];
-        same("0 and 1 unchecked", answers, expected);
-        let consumed = fuel.consume_fuel_if(|_| {
-            is_called = true;
-            1
-        });
-        same("1 if on", (consumed, is_called), (Ok(()), false));
-    }
-
-    #[test]
-    fn a_fuel_error_becomes_one_of_a_table() {
-        let answers = [
-            TableError::of_fuel(FuelError::out_of_fuel(7)),
-            TableError::of_fuel(FuelError::fuel_metering_disabled()),
-        ];
-        let expected = [
-            Ok(TableError::OutOfFuel { required_fuel: 7 }),
-            Err(FuelError::FuelMeteringDisabled),
-        ];
-        same("too little fuel, metering is off", answers, expected);
-    }
-}
-mod limiters {
-    //! Quotas, references to limiters, and what a lender knows of its limiter afterwards.
-
-    use super::recorder::{Recorder, memory_question, same_record};
-    use super::same;
-    use crate::proved::meter::{
-        LimiterError, MemoryError, NoLimits, Quota, ResourceLimiter, ResourceLimiterRef,
-    };
 
     /// Lends its limiter for one question, and knows what became of it.
     ///
@@ -142,11 +75,212 @@ mod limiters {
         let bytes = [at_first, quota.held_bytes()];
         same("held, and given back once", bytes, [5, 0]);
     }
+
+    /// The same costs once more.
+    ///
+    /// # Contract
+    ///
+    /// ```text
+    /// ensures: IfOk result (λ same. costs_of same ≡ costs_of provider.now)
+    /// ```
+    fn same_costs(provider: &FuelCostsProvider) -> Result<FuelCostsProvider, AllocError> {
+        provider.try_clone()
+    }
+
+    /// A meter at the costs that stand where none are chosen.
+    ///
+    /// # Contract
+    ///
+    /// ```text
+    /// ensures: result ≡ record { left = (if enabled then Some 0 else None); costs = default_costs }
+    /// ```
+    fn default_meter(enabled: bool) -> Fuel {
+        Fuel::new(enabled, FuelCostsProvider::default())
+    }
+
+    #[test]
+    fn a_reference_has_four_bytes() {
+        let provider = same_costs(&FuelCostsProvider::default()).expect("a clone");
+        let of_15 = provider.fuel_for_copying_values::<RawRef>(15);
+        let of_16 = provider.fuel_for_copying_values::<RawRef>(16);
+        same("the default costs", [of_15, of_16], [0, 1]);
+    }
+
+    #[test]
+    fn a_meter_that_is_off_calls_no_closure() {
+        let mut fuel = default_meter(false);
+        let mut is_called = false;
+        let off = FuelError::FuelMeteringDisabled;
+        same("setting 5", fuel.set_fuel(5), Err(off));
+        let answers = [
+            fuel.consume_fuel_unchecked(0),
+            fuel.consume_fuel_unchecked(1),
+        ];
+        let expected = [Ok(0), Err(FuelError::out_of_fuel(1))];
+        same("0 and 1 unchecked", answers, expected);
+        let consumed = fuel.consume_fuel_if(|_| {
+            is_called = true;
+            1
+        });
+        same("1 if on", (consumed, is_called), (Ok(()), false));
+    }
+
+    #[test]
+    fn a_fuel_error_becomes_one_of_a_table() {
+        let answers = [
+            TableError::of_fuel(FuelError::out_of_fuel(7)),
+            TableError::of_fuel(FuelError::fuel_metering_disabled()),
+        ];
+        let expected = [
+            Ok(TableError::OutOfFuel { required_fuel: 7 }),
+            Err(FuelError::FuelMeteringDisabled),
+        ];
+        same("too little fuel, metering is off", answers, expected);
+    }
+
+    /// What a limiter answers in place of a permission, or to a notice.
+    pub const COMPLAINT: LimiterError = LimiterError::ResourceLimiterDeniedAllocation;
+
+    /// A question to a limiter.
+    #[derive(Clone, Copy, Debug, PartialEq, Eq)]
+    pub struct Question {
+        pub kind: Kind,
+        pub current: usize,
+        pub desired: usize,
+        pub maximum: Option<usize>,
+    }
+
+    /// Why a memory or a table wasn't made or didn't grow.
+    #[derive(Clone, Copy, Debug, PartialEq, Eq)]
+    pub enum Failure {
+        Memory(MemoryError),
+        Table(TableError),
+    }
+
+    /// Gives each question the answer and each notice the notice_answer that it was told to give, and
+    /// keeps what it was asked and told last, and how often.
+    pub struct Recorder {
+        pub answer: Result<bool, LimiterError>,
+        pub notice_answer: Result<(), LimiterError>,
+        pub questions: u32,
+        pub question: Option<Question>,
+        pub notices: u32,
+        pub notice: Option<Failure>,
+    }
+
+    impl Recorder {
+        pub(super) fn new(
+            answer: Result<bool, LimiterError>,
+            notice_answer: Result<(), LimiterError>,
+        ) -> Self {
+            Recorder {
+                answer,
+                notice_answer,
+                questions: 0,
+                question: None,
+                notices: 0,
+                notice: None,
+            }
+        }
+
+        fn is_asked(&mut self, question: Option<Question>) -> Result<bool, LimiterError> {
+            self.questions = self.questions.saturating_add(1);
+            self.question = question;
+            self.answer
+        }
+
+        fn is_told(&mut self, notice: Failure) -> Result<(), LimiterError> {
+            self.notices = self.notices.saturating_add(1);
+            self.notice = Some(notice);
+            self.notice_answer
+        }
+    }
+
+    impl ResourceLimiter for Recorder {
+        fn memory_growing(
+            &mut self,
+            current: usize,
+            desired: usize,
+            maximum: Option<usize>,
+        ) -> Result<bool, LimiterError> {
+            self.is_asked(memory_question(current, desired, maximum))
+        }
+
+        fn table_growing(
+            &mut self,
+            current: usize,
+            desired: usize,
+            maximum: Option<usize>,
+        ) -> Result<bool, LimiterError> {
+            self.is_asked(table_question(current, desired, maximum))
+        }
+
+        fn memory_grow_failed(&mut self, error: &MemoryError) -> Result<(), LimiterError> {
+            self.is_told(Failure::Memory(*error))
+        }
+
+        fn table_grow_failed(&mut self, error: &TableError) -> Result<(), LimiterError> {
+            self.is_told(Failure::Table(*error))
+        }
+
+        fn instances(&self) -> usize {
+            0
+        }
+
+        fn tables(&self) -> usize {
+            0
+        }
+
+        fn memories(&self) -> usize {
+            0
+        }
+    }
+
+    /// A question whether a memory may grow, in bytes.
+    pub(super) fn memory_question(
+        current: usize,
+        desired: usize,
+        maximum: Option<usize>,
+    ) -> Option<Question> {
+        Some(Question {
+            kind: Kind::Bytes,
+            current,
+            desired,
+            maximum,
+        })
+    }
+
+    /// A question whether a table may grow, in elements.
+    pub(super) fn table_question(
+        current: usize,
+        desired: usize,
+        maximum: Option<usize>,
+    ) -> Option<Question> {
+        Some(Question {
+            kind: Kind::Elements,
+            current,
+            desired,
+            maximum,
+        })
+    }
+
+    /// Compares what a limiter was asked and told: each of them once, or not at all.
+    pub(super) fn same_record(
+        what: &str,
+        recorder: &Recorder,
+        question: Option<Question>,
+        notice: Option<Failure>,
+    ) {
+        let numbers = (u32::from(question.is_some()), u32::from(notice.is_some()));
+        same(what, (recorder.questions, recorder.notices), numbers);
+        let last = (recorder.question, recorder.notice);
+        same(what, last, (question, notice));
+    }
 }
 mod memories {
     //! Linear memories and their buffers: types, and how they are made, grow, are read and are written;
     //! what the lender of a region finds in it after the loan.
-    use super::recorder::{COMPLAINT, Failure, Recorder, memory_question, same_record};
+    use super::limiters::{COMPLAINT, Failure, Recorder, memory_question, same_record};
     use super::{
         SUBTYPES, ample_memory, build_type, grow, lent_memory, metered, new_memory, page_type, same,
     };
@@ -409,154 +543,10 @@ mod memories {
         }
     }
 }
-mod recorder {
-    //! A limiter that remembers.
-    use super::same;
-    use crate::proved::meter::{Kind, LimiterError, MemoryError, ResourceLimiter, TableError};
-
-    /// What a limiter answers in place of a permission, or to a notice.
-    pub const COMPLAINT: LimiterError = LimiterError::ResourceLimiterDeniedAllocation;
-
-    /// A question to a limiter.
-    #[derive(Clone, Copy, Debug, PartialEq, Eq)]
-    pub struct Question {
-        pub kind: Kind,
-        pub current: usize,
-        pub desired: usize,
-        pub maximum: Option<usize>,
-    }
-
-    /// Why a memory or a table wasn't made or didn't grow.
-    #[derive(Clone, Copy, Debug, PartialEq, Eq)]
-    pub enum Failure {
-        Memory(MemoryError),
-        Table(TableError),
-    }
-
-    /// Gives each question the answer and each notice the notice_answer that it was told to give, and
-    /// keeps what it was asked and told last, and how often.
-    pub struct Recorder {
-        pub answer: Result<bool, LimiterError>,
-        pub notice_answer: Result<(), LimiterError>,
-        pub questions: u32,
-        pub question: Option<Question>,
-        pub notices: u32,
-        pub notice: Option<Failure>,
-    }
-
-    impl Recorder {
-        pub(super) fn new(
-            answer: Result<bool, LimiterError>,
-            notice_answer: Result<(), LimiterError>,
-        ) -> Self {
-            Recorder {
-                answer,
-                notice_answer,
-                questions: 0,
-                question: None,
-                notices: 0,
-                notice: None,
-            }
-        }
-
-        fn is_asked(&mut self, question: Option<Question>) -> Result<bool, LimiterError> {
-            self.questions = self.questions.saturating_add(1);
-            self.question = question;
-            self.answer
-        }
-
-        fn is_told(&mut self, notice: Failure) -> Result<(), LimiterError> {
-            self.notices = self.notices.saturating_add(1);
-            self.notice = Some(notice);
-            self.notice_answer
-        }
-    }
-
-    impl ResourceLimiter for Recorder {
-        fn memory_growing(
-            &mut self,
-            current: usize,
-            desired: usize,
-            maximum: Option<usize>,
-        ) -> Result<bool, LimiterError> {
-            self.is_asked(memory_question(current, desired, maximum))
-        }
-
-        fn table_growing(
-            &mut self,
-            current: usize,
-            desired: usize,
-            maximum: Option<usize>,
-        ) -> Result<bool, LimiterError> {
-            self.is_asked(table_question(current, desired, maximum))
-        }
-
-        fn memory_grow_failed(&mut self, error: &MemoryError) -> Result<(), LimiterError> {
-            self.is_told(Failure::Memory(*error))
-        }
-
-        fn table_grow_failed(&mut self, error: &TableError) -> Result<(), LimiterError> {
-            self.is_told(Failure::Table(*error))
-        }
-
-        fn instances(&self) -> usize {
-            0
-        }
-
-        fn tables(&self) -> usize {
-            0
-        }
-
-        fn memories(&self) -> usize {
-            0
-        }
-    }
-
-    /// A question whether a memory may grow, in bytes.
-    pub(super) fn memory_question(
-        current: usize,
-        desired: usize,
-        maximum: Option<usize>,
-    ) -> Option<Question> {
-        Some(Question {
-            kind: Kind::Bytes,
-            current,
-            desired,
-            maximum,
-        })
-    }
-
-    /// A question whether a table may grow, in elements.
-    pub(super) fn table_question(
-        current: usize,
-        desired: usize,
-        maximum: Option<usize>,
-    ) -> Option<Question> {
-        Some(Question {
-            kind: Kind::Elements,
-            current,
-            desired,
-            maximum,
-        })
-    }
-
-    /// Compares what a limiter was asked and told: each of them once, or not at all.
-    pub(super) fn same_record(
-        what: &str,
-        recorder: &Recorder,
-        question: Option<Question>,
-        notice: Option<Failure>,
-    ) {
-        let numbers = (u32::from(question.is_some()), u32::from(notice.is_some()));
-        same(what, (recorder.questions, recorder.notices), numbers);
-        let last = (recorder.question, recorder.notice);
-        same(what, last, (question, notice));
-    }
-}
 mod tables {
     //! Tables: their types, and how they grow, are filled, copied and initialized; element segments,
     //! and the iterators that they are read of.
-    use super::recorder::{COMPLAINT, Failure, Recorder, same_record, table_question};
+    use super::limiters::{COMPLAINT, Failure, Recorder, same_record, table_question};
     use super::{
         SUBTYPES, external, five_functions, func, metered, metered_at, same, same_elements,
         table_of,

@@ -1,6 +1,6 @@
 use Rattle.std.proofs.Common.{rules, subst}
 use Rattle.wasmi_script.specs.Printing.{AddsToFront}
-use Rattle.wasmi_script.proofs.FrontsLemmas.{adds_then, last_digit, one_digit}
+use Rattle.wasmi_script.proofs.PrintingLemmas.{adds_then, last_digit, one_digit}
 use Rattle.wasmi_script.proofs.lines.+put_number.Goals as goal
 
 pub returns-then-number-lt10 : goal.returns-then-number-lt10

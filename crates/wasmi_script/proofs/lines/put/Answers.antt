@@ -1,6 +1,6 @@
 use Rattle.std.proofs.Common.{◌≡◌, ◌+◌, ◌-◌, ◌<◌, ◌^◌, arith, length, rules, subst, sym, take}
 use Rattle.wasmi_script.specs.Printing.{AddsToFront}
-use Rattle.wasmi_script.proofs.FrontsLemmas.{added}
+use Rattle.wasmi_script.proofs.PrintingLemmas.{added}
 use borrow.Rule.Slice.PartMut.{put_mid}
 use Rattle.wasmi_script.proofs.lines.put.Goals as goal
 

@@ -2,8 +2,7 @@ use Rattle.std.proofs.Common.{◌≡◌, ◌++◌, ap, codes, get_or, rules, sub
 use Rattle.std.specs.Fmt.{decimal}
 use Rattle.wasmi_script.specs.Printing.{AddsToFront}
 use Rattle.wasmi_script.specs.Texts.{bytes_text}
-use Rattle.wasmi_script.proofs.FrontsLemmas.{adds_then}
-use Rattle.wasmi_script.proofs.PrintingLemmas.{texts_more}
+use Rattle.wasmi_script.proofs.PrintingLemmas.{adds_then, texts_more}
 use Rattle.wasmi_script.proofs.lines.put_bytes.Goals as goal
 
 pub loop-byte-preserved : goal.loop-byte-preserved

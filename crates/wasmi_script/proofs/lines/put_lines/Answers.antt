@@ -6,7 +6,7 @@ use Rattle.wasmi_core.specs.declared.calls.Call.{Call}
 use Rattle.wasmi_core.specs.declared.calls.Reply.{Reply}
 use Rattle.wasmi_script.specs.Printing.{AddsToFront, line}
 use Rattle.wasmi_script.specs.Texts.{reply_text}
-use Rattle.wasmi_script.proofs.FrontsLemmas.{adds_more}
+use Rattle.wasmi_script.proofs.PrintingLemmas.{adds_more}
 use Rattle.wasmi_script.proofs.lines.put_lines.Goals as goal
 
 -- what is seen of a call and its reply

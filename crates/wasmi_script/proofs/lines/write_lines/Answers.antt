@@ -1,4 +1,4 @@
-use Rattle.wasmi_script.proofs.FrontsLemmas.{fills}
+use Rattle.wasmi_script.proofs.PrintingLemmas.{fills}
 use Rattle.wasmi_script.proofs.lines.write_lines.Goals as goal
 
 pub returns-clause-front : goal.returns-clause-front
