@@ -21,7 +21,6 @@ use Rattle.wasmi_store.specs.Memory.{GrowsMemoryCharging, IsValidMemory, MakesMe
 use Rattle.wasmi_types.specs.Access.{at, overwrite}
 use Rattle.wasmi_types.specs.declared.trap.TrapCode.{TrapCode}
 use Rattle.wasmi_store.specs.Memory as memory
-use Rattle.wasmi_store.specs.Memory as memory_type
 use Rattle.wasmi_core.specs.declared.calls.Reply.TheVariants as replied
 
 -- a refused write leaves the memory
@@ -218,7 +217,7 @@ module _ (k : ℕ) (slots : List (Slot MemoryValue)) (reply : Reply) (slots' : L
 -- a memory with another memory's type and as many bytes, and a table likewise
 memory_as_long : (x x' : MemoryValue) → x'.ty ≡ x.ty → byte_count x' ≡ byte_count x → IsValidMemory x → IsValidMemory x'
 memory_as_long x x' same long valid = record {
-  type = subst memory_type.IsValid (sym same) valid.type;
+  type = subst memory.IsValid (sym same) valid.type;
   sized = subst (λ n. memory.IsSized x'.ty n) (sym long)
       (subst (λ ty. memory.IsSized ty (byte_count x)) (sym same) valid.sized);
 }

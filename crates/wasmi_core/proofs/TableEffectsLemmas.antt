@@ -25,7 +25,6 @@ use Rattle.wasmi_typed.specs.declared.typed_ref.TypedRawRef.{TypedRawRef}
 use Rattle.wasmi_types.specs.Access.{overwrite}
 use Rattle.wasmi_core.specs.declared.calls.Reply.TheVariants as replied
 use Rattle.wasmi_store.specs.Table as table
-use Rattle.wasmi_store.specs.Table as table_type
 
 module _ (s : MeteredTable) (charge : ℕ) where
   -- a refused write over a part leaves the table
@@ -235,7 +234,7 @@ set_kept k slots reply slots' index value sets =
 -- a table of another one's type with as many elements is valid
 table_as_long : (x x' : TableValue) → x'.ty ≡ x.ty → size_of x' ≡ size_of x → IsValidTable x → IsValidTable x'
 table_as_long x x' same long valid = record {
-  type = subst table_type.IsValid (sym same) valid.type;
+  type = subst table.IsValid (sym same) valid.type;
   sized = subst (λ n. table.IsSized x'.ty n) (sym long)
       (subst (λ ty. table.IsSized ty (size_of x)) (sym same) valid.sized);
 }

@@ -15,10 +15,8 @@ use Rattle.wasmi_store.specs.Growth.{Growth, Makes, Grows}
 use Rattle.wasmi_store.specs.declared.memory.ty.PageSize.{PageSize}
 use Rattle.wasmi_store.specs.declared.memory.ty.PageSize.TheVariants.{Byte, Wasm}
 use Rattle.wasmi_store.specs.Memory.{MemoryTypeValue, page_bytes, minimum_bytes, greatest_pages, in_bounds, MemoryValue, buffer_of, pages_of, new_memory, IsValidMemory, MakesMemory, GrowsMemoryCharging}
-use Rattle.wasmi_store.specs.Memory as memory_type
 use Rattle.wasmi_store.specs.Memory as memory
 use Rattle.wasmi_store.specs.Table.{TableTypeValue, is_indexable, is_within_maximum, same_type, TableValue, size_of, new_table, with_added, IsValidTable, MakesTable, GrowsTableCharging}
-use Rattle.wasmi_store.specs.Table as table_type
 use Rattle.wasmi_store.specs.Table as table
 use Rattle.wasmi_store.proofs.GrowthLemmas.{on_test}
 
@@ -77,7 +75,7 @@ all_three : (a b c : Bool) → a ≡ true → b ≡ true → c ≡ true → a &&
 all_three a b c p q r = rw (p, q, r) refl
 
 -- the minimum of a valid memory type is in its bounds
-minimum_in_bounds : (ty : MemoryTypeValue) → memory_type.IsValid ty → nat_lt (minimum_bytes ty) (2 ^ 64) ≡ true
+minimum_in_bounds : (ty : MemoryTypeValue) → memory.IsValid ty → nat_lt (minimum_bytes ty) (2 ^ 64) ≡ true
     → in_bounds ty ty.minimum ≡ true
 minimum_in_bounds ty valid below =
     let h = valid.minimum in
@@ -86,7 +84,7 @@ minimum_in_bounds ty valid below =
 
 -- a memory that is made of a valid type
 pub made_memory_is_valid : {S : Type 0} (rules : Rules S) (room : Room) (ty : MemoryTypeValue) (l : S) (x : MemoryValue)
-    (l' : S) → memory_type.IsValid ty → MakesMemory rules room ty l (Ok x) l' → IsValidMemory x
+    (l' : S) → memory.IsValid ty → MakesMemory rules room ty l (Ok x) l' → IsValidMemory x
 made_memory_is_valid rules room ty l x l' valid makes =
     let met = made_met rules (memory.creation_of room ty) (new_memory room ty) x l l' makes in
     let pages = pages_multiplied ty.page ty.minimum in
@@ -123,7 +121,7 @@ grown_memory_is_valid rules pages s result charge s' valid grows =
 
 -- a table that is made of a valid type
 pub made_table_is_valid : {S : Type 0} (rules : Rules S) (ty : TableTypeValue) (init : TypedRawRef) (l : S)
-    (x : TableValue) (l' : S) → table_type.IsValid ty → MakesTable rules ty init l (Ok x) l' → IsValidTable x
+    (x : TableValue) (l' : S) → table.IsValid ty → MakesTable rules ty init l (Ok x) l' → IsValidTable x
 made_table_is_valid rules ty init l x l' valid makes =
     let met = made_met rules (table.creation_of ty init.ty) (new_table ty init.raw) x l l' makes in
     let least = valid.minimum in

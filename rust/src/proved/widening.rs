@@ -955,7 +955,7 @@ pub mod simd {
         /// ensures lanes: (row : W.Item → ℕ)
         ///     → ((x : W.Item) (z : L.Item) → W.Item.Fits x → L.Item.Fits z → F.post f x z
         ///     → L.Item.image z ≡ row x)
-        ///     → result ≡ made.from_low_high W.Item.width L.Item.width W.Item.read row low high
+        ///     → result ≡ vector.from_low_high W.Item.width L.Item.width W.Item.read row low high
         /// ```
         ///
         /// Definitions: [`from_low_high`](crate::specs::widening::WideningTable#from_low_high).

@@ -3,7 +3,6 @@
 ghost use Rattle.std.specs.Prelude.{◌≡◌, ℕ};
 ghost use Rattle.std.specs.Int.{cast_unsigned};
 ghost use Rattle.wasmi_types.specs.Numbers.{w8, w16, w32, clamp_unsigned};
-ghost use Rattle.wasmi_simd.specs.WideningTable as made;
 ghost use Rattle.wasmi_simd.specs.WideningTable as vector;
 
 use wasmi_lanes::{FromWide, I8x16, I16x8, I32x4, Lanes, clamped_i8, clamped_i16};
@@ -65,7 +64,7 @@ fn from_low_high<W: Lanes, L: FromWide<W>, F: Fn(W::Item) -> L::Item>(
     ensures lanes { (row : W.Item → ℕ)
         → ((x : W.Item) (z : L.Item) → W.Item.Fits x → L.Item.Fits z → F.post f x z
         → L.Item.image z ≡ row x)
-        → result ≡ made.from_low_high W.Item.width L.Item.width W.Item.read row low high }
+        → result ≡ vector.from_low_high W.Item.width L.Item.width W.Item.read row low high }
 {
     L::from_low_high(W::from_v128(low), W::from_v128(high), f).into_v128()
 }
