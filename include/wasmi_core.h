@@ -41,7 +41,8 @@ typedef struct { uint64_t lo, hi; } wasmi_words;
 typedef struct { wasmi_words value; uint8_t status; } wasmi_result;
 
 /* What each call except wasmi_script_run returns. The statuses below 253 are the numbers of traps, and an instruction
-   has no other traps than these three. After any status except WASMI_DONE nothing is written. */
+   has no other traps than these three. UNKNOWN is tested first, then NO_LANE, LENGTHS_DIFFER and traps; one of an
+   element of an array is in its wasmi_result alone. After any status except WASMI_DONE nothing is written. */
 enum {
     WASMI_DONE = 0,
     /* a load or a store past the end of the bytes */
@@ -80,9 +81,9 @@ uint8_t wasmi_ternary(uint16_t number, wasmi_words a, wasmi_words b, wasmi_words
 uint8_t wasmi_ternary_each(uint16_t number, const wasmi_words *a, size_t a_len, const wasmi_words *b, size_t b_len,
                            const wasmi_words *c, size_t c_len, wasmi_words *values, size_t values_len);
 
-/* Loads and stores at ptr + offset, a sum that does not wrap, on bytes of the caller's. wasmi_load_each loads a value
-   for each element of ptrs; there are as many results. The loads and stores of whole integers (i32.load, i64.load,
-   i32.store, i64.store) are load_u32, load_u64, store32 and store64. */
+/* Loads and stores at ptr + offset, where 2^64 or more is past the end, on bytes of the caller's. wasmi_load_each
+   loads a value for each element of ptrs; there are as many results. The loads and stores of whole integers (i32.load,
+   i64.load, i32.store, i64.store) are load_u32, load_u64, store32 and store64. */
 uint8_t wasmi_load(uint16_t number, const uint8_t *memory, size_t memory_len, uint64_t ptr, uint64_t offset,
                    wasmi_words *value);
 uint8_t wasmi_load_each(uint16_t number, const uint8_t *memory, size_t memory_len, const uint64_t *ptrs,

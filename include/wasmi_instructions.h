@@ -7,7 +7,8 @@
    Results: a function that returns a value, or nothing, doesn't trap. One that returns uint8_t returns WASMI_DONE, or the
    number of its trap, as in wasmi_core.h; after a trap nothing is written. A result of 128 bits is written as two words.
 
-   Pointers and threads: as in wasmi_core.h. A load or a store is at ptr + offset, a sum that does not wrap. */
+   Pointers and threads: as in wasmi_core.h; lanes, lo and hi must not be NULL either. A load or a store is at ptr +
+   offset, where 2^64 or more is past the end. */
 #ifndef WASMI_INSTRUCTIONS_H
 #define WASMI_INSTRUCTIONS_H
 

@@ -95,10 +95,10 @@ enum {
        bytes: 1,024 for a page of 64 KiB at 64 bytes for a unit. */
     WASMI_CALL_GROW_MEMORY = 3,
     WASMI_CALL_DROP_MEMORY = 4, /* index; its size still counts */
-    /* Accesses at ptr + offset, a sum that does not wrap; op is a number of wasmi_load, wasmi_store, wasmi_load_lane or
-       wasmi_store_lane in wasmi_core.h, as WASMI_LOAD_I32_LOAD8_S; MEMORY_OUT_OF_BOUNDS. A load of an item is in the
-       reply, one of a vector in register dst; a store of an item takes value, one of a vector register a; a lane goes
-       into or comes from a. */
+    /* Accesses at ptr + offset (2^64 or more is past the end); op is a number of wasmi_load, wasmi_store, wasmi_load_lane
+       or wasmi_store_lane in wasmi_core.h, as WASMI_LOAD_I32_LOAD8_S; MEMORY_OUT_OF_BOUNDS. A load of an item is in
+       the reply, one of a vector in register dst; a store of an item takes value, one of a vector register a; a lane
+       goes into or comes from a. */
     WASMI_CALL_LOAD = 5,        /* op, index, ptr, offset, dst -> value */
     WASMI_CALL_STORE = 6,       /* op, index, ptr, offset, value, a */
     WASMI_CALL_LOAD_LANE = 7,   /* op, lane, index, ptr, offset, a, dst */
@@ -115,7 +115,8 @@ enum {
     WASMI_CALL_SET_ELEMENT = 13, /* index, to, type, reference; TABLE_TYPE, TABLE_SET */
     /* Writes over count elements of a table from to on, for fuel: TABLE_TYPE, then out of bounds, then
        TABLE_OUT_OF_FUEL. */
-    WASMI_CALL_INIT_TABLE = 14,  /* index, to, source (an element segment), from, count; .. TABLE_INIT .. */
+    WASMI_CALL_INIT_TABLE = 14,  /* index, to, source (an element segment), from, count (below 2^32 both);
+                                    .. TABLE_INIT .. */
     WASMI_CALL_COPY_TABLE = 15,  /* index, to, source (a table, this one too), from, count; .. TABLE_COPY .. */
     WASMI_CALL_FILL_TABLE = 16,  /* index, to, count, type, reference; .. TABLE_FILL .. */
     WASMI_CALL_DROP_ITEMS = 17,  /* index: the items of an element segment, which stays */
@@ -169,7 +170,8 @@ typedef struct {
 /* The statuses of replies, besides WASMI_DONE, and WASMI_MEMORY_OUT_OF_BOUNDS for a load or a store. */
 enum {
     WASMI_NO_MACHINE = 16,  /* the handle has none */
-    WASMI_NO_CALL = 17,     /* no such kind, type, instruction or lane, or a number of 32 bits that is greater */
+    WASMI_NO_CALL = 17,     /* no such kind, type, instruction or lane, count above maximum or either above what
+                               addresses or indices reach, or a number below 2^32 that is greater */
     WASMI_NO_SUCH = 18,
     WASMI_NO_ROOM = 20,     /* out of memory for a slot, a copy or a machine: nothing was asked or changed */
     WASMI_NO_ELEMENT = 21,
@@ -263,9 +265,9 @@ wasmi_totals wasmi_machine_totals(wasmi_machine *machine);
 /* Runs lines of calls, as docs/SCRIPT.md has them, one after the other, and writes what a script prints for them to the
    front of text, as much as text_len has room for -> number: the length of the whole text. First NO_MACHINE. Then, with
    nothing run and text unchanged: BAD_LINE (number: the first line that is no command, from 1; an `as` line is one),
-   HEADER_LINE if there are header lines, since the machine has its meter and its limiter already, or NO_ROOM if memory
-   is refused for the calls or for their replies. The text takes no memory. After the run TEXT_CUT, if the text has
-   2^64 - 1 bytes or more (number: 2^64 - 1). */
+   HEADER_LINE if the first lines are headers (later ones are bad), since the machine has its meter and its limiter
+   already, or NO_ROOM if memory is refused for the calls or for their replies. The text takes no memory. After the run
+   TEXT_CUT, if the text has 2^64 - 1 bytes or more (number: 2^64 - 1). */
 wasmi_reply wasmi_machine_run_lines(wasmi_machine *machine, const uint8_t *lines, size_t lines_len, uint8_t *text,
                                     size_t text_len);
 
@@ -296,7 +298,8 @@ void wasmi_pool_drop(wasmi_pool *pool);
 wasmi_reply wasmi_pool_add(wasmi_pool *pool, const wasmi_limits *limits);
 
 /* Replies to a call on the machine of a tenant. Before all else: NO_POOL, NO_CALL, NO_TENANT, then NO_ROOM if memory
-   for the reply is refused. Fuel that isn't a call's is taken by WASMI_CALL_GET_FUEL and WASMI_CALL_SET_FUEL. */
+   for the reply is refused. Fuel for what the caller does itself is taken by WASMI_CALL_GET_FUEL, then a
+   WASMI_CALL_SET_FUEL to what is left. */
 wasmi_reply wasmi_pool_call(wasmi_pool *pool, size_t tenant, const wasmi_call *call);
 
 /* As wasmi_machine_read on a tenant's machine; before all else: NO_POOL, NO_TENANT. */

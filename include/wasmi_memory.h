@@ -153,9 +153,9 @@ typedef struct {
     uint64_t to, from, count;
 } wasmi_range;
 
-/* Bulk memory. Each takes as much fuel as a copy of count bytes (wasmi_fuel_copy_cost), for no byte too. Refusals in
-   their order: INVALID_STATE, for either memory; MEMORY_ACCESS where a range ends past its memory or its bytes;
-   MEMORY_OUT_OF_FUEL with what is needed in *number. */
+/* Bulk memory. Each takes as much fuel as a copy of count bytes (wasmi_fuel_copy_cost), also where count is 0: nothing,
+   or UINT64_MAX where bytes_copied_per_fuel is 0. Refusals in their order: INVALID_STATE, for either memory;
+   MEMORY_ACCESS where a range ends past its memory or its bytes; MEMORY_OUT_OF_FUEL with what is needed in *number. */
 
 /* Fills the bytes of a range with a value; range->from isn't read. */
 uint8_t wasmi_memory_fill(const wasmi_memory *memory, uint8_t *region, size_t region_len, const wasmi_range *range,
