@@ -55,8 +55,8 @@
 //! # How to read a contract
 //!
 //! A section *Contract* has the clauses of a function as they stand in its source. `requires` is what
-//! a caller has to meet, and `ensures` is what the function then keeps; a name before the colon says
-//! what the clause is about. In a clause
+//! a caller has to meet, and `ensures` is what the function then keeps (`ensures*`: also what is lent
+//! and comes back); a name before the colon says what the clause is about. In a clause
 //!
 //! - `result` is what is returned;
 //! - of a parameter behind `&mut`, `x.old` is its value before the call and `x.new` its value after

@@ -131,7 +131,7 @@ class File(Source):
                 is_public = [it["head"] for it in ITEM.finditer(self.text, 0, found.start()) if it["kind"] == "trait"][-1].startswith("pub ")
             tests = [] if self.is_test else self.tests_of(found["name"], head, opening, clauses, is_public)
             asserts = "".join(f"\nassert!({test}, {self.mark('s', chr(34) + said + chr(34))});" for test, said in tests)
-            panics = [f"Panics if {', or if '.join(said for _, said in tests)}."] if tests and is_public else []
+            panics = [f"Panics if {', or if '.join(said for _, said in tests)}."] if tests else []
             docs = self.docs("Panics", panics, found)
             docs += self.docs("Contract", clauses, found, after=docs)
             hint = "" if self.is_test or opening == ";" or re.search(r"\b(inline|cold)\b", found["attributes"]) else self.hint(head)

@@ -200,6 +200,9 @@ mod any_limiter {
     ///
     /// Definitions: [`any_limiter_rules`](crate::specs::meter::AnyLimiter#any_limiter_rules).
     impl LimiterByKind for AnyLimiter {
+        /// # Panics
+        ///
+        /// Panics if the desired size is below the current one.
         #[inline]
         fn growing(&mut self, kind: Kind, from: usize, to: usize) -> Result<bool, LimiterError> {
             assert!(from <= to, "the desired size is below the current one");
@@ -321,6 +324,9 @@ mod capped {
     ///
     /// Definitions: [`capped_rules`](crate::specs::meter::Capped#capped_rules).
     impl<L: CappedLimiter> LimiterByKind for L {
+        /// # Panics
+        ///
+        /// Panics if the desired size is below the current one.
         #[inline]
         fn growing(&mut self, kind: Kind, from: usize, to: usize) -> Result<bool, LimiterError> {
             assert!(from <= to, "the desired size is below the current one");

@@ -79,7 +79,11 @@ impl<T> Vec<T> {
         Ok(())
     }
 
-    /// Appends an item for which there is room.
+    /// Appends an item.
+    ///
+    /// # Panics
+    ///
+    /// Panics if there is no room for it.
     #[inline]
     pub fn push_reserved(&mut self, item: T) {
         assert!(self.0.len() < self.0.capacity(), "room");
