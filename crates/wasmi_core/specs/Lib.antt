@@ -19,7 +19,6 @@ pub use Rattle.wasmi_types.specs.FunctionType
 pub use Rattle.wasmi_types.specs.Reading
 pub use Rattle.wasmi_raw.specs.Number
 pub use Rattle.wasmi_raw.specs.RawVal
-pub use Rattle.wasmi_raw.specs.RawVal as RawVector
 pub use Rattle.wasmi_typed.specs.Typed
 pub use Rattle.wasmi_typed.specs.Global
 pub use Rattle.wasmi_access.specs.LoadStore
