@@ -10,7 +10,14 @@ use Rattle.wasmi_meter.specs.declared.fuel.FuelError.{FuelError}
 use Rattle.wasmi_meter.specs.declared.fuel.FuelError.TheVariants as fuel
 use Rattle.wasmi_store.specs.declared.table.element.SegmentError.{SegmentError}
 use Rattle.wasmi_store.specs.declared.table.element.SegmentError.TheVariants as segment
-pub use Rattle.wasmi_c.specs.declared.status.TheConstants.{DONE as done_status, TEXT_TOO_SHORT as text_too_short_status, NO_SUCH as no_such_status, NO_REGION as no_region_status, NO_ROOM as no_room_status, NO_ELEMENT as no_element_status, HAS_MACHINE as has_machine_status, BAD_LINE as bad_line_status, HEADER_LINE as header_line_status, TEXT_CUT as text_cut_status, NO_ANSWER as no_answer_status, HAS_POOL as has_pool_status, NO_TENANT as no_tenant_status, MEMORY_GROWTH as memory_growth_status, MEMORY_ACCESS as memory_access_status, TABLE_GROWTH as table_growth_status, METERING_DISABLED as metering_disabled_status, OUT_OF_FUEL as out_of_fuel_status, INVALID_STATE as invalid_state_status, ASKS as asks_status, OTHER_SIZE as other_size_status, NO_LANE as no_lane_status, LENGTHS_DIFFER as lengths_differ_status, UNKNOWN as unknown_status}
+
+-- the status of a call that is done
+abbrev pub done_status : ℕ
+done_status = 0
+
+-- the status of a script's run of which the text is longer than the caller's bytes
+abbrev pub text_too_short_status : ℕ
+text_too_short_status = 5
 
 -- the status if a handle has no machine
 abbrev pub no_machine_status : ℕ
@@ -20,15 +27,103 @@ no_machine_status = 16
 abbrev pub no_call_status : ℕ
 no_call_status = 17
 
+-- the status if there is no such memory, table, element segment, global or register
+abbrev pub no_such_status : ℕ
+no_such_status = 18
+
+-- the status if there is no spare region
+abbrev pub no_region_status : ℕ
+no_region_status = 19
+
+-- the status if memory is refused for a slot, a copy or a machine
+abbrev pub no_room_status : ℕ
+no_room_status = 20
+
+-- the status if a table has no element of an index
+abbrev pub no_element_status : ℕ
+no_element_status = 21
+
+-- the status if a handle has a machine already
+abbrev pub has_machine_status : ℕ
+has_machine_status = 22
+
+-- the status if a line is no command
+abbrev pub bad_line_status : ℕ
+bad_line_status = 23
+
+-- the status if there is a header line
+abbrev pub header_line_status : ℕ
+header_line_status = 24
+
+-- the status if lines were run whose text is too long to count
+abbrev pub text_cut_status : ℕ
+text_cut_status = 25
+
+-- the status if a number stands for no answer of a limiter
+abbrev pub no_answer_status : ℕ
+no_answer_status = 26
+
 -- the status if a handle has no pool
 abbrev pub no_pool_status : ℕ
 no_pool_status = 27
 
+-- the status if a handle has a pool already
+abbrev pub has_pool_status : ℕ
+has_pool_status = 28
+
+-- the status if no tenant of a pool has an index
+abbrev pub no_tenant_status : ℕ
+no_tenant_status = 29
+
+-- the status if a memory grows beyond its type, or a growth is denied
+abbrev pub memory_growth_status : ℕ
+memory_growth_status = 33
+
+-- the status if a read or a write ends past a memory
+abbrev pub memory_access_status : ℕ
+memory_access_status = 34
+
+-- the status if a table grows beyond its type, or a growth is denied
+abbrev pub table_growth_status : ℕ
+table_growth_status = 52
+
+-- the status if the meter is off
+abbrev pub metering_disabled_status : ℕ
+metering_disabled_status = 64
+
+-- the status if less fuel is left than is asked for
+abbrev pub out_of_fuel_status : ℕ
+out_of_fuel_status = 65
+
+-- the status if numbers stand for no memory or table on its region
+abbrev pub invalid_state_status : ℕ
+invalid_state_status = 96
+
+-- the status if a growth asks a limiter
+abbrev pub asks_status : ℕ
+asks_status = 97
+
+-- the status if the limiter was asked about another size
+abbrev pub other_size_status : ℕ
+other_size_status = 98
+
+-- the status if no lane has an index
+abbrev pub no_lane_status : ℕ
+no_lane_status = 253
+
+-- the status if arrays differ in length
+abbrev pub lengths_differ_status : ℕ
+lengths_differ_status = 254
+
+-- the status if no instruction has a number
+abbrev pub unknown_status : ℕ
+unknown_status = 255
+
 -- the status of a refused call on a memory
 abbrev pub memory_status : MemoryError → ℕ
 memory_status memory.OutOfSystemMemory = 32
-memory_status memory.OutOfBoundsGrowth = 33
-memory_status memory.OutOfBoundsAccess = 34
+memory_status memory.OutOfBoundsGrowth = memory_growth_status
+memory_status memory.OutOfBoundsAccess = memory_access_status
 memory_status memory.InvalidMemoryType = 35
 memory_status memory.InvalidStaticBufferSize = 36
 memory_status memory.ResourceLimiterDeniedAllocation = 37
@@ -42,7 +137,7 @@ table_status table.OutOfSystemMemory = 48
 table_status table.MinimumSizeOverflow = 49
 table_status table.MaximumSizeOverflow = 50
 table_status table.ResourceLimiterDeniedAllocation = 51
-table_status table.GrowOutOfBounds = 52
+table_status table.GrowOutOfBounds = table_growth_status
 table_status table.InitOutOfBounds = 53
 table_status table.FillOutOfBounds = 54
 table_status table.SetOutOfBounds = 55
@@ -52,8 +147,8 @@ table_status (table.OutOfFuel required) = 58
 
 -- the status of a refused call on a meter
 abbrev pub fuel_status : FuelError → ℕ
-fuel_status fuel.FuelMeteringDisabled = 64
-fuel_status (fuel.OutOfFuel required) = 65
+fuel_status fuel.FuelMeteringDisabled = metering_disabled_status
+fuel_status (fuel.OutOfFuel required) = out_of_fuel_status
 
 -- the status of a refused call on a global
 abbrev pub global_status : GlobalError → ℕ

@@ -1,17 +1,17 @@
 -- The types and meters that plain numbers stand for.
-use Rattle.std.specs.Prelude.{ℕ, ◌^◌, Bool, true, ◌&&◌, nat_eq, nat_le, nat_lt, if◌then◌else◌, Option, Some, None}
+use Rattle.std.specs.Prelude.{ℕ, ◌^◌, Bool, true, ◌&&◌, nat_eq, nat_le, nat_lt, if◌then◌else◌, Option, Some, None, List, [], ◌∷◌}
 use Rattle.std.specs.List.{slice_get}
 use Rattle.std.specs.Option.{option_map_or, option_and_then}
 use Rattle.wasmi_types.specs.Value.{address_bits, reference_of}
 use Rattle.wasmi_types.specs.declared.index_ty.IndexType.{IndexType}
 use Rattle.wasmi_types.specs.declared.index_ty.IndexType.TheVariants.{I32, I64}
 use Rattle.wasmi_types.specs.declared.value.ValType.{ValType}
+use Rattle.wasmi_types.specs.declared.value.ValType.TheVariants as types
 use Rattle.wasmi_types.specs.declared.value.RefType.{RefType}
 use Rattle.wasmi_meter.specs.Meter.{Meter}
 use Rattle.wasmi_meter.specs.declared.fuel.CustomFuelCosts.{CustomFuelCosts}
 use Rattle.wasmi_store.specs.Memory.{MemoryTypeValue, Settings, named_type, greatest_pages}
 use Rattle.wasmi_store.specs.Table.{TableTypeValue}
-use Rattle.wasmi_c.specs.declared.types.TheConstants.{VAL_TYPES}
 
 -- a value that is there where a flag isn't 0
 abbrev pub if_flag : {T : Type 0} → ℕ → T → Option T
@@ -25,9 +25,14 @@ where_true test x = if test x then Some x else None
 abbrev pub u32_of : ℕ → Option ℕ
 u32_of number = where_true (λ n. nat_lt n (2 ^ 32)) number
 
+-- the value types, by number
+abbrev pub val_types : List ValType
+val_types =
+    types.I32 ∷ types.I64 ∷ types.F32 ∷ types.F64 ∷ types.V128 ∷ types.FuncRef ∷ types.ExternRef ∷ []
+
 -- the value type of a number, if there is one
 abbrev pub val_type_of : ℕ → Option ValType
-val_type_of number = slice_get VAL_TYPES number
+val_type_of number = slice_get val_types number
 
 -- the reference type of a number, if there is one
 abbrev pub reference_type_of : ℕ → Option RefType

@@ -1,11 +1,10 @@
 -- The call that numbers stand for: a line for each kind.
-use Rattle.std.specs.Prelude.{ℕ, Option, Some, nat_eq, if◌then◌else◌, None}
+use Rattle.std.specs.Prelude.{ℕ, Option, Some, nat_eq, if◌then◌else◌, None, List, [], ◌∷◌}
 use Rattle.std.specs.List.{slice_get}
 use Rattle.std.specs.Option.{option_map, option_and_then}
 use Rattle.std.specs.Result.{result_ok}
 use Rattle.wasmi_core.specs.declared.calls.Call.{Call}
 use Rattle.wasmi_core.specs.declared.calls.Call.TheVariants as call
-use Rattle.wasmi_c.specs.declared.machine.kind.TheConstants.{KINDS}
 use Rattle.wasmi_c.specs.declared.machine.kind.Kind.{Kind}
 use Rattle.wasmi_c.specs.declared.machine.kind.Kind.TheVariants.{Meter, Memory, Table, Global, Register}
 use Rattle.wasmi_c.specs.declared.machine.kind.MeterCall.{MeterCall}
@@ -126,9 +125,21 @@ module _ (numbers : CallStruct) where
   abbrev pub shuffle_call : Option Call
   shuffle_call = option_map (call.Shuffle numbers.dst numbers.a numbers.b) (lanes_of numbers.lanes)
 
+-- the kinds of calls, by number
+abbrev pub kinds : List Kind
+kinds =
+    Meter meter.SetFuel ∷ Meter meter.GetFuel ∷ Memory memory.NewMemory ∷ Memory memory.GrowMemory
+    ∷ Memory memory.DropMemory ∷ Memory memory.Load ∷ Memory memory.Store ∷ Memory memory.LoadLane
+    ∷ Memory memory.StoreLane ∷ Table table.NewTable ∷ Table table.GrowTable ∷ Table table.DropTable
+    ∷ Table table.GetElement ∷ Table table.SetElement ∷ Table table.InitTable ∷ Table table.CopyTable
+    ∷ Table table.FillTable ∷ Table table.DropItems ∷ Global global.NewGlobal ∷ Global global.SetGlobal
+    ∷ Global global.GetGlobal ∷ Register register.SetRegister ∷ Register register.GetRegister
+    ∷ Register register.Unary ∷ Register register.Binary ∷ Register register.Ternary ∷ Register register.ExtractLane
+    ∷ Register register.ReplaceLane ∷ Register register.Shuffle ∷ []
+
 -- the kind of a number, if there is one
 unfoldable pub kind_of : ℕ → Option Kind
-kind_of number = slice_get KINDS number
+kind_of number = slice_get kinds number
 
 -- a call on the meter
 abbrev pub meter_call : MeterCall → CallStruct → Call
