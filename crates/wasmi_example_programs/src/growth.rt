@@ -3,7 +3,7 @@ ghost use Rattle.std.specs.Prelude.{Some};
 ghost use Rattle.wasmi_core.specs.Growth.{metered_value};
 ghost use Rattle.wasmi_core.specs.Limiter.{optional_rules};
 ghost use Rattle.wasmi_core.specs.Memory.{GrowsMemory};
-ghost use Rattle.wasmi_core.specs.Quota.{quota_rules};
+ghost use Rattle.wasmi_core.specs.Capped.{quota_rules};
 
 use wasmi_core::{Fuel, FuelCostsProvider, Memory, MemoryError, MemoryType, Quota};
 
