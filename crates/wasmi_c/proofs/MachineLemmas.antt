@@ -17,7 +17,8 @@ use Rattle.wasmi_core.specs.Steps.{IsRunOf, Run, RepliesWith}
 use Rattle.wasmi_core.specs.State.{State, live_at, with_memories, HoldsTotals, total, Turn, world}
 use Rattle.wasmi_core.specs.declared.calls.Call.{Call}
 use Rattle.wasmi_core.specs.declared.calls.Reply.{Reply}
-use Rattle.wasmi_c.specs.Machine.Laws.{IsCapped, IsKept, Keeps, MachineValue, QuotasAreKept, CallsAreRuns}
+use Rattle.wasmi_c.specs.Machine.Caps.{IsCapped, IsKept, Keeps, MachineValue}
+use Rattle.wasmi_c.specs.Machine.Calls.{QuotasAreKept, CallsAreRuns}
 use Rattle.wasmi_grammar.specs.declared.script.Script.{Script}
 use Rattle.wasmi_grammar.specs.Lines.{WritesScript, calls_of, IsFirstBadLine}
 use Rattle.wasmi_script.specs.Outcomes.{replies_text, status_number, Replays}

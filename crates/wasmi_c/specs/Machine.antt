@@ -1,6 +1,7 @@
 -- A machine behind a handle.
+pub mod Caps
 pub mod NewMachines
 pub mod CallStructs
 pub mod Replies
 pub mod Calls
-pub mod Laws
+pub mod Lending

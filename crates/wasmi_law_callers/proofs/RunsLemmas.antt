@@ -27,7 +27,8 @@ use Rattle.wasmi_budget.specs.Laws.{CapsHold, OthersDontShow, RunsAsAlone, Ran}
 use Rattle.wasmi_laws.proofs.ListLemmas.{set_other}
 use Rattle.wasmi_c.specs.Machine.CallStructs.{call_of}
 use Rattle.wasmi_c.specs.Machine.Calls.{ActsOnHeld, RepliesInStruct, RepliesToStruct}
-use Rattle.wasmi_c.specs.Machine.Laws.{MachineValue, CallsAreRuns, MachineRunsJoin}
+use Rattle.wasmi_c.specs.Machine.Caps.{MachineValue}
+use Rattle.wasmi_c.specs.Machine.Calls.{CallsAreRuns, MachineRunsJoin}
 use Rattle.wasmi_c.specs.Machine.Replies.{only}
 use Rattle.wasmi_c.specs.Pool.{TenantReplies, TenantRepliesToStruct}
 use Rattle.wasmi_c.specs.Status.{no_call_status, no_machine_status, no_pool_status}

@@ -25,7 +25,7 @@ use Rattle.wasmi_meter.specs.declared.amounts.Amounts.{Amounts}
 use Rattle.wasmi_budget.specs.declared.tenant.Tenant.{Tenant}
 use Rattle.wasmi_budget.specs.Pool.{tenant_rules, without_others, PoolValue, IsWithinCaps, tenant_at}
 use Rattle.wasmi_budget.specs.Laws.{PoolTurn, Ran, PoolRun}
-use Rattle.wasmi_c.specs.Machine.Laws.{MachineValue}
+use Rattle.wasmi_c.specs.Machine.Caps.{MachineValue}
 use Rattle.wasmi_c.specs.Machine.Calls.{MachineRuns}
 use Rattle.wasmi_c.specs.Machine.Replies.{reply_struct}
 use Rattle.wasmi_c.specs.declared.machine.reply_struct.ReplyStruct.{ReplyStruct}

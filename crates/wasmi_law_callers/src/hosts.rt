@@ -3,7 +3,7 @@
 ghost use Rattle.std.specs.Prelude.{◌≡◌, ◌≢◌, ℕ, Some, true, Option, length};
 ghost use Rattle.wasmi_core.specs.declared.calls.Call.{Call};
 ghost use Rattle.wasmi_c.specs.Machine.CallStructs.{call_of};
-ghost use Rattle.wasmi_c.specs.Machine.Laws.{MachineValue};
+ghost use Rattle.wasmi_c.specs.Machine.Caps.{MachineValue};
 ghost use Rattle.wasmi_budget.specs.Pool.{PoolValue};
 ghost use Rattle.wasmi_law_callers.specs.Runs.{KeepsTenant, RunsBoth};
 ghost use Rattle.wasmi_meter.specs.Capped.{IsWithinCaps};

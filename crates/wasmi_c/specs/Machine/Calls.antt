@@ -1,23 +1,23 @@
--- What a call does to a machine with its limiter.
-use Rattle.std.specs.Prelude.{◌≡◌, ◌⊎◌, ◌≤◌, ◌<◌, ◌-◌, ℕ, List, length, Option, Some, None, MatchOption, Vec, ◌≢◌, ◌^◌, nat_lt, if◌then◌else◌}
+-- What a call does to a machine with its limiter, what lines of calls do, and what holds of all calls and runs.
+use Rattle.std.specs.Prelude.{◌≡◌, ◌⊎◌, ◌≤◌, ◌<◌, ◌-◌, ℕ, List, length, Option, Some, None, MatchOption, Vec, ◌≢◌, ◌^◌, nat_lt, if◌then◌else◌, ◌++◌, ◌∷◌, []}
 use Rattle.std.specs.Global.{Global}
 use Rattle.std.specs.Option.{option_and_then, option_map}
 use Rattle.wasmi_types.specs.Access.{at}
 use Rattle.wasmi_raw.specs.RawVal.{raw_of_vector, raw_of}
-use Rattle.wasmi_meter.specs.AnyLimiter.{any_limiter_rules}
+use Rattle.wasmi_meter.specs.AnyLimiter.{any_limiter_rules, caps_of}
 use Rattle.wasmi_meter.specs.Limiter.{optional_rules}
 use Rattle.wasmi_meter.specs.Meter.{meter_after}
 use Rattle.wasmi_meter.specs.declared.any_limiter.AnyLimiter.{AnyLimiter}
 use Rattle.wasmi_meter.specs.declared.error.MemoryError.TheVariants.{OutOfBoundsAccess}
 use Rattle.wasmi_meter.specs.declared.fuel.FuelError.TheVariants.{FuelMeteringDisabled, OutOfFuel}
 use Rattle.wasmi_meter.specs.declared.limiter.Kind.TheVariants.{Bytes, Elements}
-use Rattle.wasmi_core.specs.State.{State, live_at, total, World, world}
-use Rattle.wasmi_core.specs.Steps.{RepliesWith, IsRunOf}
+use Rattle.wasmi_core.specs.State.{State, live_at, total, World, world, Turn}
+use Rattle.wasmi_core.specs.Steps.{RepliesWith, IsRunOf, Run}
 use Rattle.wasmi_core.specs.declared.calls.Call.{Call}
 use Rattle.wasmi_core.specs.declared.calls.Call.TheVariants.{NewSegment}
 use Rattle.wasmi_core.specs.declared.calls.Reply.{Reply}
 use Rattle.wasmi_c.specs.Machine.CallStructs.{call_of}
-use Rattle.wasmi_c.specs.Machine.Laws.{MachineValue, StaysWithinCaps}
+use Rattle.wasmi_c.specs.Machine.Caps.{MachineValue, StaysWithinCaps, Keeps}
 use Rattle.wasmi_c.specs.Machine.Replies.{only, with_number, memory_refusal, fuel_refusal, reply_struct, status_of}
 use Rattle.wasmi_c.specs.Status.{done_status, no_call_status, no_machine_status, no_room_status, no_such_status, bad_line_status, header_line_status, text_cut_status}
 use Rattle.wasmi_c.specs.Types.{reference_type_of}
@@ -31,12 +31,10 @@ use Rattle.wasmi_c.specs.Instruction.{load_numbered, store_numbered, binary_numb
 use Rattle.wasmi_c.specs.declared.instruction.binary.Binary.{Binary}
 use Rattle.wasmi_c.specs.declared.instruction.load.Load.{Load}
 use Rattle.wasmi_c.specs.declared.instruction.store.Store.{Store}
-use Rattle.std.specs.Borrow.{Fml, Lends, MutBor}
-use Rattle.wasmi_c.specs.declared.machine.machine_box.MachineBox.{MachineBox}
 use Rattle.wasmi_grammar.specs.declared.header.Header.{Header}
 use Rattle.wasmi_grammar.specs.Lines.{WritesScript, calls_of, IsFirstBadLine}
 use Rattle.wasmi_grammar.specs.declared.script.Script.{Script}
-use Rattle.wasmi_script.specs.Printing.{FillsFront}
+use Rattle.wasmi_script.specs.Fronts.{FillsFront}
 use Rattle.wasmi_script.specs.Outcomes.{replies_text}
 use Rattle.wasmi_meter.specs.declared.error.MemoryError.TheVariants as errors
 use Rattle.wasmi_core.specs.declared.calls.Call.TheVariants as calls
@@ -44,8 +42,6 @@ use Rattle.wasmi_core.specs.declared.calls.Reply.TheVariants as replies
 use Rattle.wasmi_c.specs.declared.instruction.binary.Binary.TheVariants as two
 use Rattle.wasmi_c.specs.declared.instruction.load.Load.TheVariants as load
 use Rattle.wasmi_c.specs.declared.instruction.store.Store.TheVariants as store
-use Rattle.wasmi_c.specs.contracts.machine.limited_machine.LimitedMachine as machine
-use Rattle.wasmi_c.specs.contracts.machine.machine_box.MachineBox as box
 
 -- a machine with its limiter, as the laws of machines see it
 abbrev pub world_of : MachineValue → World (Option AnyLimiter)
@@ -181,14 +177,6 @@ RepliesInStatus called machine status machine' = MatchOption called
     ((status ≡ no_call_status) × (machine' ≡ machine))
     (λ one. (full : Reply) × MachineReplies one machine full machine' × (status ≡ status_of full))
 
--- a box with this machine
-abbrev pub with_machine : MachineBox → MachineValue → MachineBox
-with_machine from held = record from { held = Some held }
-
--- a box whose machine is lent ends with the last value that the machine gets
-abbrev pub LendsMachine : MutBor MachineBox → MutBor MachineValue → Fml
-LendsMachine lender lent = Lends box.the_row machine.the_row lender lent (with_machine lender.now)
-
 -- the reply that has the length of a text, or says that the text has 2 ^ 64 - 1 bytes or more
 abbrev pub length_reply : ℕ → ReplyStruct
 length_reply count = if nat_lt count (2 ^ 64 - 1)
@@ -233,3 +221,27 @@ RefusesLines lines reply = ((number : ℕ) × IsFirstBadLine lines number × (re
 unfoldable pub RunsLines : List ℕ → MachineValue → List ℕ → ReplyStruct → List ℕ → MachineValue → Type 0
 RunsLines lines machine old reply new machine' = (RefusesLines lines reply × (new ≡ old) × (machine' ≡ machine))
     ⊎ ((script : Script) × WritesScript lines script × RunsScript script machine old reply new machine')
+
+-- in a run a quota goes on to hold what its machine has, within the same caps, and no limiter becomes a quota
+abbrev pub QuotasAreKept : Type 0
+QuotasAreKept = (turns : List Turn) (s : State) (l : AnyLimiter) (s' : State) (l' : AnyLimiter)
+    → Run (optional_rules any_limiter_rules) (world s (Some l)) turns (world s' (Some l')) → Keeps s l
+    → Keeps s' l' × (caps_of l' ≡ caps_of l)
+
+-- a call on a machine is a run of this call alone
+abbrev pub CallsAreRuns : Type 0
+CallsAreRuns = (call : Call) (machine : MachineValue) (reply : Reply) (machine' : MachineValue)
+    → MachineReplies call machine reply machine' → MachineRuns (call ∷ []) machine (reply ∷ []) machine'
+
+-- a run of a machine, and a run from where it ends, are one run of all the calls, with the replies in turn
+abbrev pub MachineRunsJoin : Type 0
+MachineRunsJoin = (calls calls' : List Call) (u v w : MachineValue) (replies replies' : List Reply)
+    → MachineRuns calls u replies v → MachineRuns calls' v replies' w
+    → MachineRuns (calls ++ calls') u (replies ++ replies') w
+
+-- a machine replies to two calls with numbers, which are those of the replies of one run of both
+abbrev pub RunsBoth : Call → Call → MachineValue → ReplyStruct × ReplyStruct → Option MachineValue
+    → Type 0
+RunsBoth call call' machine replies held' = (reply : Reply) × (reply' : Reply) × (machine' : MachineValue)
+    × MachineRuns (call ∷ call' ∷ []) machine (reply ∷ reply' ∷ []) machine'
+    × (replies ≡ (reply_struct reply, reply_struct reply')) × (held' ≡ Some machine')

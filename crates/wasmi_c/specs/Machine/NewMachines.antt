@@ -9,7 +9,7 @@ use Rattle.wasmi_meter.specs.declared.any_limiter.AnyLimiter.TheVariants as limi
 use Rattle.wasmi_meter.specs.declared.limiter.Kind.TheVariants.{Bytes, Elements}
 use Rattle.wasmi_meter.specs.declared.quota.Quota.{Quota}
 use Rattle.wasmi_core.specs.State.{new_state}
-use Rattle.wasmi_c.specs.Machine.Laws.{MachineValue}
+use Rattle.wasmi_c.specs.Machine.Caps.{MachineValue}
 use Rattle.wasmi_c.specs.Status.{done_status, has_machine_status, no_answer_status, no_room_status}
 use Rattle.wasmi_c.specs.Types.{if_flag, meter_of}
 use Rattle.wasmi_c.specs.declared.machine.limits.Limits.{Limits}

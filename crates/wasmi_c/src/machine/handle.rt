@@ -42,7 +42,7 @@ pub struct Handle {
 }
 
 impl Handle {
-    ghost use Rattle.wasmi_c.specs.Machine.Laws.{IsCapped};
+    ghost use Rattle.wasmi_c.specs.Machine.Caps.{IsCapped};
 
     fn empty(alloc: Global) -> Handle
         ensures { result.machine.held ≡ None }

@@ -1,6 +1,6 @@
 //! What holds of all calls and lines by a handle. Each function does nothing: it states a law as
 //! its contract.
-ghost use Rattle.wasmi_c.specs.Machine.Laws.{CallsAreRuns, MachineRunsJoin, QuotasAreKept};
+ghost use Rattle.wasmi_c.specs.Machine.Calls.{CallsAreRuns, MachineRunsJoin, QuotasAreKept};
 
 use wasmi_core::laws;
 use wasmi_meter::{AnyLimiter, Quota};

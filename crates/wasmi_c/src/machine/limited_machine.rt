@@ -32,7 +32,7 @@ pub struct LimitedMachine {
 }
 
 impl Model for LimitedMachine {
-    ghost use Rattle.wasmi_c.specs.Machine.Laws.{MachineValue, Keeps};
+    ghost use Rattle.wasmi_c.specs.Machine.Caps.{MachineValue, Keeps};
 
     ghost Value = { MachineValue };
 
@@ -43,7 +43,7 @@ impl Model for LimitedMachine {
 
 impl LimitedMachine {
     ghost use Rattle.wasmi_c.specs.Machine.Calls.{MachineReplies, RepliesInStruct, RepliesToCopy, RepliesToSegment, RepliesToStruct, PaysFuel, totals_of};
-    ghost use Rattle.wasmi_c.specs.Machine.Laws.{IsCapped};
+    ghost use Rattle.wasmi_c.specs.Machine.Caps.{IsCapped};
     ghost use Rattle.wasmi_c.specs.Machine.NewMachines.{IsNewMachine, IsNewWithAnswers};
     ghost use Rattle.wasmi_c.specs.Machine.Replies.{reply_struct};
 

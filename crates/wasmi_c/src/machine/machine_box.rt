@@ -2,7 +2,7 @@
 ghost use Rattle.std.specs.Coded.{coded_option};
 ghost use Rattle.std.specs.Prelude.{◌≡◌, Option, IsSome};
 ghost use Rattle.wasmi_c.specs.HeldBox.{box_or_none_owns, global_token, machine_row};
-ghost use Rattle.wasmi_c.specs.Machine.Laws.{MachineValue};
+ghost use Rattle.wasmi_c.specs.Machine.Caps.{MachineValue};
 
 use crate::held_box::HeldBox;
 use crate::machine::limited_machine::LimitedMachine;
@@ -28,7 +28,7 @@ unsafe impl Send for MachineBox {}
 impl MachineBox {
     ghost use Rattle.std.specs.Borrow.{sem};
     ghost use Rattle.std.specs.Prelude.{Some};
-    ghost use Rattle.wasmi_c.specs.Machine.Calls.{LendsMachine};
+    ghost use Rattle.wasmi_c.specs.Machine.Lending.{LendsMachine};
 
     /// The machine or none, as C has it.
     pub fn from_held(held: HeldBox<LimitedMachine, Global>) -> MachineBox

@@ -39,8 +39,8 @@ use Rattle.std.proofs.VecSteps.Shapes.{after}
 use Rattle.std_alloc.proofs.BoxSteps.Form.{D, R, τ, word, handle}
 use Rattle.std_alloc.proofs.BoxSteps.Steps.{box_out, box_in}
 use Rattle.wasmi_c.proofs.HeldBoxLemmas.{found, machine_in_box as E}
-use Rattle.wasmi_c.specs.Machine.Laws.{MachineValue}
-use Rattle.wasmi_c.specs.Machine.Calls.{with_machine}
+use Rattle.wasmi_c.specs.Machine.Caps.{MachineValue}
+use Rattle.wasmi_c.specs.Machine.Lending.{with_machine}
 use Rattle.wasmi_c.specs.contracts.machine.limited_machine.LimitedMachine.{the_row as Home}
 use Rattle.wasmi_c.specs.contracts.machine.machine_box.MachineBox.{the_row as S}
 use Rattle.wasmi_c.specs.contracts.machine.machine_box.MachineBox.machine_mut as F
