@@ -34,7 +34,7 @@ use Rattle.wasmi_c.specs.declared.instruction.store.Store.{Store}
 use Rattle.wasmi_grammar.specs.declared.header.Header.{Header}
 use Rattle.wasmi_grammar.specs.Lines.{WritesScript, calls_of, IsFirstBadLine}
 use Rattle.wasmi_grammar.specs.declared.script.Script.{Script}
-use Rattle.wasmi_script.specs.Fronts.{FillsFront}
+use Rattle.wasmi_script.specs.Printing.{FillsFront}
 use Rattle.wasmi_script.specs.Outcomes.{replies_text}
 use Rattle.wasmi_meter.specs.declared.error.MemoryError.TheVariants as errors
 use Rattle.wasmi_core.specs.declared.calls.Call.TheVariants as calls
