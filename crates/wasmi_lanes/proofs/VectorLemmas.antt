@@ -206,3 +206,6 @@ module _ (w : Width) (i : ℕ) (inside : i < 128 / bits w) where
   lane_of_with_lane v k n fits = lane_of_from (λ i. if i == k then n else lane w v i) ∙ replaced_fits v n (i == k) fits
 
 pub ruleset made = (lane_of_from, lane_of_splat, lane_of_with_lane)
+
+-- the lanes of the vector of a row, where a count of lanes fills the vector
+pub ruleset rows = (lanes_of_width, lane_of_unary, lane_of_binary, lane_of_comparison)

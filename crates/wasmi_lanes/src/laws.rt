@@ -29,6 +29,7 @@ pub fn lanes_of_made_vector()
 
 /// Lane i of a vector that a row of lanes names is the row of the operands' lanes i, wrapped to the
 /// width of the lanes; `read` is how the operands' lanes are read.
+#[tactic(auto, using(crate::proofs::VectorLemmas::rows))]
 pub fn lanes_of_rows<L: Lanes>()
     ensures unary { (read : ℕ → L.Item) (row : L.Item → ℕ) (a i : ℕ) → i < L.LANES
         → lane L.Item.width (unary_of_lanes L.Item.width read row a) i

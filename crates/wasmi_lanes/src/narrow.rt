@@ -118,6 +118,7 @@ where
     ImmLaneIdx<N>: CountsLanes<N>,
     ImmLaneIdx<M>: CountsLanes<M>,
 {
+    #[tactic(auto, using(std::proofs::lemmas::List::get_or_default))]
     #[inline(always)]
     fn pairwise_unary<F: Fn(T, T) -> U>(narrow: LaneArray<T, N>, f: F) -> Self {
         let mut items = [U::ALL_ZEROS; M];
@@ -127,6 +128,7 @@ where
         LaneArray { items }
     }
 
+    #[tactic(auto, using(std::proofs::lemmas::List::get_or_default))]
     #[inline(always)]
     fn pairwise_binary<F: Fn([T; 2], [T; 2]) -> U>(
         a: LaneArray<T, N>,
@@ -153,6 +155,7 @@ where
         LaneArray { items }
     }
 
+    #[tactic(auto, using(std::proofs::lemmas::List::get_or_default))]
     #[inline(always)]
     fn high_unary<F: Fn(T) -> U>(narrow: LaneArray<T, N>, f: F) -> Self {
         let mut items = [U::ALL_ZEROS; M];
@@ -172,6 +175,7 @@ where
         LaneArray { items }
     }
 
+    #[tactic(auto, using(std::proofs::lemmas::List::get_or_default))]
     #[inline(always)]
     fn high_binary<F: Fn(T, T) -> U>(a: LaneArray<T, N>, b: LaneArray<T, N>, f: F) -> Self {
         let mut items = [U::ALL_ZEROS; M];
