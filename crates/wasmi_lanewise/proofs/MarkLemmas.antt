@@ -130,14 +130,7 @@ next_clear h n v fits whole marks i lt = elim (cases_lt (i + 1) n) [
   | inr last ↦
       let count : i + 1 ≡ n = omega arith in
       let place : suc h * i + suc h ≡ 64 =
-      omega (
-        arith,
-        mul-add (suc h) i 1,
-        mul-one (suc h),
-        mul_comm (suc h) (i + 1),
-        ap (λ m. m * suc h) count,
-        whole,
-      ) in
+      omega (arith, mul-add (suc h) i 1, mul-one (suc h), mul_comm (suc h) (i + 1), ap (λ m. m * suc h) count, whole) in
       ap (λ k. v / 2 ^ k % 2 ^ h) place ∙ ap (λ m. m % 2 ^ h) (div-eq_of_lt fits) ∙ zero-mod (2 ^ h)
 ]
 

@@ -110,6 +110,7 @@ pub(super) fn larger_s<T: SimdLane>(lhs: V128, rhs: V128) -> V128
     T::vector_of(T::choose_if_less(T::biased(b), T::biased(a), a, b))
 }
 
+#[tactic(auto, using(crate::proofs::OrderLemmas::chosen_numbers))]
 #[inline(always)]
 fn ones_if_less<T: SimdLane>(a: T::Vector, b: T::Vector) -> V128
     ensures lanes { (i : ℕ) → i < lane_count T.width
@@ -120,6 +121,7 @@ fn ones_if_less<T: SimdLane>(a: T::Vector, b: T::Vector) -> V128
     T::vector_of(T::choose_if_less(a, b, T::splat(T::ALL_ONES), T::splat(T::ALL_ZEROS)))
 }
 
+#[tactic(auto, using(crate::proofs::OrderLemmas::chosen_numbers))]
 #[inline(always)]
 fn zeros_if_less<T: SimdLane>(a: T::Vector, b: T::Vector) -> V128
     ensures lanes { (i : ℕ) → i < lane_count T.width

@@ -5,17 +5,14 @@ use Rattle.wasmi_lanes.proofs.WordVectorLemmas.{u64x2_of, words_make_binary, equ
 use Rattle.wasmi_lanewise.proofs.MarkLemmas.{differ_marks, different_filled, differs_in_lanes}
 use Rattle.wasmi_lanewise.proofs.simd.words.different.Goals as goal
 
-pub filled-requires-clause-low : goal.filled-requires-clause-low
-filled-requires-clause-low g c =
+pub filled-requires : goal.filled-requires
+filled-requires g c =
     let law = g.met.T.WordLane.laws in
     let lanes = equal_lanes _ _ law.whole (c.TOPS-tops.ensures ∙ law.highest) in
-    differ_marks _ _ _ _ (differs_in_lanes _ _ _ _ _ lanes c.word_differ.ensures.lanes)
-
-pub filled-requires-clause-high : goal.filled-requires-clause-high
-filled-requires-clause-high g c =
-    let law = g.met.T.WordLane.laws in
-    let lanes = equal_lanes _ _ law.whole (c.TOPS-tops.ensures ∙ law.highest) in
-    differ_marks _ _ _ _ (differs_in_lanes _ _ _ _ _ lanes c.word_differ-2.ensures.lanes)
+    record {
+      low = differ_marks _ _ _ _ (differs_in_lanes _ _ _ _ _ lanes c.word_differ.ensures.lanes);
+      high = differ_marks _ _ _ _ (differs_in_lanes _ _ _ _ _ lanes c.word_differ-2.ensures.lanes);
+    }
 
 pub returns : goal.returns
 unfolding comparison_of_lanes
