@@ -9,7 +9,7 @@ use Rattle.std.proofs.Math.Dec.{eqb-suc-zero}
 use Rattle.std.proofs.Math.Pow.{pow_mono}
 use Rattle.std.proofs.lemmas.Bool.{cases_lt, lt-ltb, le-ltb, le-leb}
 use Rattle.wasmi_types.specs.Numbers.{Width, w8, w16, w32, w64, bits, wrap, signed}
-use Rattle.wasmi_lanes.specs.Vector.{lane, signed_fits, unsigned, with_lane}
+use Rattle.wasmi_lanes.specs.Vector.{lane, lane_count, signed_fits, unsigned, with_lane}
 use Rattle.wasmi_lanes.proofs.VectorLemmas.{lane_below, lanes_make_vector, lane_of_from}
 use Rattle.wasmi_lanes.proofs.WordVectorLemmas.{some_bits}
 use Rattle.wasmi_simd.specs.WideningProofs.{IsWidening}
@@ -18,7 +18,7 @@ use mir.Val.{hbits}
 use Rattle.std.proofs.lemmas.Float.{T_from_true}
 use Rattle.std.proofs.lemmas.Nat.Bits.{bit_at_lowest, bit_at-suc}
 use mir.Syntax.{w128}
-use Rattle.wasmi_simd.specs.WideningTable.{lane_count, half_unary, half_binary, pairwise_unary, pairwise_binary, from_low_high, first_bits, lane_bits, every_lane, holds_below}
+use Rattle.wasmi_simd.specs.WideningTable.{half_unary, half_binary, pairwise_unary, pairwise_binary, from_low_high, first_bits, lane_bits, every_lane, holds_below}
 use Rattle.wasmi_simd.proofs.ReductionLemmas.{bits_below, holds_of_each, each_holds}
 
 -- numbers that are `low` below n and `high` from n on
@@ -182,11 +182,7 @@ wider_half narrow wide wider =
     (le-leb (hbits narrow) (hbits wide) (omega (arith, one_less narrow, one_less wide)))
   where
     one_less : (w : Width) → bits w ≡ hbits w + 1
-    one_less w8 = refl
-    one_less w16 = refl
-    one_less w32 = refl
-    one_less w64 = refl
-    one_less w128 = refl
+    one_less = elim [ w8 ↦ refl | w16 ↦ refl | w32 ↦ refl | w64 ↦ refl | w128 ↦ refl ]
 
 module _ (narrow wide : Width) (first v i at : ℕ) (wider : bits narrow ≤ bits wide) (inside : i < lane_count wide)
     (place : at ≡ first + i) where

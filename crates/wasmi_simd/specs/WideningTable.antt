@@ -1,13 +1,9 @@
 -- The vector instructions (core specification, "Numerics") that widen, narrow, shift or test lanes, by their lanes.
 use Rattle.std.specs.Prelude.{ℕ, zero, suc, ◌+◌, ◌-◌, ◌*◌, ◌/◌, Bool, true, ◌&&◌, nat_lt, if◌then◌else◌, ◌%◌, ◌^◌, not, nat_eq, nat_le, ◌+ℤ◌, ◌*ℤ◌}
 use Rattle.wasmi_types.specs.Numbers.{Width, bits, w8, w16, w32, signed, wrap, clamp_signed, clamp_unsigned}
-use Rattle.wasmi_lanes.specs.Vector.{lane, from_lanes, unsigned, unary_of_lanes, with_lane}
+use Rattle.wasmi_lanes.specs.Vector.{lane, lane_count, from_lanes, unsigned, unary_of_lanes, with_lane}
 use Rattle.std.specs.Int.{int_shr}
 use Rattle.wasmi_lanewise.specs.VectorTable.{add, swizzle, v128_bitselect, q15mulr_sat_s}
-
--- how many lanes of a width a vector has
-abbrev pub lane_count : Width → ℕ
-lane_count w = 128 / bits w
 
 -- the wide vector whose lane i is the row of the narrow lane first + i: first is 0 for the lower half, and `lane_count
 -- wide` for the upper

@@ -4,8 +4,8 @@
 ghost use Rattle.std.specs.Prelude.{◌≡◌, ◌↔◌, ℕ, ℤ, FitsSigned, ◌+◌, ◌*◌, ◌%◌, ◌^◌, ◌<◌, ◌≤◌, Bool, IsTrue, if◌then◌else◌};
 ghost use Rattle.std.specs.Int.{bit_at};
 ghost use Rattle.wasmi_types.specs.Numbers.{Width, bits, signed, wrap};
-ghost use Rattle.wasmi_lanes.specs.Vector.{lane};
-ghost use Rattle.wasmi_simd.specs.WideningTable.{lane_count, half_unary, half_binary, pairwise_unary, pairwise_binary, from_low_high, holds_below, first_bits, every_lane, lane_bits};
+ghost use Rattle.wasmi_lanes.specs.Vector.{lane, lane_count};
+ghost use Rattle.wasmi_simd.specs.WideningTable.{half_unary, half_binary, pairwise_unary, pairwise_binary, from_low_high, holds_below, first_bits, every_lane, lane_bits};
 ghost use Rattle.wasmi_simd.specs.WideningTable as vector;
 
 /// Lane i of a vector that is made of half of the narrow lanes is the row of the narrow lanes

@@ -1279,13 +1279,9 @@ pub <b id="u32x4_widened">u32x4_widened</b> : <a href="../../widening/WideningPr
 
 <pre><code>use Rattle.std.specs.Prelude.{ℕ, zero, suc, ◌+◌, ◌-◌, ◌*◌, ◌/◌, Bool, true, ◌&amp;&amp;◌, nat_lt, if◌then◌else◌, ◌%◌, ◌^◌, not, nat_eq, nat_le, ◌+ℤ◌, ◌*ℤ◌}
 use Rattle.wasmi_types.specs.Numbers.{Width, bits, w8, w16, w32, signed, <a href="../../types/Numbers/index.html#wrap">wrap</a>, clamp_signed, clamp_unsigned}
-use Rattle.wasmi_lanes.specs.Vector.{<a href="../../lanes/Vector/index.html#lane">lane</a>, <a href="../../lanes/Vector/index.html#from_lanes">from_lanes</a>, <a href="../../lanes/Vector/index.html#unsigned">unsigned</a>, <a href="../../lanes/Vector/index.html#unary_of_lanes">unary_of_lanes</a>, <a href="../../lanes/Vector/index.html#with_lane">with_lane</a>}
+use Rattle.wasmi_lanes.specs.Vector.{<a href="../../lanes/Vector/index.html#lane">lane</a>, <a href="../../lanes/Vector/index.html#lane_count">lane_count</a>, <a href="../../lanes/Vector/index.html#from_lanes">from_lanes</a>, <a href="../../lanes/Vector/index.html#unsigned">unsigned</a>, <a href="../../lanes/Vector/index.html#unary_of_lanes">unary_of_lanes</a>, <a href="../../lanes/Vector/index.html#with_lane">with_lane</a>}
 use Rattle.std.specs.Int.{int_shr}
 use Rattle.wasmi_lanewise.specs.VectorTable.{<a href="../../lanewise/VectorTable/index.html#add">add</a>, <a href="../../lanewise/VectorTable/index.html#swizzle">swizzle</a>, <a href="../../lanewise/VectorTable/index.html#v128_bitselect">v128_bitselect</a>, <a href="../../lanewise/VectorTable/index.html#q15mulr_sat_s">q15mulr_sat_s</a>}
-
--- how many lanes of a width a vector has
-abbrev pub <b id="lane_count">lane_count</b> : Width → ℕ
-<a href="../../widening/WideningTable/index.html#lane_count">lane_count</a> w = 128 / bits w
 
 -- the wide vector whose lane i is the row of the narrow lane first + i: first is 0 for the lower half, and `lane_count
 -- wide` for the upper
@@ -1312,8 +1308,8 @@ unfoldable pub <b id="pairwise_binary">pairwise_binary</b> : {A : Type 0} → (n
 unfoldable pub <b id="from_low_high">from_low_high</b> : {A : Type 0} → (wide narrow : Width) → (ℕ → A) → (A → ℕ) → ℕ → ℕ → ℕ
 <a href="../../widening/WideningTable/index.html#from_low_high">from_low_high</a> wide narrow read row low high =
     <a href="../../lanes/Vector/index.html#from_lanes">from_lanes</a> narrow
-    (λ i. if nat_lt i (<a href="../../widening/WideningTable/index.html#lane_count">lane_count</a> wide) then row (read (<a href="../../lanes/Vector/index.html#lane">lane</a> wide low i)) else row
-    (read (<a href="../../lanes/Vector/index.html#lane">lane</a> wide high (i - <a href="../../widening/WideningTable/index.html#lane_count">lane_count</a> wide))))
+    (λ i. if nat_lt i (<a href="../../lanes/Vector/index.html#lane_count">lane_count</a> wide) then row (read (<a href="../../lanes/Vector/index.html#lane">lane</a> wide low i)) else row
+    (read (<a href="../../lanes/Vector/index.html#lane">lane</a> wide high (i - <a href="../../lanes/Vector/index.html#lane_count">lane_count</a> wide))))
 
 -- whether the test holds of each number below n
 unfoldable pub <b id="holds_below">holds_below</b> : ℕ → (ℕ → Bool) → Bool
@@ -1327,11 +1323,11 @@ unfoldable pub <b id="first_bits">first_bits</b> : ℕ → (ℕ → Bool) → �
 
 -- whether the test holds of every lane
 unfoldable pub <b id="every_lane">every_lane</b> : {A : Type 0} → Width → (ℕ → A) → (A → Bool) → ℕ → Bool
-<a href="../../widening/WideningTable/index.html#every_lane">every_lane</a> w read test v = <a href="../../widening/WideningTable/index.html#holds_below">holds_below</a> (<a href="../../widening/WideningTable/index.html#lane_count">lane_count</a> w) (λ i. test (read (<a href="../../lanes/Vector/index.html#lane">lane</a> w v i)))
+<a href="../../widening/WideningTable/index.html#every_lane">every_lane</a> w read test v = <a href="../../widening/WideningTable/index.html#holds_below">holds_below</a> (<a href="../../lanes/Vector/index.html#lane_count">lane_count</a> w) (λ i. test (read (<a href="../../lanes/Vector/index.html#lane">lane</a> w v i)))
 
 -- the number whose bit i is 1 where the test holds of lane i
 unfoldable pub <b id="lane_bits">lane_bits</b> : {A : Type 0} → Width → (ℕ → A) → (A → Bool) → ℕ → ℕ
-<a href="../../widening/WideningTable/index.html#lane_bits">lane_bits</a> w read test v = <a href="../../widening/WideningTable/index.html#first_bits">first_bits</a> (<a href="../../widening/WideningTable/index.html#lane_count">lane_count</a> w) (λ i. test (read (<a href="../../lanes/Vector/index.html#lane">lane</a> w v i)))
+<a href="../../widening/WideningTable/index.html#lane_bits">lane_bits</a> w read test v = <a href="../../widening/WideningTable/index.html#first_bits">first_bits</a> (<a href="../../lanes/Vector/index.html#lane_count">lane_count</a> w) (λ i. test (read (<a href="../../lanes/Vector/index.html#lane">lane</a> w v i)))
 
 -- ---- widening: each takes the narrow width, then the wide one
 
@@ -1345,11 +1341,11 @@ abbrev pub <b id="extend_low_u">extend_low_u</b> : Width → Width → ℕ → �
 
 -- the high lanes read signed, at twice their width
 abbrev pub <b id="extend_high_s">extend_high_s</b> : Width → Width → ℕ → ℕ
-<a href="../../widening/WideningTable/index.html#extend_high_s">extend_high_s</a> narrow wide = <a href="../../widening/WideningTable/index.html#half_unary">half_unary</a> narrow wide (<a href="../../widening/WideningTable/index.html#lane_count">lane_count</a> wide) (signed narrow) (<a href="../../types/Numbers/index.html#wrap">wrap</a> wide)
+<a href="../../widening/WideningTable/index.html#extend_high_s">extend_high_s</a> narrow wide = <a href="../../widening/WideningTable/index.html#half_unary">half_unary</a> narrow wide (<a href="../../lanes/Vector/index.html#lane_count">lane_count</a> wide) (signed narrow) (<a href="../../types/Numbers/index.html#wrap">wrap</a> wide)
 
 -- the high lanes read unsigned, at twice their width
 abbrev pub <b id="extend_high_u">extend_high_u</b> : Width → Width → ℕ → ℕ
-<a href="../../widening/WideningTable/index.html#extend_high_u">extend_high_u</a> narrow wide = <a href="../../widening/WideningTable/index.html#half_unary">half_unary</a> narrow wide (<a href="../../widening/WideningTable/index.html#lane_count">lane_count</a> wide) <a href="../../lanes/Vector/index.html#unsigned">unsigned</a> (λ x. x)
+<a href="../../widening/WideningTable/index.html#extend_high_u">extend_high_u</a> narrow wide = <a href="../../widening/WideningTable/index.html#half_unary">half_unary</a> narrow wide (<a href="../../lanes/Vector/index.html#lane_count">lane_count</a> wide) <a href="../../lanes/Vector/index.html#unsigned">unsigned</a> (λ x. x)
 
 -- the products of the low lanes read signed, at twice their width
 abbrev pub <b id="extmul_low_s">extmul_low_s</b> : Width → Width → ℕ → ℕ → ℕ
@@ -1361,11 +1357,11 @@ abbrev pub <b id="extmul_low_u">extmul_low_u</b> : Width → Width → ℕ → �
 
 -- the products of the high lanes read signed, at twice their width
 abbrev pub <b id="extmul_high_s">extmul_high_s</b> : Width → Width → ℕ → ℕ → ℕ
-<a href="../../widening/WideningTable/index.html#extmul_high_s">extmul_high_s</a> narrow wide = <a href="../../widening/WideningTable/index.html#half_binary">half_binary</a> narrow wide (<a href="../../widening/WideningTable/index.html#lane_count">lane_count</a> wide) (signed narrow) (λ x y. <a href="../../types/Numbers/index.html#wrap">wrap</a> wide (x *ℤ y))
+<a href="../../widening/WideningTable/index.html#extmul_high_s">extmul_high_s</a> narrow wide = <a href="../../widening/WideningTable/index.html#half_binary">half_binary</a> narrow wide (<a href="../../lanes/Vector/index.html#lane_count">lane_count</a> wide) (signed narrow) (λ x y. <a href="../../types/Numbers/index.html#wrap">wrap</a> wide (x *ℤ y))
 
 -- the products of the high lanes read unsigned, at twice their width
 abbrev pub <b id="extmul_high_u">extmul_high_u</b> : Width → Width → ℕ → ℕ → ℕ
-<a href="../../widening/WideningTable/index.html#extmul_high_u">extmul_high_u</a> narrow wide = <a href="../../widening/WideningTable/index.html#half_binary">half_binary</a> narrow wide (<a href="../../widening/WideningTable/index.html#lane_count">lane_count</a> wide) <a href="../../lanes/Vector/index.html#unsigned">unsigned</a> (λ x y. x * y)
+<a href="../../widening/WideningTable/index.html#extmul_high_u">extmul_high_u</a> narrow wide = <a href="../../widening/WideningTable/index.html#half_binary">half_binary</a> narrow wide (<a href="../../lanes/Vector/index.html#lane_count">lane_count</a> wide) <a href="../../lanes/Vector/index.html#unsigned">unsigned</a> (λ x y. x * y)
 
 -- the sums of each two adjacent lanes read signed, at twice their width
 abbrev pub <b id="extadd_pairwise_s">extadd_pairwise_s</b> : Width → Width → ℕ → ℕ

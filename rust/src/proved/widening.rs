@@ -22,7 +22,7 @@ pub mod laws {
     ///     (read (lane narrow b (first + i))) % 2 ^ bits wide
     /// ```
     ///
-    /// Definitions: [`lane_count`](crate::specs::widening::WideningTable#lane_count), [`lane`](crate::specs::lanes::Vector#lane), [`half_unary`](crate::specs::widening::WideningTable#half_unary), [`half_binary`](crate::specs::widening::WideningTable#half_binary).
+    /// Definitions: [`lane_count`](crate::specs::lanes::Vector#lane_count), [`lane`](crate::specs::lanes::Vector#lane), [`half_unary`](crate::specs::widening::WideningTable#half_unary), [`half_binary`](crate::specs::widening::WideningTable#half_binary).
     #[inline]
     pub fn lanes_of_halves<A>() {}
 
@@ -44,7 +44,7 @@ pub mod laws {
     ///     → lane wide (vector.extend_high_u narrow wide v) i ≡ lane narrow v (lane_count wide + i)
     /// ```
     ///
-    /// Definitions: [`lane_count`](crate::specs::widening::WideningTable#lane_count), [`lane`](crate::specs::lanes::Vector#lane), [`extend_low_s`](crate::specs::widening::WideningTable#extend_low_s), [`extend_low_u`](crate::specs::widening::WideningTable#extend_low_u), [`extend_high_s`](crate::specs::widening::WideningTable#extend_high_s), [`extend_high_u`](crate::specs::widening::WideningTable#extend_high_u).
+    /// Definitions: [`lane_count`](crate::specs::lanes::Vector#lane_count), [`lane`](crate::specs::lanes::Vector#lane), [`extend_low_s`](crate::specs::widening::WideningTable#extend_low_s), [`extend_low_u`](crate::specs::widening::WideningTable#extend_low_u), [`extend_high_s`](crate::specs::widening::WideningTable#extend_high_s), [`extend_high_u`](crate::specs::widening::WideningTable#extend_high_u).
     #[inline]
     pub fn extended_lanes() {}
 
@@ -80,7 +80,7 @@ pub mod laws {
     ///     (read (lane narrow b (2 * i))) (read (lane narrow b (2 * i + 1))) % 2 ^ bits wide
     /// ```
     ///
-    /// Definitions: [`lane_count`](crate::specs::widening::WideningTable#lane_count), [`lane`](crate::specs::lanes::Vector#lane), [`pairwise_unary`](crate::specs::widening::WideningTable#pairwise_unary), [`pairwise_binary`](crate::specs::widening::WideningTable#pairwise_binary).
+    /// Definitions: [`lane_count`](crate::specs::lanes::Vector#lane_count), [`lane`](crate::specs::lanes::Vector#lane), [`pairwise_unary`](crate::specs::widening::WideningTable#pairwise_unary), [`pairwise_binary`](crate::specs::widening::WideningTable#pairwise_binary).
     #[inline]
     pub fn pairwise_lanes<A>() {}
 
@@ -101,7 +101,7 @@ pub mod laws {
     ///     ≡ row (read (lane wide high i)) % 2 ^ bits narrow
     /// ```
     ///
-    /// Definitions: [`lane_count`](crate::specs::widening::WideningTable#lane_count), [`lane`](crate::specs::lanes::Vector#lane), [`from_low_high`](crate::specs::widening::WideningTable#from_low_high).
+    /// Definitions: [`lane_count`](crate::specs::lanes::Vector#lane_count), [`lane`](crate::specs::lanes::Vector#lane), [`from_low_high`](crate::specs::widening::WideningTable#from_low_high).
     #[inline]
     pub fn lanes_of_wide_lanes<A>() {}
 
@@ -120,7 +120,7 @@ pub mod laws {
     /// ensures tests_below: (n : ℕ) (test : ℕ → Bool) → first_bits n test < 2 ^ n
     /// ```
     ///
-    /// Definitions: [`lane_count`](crate::specs::widening::WideningTable#lane_count), [`lane_bits`](crate::specs::widening::WideningTable#lane_bits), [`lane`](crate::specs::lanes::Vector#lane), [`first_bits`](crate::specs::widening::WideningTable#first_bits).
+    /// Definitions: [`lane_count`](crate::specs::lanes::Vector#lane_count), [`lane_bits`](crate::specs::widening::WideningTable#lane_bits), [`lane`](crate::specs::lanes::Vector#lane), [`first_bits`](crate::specs::widening::WideningTable#first_bits).
     #[inline]
     pub fn bits_of_lanes<A>() {}
 
@@ -137,7 +137,7 @@ pub mod laws {
     ///     → IsTrue (holds_below n test) ↔ ((i : ℕ) → i < n → IsTrue (test i))
     /// ```
     ///
-    /// Definitions: [`every_lane`](crate::specs::widening::WideningTable#every_lane), [`lane_count`](crate::specs::widening::WideningTable#lane_count), [`lane`](crate::specs::lanes::Vector#lane), [`holds_below`](crate::specs::widening::WideningTable#holds_below).
+    /// Definitions: [`every_lane`](crate::specs::widening::WideningTable#every_lane), [`lane_count`](crate::specs::lanes::Vector#lane_count), [`lane`](crate::specs::lanes::Vector#lane), [`holds_below`](crate::specs::widening::WideningTable#holds_below).
     #[inline]
     pub fn tests_of_lanes<A>() {}
 }
