@@ -39,65 +39,67 @@ replaced_vector (replace.I32x4ReplaceLane index) a raw = vector.replace_lane w32
 replaced_vector (replace.I64x2ReplaceLane index) a raw = vector.replace_lane w64 a index (signed_in w64 raw)
 
 -- the instruction on the lane of an index, where there are so many lanes
-abbrev pub on_lane : {Op : Type 0} → ℕ → ℕ → (ℕ → Op) → Option Op
-on_lane count lane op = if nat_lt lane count then Some (op lane) else None
+abbrev pub on_lane : {Op : Type 0} → ℕ → (ℕ → Op) → ℕ → Option Op
+on_lane count op lane = if nat_lt lane count then Some (op lane) else None
+
+-- each extraction of a lane: its name, and the instruction on the lane of an index
+abbrev pub extract_row : ExtractKind → List ℕ × (ℕ → Option ExtractOp)
+extract_row extract_kind.I8x16ExtractLaneS = (codes "i8x16_extract_lane_s", on_lane 16 extract.I8x16ExtractLaneS)
+extract_row extract_kind.I8x16ExtractLaneU = (codes "i8x16_extract_lane_u", on_lane 16 extract.I8x16ExtractLaneU)
+extract_row extract_kind.I16x8ExtractLaneS = (codes "i16x8_extract_lane_s", on_lane 8 extract.I16x8ExtractLaneS)
+extract_row extract_kind.I16x8ExtractLaneU = (codes "i16x8_extract_lane_u", on_lane 8 extract.I16x8ExtractLaneU)
+extract_row extract_kind.I32x4ExtractLane = (codes "i32x4_extract_lane", on_lane 4 extract.I32x4ExtractLane)
+extract_row extract_kind.I64x2ExtractLane = (codes "i64x2_extract_lane", on_lane 2 extract.I64x2ExtractLane)
+
+-- each replacement of a lane: its name, and the instruction on the lane of an index
+abbrev pub replace_row : ReplaceKind → List ℕ × (ℕ → Option ReplaceOp)
+replace_row replace_kind.I8x16ReplaceLane = (codes "i8x16_replace_lane", on_lane 16 replace.I8x16ReplaceLane)
+replace_row replace_kind.I16x8ReplaceLane = (codes "i16x8_replace_lane", on_lane 8 replace.I16x8ReplaceLane)
+replace_row replace_kind.I32x4ReplaceLane = (codes "i32x4_replace_lane", on_lane 4 replace.I32x4ReplaceLane)
+replace_row replace_kind.I64x2ReplaceLane = (codes "i64x2_replace_lane", on_lane 2 replace.I64x2ReplaceLane)
+
+-- each load of a lane: its name, and the instruction on the lane of an index
+abbrev pub load_lane_row : LoadLaneKind → List ℕ × (ℕ → Option LoadLaneOp)
+load_lane_row load_lane_kind.V128Load8Lane = (codes "v128_load8_lane", on_lane 16 load_lane.V128Load8Lane)
+load_lane_row load_lane_kind.V128Load16Lane = (codes "v128_load16_lane", on_lane 8 load_lane.V128Load16Lane)
+load_lane_row load_lane_kind.V128Load32Lane = (codes "v128_load32_lane", on_lane 4 load_lane.V128Load32Lane)
+load_lane_row load_lane_kind.V128Load64Lane = (codes "v128_load64_lane", on_lane 2 load_lane.V128Load64Lane)
+
+-- each store of a lane: its name, and the instruction on the lane of an index
+abbrev pub store_lane_row : StoreLaneKind → List ℕ × (ℕ → Option StoreLaneOp)
+store_lane_row store_lane_kind.V128Store8Lane = (codes "v128_store8_lane", on_lane 16 store_lane.V128Store8Lane)
+store_lane_row store_lane_kind.V128Store16Lane = (codes "v128_store16_lane", on_lane 8 store_lane.V128Store16Lane)
+store_lane_row store_lane_kind.V128Store32Lane = (codes "v128_store32_lane", on_lane 4 store_lane.V128Store32Lane)
+store_lane_row store_lane_kind.V128Store64Lane = (codes "v128_store64_lane", on_lane 2 store_lane.V128Store64Lane)
 
 -- an extraction of the lane of an index
 abbrev pub extract_op : ExtractKind → ℕ → Option ExtractOp
-extract_op extract_kind.I8x16ExtractLaneS lane = on_lane 16 lane (λ index. extract.I8x16ExtractLaneS index)
-extract_op extract_kind.I8x16ExtractLaneU lane = on_lane 16 lane (λ index. extract.I8x16ExtractLaneU index)
-extract_op extract_kind.I16x8ExtractLaneS lane = on_lane 8 lane (λ index. extract.I16x8ExtractLaneS index)
-extract_op extract_kind.I16x8ExtractLaneU lane = on_lane 8 lane (λ index. extract.I16x8ExtractLaneU index)
-extract_op extract_kind.I32x4ExtractLane lane = on_lane 4 lane (λ index. extract.I32x4ExtractLane index)
-extract_op extract_kind.I64x2ExtractLane lane = on_lane 2 lane (λ index. extract.I64x2ExtractLane index)
-
--- the name of an extraction of a lane
-abbrev pub extract_name : ExtractKind → List ℕ
-extract_name extract_kind.I8x16ExtractLaneS = codes "i8x16_extract_lane_s"
-extract_name extract_kind.I8x16ExtractLaneU = codes "i8x16_extract_lane_u"
-extract_name extract_kind.I16x8ExtractLaneS = codes "i16x8_extract_lane_s"
-extract_name extract_kind.I16x8ExtractLaneU = codes "i16x8_extract_lane_u"
-extract_name extract_kind.I32x4ExtractLane = codes "i32x4_extract_lane"
-extract_name extract_kind.I64x2ExtractLane = codes "i64x2_extract_lane"
+extract_op kind = (extract_row kind).1
 
 -- a replacement of the lane of an index
 abbrev pub replace_op : ReplaceKind → ℕ → Option ReplaceOp
-replace_op replace_kind.I8x16ReplaceLane lane = on_lane 16 lane (λ index. replace.I8x16ReplaceLane index)
-replace_op replace_kind.I16x8ReplaceLane lane = on_lane 8 lane (λ index. replace.I16x8ReplaceLane index)
-replace_op replace_kind.I32x4ReplaceLane lane = on_lane 4 lane (λ index. replace.I32x4ReplaceLane index)
-replace_op replace_kind.I64x2ReplaceLane lane = on_lane 2 lane (λ index. replace.I64x2ReplaceLane index)
-
--- the name of a replacement of a lane
-abbrev pub replace_name : ReplaceKind → List ℕ
-replace_name replace_kind.I8x16ReplaceLane = codes "i8x16_replace_lane"
-replace_name replace_kind.I16x8ReplaceLane = codes "i16x8_replace_lane"
-replace_name replace_kind.I32x4ReplaceLane = codes "i32x4_replace_lane"
-replace_name replace_kind.I64x2ReplaceLane = codes "i64x2_replace_lane"
+replace_op kind = (replace_row kind).1
 
 -- a load of the lane of an index
 abbrev pub load_lane_op : LoadLaneKind → ℕ → Option LoadLaneOp
-load_lane_op load_lane_kind.V128Load8Lane lane = on_lane 16 lane (λ index. load_lane.V128Load8Lane index)
-load_lane_op load_lane_kind.V128Load16Lane lane = on_lane 8 lane (λ index. load_lane.V128Load16Lane index)
-load_lane_op load_lane_kind.V128Load32Lane lane = on_lane 4 lane (λ index. load_lane.V128Load32Lane index)
-load_lane_op load_lane_kind.V128Load64Lane lane = on_lane 2 lane (λ index. load_lane.V128Load64Lane index)
-
--- the name of a load of a lane
-abbrev pub load_lane_name : LoadLaneKind → List ℕ
-load_lane_name load_lane_kind.V128Load8Lane = codes "v128_load8_lane"
-load_lane_name load_lane_kind.V128Load16Lane = codes "v128_load16_lane"
-load_lane_name load_lane_kind.V128Load32Lane = codes "v128_load32_lane"
-load_lane_name load_lane_kind.V128Load64Lane = codes "v128_load64_lane"
+load_lane_op kind = (load_lane_row kind).1
 
 -- a store of the lane of an index
 abbrev pub store_lane_op : StoreLaneKind → ℕ → Option StoreLaneOp
-store_lane_op store_lane_kind.V128Store8Lane lane = on_lane 16 lane (λ index. store_lane.V128Store8Lane index)
-store_lane_op store_lane_kind.V128Store16Lane lane = on_lane 8 lane (λ index. store_lane.V128Store16Lane index)
-store_lane_op store_lane_kind.V128Store32Lane lane = on_lane 4 lane (λ index. store_lane.V128Store32Lane index)
-store_lane_op store_lane_kind.V128Store64Lane lane = on_lane 2 lane (λ index. store_lane.V128Store64Lane index)
+store_lane_op kind = (store_lane_row kind).1
+
+-- the name of an extraction of a lane
+abbrev pub extract_name : ExtractKind → List ℕ
+extract_name kind = (extract_row kind).0
+
+-- the name of a replacement of a lane
+abbrev pub replace_name : ReplaceKind → List ℕ
+replace_name kind = (replace_row kind).0
+
+-- the name of a load of a lane
+abbrev pub load_lane_name : LoadLaneKind → List ℕ
+load_lane_name kind = (load_lane_row kind).0
 
 -- the name of a store of a lane
 abbrev pub store_lane_name : StoreLaneKind → List ℕ
-store_lane_name store_lane_kind.V128Store8Lane = codes "v128_store8_lane"
-store_lane_name store_lane_kind.V128Store16Lane = codes "v128_store16_lane"
-store_lane_name store_lane_kind.V128Store32Lane = codes "v128_store32_lane"
-store_lane_name store_lane_kind.V128Store64Lane = codes "v128_store64_lane"
+store_lane_name kind = (store_lane_row kind).0

@@ -1494,68 +1494,70 @@ abbrev pub <b id="replaced_vector">replaced_vector</b> : ReplaceOp → ℕ → R
 <a href="../../ops/LaneOps/index.html#replaced_vector">replaced_vector</a> (replace.I64x2ReplaceLane index) a raw = <a href="../../lanewise/VectorTable/index.html#replace_lane">vector.replace_lane</a> w64 a index (<a href="../../raw/RawVal/index.html#signed_in">signed_in</a> w64 raw)
 
 -- the instruction on the lane of an index, where there are so many lanes
-abbrev pub <b id="on_lane">on_lane</b> : {Op : Type 0} → ℕ → ℕ → (ℕ → Op) → Option Op
-<a href="../../ops/LaneOps/index.html#on_lane">on_lane</a> count lane op = if nat_lt lane count then Some (op lane) else None
+abbrev pub <b id="on_lane">on_lane</b> : {Op : Type 0} → ℕ → (ℕ → Op) → ℕ → Option Op
+<a href="../../ops/LaneOps/index.html#on_lane">on_lane</a> count op lane = if nat_lt lane count then Some (op lane) else None
+
+-- each extraction of a lane: its name, and the instruction on the lane of an index
+abbrev pub <b id="extract_row">extract_row</b> : ExtractKind → List ℕ × (ℕ → Option ExtractOp)
+<a href="../../ops/LaneOps/index.html#extract_row">extract_row</a> extract_kind.I8x16ExtractLaneS = (codes "i8x16_extract_lane_s", <a href="../../ops/LaneOps/index.html#on_lane">on_lane</a> 16 extract.I8x16ExtractLaneS)
+<a href="../../ops/LaneOps/index.html#extract_row">extract_row</a> extract_kind.I8x16ExtractLaneU = (codes "i8x16_extract_lane_u", <a href="../../ops/LaneOps/index.html#on_lane">on_lane</a> 16 extract.I8x16ExtractLaneU)
+<a href="../../ops/LaneOps/index.html#extract_row">extract_row</a> extract_kind.I16x8ExtractLaneS = (codes "i16x8_extract_lane_s", <a href="../../ops/LaneOps/index.html#on_lane">on_lane</a> 8 extract.I16x8ExtractLaneS)
+<a href="../../ops/LaneOps/index.html#extract_row">extract_row</a> extract_kind.I16x8ExtractLaneU = (codes "i16x8_extract_lane_u", <a href="../../ops/LaneOps/index.html#on_lane">on_lane</a> 8 extract.I16x8ExtractLaneU)
+<a href="../../ops/LaneOps/index.html#extract_row">extract_row</a> extract_kind.I32x4ExtractLane = (codes "i32x4_extract_lane", <a href="../../ops/LaneOps/index.html#on_lane">on_lane</a> 4 extract.I32x4ExtractLane)
+<a href="../../ops/LaneOps/index.html#extract_row">extract_row</a> extract_kind.I64x2ExtractLane = (codes "i64x2_extract_lane", <a href="../../ops/LaneOps/index.html#on_lane">on_lane</a> 2 extract.I64x2ExtractLane)
+
+-- each replacement of a lane: its name, and the instruction on the lane of an index
+abbrev pub <b id="replace_row">replace_row</b> : ReplaceKind → List ℕ × (ℕ → Option ReplaceOp)
+<a href="../../ops/LaneOps/index.html#replace_row">replace_row</a> replace_kind.I8x16ReplaceLane = (codes "i8x16_replace_lane", <a href="../../ops/LaneOps/index.html#on_lane">on_lane</a> 16 replace.I8x16ReplaceLane)
+<a href="../../ops/LaneOps/index.html#replace_row">replace_row</a> replace_kind.I16x8ReplaceLane = (codes "i16x8_replace_lane", <a href="../../ops/LaneOps/index.html#on_lane">on_lane</a> 8 replace.I16x8ReplaceLane)
+<a href="../../ops/LaneOps/index.html#replace_row">replace_row</a> replace_kind.I32x4ReplaceLane = (codes "i32x4_replace_lane", <a href="../../ops/LaneOps/index.html#on_lane">on_lane</a> 4 replace.I32x4ReplaceLane)
+<a href="../../ops/LaneOps/index.html#replace_row">replace_row</a> replace_kind.I64x2ReplaceLane = (codes "i64x2_replace_lane", <a href="../../ops/LaneOps/index.html#on_lane">on_lane</a> 2 replace.I64x2ReplaceLane)
+
+-- each load of a lane: its name, and the instruction on the lane of an index
+abbrev pub <b id="load_lane_row">load_lane_row</b> : LoadLaneKind → List ℕ × (ℕ → Option LoadLaneOp)
+<a href="../../ops/LaneOps/index.html#load_lane_row">load_lane_row</a> load_lane_kind.V128Load8Lane = (codes "v128_load8_lane", <a href="../../ops/LaneOps/index.html#on_lane">on_lane</a> 16 load_lane.V128Load8Lane)
+<a href="../../ops/LaneOps/index.html#load_lane_row">load_lane_row</a> load_lane_kind.V128Load16Lane = (codes "v128_load16_lane", <a href="../../ops/LaneOps/index.html#on_lane">on_lane</a> 8 load_lane.V128Load16Lane)
+<a href="../../ops/LaneOps/index.html#load_lane_row">load_lane_row</a> load_lane_kind.V128Load32Lane = (codes "v128_load32_lane", <a href="../../ops/LaneOps/index.html#on_lane">on_lane</a> 4 load_lane.V128Load32Lane)
+<a href="../../ops/LaneOps/index.html#load_lane_row">load_lane_row</a> load_lane_kind.V128Load64Lane = (codes "v128_load64_lane", <a href="../../ops/LaneOps/index.html#on_lane">on_lane</a> 2 load_lane.V128Load64Lane)
+
+-- each store of a lane: its name, and the instruction on the lane of an index
+abbrev pub <b id="store_lane_row">store_lane_row</b> : StoreLaneKind → List ℕ × (ℕ → Option StoreLaneOp)
+<a href="../../ops/LaneOps/index.html#store_lane_row">store_lane_row</a> store_lane_kind.V128Store8Lane = (codes "v128_store8_lane", <a href="../../ops/LaneOps/index.html#on_lane">on_lane</a> 16 store_lane.V128Store8Lane)
+<a href="../../ops/LaneOps/index.html#store_lane_row">store_lane_row</a> store_lane_kind.V128Store16Lane = (codes "v128_store16_lane", <a href="../../ops/LaneOps/index.html#on_lane">on_lane</a> 8 store_lane.V128Store16Lane)
+<a href="../../ops/LaneOps/index.html#store_lane_row">store_lane_row</a> store_lane_kind.V128Store32Lane = (codes "v128_store32_lane", <a href="../../ops/LaneOps/index.html#on_lane">on_lane</a> 4 store_lane.V128Store32Lane)
+<a href="../../ops/LaneOps/index.html#store_lane_row">store_lane_row</a> store_lane_kind.V128Store64Lane = (codes "v128_store64_lane", <a href="../../ops/LaneOps/index.html#on_lane">on_lane</a> 2 store_lane.V128Store64Lane)
 
 -- an extraction of the lane of an index
 abbrev pub <b id="extract_op">extract_op</b> : ExtractKind → ℕ → Option ExtractOp
-<a href="../../ops/LaneOps/index.html#extract_op">extract_op</a> extract_kind.I8x16ExtractLaneS lane = <a href="../../ops/LaneOps/index.html#on_lane">on_lane</a> 16 lane (λ index. extract.I8x16ExtractLaneS index)
-<a href="../../ops/LaneOps/index.html#extract_op">extract_op</a> extract_kind.I8x16ExtractLaneU lane = <a href="../../ops/LaneOps/index.html#on_lane">on_lane</a> 16 lane (λ index. extract.I8x16ExtractLaneU index)
-<a href="../../ops/LaneOps/index.html#extract_op">extract_op</a> extract_kind.I16x8ExtractLaneS lane = <a href="../../ops/LaneOps/index.html#on_lane">on_lane</a> 8 lane (λ index. extract.I16x8ExtractLaneS index)
-<a href="../../ops/LaneOps/index.html#extract_op">extract_op</a> extract_kind.I16x8ExtractLaneU lane = <a href="../../ops/LaneOps/index.html#on_lane">on_lane</a> 8 lane (λ index. extract.I16x8ExtractLaneU index)
-<a href="../../ops/LaneOps/index.html#extract_op">extract_op</a> extract_kind.I32x4ExtractLane lane = <a href="../../ops/LaneOps/index.html#on_lane">on_lane</a> 4 lane (λ index. extract.I32x4ExtractLane index)
-<a href="../../ops/LaneOps/index.html#extract_op">extract_op</a> extract_kind.I64x2ExtractLane lane = <a href="../../ops/LaneOps/index.html#on_lane">on_lane</a> 2 lane (λ index. extract.I64x2ExtractLane index)
-
--- the name of an extraction of a lane
-abbrev pub <b id="extract_name">extract_name</b> : ExtractKind → List ℕ
-<a href="../../ops/LaneOps/index.html#extract_name">extract_name</a> extract_kind.I8x16ExtractLaneS = codes "i8x16_extract_lane_s"
-<a href="../../ops/LaneOps/index.html#extract_name">extract_name</a> extract_kind.I8x16ExtractLaneU = codes "i8x16_extract_lane_u"
-<a href="../../ops/LaneOps/index.html#extract_name">extract_name</a> extract_kind.I16x8ExtractLaneS = codes "i16x8_extract_lane_s"
-<a href="../../ops/LaneOps/index.html#extract_name">extract_name</a> extract_kind.I16x8ExtractLaneU = codes "i16x8_extract_lane_u"
-<a href="../../ops/LaneOps/index.html#extract_name">extract_name</a> extract_kind.I32x4ExtractLane = codes "i32x4_extract_lane"
-<a href="../../ops/LaneOps/index.html#extract_name">extract_name</a> extract_kind.I64x2ExtractLane = codes "i64x2_extract_lane"
+<a href="../../ops/LaneOps/index.html#extract_op">extract_op</a> kind = (<a href="../../ops/LaneOps/index.html#extract_row">extract_row</a> kind).1
 
 -- a replacement of the lane of an index
 abbrev pub <b id="replace_op">replace_op</b> : ReplaceKind → ℕ → Option ReplaceOp
-<a href="../../ops/LaneOps/index.html#replace_op">replace_op</a> replace_kind.I8x16ReplaceLane lane = <a href="../../ops/LaneOps/index.html#on_lane">on_lane</a> 16 lane (λ index. replace.I8x16ReplaceLane index)
-<a href="../../ops/LaneOps/index.html#replace_op">replace_op</a> replace_kind.I16x8ReplaceLane lane = <a href="../../ops/LaneOps/index.html#on_lane">on_lane</a> 8 lane (λ index. replace.I16x8ReplaceLane index)
-<a href="../../ops/LaneOps/index.html#replace_op">replace_op</a> replace_kind.I32x4ReplaceLane lane = <a href="../../ops/LaneOps/index.html#on_lane">on_lane</a> 4 lane (λ index. replace.I32x4ReplaceLane index)
-<a href="../../ops/LaneOps/index.html#replace_op">replace_op</a> replace_kind.I64x2ReplaceLane lane = <a href="../../ops/LaneOps/index.html#on_lane">on_lane</a> 2 lane (λ index. replace.I64x2ReplaceLane index)
-
--- the name of a replacement of a lane
-abbrev pub <b id="replace_name">replace_name</b> : ReplaceKind → List ℕ
-<a href="../../ops/LaneOps/index.html#replace_name">replace_name</a> replace_kind.I8x16ReplaceLane = codes "i8x16_replace_lane"
-<a href="../../ops/LaneOps/index.html#replace_name">replace_name</a> replace_kind.I16x8ReplaceLane = codes "i16x8_replace_lane"
-<a href="../../ops/LaneOps/index.html#replace_name">replace_name</a> replace_kind.I32x4ReplaceLane = codes "i32x4_replace_lane"
-<a href="../../ops/LaneOps/index.html#replace_name">replace_name</a> replace_kind.I64x2ReplaceLane = codes "i64x2_replace_lane"
+<a href="../../ops/LaneOps/index.html#replace_op">replace_op</a> kind = (<a href="../../ops/LaneOps/index.html#replace_row">replace_row</a> kind).1
 
 -- a load of the lane of an index
 abbrev pub <b id="load_lane_op">load_lane_op</b> : LoadLaneKind → ℕ → Option LoadLaneOp
-<a href="../../ops/LaneOps/index.html#load_lane_op">load_lane_op</a> load_lane_kind.V128Load8Lane lane = <a href="../../ops/LaneOps/index.html#on_lane">on_lane</a> 16 lane (λ index. load_lane.V128Load8Lane index)
-<a href="../../ops/LaneOps/index.html#load_lane_op">load_lane_op</a> load_lane_kind.V128Load16Lane lane = <a href="../../ops/LaneOps/index.html#on_lane">on_lane</a> 8 lane (λ index. load_lane.V128Load16Lane index)
-<a href="../../ops/LaneOps/index.html#load_lane_op">load_lane_op</a> load_lane_kind.V128Load32Lane lane = <a href="../../ops/LaneOps/index.html#on_lane">on_lane</a> 4 lane (λ index. load_lane.V128Load32Lane index)
-<a href="../../ops/LaneOps/index.html#load_lane_op">load_lane_op</a> load_lane_kind.V128Load64Lane lane = <a href="../../ops/LaneOps/index.html#on_lane">on_lane</a> 2 lane (λ index. load_lane.V128Load64Lane index)
-
--- the name of a load of a lane
-abbrev pub <b id="load_lane_name">load_lane_name</b> : LoadLaneKind → List ℕ
-<a href="../../ops/LaneOps/index.html#load_lane_name">load_lane_name</a> load_lane_kind.V128Load8Lane = codes "v128_load8_lane"
-<a href="../../ops/LaneOps/index.html#load_lane_name">load_lane_name</a> load_lane_kind.V128Load16Lane = codes "v128_load16_lane"
-<a href="../../ops/LaneOps/index.html#load_lane_name">load_lane_name</a> load_lane_kind.V128Load32Lane = codes "v128_load32_lane"
-<a href="../../ops/LaneOps/index.html#load_lane_name">load_lane_name</a> load_lane_kind.V128Load64Lane = codes "v128_load64_lane"
+<a href="../../ops/LaneOps/index.html#load_lane_op">load_lane_op</a> kind = (<a href="../../ops/LaneOps/index.html#load_lane_row">load_lane_row</a> kind).1
 
 -- a store of the lane of an index
 abbrev pub <b id="store_lane_op">store_lane_op</b> : StoreLaneKind → ℕ → Option StoreLaneOp
-<a href="../../ops/LaneOps/index.html#store_lane_op">store_lane_op</a> store_lane_kind.V128Store8Lane lane = <a href="../../ops/LaneOps/index.html#on_lane">on_lane</a> 16 lane (λ index. store_lane.V128Store8Lane index)
-<a href="../../ops/LaneOps/index.html#store_lane_op">store_lane_op</a> store_lane_kind.V128Store16Lane lane = <a href="../../ops/LaneOps/index.html#on_lane">on_lane</a> 8 lane (λ index. store_lane.V128Store16Lane index)
-<a href="../../ops/LaneOps/index.html#store_lane_op">store_lane_op</a> store_lane_kind.V128Store32Lane lane = <a href="../../ops/LaneOps/index.html#on_lane">on_lane</a> 4 lane (λ index. store_lane.V128Store32Lane index)
-<a href="../../ops/LaneOps/index.html#store_lane_op">store_lane_op</a> store_lane_kind.V128Store64Lane lane = <a href="../../ops/LaneOps/index.html#on_lane">on_lane</a> 2 lane (λ index. store_lane.V128Store64Lane index)
+<a href="../../ops/LaneOps/index.html#store_lane_op">store_lane_op</a> kind = (<a href="../../ops/LaneOps/index.html#store_lane_row">store_lane_row</a> kind).1
+
+-- the name of an extraction of a lane
+abbrev pub <b id="extract_name">extract_name</b> : ExtractKind → List ℕ
+<a href="../../ops/LaneOps/index.html#extract_name">extract_name</a> kind = (<a href="../../ops/LaneOps/index.html#extract_row">extract_row</a> kind).0
+
+-- the name of a replacement of a lane
+abbrev pub <b id="replace_name">replace_name</b> : ReplaceKind → List ℕ
+<a href="../../ops/LaneOps/index.html#replace_name">replace_name</a> kind = (<a href="../../ops/LaneOps/index.html#replace_row">replace_row</a> kind).0
+
+-- the name of a load of a lane
+abbrev pub <b id="load_lane_name">load_lane_name</b> : LoadLaneKind → List ℕ
+<a href="../../ops/LaneOps/index.html#load_lane_name">load_lane_name</a> kind = (<a href="../../ops/LaneOps/index.html#load_lane_row">load_lane_row</a> kind).0
 
 -- the name of a store of a lane
 abbrev pub <b id="store_lane_name">store_lane_name</b> : StoreLaneKind → List ℕ
-<a href="../../ops/LaneOps/index.html#store_lane_name">store_lane_name</a> store_lane_kind.V128Store8Lane = codes "v128_store8_lane"
-<a href="../../ops/LaneOps/index.html#store_lane_name">store_lane_name</a> store_lane_kind.V128Store16Lane = codes "v128_store16_lane"
-<a href="../../ops/LaneOps/index.html#store_lane_name">store_lane_name</a> store_lane_kind.V128Store32Lane = codes "v128_store32_lane"
-<a href="../../ops/LaneOps/index.html#store_lane_name">store_lane_name</a> store_lane_kind.V128Store64Lane = codes "v128_store64_lane"
+<a href="../../ops/LaneOps/index.html#store_lane_name">store_lane_name</a> kind = (<a href="../../ops/LaneOps/index.html#store_lane_row">store_lane_row</a> kind).0
 </code></pre>
 "####]
     pub mod LaneOps {}
