@@ -31,14 +31,11 @@ cmp-entries (x ∷ xs) (y ∷ ys) = λ i. ordering_then (cmp-type_number x y i) 
 -- of three orderings one after another, the first two or the last two may be taken together
 then-assoc : (x y z : Ordering) → ordering_then (ordering_then x y) z ≡ ordering_then x (ordering_then y z)
 then-assoc Less y z = refl
-then-assoc Equal y z = refl
-then-assoc Greater y z = refl
+then-assoc x y z = refl
 
 -- Equal after an ordering changes nothing
 then-equal : (x : Ordering) → ordering_then x Equal ≡ x
-then-equal Less = refl
-then-equal Equal = refl
-then-equal Greater = refl
+then-equal = elim [ Less ↦ refl | Equal ↦ refl | Greater ↦ refl ]
 
 -- what is compared place by place is compared as lists of these places
 by_places : (v w : Bool) (m n m' n' : ℕ) (xs ys : List ℕ)

@@ -31,13 +31,7 @@ same_lists same a b = pointwise same a.params b.params && pointwise same a.resul
 
 -- the place of a value type in their order
 abbrev pub type_number : ValType → ℕ
-type_number I32 = 0
-type_number I64 = 1
-type_number F32 = 2
-type_number F64 = 3
-type_number V128 = 4
-type_number FuncRef = 5
-type_number ExternRef = 6
+type_number = elim [ I32 ↦ 0 | I64 ↦ 1 | F32 ↦ 2 | F64 ↦ 3 | V128 ↦ 4 | FuncRef ↦ 5 | ExternRef ↦ 6 ]
 
 -- what function types are ordered by, place by place: small ones (at most 21 entries) come first, then the number
 -- of parameters counts, among small ones then that of results, then the entries

@@ -10,11 +10,7 @@ use Rattle.wasmi_types.specs.declared.value.ValType.TheVariants as types
 
 -- whether a value type is a number type
 abbrev pub is_number_type : ValType → Bool
-is_number_type I32 = true
-is_number_type I64 = true
-is_number_type F32 = true
-is_number_type F64 = true
-is_number_type _ = false
+is_number_type = elim [ I32 ↦ true | I64 ↦ true | F32 ↦ true | F64 ↦ true | _ ↦ false ]
 
 -- the reference type of a value type, if it is one
 abbrev pub reference_of : ValType → Option RefType

@@ -51,13 +51,7 @@ abbrev pub <b id="same_lists">same_lists</b> : (ValType → ValType → Bool) �
 
 -- the place of a value type in their order
 abbrev pub <b id="type_number">type_number</b> : ValType → ℕ
-<a href="../../types/FunctionType/index.html#type_number">type_number</a> I32 = 0
-<a href="../../types/FunctionType/index.html#type_number">type_number</a> I64 = 1
-<a href="../../types/FunctionType/index.html#type_number">type_number</a> F32 = 2
-<a href="../../types/FunctionType/index.html#type_number">type_number</a> F64 = 3
-<a href="../../types/FunctionType/index.html#type_number">type_number</a> V128 = 4
-<a href="../../types/FunctionType/index.html#type_number">type_number</a> FuncRef = 5
-<a href="../../types/FunctionType/index.html#type_number">type_number</a> ExternRef = 6
+<a href="../../types/FunctionType/index.html#type_number">type_number</a> = elim [ I32 ↦ 0 | I64 ↦ 1 | F32 ↦ 2 | F64 ↦ 3 | V128 ↦ 4 | FuncRef ↦ 5 | ExternRef ↦ 6 ]
 
 -- what function types are ordered by, place by place: small ones (at most 21 entries) come first, then the number
 -- of parameters counts, among small ones then that of results, then the entries
@@ -368,30 +362,22 @@ pub record <b id="IsCodeOf">IsCodeOf</b> (number : ℕ) (answer : Result TrapCod
 -- the trap code of a reason, if it is one
 abbrev pub <b id="code_of">code_of</b> : {H : Type 0} → TrapReason H → Option TrapCode
 <a href="../../types/Trap/index.html#code_of">code_of</a> (InstructionTrap code) = Some code
-<a href="../../types/Trap/index.html#code_of">code_of</a> (I32Exit status) = None
-<a href="../../types/Trap/index.html#code_of">code_of</a> (Message message) = None
-<a href="../../types/Trap/index.html#code_of">code_of</a> (Host error) = None
+<a href="../../types/Trap/index.html#code_of">code_of</a> _ = None
 
 -- the exit status of a reason, if it is one
 abbrev pub <b id="exit_status_of">exit_status_of</b> : {H : Type 0} → TrapReason H → Option ℤ
-<a href="../../types/Trap/index.html#exit_status_of">exit_status_of</a> (InstructionTrap code) = None
 <a href="../../types/Trap/index.html#exit_status_of">exit_status_of</a> (I32Exit status) = Some status
-<a href="../../types/Trap/index.html#exit_status_of">exit_status_of</a> (Message message) = None
-<a href="../../types/Trap/index.html#exit_status_of">exit_status_of</a> (Host error) = None
+<a href="../../types/Trap/index.html#exit_status_of">exit_status_of</a> _ = None
 
 -- the host&#x27;s error of a reason, if it is one
 abbrev pub <b id="host_error_of">host_error_of</b> : {H : Type 0} → TrapReason H → Option H
-<a href="../../types/Trap/index.html#host_error_of">host_error_of</a> (InstructionTrap code) = None
-<a href="../../types/Trap/index.html#host_error_of">host_error_of</a> (I32Exit status) = None
-<a href="../../types/Trap/index.html#host_error_of">host_error_of</a> (Message message) = None
 <a href="../../types/Trap/index.html#host_error_of">host_error_of</a> (Host error) = Some error
+<a href="../../types/Trap/index.html#host_error_of">host_error_of</a> _ = None
 
 -- the reason with another error of the host, if it carries one
 abbrev pub <b id="with_host_error">with_host_error</b> : {H : Type 0} → TrapReason H → H → TrapReason H
-<a href="../../types/Trap/index.html#with_host_error">with_host_error</a> (InstructionTrap code) other = InstructionTrap code
-<a href="../../types/Trap/index.html#with_host_error">with_host_error</a> (I32Exit status) other = I32Exit status
-<a href="../../types/Trap/index.html#with_host_error">with_host_error</a> (Message message) other = Message message
 <a href="../../types/Trap/index.html#with_host_error">with_host_error</a> (Host error) other = Host other
+<a href="../../types/Trap/index.html#with_host_error">with_host_error</a> reason other = reason
 
 -- the text of a reason, where `host_text` is that of the host&#x27;s error
 abbrev pub <b id="text_of">text_of</b> : {H : Type 0} → (H → Option (List ℕ)) → TrapReason H → Option (List ℕ)
@@ -415,11 +401,7 @@ use Rattle.wasmi_types.specs.declared.value.ValType.TheVariants as types
 
 -- whether a value type is a number type
 abbrev pub <b id="is_number_type">is_number_type</b> : ValType → Bool
-<a href="../../types/Value/index.html#is_number_type">is_number_type</a> I32 = true
-<a href="../../types/Value/index.html#is_number_type">is_number_type</a> I64 = true
-<a href="../../types/Value/index.html#is_number_type">is_number_type</a> F32 = true
-<a href="../../types/Value/index.html#is_number_type">is_number_type</a> F64 = true
-<a href="../../types/Value/index.html#is_number_type">is_number_type</a> _ = false
+<a href="../../types/Value/index.html#is_number_type">is_number_type</a> = elim [ I32 ↦ true | I64 ↦ true | F32 ↦ true | F64 ↦ true | _ ↦ false ]
 
 -- the reference type of a value type, if it is one
 abbrev pub <b id="reference_of">reference_of</b> : ValType → Option RefType
