@@ -48,11 +48,7 @@ first_lanes_are w v f (suc n) each =
 
 -- the lanes of a width make 128 bits
 pub lane_count_fills : (w : Width) → lane_count w * bits w ≡ 128
-lane_count_fills w8 = refl
-lane_count_fills w16 = refl
-lane_count_fills w32 = refl
-lane_count_fills w64 = refl
-lane_count_fills w128 = refl
+lane_count_fills = elim [ w8 ↦ refl | w16 ↦ refl | w32 ↦ refl | w64 ↦ refl | w128 ↦ refl ]
 
 -- a number below 2 ^ 128 is the vector of its lanes
 pub lanes_make_vector : (w : Width) (n v : ℕ) (f : ℕ → ℕ) → n * bits w ≡ 128 → v < 2 ^ 128

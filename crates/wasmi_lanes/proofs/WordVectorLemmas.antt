@@ -142,11 +142,7 @@ tops_each (suc h) n tops pos fits each i lt = record {
 
 -- a width has at least one bit
 pub some_bits : (w : Width) → 0 < bits w
-some_bits w8 = omega arith
-some_bits w16 = omega arith
-some_bits w32 = omega arith
-some_bits w64 = omega arith
-some_bits w128 = omega arith
+some_bits = elim [ w8 ↦ omega arith | w16 ↦ omega arith | w32 ↦ omega arith | w64 ↦ omega arith | w128 ↦ omega arith ]
 
 -- the lane i of a word with n in each lane
 pub lane_of_each : (w : Width) (n word : ℕ) → n < 2 ^ bits w → word ≡ in_each_lane w n

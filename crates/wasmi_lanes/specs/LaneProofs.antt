@@ -1,5 +1,5 @@
 -- The integers of a width are the items of lanes of the width, and lanes of the words of 64 bits.
-use Rattle.std.specs.Prelude.{ℕ, pos, negsuc, ◌-◌, ◌*◌, ◌%◌, ◌^◌, ◌<◌, ◌≡◌, refl, FitsSigned}
+use Rattle.std.specs.Prelude.{ℕ, pos, negsuc, ◌-◌, ◌*◌, ◌^◌, ◌<◌, ◌≡◌, refl, FitsSigned}
 use Rattle.std.specs.Int.{cast_unsigned}
 use Rattle.std.proofs.lemmas.Int.{of_z-to_z}
 use mir.Syntax.{w128}
@@ -19,19 +19,11 @@ unsigned_lanes w = record {
 
 -- the bits of -1 are all ones
 ones_of_minus_one : (w : Width) → cast_unsigned w (negsuc 0) ≡ 2 ^ bits w - 1
-ones_of_minus_one w8 = refl
-ones_of_minus_one w16 = refl
-ones_of_minus_one w32 = refl
-ones_of_minus_one w64 = refl
-ones_of_minus_one w128 = refl
+ones_of_minus_one = elim [ w8 ↦ refl | w16 ↦ refl | w32 ↦ refl | w64 ↦ refl | w128 ↦ refl ]
 
 -- the bits of 0 are all zeros
 zeros_of_zero : (w : Width) → cast_unsigned w (pos 0) ≡ 0
-zeros_of_zero w8 = refl
-zeros_of_zero w16 = refl
-zeros_of_zero w32 = refl
-zeros_of_zero w64 = refl
-zeros_of_zero w128 = refl
+zeros_of_zero = elim [ w8 ↦ refl | w16 ↦ refl | w32 ↦ refl | w64 ↦ refl | w128 ↦ refl ]
 
 -- the signed integers of a width
 pub signed_lanes : (w : Width) → ReadsLanes w (signed w) (cast_unsigned w) (FitsSigned w) (negsuc 0) (pos 0)
@@ -49,9 +41,4 @@ pub word_lane : {w : Width} {lane_bits tops ones : ℕ}
     → tops ≡ in_each_lane w (2 ^ (bits w - 1))
     → ones ≡ in_each_lane w 1
     → IsWordLane w lane_bits tops ones
-word_lane wide whole highest lowest = record {
-  wide = wide;
-  whole = whole;
-  highest = highest;
-  lowest = lowest;
-}
+word_lane wide whole highest lowest = record { wide = wide; whole = whole; highest = highest; lowest = lowest }

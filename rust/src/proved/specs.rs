@@ -823,7 +823,7 @@ abbrev pub <b id="sub128">sub128</b> : ℕ → ℕ → ℕ
 pub mod lanes {
     #[doc = r####"The integers of a width are the items of lanes of the width, and lanes of the words of 64 bits.
 
-<pre><code>use Rattle.std.specs.Prelude.{ℕ, pos, negsuc, ◌-◌, ◌*◌, ◌%◌, ◌^◌, ◌&lt;◌, ◌≡◌, refl, FitsSigned}
+<pre><code>use Rattle.std.specs.Prelude.{ℕ, pos, negsuc, ◌-◌, ◌*◌, ◌^◌, ◌&lt;◌, ◌≡◌, refl, FitsSigned}
 use Rattle.std.specs.Int.{cast_unsigned}
 use Rattle.std.proofs.lemmas.Int.{of_z-to_z}
 use mir.Syntax.{w128}
@@ -843,19 +843,11 @@ pub <b id="unsigned_lanes">unsigned_lanes</b> : (w : Width)
 
 -- the bits of -1 are all ones
 ones_of_minus_one : (w : Width) → cast_unsigned w (negsuc 0) ≡ 2 ^ bits w - 1
-ones_of_minus_one w8 = refl
-ones_of_minus_one w16 = refl
-ones_of_minus_one w32 = refl
-ones_of_minus_one w64 = refl
-ones_of_minus_one w128 = refl
+ones_of_minus_one = elim [ w8 ↦ refl | w16 ↦ refl | w32 ↦ refl | w64 ↦ refl | w128 ↦ refl ]
 
 -- the bits of 0 are all zeros
 zeros_of_zero : (w : Width) → cast_unsigned w (pos 0) ≡ 0
-zeros_of_zero w8 = refl
-zeros_of_zero w16 = refl
-zeros_of_zero w32 = refl
-zeros_of_zero w64 = refl
-zeros_of_zero w128 = refl
+zeros_of_zero = elim [ w8 ↦ refl | w16 ↦ refl | w32 ↦ refl | w64 ↦ refl | w128 ↦ refl ]
 
 -- the signed integers of a width
 pub <b id="signed_lanes">signed_lanes</b> : (w : Width) → <a href="../../lanes/Vector/index.html#ReadsLanes">ReadsLanes</a> w (signed w) (cast_unsigned w) (FitsSigned w) (negsuc 0) (pos 0)
@@ -873,12 +865,7 @@ pub <b id="word_lane">word_lane</b> : {w : Width} {lane_bits tops ones : ℕ}
     → tops ≡ <a href="../../lanes/Words/index.html#in_each_lane">in_each_lane</a> w (2 ^ (bits w - 1))
     → ones ≡ <a href="../../lanes/Words/index.html#in_each_lane">in_each_lane</a> w 1
     → <a href="../../lanes/Words/index.html#IsWordLane">IsWordLane</a> w lane_bits tops ones
-<a href="../../lanes/LaneProofs/index.html#word_lane">word_lane</a> wide whole highest lowest = record {
-  wide = wide;
-  whole = whole;
-  highest = highest;
-  lowest = lowest;
-}
+<a href="../../lanes/LaneProofs/index.html#word_lane">word_lane</a> wide whole highest lowest = record { wide = wide; whole = whole; highest = highest; lowest = lowest }
 </code></pre>
 "####]
     pub mod LaneProofs {}
