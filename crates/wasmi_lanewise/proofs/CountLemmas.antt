@@ -108,8 +108,13 @@ first_pairs v j fits below =
     field_wrapping_sub k 2 64 v upper within small (mean_low k v ones (starts j below))
     ∙ ap (λ n. (field k 2 v + (4 - n)) % 4) high
     ∙ omega (
-      arith, pair_split k v, halves 1 k v, one_bit (field (k + 1) 1 v) (field_lt (k + 1) 1 v),
-      one_bit (field k 1 v) (field_lt k 1 v), field_lt (k + 1) 1 v, field_lt k 1 v,
+      arith,
+      pair_split k v,
+      halves 1 k v,
+      one_bit (field (k + 1) 1 v) (field_lt (k + 1) 1 v),
+      one_bit (field k 1 v) (field_lt k 1 v),
+      field_lt (k + 1) 1 v,
+      field_lt k 1 v,
     )
   where
     masks : (i : ℕ) → i < 32 → field (2 * i) 2 0x5555_5555_5555_5555 ≡ 1

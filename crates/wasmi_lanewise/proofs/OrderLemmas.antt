@@ -14,19 +14,11 @@ use mir.Val.{sel, hbits}
 
 -- half of the range of w bits
 half_is : (w : Width) → 2 ^ (bits w - 1) ≡ 2 ^ hbits w
-half_is w8 = refl
-half_is w16 = refl
-half_is w32 = refl
-half_is w64 = refl
-half_is w128 = refl
+half_is = elim [ w8 ↦ refl | w16 ↦ refl | w32 ↦ refl | w64 ↦ refl | w128 ↦ refl ]
 
 -- the range of w bits is twice its half
 whole_is : (w : Width) → 2 ^ bits w ≡ 2 ^ hbits w + 2 ^ hbits w
-whole_is w8 = refl
-whole_is w16 = refl
-whole_is w32 = refl
-whole_is w64 = refl
-whole_is w128 = refl
+whole_is = elim [ w8 ↦ refl | w16 ↦ refl | w32 ↦ refl | w64 ↦ refl | w128 ↦ refl ]
 
 -- the number whose lowest bits are those of a signed one, moved by half of the range
 abbrev biased : Width → ℕ → ℕ

@@ -13,8 +13,11 @@ returns g c =
     let top : c.from.result ≡ bits w - 1 = c.from.ensures ∙ ap (λ n. n - 1) (c.BITS.ensures ∙ law.wide) in
     record {
       words = (
-        filled c.args.low c.from.result, filled c.args.high c.from.result, c.from_u64x2.ensures _ _ refl,
-        filled_below c.args.low c.from.result, filled_below c.args.high c.from.result,
+        filled c.args.low c.from.result,
+        filled c.args.high c.from.result,
+        c.from_u64x2.ensures _ _ refl,
+        filled_below c.args.low c.from.result,
+        filled_below c.args.high c.from.result,
         marks_filled (bits w) (lanes_in_word w) c.args.low c.from.result top low law.whole c.requires.low,
         marks_filled (bits w) (lanes_in_word w) c.args.high c.from.result top high law.whole c.requires.high,
       );
