@@ -111,8 +111,11 @@ bits_joined (suc n) m f =
     ∙ ap (λ k. (if f 0 then 1 else 0) + 2 * k)
     (bits_joined n m (λ i. f (suc i)) ∙ ap (λ k. first_bits n (λ i. f (suc i)) + 2 ^ n * k) later)
     ∙ omega (
-      arith, mul-add 2 (first_bits n (λ i. f (suc i))) (2 ^ n * rest), mul_assoc 2 (2 ^ n) rest,
-      ap (λ k. k * rest) (pow-suc 2 n), ap (λ k. k * rest) (mul_comm 2 (2 ^ n)),
+      arith,
+      mul-add 2 (first_bits n (λ i. f (suc i))) (2 ^ n * rest),
+      mul_assoc 2 (2 ^ n) rest,
+      ap (λ k. k * rest) (pow-suc 2 n),
+      ap (λ k. k * rest) (mul_comm 2 (2 ^ n)),
     )
 
 -- two tests of which each follows from the other are the same
@@ -174,7 +177,10 @@ module _ (h n v ones tops : ℕ) (given : IsZeroTest h n v ones tops) where
   lane_inside : (i : ℕ) → i < n → suc h * i + suc h ≤ 64
   lane_inside i inside =
       omega (
-        arith, given.whole, mul-le (suc i) (suc h) n (suc h) (omega arith) (le_refl (suc h)), suc-mul i (suc h),
+        arith,
+        given.whole,
+        mul-le (suc i) (suc h) n (suc h) (omega arith) (le_refl (suc h)),
+        suc-mul i (suc h),
         mul_comm i (suc h),
       )
 
@@ -267,7 +273,10 @@ no_mark_at (suc h) n v ones tops pos whole fits fits_ones fits_tops each_one eac
     let back : suc h - 1 ≡ h = omega arith in
     no_mark_is h n v ones tops
     (record {
-      whole = whole; fits = fits; fits_ones = fits_ones; each_one = each_one;
+      whole = whole;
+      fits = fits;
+      fits_ones = fits_ones;
+      each_one = each_one;
       each_top = λ i inside. each_top i inside ∙ ap (λ k. 2 ^ k) back;
     })
     fits_tops

@@ -218,7 +218,10 @@ moved_and_back x s fits less =
           let rest : y % p < p = mod-lt y some in
           let rows : (q - 1 - y / p) * p + y / p * p + p ≡ q * p =
           omega (
-            arith, add-mul (q - 1 - y / p) (y / p) p, add-mul (q - 1 - y / p + y / p) 1 p, one-mul p,
+            arith,
+            add-mul (q - 1 - y / p) (y / p) p,
+            add-mul (q - 1 - y / p + y / p) 1 p,
+            one-mul p,
             ap (λ n. n * p) (let e : q - 1 - y / p + y / p + 1 ≡ q = omega arith in e),
           ) in
           let down : (x + 2 ^ 7) % 2 ^ 8 ≡ (q - 1 - y / p) * p + (p - 1 - y % p) =

@@ -1,5 +1,5 @@
 -- Vectors made of lanes of another width, what the lanes of one vector make together, and the lanes of these.
-use Rattle.std.proofs.Common.{ℕ, zero, suc, ◌+◌, ◌-◌, ◌*◌, ◌/◌, ◌%◌, ◌^◌, ◌<◌, ◌≤◌, ◌≡◌, sym, ◌∙◌, ap, ap₂, arith, inl, inr, ℤ, pos, negsuc, unsigned_abs, leb, nat_lt, if◌then◌else◌, ◌==◌, div-one, mul-zero, mul-suc, lit<, refl, subst, le_refl, pow-suc, ◌+ℤ◌, ◌*ℤ◌, FitsSigned, ◌↔◌, Bool, true, false}
+use Rattle.std.proofs.Common.{ℕ, zero, suc, ◌+◌, ◌-◌, ◌*◌, ◌/◌, ◌%◌, ◌^◌, ◌<◌, ◌≤◌, ◌≡◌, sym, ◌∙◌, ap, ap₂, arith, inl, inr, ℤ, pos, negsuc, unsigned_abs, leb, nat_lt, if◌then◌else◌, ◌==◌, div-one, mul-zero, mul-suc, refl, subst, le_refl, pow-suc, ◌+ℤ◌, ◌*ℤ◌, FitsSigned, ◌↔◌, Bool, true, false}
 use Rattle.std.proofs.lemmas.Nat.{pow_pos, mul-le, shl_below}
 use Rattle.std.proofs.lemmas.Int.{of_z-to_z, wrapping_add_is, wrapping_mul_is, int_wrap_fits, fits_signed_mul, to_z-of_z}
 use Rattle.std.proofs.Math.Facts.{sfits_widen}
