@@ -31,14 +31,9 @@ more_fits others cap h Elements n fits within Elements = omega (arith, fits)
 -- no more is held of a kind once a last difference was taken back
 less_held : (back : Kind) (h : Holdings) (last : Option (Kind × ℕ)) (kind : Kind)
     → amount_held (without_last_of back h last) kind ≤ amount_held h kind
-less_held Bytes h None kind = omega arith
-less_held Elements h None kind = omega arith
-less_held Bytes h (Some (Elements, n)) kind = omega arith
-less_held Elements h (Some (Bytes, n)) kind = omega arith
 less_held Bytes h (Some (Bytes, n)) Bytes = omega arith
-less_held Bytes h (Some (Bytes, n)) Elements = omega arith
-less_held Elements h (Some (Elements, n)) Bytes = omega arith
 less_held Elements h (Some (Elements, n)) Elements = omega arith
+less_held back h last kind = omega arith
 
 -- the caps, and what others hold, are the same with other holdings
 pub record KeepsCaps {L : Type 0} (c : Capped L) : Type 0 where

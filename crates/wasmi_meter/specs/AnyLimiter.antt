@@ -7,33 +7,30 @@ use Rattle.wasmi_meter.specs.declared.any_limiter.AnyLimiter.TheVariants as limi
 use Rattle.wasmi_meter.specs.declared.quota.Quota.{Quota}
 use Rattle.wasmi_meter.specs.Capped.{amounts_of, cap_of, quota_rules}
 use Rattle.wasmi_meter.specs.AnswerList.{AnswersAhead, answer_list_rules}
-use Rattle.wasmi_meter.specs.Limiter.{Question, Answer, Failure, NoticeAnswer, Rules}
+use Rattle.wasmi_meter.specs.Limiter.{Rules}
 
--- A question is answered as a limiter of its kind answers it, and the kind stays.
-abbrev pub AskedByKind : AnyLimiter → Question → Answer → AnyLimiter → Type 0
-AskedByKind limiter.Unlimited question answer l' = (answer ≡ Ok true) × (l' ≡ limiter.Unlimited)
-AskedByKind (limiter.Quota quota) question answer l' =
-    (quota' : Quota) × (l' ≡ limiter.Quota quota') × quota_rules.asked quota question answer quota'
-AskedByKind (limiter.Answers list) question answer l' =
-    (list' : AnswersAhead) × (l' ≡ limiter.Answers list') × answer_list_rules.asked list question answer list'
-
--- A notice is answered as a limiter of its kind answers it, and the kind stays.
-abbrev pub NoticedByKind : AnyLimiter → Failure → NoticeAnswer → AnyLimiter → Type 0
-NoticedByKind limiter.Unlimited failure notice_answer l' = (notice_answer ≡ Ok tt) × (l' ≡ limiter.Unlimited)
-NoticedByKind (limiter.Quota quota) failure notice_answer l' =
-    (quota' : Quota) × (l' ≡ limiter.Quota quota') × quota_rules.noticed quota failure notice_answer quota'
-NoticedByKind (limiter.Answers list) failure notice_answer l' =
-    (list' : AnswersAhead) × (l' ≡ limiter.Answers list') × answer_list_rules.noticed list failure notice_answer list'
+-- A question or a notice is answered as a limiter of its kind answers it, and the kind stays; `accepted` is the answer
+-- of one that permits and accepts everything.
+abbrev pub AnsweredByKind : {Asked Answer : Type 0} → (accepted : Answer) → (Quota → Asked → Answer → Quota → Type 0)
+    → (AnswersAhead → Asked → Answer → AnswersAhead → Type 0) → AnyLimiter → Asked → Answer → AnyLimiter → Type 0
+AnsweredByKind accepted of_quota of_list limiter.Unlimited asked answer l' =
+    (answer ≡ accepted) × (l' ≡ limiter.Unlimited)
+AnsweredByKind accepted of_quota of_list (limiter.Quota quota) asked answer l' =
+    (quota' : Quota) × (l' ≡ limiter.Quota quota') × of_quota quota asked answer quota'
+AnsweredByKind accepted of_quota of_list (limiter.Answers list) asked answer l' =
+    (list' : AnswersAhead) × (l' ≡ limiter.Answers list') × of_list list asked answer list'
 
 -- the rules of such a limiter
 abbrev pub any_limiter_rules : Rules AnyLimiter
-any_limiter_rules = record { asked = AskedByKind; noticed = NoticedByKind }
+any_limiter_rules = record {
+  asked = AnsweredByKind (Ok true) quota_rules.asked answer_list_rules.asked;
+  noticed = AnsweredByKind (Ok tt) quota_rules.noticed answer_list_rules.noticed;
+}
 
 -- the quota that such a limiter is, if it is one
 abbrev pub quota_of : AnyLimiter → Option Quota
-quota_of limiter.Unlimited = None
 quota_of (limiter.Quota quota) = Some quota
-quota_of (limiter.Answers list) = None
+quota_of _ = None
 
 -- the caps of such a limiter, if it is a quota
 abbrev pub caps_of : AnyLimiter → Option Amounts

@@ -50,8 +50,7 @@ pub data AttemptOutcome (E : Type 0) : Type 0 where
 -- what is due for a price: nothing if there is no price or no meter, or if the meter is off
 abbrev pub optional_due : Option Meter → Option (CustomFuelCosts → ℕ) → ℕ
 optional_due (Some m) (Some price) = due m price
-optional_due (Some m) None = 0
-optional_due None price = 0
+optional_due _ _ = 0
 
 -- whether so much is left
 abbrev pub covers : Option Meter → ℕ → Bool
@@ -83,10 +82,8 @@ module _ {V E : Type 0} (e : Request V E) where
 
   -- the value afterwards: the grown one if the attempt was met, else the same
   abbrev pub value_after : V → AttemptOutcome E → V
-  value_after value (Unasked cause) = value
-  value_after value (Denied answer) = value
   value_after value Met = e.grown
-  value_after value (Failed cause notice_answer) = value
+  value_after value _ = value
 
   module _ (m : Option Meter) where
     -- the first cause after the permission: the late one, then fuel, then what is grown into
@@ -104,11 +101,10 @@ module _ {V E : Type 0} (e : Request V E) where
 
     -- what is charged: what is due, once the late cause is absent and so much is left, also where there is then no room
     abbrev pub outcome_charge : AttemptOutcome E → ℕ
-    outcome_charge (Unasked cause) = 0
-    outcome_charge (Denied answer) = 0
     outcome_charge Met = optional_due m e.price
     outcome_charge (Failed cause notice_answer) =
         if is_none e.late && covers m (optional_due m e.price) then optional_due m e.price else 0
+    outcome_charge _ = 0
 
   -- What the limiter sees: nothing, a denial, or a permission, which is followed by the growth or by just one notice.
   abbrev pub Follows : {S : Type 0} → Rules S → S → AttemptOutcome E → S → Type 0

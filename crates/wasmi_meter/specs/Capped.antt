@@ -1,5 +1,5 @@
 -- What limiters with caps hold and may hold, their rules, and those of a quota.
-use Rattle.std.specs.Prelude.{ℕ, ◌≡◌, ◌+◌, ◌-◌, ◌≤◌, ◌<◌, Option, Some, None, Ok, Err, Bool, true, false}
+use Rattle.std.specs.Prelude.{ℕ, ◌≡◌, ◌+◌, ◌-◌, ◌≤◌, ◌<◌, Option, Some, None, Ok, Bool, true, false}
 use Rattle.wasmi_meter.specs.declared.amounts.Amounts.{Amounts}
 use Rattle.wasmi_meter.specs.declared.limiter.Kind.{Kind}
 use Rattle.wasmi_meter.specs.declared.limiter.Kind.TheVariants.{Bytes, Elements}
@@ -60,8 +60,7 @@ pub record HoldsTheSame (h h' : Holdings) : Type 0 where
 -- a permission adds the difference that was asked for, and another answer keeps what is held
 abbrev pub Reserves : Question → Answer → Holdings → Holdings → Type 0
 Reserves q (Ok true) h h' = h' ≡ with_more h q.kind (q.desired - q.current)
-Reserves q (Ok false) h h' = HoldsTheSame h h'
-Reserves q (Err error) h h' = HoldsTheSame h h'
+Reserves q _ h h' = HoldsTheSame h h'
 
 -- a notice takes back the last difference of its kind, once, and changes nothing that is held otherwise
 abbrev pub GivesBack : Kind → Holdings → Holdings → Type 0

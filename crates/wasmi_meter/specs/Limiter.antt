@@ -1,5 +1,5 @@
 -- What a limiter is asked and told, a limiter that may be absent, and a reference to one.
-use Rattle.std.specs.Prelude.{◌≡◌, ℕ, Option, Some, None, Result, Ok, Err, Bool, true, false}
+use Rattle.std.specs.Prelude.{◌≡◌, ℕ, Option, Some, None, Result, Ok, Bool, true}
 use Rattle.wasmi_meter.specs.declared.limiter.Kind.{Kind}
 use Rattle.wasmi_meter.specs.declared.limiter.Kind.TheVariants.{Bytes, Elements}
 use Rattle.wasmi_meter.specs.declared.error.LimiterError.{LimiterError}
@@ -28,8 +28,7 @@ NoticeAnswer = Result (Unit {0}) LimiterError
 -- the answer is no permission
 abbrev pub IsDenial : Answer → Type 0
 IsDenial (Ok true) = ⊥
-IsDenial (Ok false) = Unit {0}
-IsDenial (Err error) = Unit {0}
+IsDenial _ = Unit {0}
 
 -- why a growth failed that was permitted
 pub data Failure : Type 0 where
@@ -57,15 +56,13 @@ unlimited_rules = record {
 abbrev pub AskedIf : {S : Type 0} → Rules S → Option S → Question → Answer → Option S → Type 0
 AskedIf rules (Some l) question answer (Some l') = rules.asked l question answer l'
 AskedIf rules None question answer None = answer ≡ Ok true
-AskedIf rules (Some l) question answer None = ⊥
-AskedIf rules None question answer (Some l') = ⊥
+AskedIf rules _ question answer _ = ⊥
 
 -- a notice to a limiter that may be absent: without one it is accepted
 abbrev pub NoticedIf : {S : Type 0} → Rules S → Option S → Failure → NoticeAnswer → Option S → Type 0
 NoticedIf rules (Some l) failure notice_answer (Some l') = rules.noticed l failure notice_answer l'
 NoticedIf rules None failure notice_answer None = notice_answer ≡ Ok tt
-NoticedIf rules (Some l) failure notice_answer None = ⊥
-NoticedIf rules None failure notice_answer (Some l') = ⊥
+NoticedIf rules _ failure notice_answer _ = ⊥
 
 -- the rules of a limiter that may be absent
 abbrev pub optional_rules : {S : Type 0} → Rules S → Rules (Option S)
@@ -82,9 +79,8 @@ lent_limiter r = option_copied_mut r.limiter
 -- one loan before and after a call: both absent, or under one name
 abbrev pub SameLoan : {L : Type 0} → Option (MutBor L) → Option (MutBor L) → Type 0
 SameLoan None None = Unit {0}
-SameLoan None (Some r') = ⊥
-SameLoan (Some r) None = ⊥
 SameLoan (Some r) (Some r') = r'.ghost_name ≡ r.ghost_name
+SameLoan _ _ = ⊥
 
 -- r' leads to what r leads to
 abbrev pub KeepsLoan : {L : Type 0} → LimiterRef (MutBor L) → LimiterRef (MutBor L) → Type 0

@@ -36,9 +36,8 @@ meter_at_entry lent = option_copied_mut lent
 -- the meter that an optional reference leaves behind it when a call ends, if there is one, in the terms of a clause's
 -- `.exit`
 abbrev pub meter_at_exit : {A B C : Type 0} → A ⊎ ((MutBor Meter × B) ⊎ C) → Option Meter
-meter_at_exit (inl none) = None
 meter_at_exit (inr (inl lent)) = Some lent.0.now
-meter_at_exit (inr (inr other)) = None
+meter_at_exit _ = None
 
 -- an amount is taken where that much is left, and is refused else
 pub record ConsumesFuel {T : Type 0} (m : Meter) (amount : ℕ) (value : T) (result : Result T FuelError)

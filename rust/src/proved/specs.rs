@@ -2108,33 +2108,30 @@ use Rattle.wasmi_meter.specs.declared.any_limiter.AnyLimiter.TheVariants as limi
 use Rattle.wasmi_meter.specs.declared.quota.Quota.{Quota}
 use Rattle.wasmi_meter.specs.Capped.{<a href="../../meter/Capped/index.html#amounts_of">amounts_of</a>, <a href="../../meter/Capped/index.html#cap_of">cap_of</a>, <a href="../../meter/Capped/index.html#quota_rules">quota_rules</a>}
 use Rattle.wasmi_meter.specs.AnswerList.{<a href="../../meter/AnswerList/index.html#AnswersAhead">AnswersAhead</a>, <a href="../../meter/AnswerList/index.html#answer_list_rules">answer_list_rules</a>}
-use Rattle.wasmi_meter.specs.Limiter.{<a href="../../meter/Limiter/index.html#Question">Question</a>, <a href="../../meter/Limiter/index.html#Answer">Answer</a>, <a href="../../meter/Limiter/index.html#Failure">Failure</a>, <a href="../../meter/Limiter/index.html#NoticeAnswer">NoticeAnswer</a>, <a href="../../meter/Limiter/index.html#Rules">Rules</a>}
+use Rattle.wasmi_meter.specs.Limiter.{<a href="../../meter/Limiter/index.html#Rules">Rules</a>}
 
--- A question is answered as a limiter of its kind answers it, and the kind stays.
-abbrev pub <b id="AskedByKind">AskedByKind</b> : AnyLimiter → <a href="../../meter/Limiter/index.html#Question">Question</a> → <a href="../../meter/Limiter/index.html#Answer">Answer</a> → AnyLimiter → Type 0
-<a href="../../meter/AnyLimiter/index.html#AskedByKind">AskedByKind</a> limiter.Unlimited question answer l&#x27; = (answer ≡ Ok true) × (l&#x27; ≡ limiter.Unlimited)
-<a href="../../meter/AnyLimiter/index.html#AskedByKind">AskedByKind</a> (limiter.Quota quota) question answer l&#x27; =
-    (quota&#x27; : Quota) × (l&#x27; ≡ limiter.Quota quota&#x27;) × quota_rules.asked quota question answer quota&#x27;
-<a href="../../meter/AnyLimiter/index.html#AskedByKind">AskedByKind</a> (limiter.Answers list) question answer l&#x27; =
-    (list&#x27; : <a href="../../meter/AnswerList/index.html#AnswersAhead">AnswersAhead</a>) × (l&#x27; ≡ limiter.Answers list&#x27;) × answer_list_rules.asked list question answer list&#x27;
-
--- A notice is answered as a limiter of its kind answers it, and the kind stays.
-abbrev pub <b id="NoticedByKind">NoticedByKind</b> : AnyLimiter → <a href="../../meter/Limiter/index.html#Failure">Failure</a> → <a href="../../meter/Limiter/index.html#NoticeAnswer">NoticeAnswer</a> → AnyLimiter → Type 0
-<a href="../../meter/AnyLimiter/index.html#NoticedByKind">NoticedByKind</a> limiter.Unlimited failure notice_answer l&#x27; = (notice_answer ≡ Ok tt) × (l&#x27; ≡ limiter.Unlimited)
-<a href="../../meter/AnyLimiter/index.html#NoticedByKind">NoticedByKind</a> (limiter.Quota quota) failure notice_answer l&#x27; =
-    (quota&#x27; : Quota) × (l&#x27; ≡ limiter.Quota quota&#x27;) × quota_rules.noticed quota failure notice_answer quota&#x27;
-<a href="../../meter/AnyLimiter/index.html#NoticedByKind">NoticedByKind</a> (limiter.Answers list) failure notice_answer l&#x27; =
-    (list&#x27; : <a href="../../meter/AnswerList/index.html#AnswersAhead">AnswersAhead</a>) × (l&#x27; ≡ limiter.Answers list&#x27;) × answer_list_rules.noticed list failure notice_answer list&#x27;
+-- A question or a notice is answered as a limiter of its kind answers it, and the kind stays; `accepted` is the answer
+-- of one that permits and accepts everything.
+abbrev pub <b id="AnsweredByKind">AnsweredByKind</b> : {Asked Answer : Type 0} → (accepted : Answer) → (Quota → Asked → Answer → Quota → Type 0)
+    → (<a href="../../meter/AnswerList/index.html#AnswersAhead">AnswersAhead</a> → Asked → Answer → <a href="../../meter/AnswerList/index.html#AnswersAhead">AnswersAhead</a> → Type 0) → AnyLimiter → Asked → Answer → AnyLimiter → Type 0
+<a href="../../meter/AnyLimiter/index.html#AnsweredByKind">AnsweredByKind</a> accepted of_quota of_list limiter.Unlimited asked answer l&#x27; =
+    (answer ≡ accepted) × (l&#x27; ≡ limiter.Unlimited)
+<a href="../../meter/AnyLimiter/index.html#AnsweredByKind">AnsweredByKind</a> accepted of_quota of_list (limiter.Quota quota) asked answer l&#x27; =
+    (quota&#x27; : Quota) × (l&#x27; ≡ limiter.Quota quota&#x27;) × of_quota quota asked answer quota&#x27;
+<a href="../../meter/AnyLimiter/index.html#AnsweredByKind">AnsweredByKind</a> accepted of_quota of_list (limiter.Answers list) asked answer l&#x27; =
+    (list&#x27; : <a href="../../meter/AnswerList/index.html#AnswersAhead">AnswersAhead</a>) × (l&#x27; ≡ limiter.Answers list&#x27;) × of_list list asked answer list&#x27;
 
 -- the rules of such a limiter
 abbrev pub <b id="any_limiter_rules">any_limiter_rules</b> : <a href="../../meter/Limiter/index.html#Rules">Rules</a> AnyLimiter
-<a href="../../meter/AnyLimiter/index.html#any_limiter_rules">any_limiter_rules</a> = record { asked = <a href="../../meter/AnyLimiter/index.html#AskedByKind">AskedByKind</a>; noticed = <a href="../../meter/AnyLimiter/index.html#NoticedByKind">NoticedByKind</a> }
+<a href="../../meter/AnyLimiter/index.html#any_limiter_rules">any_limiter_rules</a> = record {
+  asked = <a href="../../meter/AnyLimiter/index.html#AnsweredByKind">AnsweredByKind</a> (Ok true) quota_rules.asked answer_list_rules.asked;
+  noticed = <a href="../../meter/AnyLimiter/index.html#AnsweredByKind">AnsweredByKind</a> (Ok tt) quota_rules.noticed answer_list_rules.noticed;
+}
 
 -- the quota that such a limiter is, if it is one
 abbrev pub <b id="quota_of">quota_of</b> : AnyLimiter → Option Quota
-<a href="../../meter/AnyLimiter/index.html#quota_of">quota_of</a> limiter.Unlimited = None
 <a href="../../meter/AnyLimiter/index.html#quota_of">quota_of</a> (limiter.Quota quota) = Some quota
-<a href="../../meter/AnyLimiter/index.html#quota_of">quota_of</a> (limiter.Answers list) = None
+<a href="../../meter/AnyLimiter/index.html#quota_of">quota_of</a> _ = None
 
 -- the caps of such a limiter, if it is a quota
 abbrev pub <b id="caps_of">caps_of</b> : AnyLimiter → Option Amounts
@@ -2195,8 +2192,7 @@ pub data <b id="AttemptOutcome">AttemptOutcome</b> (E : Type 0) : Type 0 where
 -- what is due for a price: nothing if there is no price or no meter, or if the meter is off
 abbrev pub <b id="optional_due">optional_due</b> : Option <a href="../../meter/Meter/index.html#Meter">Meter</a> → Option (CustomFuelCosts → ℕ) → ℕ
 <a href="../../meter/Attempt/index.html#optional_due">optional_due</a> (Some m) (Some <a href="../../meter/Attempt/index.html#price">price</a>) = <a href="../../meter/Meter/index.html#due">due</a> m <a href="../../meter/Attempt/index.html#price">price</a>
-<a href="../../meter/Attempt/index.html#optional_due">optional_due</a> (Some m) None = 0
-<a href="../../meter/Attempt/index.html#optional_due">optional_due</a> None <a href="../../meter/Attempt/index.html#price">price</a> = 0
+<a href="../../meter/Attempt/index.html#optional_due">optional_due</a> _ _ = 0
 
 -- whether so much is left
 abbrev pub <b id="covers">covers</b> : Option <a href="../../meter/Meter/index.html#Meter">Meter</a> → ℕ → Bool
@@ -2228,10 +2224,8 @@ module _ {V E : Type 0} (e : <a href="../../meter/Attempt/index.html#Request">Re
 
   -- the value afterwards: the grown one if the attempt was met, else the same
   abbrev pub <b id="value_after">value_after</b> : V → <a href="../../meter/Attempt/index.html#AttemptOutcome">AttemptOutcome</a> E → V
-  <a href="../../meter/Attempt/index.html#value_after">value_after</a> <a href="../../meter/Attempt/index.html#value">value</a> (<a href="../../meter/Attempt/index.html#Unasked">Unasked</a> cause) = <a href="../../meter/Attempt/index.html#value">value</a>
-  <a href="../../meter/Attempt/index.html#value_after">value_after</a> <a href="../../meter/Attempt/index.html#value">value</a> (<a href="../../meter/Attempt/index.html#Denied">Denied</a> answer) = <a href="../../meter/Attempt/index.html#value">value</a>
   <a href="../../meter/Attempt/index.html#value_after">value_after</a> <a href="../../meter/Attempt/index.html#value">value</a> <a href="../../meter/Attempt/index.html#Met">Met</a> = e.grown
-  <a href="../../meter/Attempt/index.html#value_after">value_after</a> <a href="../../meter/Attempt/index.html#value">value</a> (<a href="../../meter/Attempt/index.html#Failed">Failed</a> cause notice_answer) = <a href="../../meter/Attempt/index.html#value">value</a>
+  <a href="../../meter/Attempt/index.html#value_after">value_after</a> <a href="../../meter/Attempt/index.html#value">value</a> _ = <a href="../../meter/Attempt/index.html#value">value</a>
 
   module _ (m : Option <a href="../../meter/Meter/index.html#Meter">Meter</a>) where
     -- the first cause after the permission: the late one, then fuel, then what is grown into
@@ -2249,11 +2243,10 @@ module _ {V E : Type 0} (e : <a href="../../meter/Attempt/index.html#Request">Re
 
     -- what is charged: what is due, once the late cause is absent and so much is left, also where there is then no room
     abbrev pub <b id="outcome_charge">outcome_charge</b> : <a href="../../meter/Attempt/index.html#AttemptOutcome">AttemptOutcome</a> E → ℕ
-    <a href="../../meter/Attempt/index.html#outcome_charge">outcome_charge</a> (<a href="../../meter/Attempt/index.html#Unasked">Unasked</a> cause) = 0
-    <a href="../../meter/Attempt/index.html#outcome_charge">outcome_charge</a> (<a href="../../meter/Attempt/index.html#Denied">Denied</a> answer) = 0
     <a href="../../meter/Attempt/index.html#outcome_charge">outcome_charge</a> <a href="../../meter/Attempt/index.html#Met">Met</a> = <a href="../../meter/Attempt/index.html#optional_due">optional_due</a> m e.price
     <a href="../../meter/Attempt/index.html#outcome_charge">outcome_charge</a> (<a href="../../meter/Attempt/index.html#Failed">Failed</a> cause notice_answer) =
         if is_none e.late &amp;&amp; <a href="../../meter/Attempt/index.html#covers">covers</a> m (<a href="../../meter/Attempt/index.html#optional_due">optional_due</a> m e.price) then <a href="../../meter/Attempt/index.html#optional_due">optional_due</a> m e.price else 0
+    <a href="../../meter/Attempt/index.html#outcome_charge">outcome_charge</a> _ = 0
 
   -- What the limiter sees: nothing, a denial, or a permission, which is followed by the growth or by just one notice.
   abbrev pub <b id="Follows">Follows</b> : {S : Type 0} → <a href="../../meter/Limiter/index.html#Rules">Rules</a> S → S → <a href="../../meter/Attempt/index.html#AttemptOutcome">AttemptOutcome</a> E → S → Type 0
@@ -2277,7 +2270,7 @@ pub record <b id="Attempt">Attempt</b> {V E S : Type 0} (rules : <a href="../../
     pub mod Attempt {}
     #[doc = r####"What limiters with caps hold and may hold, their rules, and those of a quota.
 
-<pre><code>use Rattle.std.specs.Prelude.{ℕ, ◌≡◌, ◌+◌, ◌-◌, ◌≤◌, ◌&lt;◌, Option, Some, None, Ok, Err, Bool, true, false}
+<pre><code>use Rattle.std.specs.Prelude.{ℕ, ◌≡◌, ◌+◌, ◌-◌, ◌≤◌, ◌&lt;◌, Option, Some, None, Ok, Bool, true, false}
 use Rattle.wasmi_meter.specs.declared.amounts.Amounts.{Amounts}
 use Rattle.wasmi_meter.specs.declared.limiter.Kind.{Kind}
 use Rattle.wasmi_meter.specs.declared.limiter.Kind.TheVariants.{Bytes, Elements}
@@ -2338,8 +2331,7 @@ pub record <b id="HoldsTheSame">HoldsTheSame</b> (h h&#x27; : Holdings) : Type 0
 -- a permission adds the difference that was asked for, and another answer keeps what is held
 abbrev pub <b id="Reserves">Reserves</b> : <a href="../../meter/Limiter/index.html#Question">Question</a> → <a href="../../meter/Limiter/index.html#Answer">Answer</a> → Holdings → Holdings → Type 0
 <a href="../../meter/Capped/index.html#Reserves">Reserves</a> q (Ok true) h h&#x27; = h&#x27; ≡ <a href="../../meter/Capped/index.html#with_more">with_more</a> h q.kind (q.desired - q.current)
-<a href="../../meter/Capped/index.html#Reserves">Reserves</a> q (Ok false) h h&#x27; = <a href="../../meter/Capped/index.html#HoldsTheSame">HoldsTheSame</a> h h&#x27;
-<a href="../../meter/Capped/index.html#Reserves">Reserves</a> q (Err error) h h&#x27; = <a href="../../meter/Capped/index.html#HoldsTheSame">HoldsTheSame</a> h h&#x27;
+<a href="../../meter/Capped/index.html#Reserves">Reserves</a> q _ h h&#x27; = <a href="../../meter/Capped/index.html#HoldsTheSame">HoldsTheSame</a> h h&#x27;
 
 -- a notice takes back the last difference of its kind, once, and changes nothing that is held otherwise
 abbrev pub <b id="GivesBack">GivesBack</b> : Kind → Holdings → Holdings → Type 0
@@ -2449,7 +2441,7 @@ module _ {L : Type 0} (c : <a href="../../meter/Capped/index.html#Capped">Capped
     pub mod CappedProofs {}
     #[doc = r####"What a limiter is asked and told, a limiter that may be absent, and a reference to one.
 
-<pre><code>use Rattle.std.specs.Prelude.{◌≡◌, ℕ, Option, Some, None, Result, Ok, Err, Bool, true, false}
+<pre><code>use Rattle.std.specs.Prelude.{◌≡◌, ℕ, Option, Some, None, Result, Ok, Bool, true}
 use Rattle.wasmi_meter.specs.declared.limiter.Kind.{Kind}
 use Rattle.wasmi_meter.specs.declared.limiter.Kind.TheVariants.{Bytes, Elements}
 use Rattle.wasmi_meter.specs.declared.error.LimiterError.{LimiterError}
@@ -2478,8 +2470,7 @@ abbrev pub <b id="NoticeAnswer">NoticeAnswer</b> : Type 0
 -- the answer is no permission
 abbrev pub <b id="IsDenial">IsDenial</b> : <a href="../../meter/Limiter/index.html#Answer">Answer</a> → Type 0
 <a href="../../meter/Limiter/index.html#IsDenial">IsDenial</a> (Ok true) = ⊥
-<a href="../../meter/Limiter/index.html#IsDenial">IsDenial</a> (Ok false) = Unit {0}
-<a href="../../meter/Limiter/index.html#IsDenial">IsDenial</a> (Err error) = Unit {0}
+<a href="../../meter/Limiter/index.html#IsDenial">IsDenial</a> _ = Unit {0}
 
 -- why a growth failed that was permitted
 pub data <b id="Failure">Failure</b> : Type 0 where
@@ -2507,15 +2498,13 @@ abbrev pub <b id="unlimited_rules">unlimited_rules</b> : {S : Type 0} → <a hre
 abbrev pub <b id="AskedIf">AskedIf</b> : {S : Type 0} → <a href="../../meter/Limiter/index.html#Rules">Rules</a> S → Option S → <a href="../../meter/Limiter/index.html#Question">Question</a> → <a href="../../meter/Limiter/index.html#Answer">Answer</a> → Option S → Type 0
 <a href="../../meter/Limiter/index.html#AskedIf">AskedIf</a> rules (Some l) question answer (Some l&#x27;) = rules.asked l question answer l&#x27;
 <a href="../../meter/Limiter/index.html#AskedIf">AskedIf</a> rules None question answer None = answer ≡ Ok true
-<a href="../../meter/Limiter/index.html#AskedIf">AskedIf</a> rules (Some l) question answer None = ⊥
-<a href="../../meter/Limiter/index.html#AskedIf">AskedIf</a> rules None question answer (Some l&#x27;) = ⊥
+<a href="../../meter/Limiter/index.html#AskedIf">AskedIf</a> rules _ question answer _ = ⊥
 
 -- a notice to a limiter that may be absent: without one it is accepted
 abbrev pub <b id="NoticedIf">NoticedIf</b> : {S : Type 0} → <a href="../../meter/Limiter/index.html#Rules">Rules</a> S → Option S → <a href="../../meter/Limiter/index.html#Failure">Failure</a> → <a href="../../meter/Limiter/index.html#NoticeAnswer">NoticeAnswer</a> → Option S → Type 0
 <a href="../../meter/Limiter/index.html#NoticedIf">NoticedIf</a> rules (Some l) failure notice_answer (Some l&#x27;) = rules.noticed l failure notice_answer l&#x27;
 <a href="../../meter/Limiter/index.html#NoticedIf">NoticedIf</a> rules None failure notice_answer None = notice_answer ≡ Ok tt
-<a href="../../meter/Limiter/index.html#NoticedIf">NoticedIf</a> rules (Some l) failure notice_answer None = ⊥
-<a href="../../meter/Limiter/index.html#NoticedIf">NoticedIf</a> rules None failure notice_answer (Some l&#x27;) = ⊥
+<a href="../../meter/Limiter/index.html#NoticedIf">NoticedIf</a> rules _ failure notice_answer _ = ⊥
 
 -- the rules of a limiter that may be absent
 abbrev pub <b id="optional_rules">optional_rules</b> : {S : Type 0} → <a href="../../meter/Limiter/index.html#Rules">Rules</a> S → <a href="../../meter/Limiter/index.html#Rules">Rules</a> (Option S)
@@ -2532,9 +2521,8 @@ abbrev pub <b id="lent_limiter">lent_limiter</b> : {L : Type 0} → LimiterRef (
 -- one loan before and after a call: both absent, or under one name
 abbrev pub <b id="SameLoan">SameLoan</b> : {L : Type 0} → Option (MutBor L) → Option (MutBor L) → Type 0
 <a href="../../meter/Limiter/index.html#SameLoan">SameLoan</a> None None = Unit {0}
-<a href="../../meter/Limiter/index.html#SameLoan">SameLoan</a> None (Some r&#x27;) = ⊥
-<a href="../../meter/Limiter/index.html#SameLoan">SameLoan</a> (Some r) None = ⊥
 <a href="../../meter/Limiter/index.html#SameLoan">SameLoan</a> (Some r) (Some r&#x27;) = r&#x27;.ghost_name ≡ r.ghost_name
+<a href="../../meter/Limiter/index.html#SameLoan">SameLoan</a> _ _ = ⊥
 
 -- r&#x27; leads to what r leads to
 abbrev pub <b id="KeepsLoan">KeepsLoan</b> : {L : Type 0} → LimiterRef (MutBor L) → LimiterRef (MutBor L) → Type 0
@@ -2597,9 +2585,8 @@ abbrev pub <b id="meter_at_entry">meter_at_entry</b> : Option (MutBor <a href=".
 -- the meter that an optional reference leaves behind it when a call ends, if there is one, in the terms of a clause&#x27;s
 -- `.exit`
 abbrev pub <b id="meter_at_exit">meter_at_exit</b> : {A B C : Type 0} → A ⊎ ((MutBor <a href="../../meter/Meter/index.html#Meter">Meter</a> × B) ⊎ C) → Option <a href="../../meter/Meter/index.html#Meter">Meter</a>
-<a href="../../meter/Meter/index.html#meter_at_exit">meter_at_exit</a> (inl none) = None
 <a href="../../meter/Meter/index.html#meter_at_exit">meter_at_exit</a> (inr (inl lent)) = Some lent.0.now
-<a href="../../meter/Meter/index.html#meter_at_exit">meter_at_exit</a> (inr (inr other)) = None
+<a href="../../meter/Meter/index.html#meter_at_exit">meter_at_exit</a> _ = None
 
 -- an amount is taken where that much is left, and is refused else
 pub record <b id="ConsumesFuel">ConsumesFuel</b> {T : Type 0} (m : <a href="../../meter/Meter/index.html#Meter">Meter</a>) (amount : ℕ) (value : T) (result : Result T FuelError)
