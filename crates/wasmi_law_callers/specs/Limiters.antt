@@ -9,6 +9,7 @@ use Rattle.wasmi_store.specs.Memory.{MemoryValue}
 use Rattle.wasmi_store.specs.Table.{TableValue, size_of}
 use Rattle.std.specs.Vec.{vec_capacity}
 use Rattle.wasmi_meter.specs.Limiter.{Question, Answer, kind_of, NoticeAnswer, Rules}
+use Rattle.wasmi_core.specs.Exchange.{NothingGrows}
 use Rattle.wasmi_law_callers.specs.declared.recorder.Event.{Event}
 use Rattle.wasmi_law_callers.specs.declared.recorder.Event.TheVariants.{Permitted, Failed}
 use Rattle.wasmi_law_callers.specs.declared.recorder.Recorder.{Recorder}
@@ -57,10 +58,6 @@ recorder_rules =
       noticed = λ l failure notice_answer l'. KeepsFailure l (kind_of failure) notice_answer l';
     }
 
--- nothing has grown
-abbrev pub SameSizes : (Kind → List ℕ) → (Kind → List ℕ) → Type 0
-SameSizes sizes sizes' = (kind : Kind) → sizes' kind ≡ sizes kind
-
 -- one size of a kind has become another: a new one, or one that was there
 abbrev pub OneGrows : ℕ → ℕ → List ℕ → List ℕ → Type 0
 OneGrows current desired sizes sizes' = ((current ≡ 0) × (sizes' ≡ sizes ++ desired ∷ []))
@@ -68,7 +65,7 @@ OneGrows current desired sizes sizes' = ((current ≡ 0) × (sizes' ≡ sizes ++
 
 -- how the trace has grown by one call, and the sizes with it
 abbrev pub LeavesTrace : List Event → (Kind → List ℕ) → List Event → (Kind → List ℕ) → Type 0
-LeavesTrace events sizes events' sizes' = ((events' ≡ events) × SameSizes sizes sizes')
+LeavesTrace events sizes events' sizes' = ((events' ≡ events) × NothingGrows sizes sizes')
     ⊎ ((q : Question) × (events' ≡ events ++ event_of q ∷ [])
     × OneGrows q.current q.desired (sizes q.kind) (sizes' q.kind))
-    ⊎ ((q : Question) × (events' ≡ events ++ event_of q ∷ Failed q.kind ∷ []) × SameSizes sizes sizes')
+    ⊎ ((q : Question) × (events' ≡ events ++ event_of q ∷ Failed q.kind ∷ []) × NothingGrows sizes sizes')

@@ -4,10 +4,11 @@ use Rattle.std.specs.Prelude.{MatchBool}
 use Rattle.wasmi_meter.specs.Attempt.{MeteredValue, Request, AttemptOutcome, Unasked, Denied, Met, Failed, Attempt, MayEnd, IsFirstCause, Follows, answer_of, optional_due, covers}
 use Rattle.wasmi_meter.specs.Limiter.{Rules}
 use Rattle.wasmi_meter.specs.Meter.{Meter}
+use Rattle.wasmi_store.specs.Growth.{IsDenied}
 use Rattle.wasmi_store.specs.Table.{creation_of, growth_of}
 use Rattle.wasmi_store.proofs.GrowthLemmas.{no_cause}
 use Rattle.wasmi_store.proofs.WriteLemmas.{same_as_itself}
-use Rattle.wasmi_region.specs.Laws.{IsDenied, TableCreationsSucceed, TableGrowthsSucceed, CreationsAreTables, GrowthsAreTables}
+use Rattle.wasmi_region.specs.Laws.{TableCreationsSucceed, TableGrowthsSucceed, CreationsAreTables, GrowthsAreTables}
 use Rattle.wasmi_region.specs.Table.{creation_in, growth_in}
 
 -- one of the two facts of a test, where the first leads to another

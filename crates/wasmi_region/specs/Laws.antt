@@ -1,15 +1,12 @@
 -- What holds of all tables on regions.
 use Rattle.std.specs.Prelude.{◌≡◌, ◌+◌, ◌≤◌, ◌⊎◌, ℕ, true, Option, Result, Ok}
 use Rattle.wasmi_meter.specs.Attempt.{MeteredValue, optional_due, covers}
-use Rattle.wasmi_meter.specs.Limiter.{Question, Answer, IsDenial, Rules}
+use Rattle.wasmi_meter.specs.Limiter.{Rules}
 use Rattle.wasmi_meter.specs.Meter.{Meter}
 use Rattle.wasmi_meter.specs.declared.error.TableError.{TableError}
+use Rattle.wasmi_store.specs.Growth.{IsDenied}
 use Rattle.wasmi_store.specs.Table.{TableValue, MakesTable, GrowsTableRaw, new_table, size_of, TableTypeValue, is_indexable, is_within_maximum}
 use Rattle.wasmi_region.specs.Table.{MakesTableIn, GrowsTableIn, creation_in, growth_in, typed_as}
-
--- a limiter was asked a question, and denied it
-abbrev pub IsDenied : {S : Type 0} → Rules S → Question → S → S → Type 0
-IsDenied rules question l l' = (answer : Answer) × IsDenial answer × rules.asked l question answer l'
 
 -- a table can grow by n elements on a region of so many references: its type and the region have place for them, and a
 -- meter, if there is one, can pay them

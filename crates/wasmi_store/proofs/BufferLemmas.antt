@@ -3,7 +3,7 @@ use Rattle.std.proofs.Common.{◌≡◌, ℕ, ◌+◌, ◌-◌, ◌≤◌, List,
 use Rattle.std.proofs.lemmas.Bool.Decides.{nat_tests}
 use Rattle.std.proofs.lemmas.List.{take_all, drop_all, append-nil, take_at, drop_at, drop-drop, take-append-le, take-append-drop, length-append, length-replicate, length-take-le, length-drop}
 use Rattle.wasmi_store.specs.Buffer as buffer
-use Rattle.wasmi_store.specs.Buffer.{BufferValue, with_zeros, fits_room, refilled_front, view_of, EndsWithin}
+use Rattle.wasmi_store.specs.Buffer.{with_zeros, fits_room, refilled_front, view_of, EndsWithin}
 use Rattle.wasmi_store.specs.declared.memory.buffer.Storage.TheVariants.{Owned, Lent}
 
 -- a list, and n zeros
@@ -40,11 +40,9 @@ module _ {Region : Type 0} (bytes : Region → List ℕ) (len n : ℕ) where
 
   -- a region whose first n bytes were written over, by the buffer's and zeros, holds the buffer with zeros
   pub lent_grows : (region region' : Region) → EndsWithin bytes (Lent region) len → length (take len (bytes region)) ≤ n
-      → fits_room (view_of bytes (Lent region) len).room (n - length (take len (bytes region))) ≡ true
-      → (ws : List ℕ)
+      → fits_room (view_of bytes (Lent region) len).room (n - length (take len (bytes region))) ≡ true → (ws : List ℕ)
       → ws ≡ padded (take len (take n (bytes region))) (n - len) ++ drop n (take n (bytes region))
-      → bytes region' ≡ refilled_front (bytes region) n ws
-      → view_of bytes (Lent region') n
+      → bytes region' ≡ refilled_front (bytes region) n ws → view_of bytes (Lent region') n
       ≡ with_zeros (view_of bytes (Lent region) len) (n - length (take len (bytes region)))
   lent_grows region region' ends le room ws zeros after =
       let xs : List ℕ = bytes region in

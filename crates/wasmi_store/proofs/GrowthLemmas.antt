@@ -40,15 +40,13 @@ unpayable m n h = grind (arith, nat_tests)
 
 -- the limiter gets a notice of a cause, and the error is by its answer
 abbrev pub TellsOf : {V E S : Type 0} → Rules S → Request V E → E → S → E → S → Type 0
-TellsOf rules e cause l error l' =
-    (answer : NoticeAnswer) × rules.noticed l (e.notice cause) answer l'
+TellsOf rules e cause l error l' = (answer : NoticeAnswer) × rules.noticed l (e.notice cause) answer l'
     × (error ≡ error_of_failure e.refusal cause answer)
 
 -- a request is permitted where its question is
 pub permitted_by : {V E S : Type 0} (rules : Rules S) (e : Request V E) (question : Question) → IsAsked e question
     → (l permitted : S) → rules.asked l question (Ok true) permitted → IsPermitted rules e l permitted
-permitted_by rules e question is l permitted asks =
-    record { early = is.early; asks = rw is.question_is at asks }
+permitted_by rules e question is l permitted asks = record { early = is.early; asks = rw is.question_is at asks }
 
 module _ {T E S : Type 0} (rules : Rules S) (e : Request (Unit {0}) E) (made : T) (l : S) where
   -- where an early cause stands, the limiter isn't asked, and the cause is answered
@@ -105,8 +103,7 @@ module _ {V E S : Type 0} (t : GrowthAttempt V E S) where
 
   -- the growth ends so, with some charge
   abbrev pub EndsIn : Result ℕ E → V → Meter → S → Type 0
-  EndsIn result x' m' l' =
-      (charge : ℕ)
+  EndsIn result x' m' l' = (charge : ℕ)
       × Grows t.rules t.growth before result charge (record { value = x'; meter = Some m'; limiter = l' })
 
   -- an attempt with its answer is a growth
@@ -124,8 +121,7 @@ module _ {V E S : Type 0} (t : GrowthAttempt V E S) where
   pub grows_denied : (question : Question) → IsAsked request question → (answer : Answer) (l' : S)
       → t.rules.asked t.limiter question answer l' → (error : E)
       → Permits request.denial request.refusal answer (Err error) → EndsIn (Err error) t.value t.meter l'
-  grows_denied question is answer l' asks error denies =
-      grows (Denied answer) 0 _
+  grows_denied question is answer l' asks error denies = grows (Denied answer) 0 _
       (attempt_denied t.rules request before is.early answer l' denies.0 (rw is.question_is at asks)) _
       (ap Err denies.1)
 
@@ -134,17 +130,14 @@ module _ {V E S : Type 0} (t : GrowthAttempt V E S) where
     pub grows_late : IsPermitted t.rules request t.limiter permitted → (cause : E) → request.late ≡ Some cause
         → (error : E) (l' : S) → TellsOf t.rules request cause permitted error l'
         → EndsIn (Err error) t.value t.meter l'
-    grows_late permits cause late error l' tells =
-        grows (Failed cause tells.0) 0 _
-        (attempt_late t.rules request before permitted permits cause tells.0 l' late tells.1) _
-        (ap Err tells.2)
+    grows_late permits cause late error l' tells = grows (Failed cause tells.0) 0 _
+        (attempt_late t.rules request before permitted permits cause tells.0 l' late tells.1) _ (ap Err tells.2)
 
     module _ (reaches : ReachesCharge t.rules request t.limiter permitted) (m' : Meter) where
       -- where the price can't be paid, the limiter gets a notice, and nothing is charged
       pub grows_unpaid : (required : ℕ) → Charges t.meter price (Err required) m' → (error : E) (l' : S)
           → TellsOf t.rules request (request.unpaid required) permitted error l' → EndsIn (Err error) t.value m' l'
-      grows_unpaid required short error l' tells =
-          rw short.2 (
+      grows_unpaid required short error l' tells = rw short.2 (
           grows (Failed (request.unpaid price) tells.0) 0 _
           (attempt_unpaid t.rules request before permitted reaches tells.0 l'
           (unpayable t.meter price short.0) (rw short.1 at tells.1)) _
@@ -155,21 +148,16 @@ module _ {V E S : Type 0} (t : GrowthAttempt V E S) where
         -- where the price is paid and what it grows into refuses it, the limiter gets a notice, and the value stays
         pub grows_refused : (cause : E) → request.refuses cause → (x' : V) → x' ≡ t.value → (error : E) (l' : S)
             → TellsOf t.rules request cause permitted error l' → EndsIn (Err error) x' m' l'
-        grows_refused cause refuses x' same error l' tells =
-            rw (enough.1, same) (
-            grows (Failed cause tells.0) price _
-            (attempt_refused t.rules request before permitted reaches
-            (payable t.meter price enough.0) cause tells.0 l' refuses tells.1) _
-            (ap Err tells.2)
+        grows_refused cause refuses x' same error l' tells = rw (enough.1, same) (
+            grows (Failed cause tells.0) price _ (attempt_refused t.rules request before permitted reaches
+            (payable t.meter price enough.0) cause tells.0 l' refuses tells.1) _ (ap Err tells.2)
             )
 
         -- where the price is paid and no cause stands, the value has grown, and the old size is answered
         pub grows_met : (x' : V) → x' ≡ request.grown → (old : ℕ) → old ≡ t.growth.size
             → EndsIn (Ok old) x' m' permitted
-        grows_met x' grown old answers =
-            rw (enough.1, grown) (
-            grows Met price _
-            (attempt_met t.rules request before permitted reaches (payable t.meter price enough.0)) _
+        grows_met x' grown old answers = rw (enough.1, grown) (
+            grows Met price _ (attempt_met t.rules request before permitted reaches (payable t.meter price enough.0)) _
             (ap Ok answers)
             )
 
@@ -185,14 +173,11 @@ module _ {V E S : Type 0} (rules : Rules S) (amount size : ℕ) (e : Request V E
   pub grows_unmetered : {result : Result ℕ E} {charge : ℕ} → Grows rules priced off result charge s'
       → Grows rules priced (metered_value x None l) result charge (metered_value s'.value None s'.limiter)
   grows_unmetered (inl g) = inl (record {
-    none = g.none;
-    answered = g.answered;
-    uncharged = g.uncharged;
+    none = g.none; answered = g.answered; uncharged = g.uncharged;
     same = ap (λ (s : MeteredValue V S). metered_value s.value None s.limiter) g.same;
   })
   grows_unmetered (inr g) = let a = g.attempt in inr (record {
-    some = g.some;
-    outcome = g.outcome;
+    some = g.some; outcome = g.outcome;
     attempt = record { may_end = a.may_end; follows = a.follows; charged = a.charged; meter = refl; value = a.value };
     answered = g.answered;
   })

@@ -29,8 +29,7 @@ module _ {S : Type 0} (rules : Rules S) (ty : MemoryTypeValue) (l : S) where
   pub minimum_overflows : (let none : Option ℕ = None in none)
       ≡ (if nat_lt (minimum_bytes ty) (2 ^ 64) then Some (minimum_bytes ty) else None)
       → PermitsMinimum rules ty l (Err MinimumSizeOverflow) l
-  minimum_overflows over room =
-      any.makes_unasked rules (creation_of room ty) (new_memory room ty) l MinimumSizeOverflow
+  minimum_overflows over room = any.makes_unasked rules (creation_of room ty) (new_memory room ty) l MinimumSizeOverflow
       (a_cause _ _ (untested (nat_lt (minimum_bytes ty) (2 ^ 64)) (minimum_bytes ty) over))
 
   module _ (size : ℕ)
@@ -86,10 +85,7 @@ abbrev pub growing : {S : Type 0} → Rules S → (x : MemoryValue) → Meter �
 growing rules x m l pages some = record {
   rules = rules;
   growth = record { amount = pages; size = pages_of x; request = growth_of x pages };
-  some = some;
-  value = x;
-  meter = m;
-  limiter = l;
+  some = some; value = x; meter = m; limiter = l;
 }
 
 -- a growth out of the bounds of the type is refused, and the limiter isn't asked
@@ -118,8 +114,7 @@ pub record PermitsGrowth {S : Type 0} (rules : Rules S) (x : MemoryValue) (m : M
 pub growth_permitted : {S : Type 0} (rules : Rules S) (x : MemoryValue) (m : Meter) (pages : ℕ) {question : Question}
     {l p : S} {answer : Answer} → (pages ≡ 0 → ⊥) → IsAsked (growth_of x pages) question → answer ≡ Ok true
     → rules.asked l question answer p → PermitsGrowth rules x m l pages question p
-growth_permitted rules x m pages some asked says asks =
-    record { some = some; is = asked; asks = rw says at asks }
+growth_permitted rules x m pages some asked says asks = record { some = some; is = asked; asks = rw says at asks }
 
 -- a growth that is permitted, by what was tested after the permission
 module _ {S : Type 0} {rules : Rules S} {x : MemoryValue} {m : Meter} {l : S} {pages : ℕ} {question : Question} {p : S}

@@ -33,8 +33,7 @@ makes_mismatched rules ty init l other =
 
 -- the making of a table of the type of its elements asks for its sizes
 pub making_asked : (ty : TableTypeValue) (init : TypedRawRef) → same_type ty.element init.ty ≡ true → (size : ℕ)
-    → size ≡ ty.minimum → (maximum : Option ℕ) → maximum ≡ ty.maximum
-    → IsAsked (creation_of ty init.ty)
+    → size ≡ ty.minimum → (maximum : Option ℕ) → maximum ≡ ty.maximum → IsAsked (creation_of ty init.ty)
     (record { kind = Elements; current = 0; desired = size; maximum = maximum })
 making_asked ty init same size sized maximum most =
     record { early = no_cause _ _ same; question_is = rw (sized, most) refl }
@@ -47,10 +46,7 @@ abbrev pub growing : {S : Type 0} → Rules S → (x : TableValue) → Meter →
 growing rules x m l n reference some = record {
   rules = rules;
   growth = record { amount = n; size = size_of x; request = growth_of x n reference };
-  some = some;
-  value = x;
-  meter = m;
-  limiter = l;
+  some = some; value = x; meter = m; limiter = l;
 }
 
 -- a growth past what can be indexed is refused, and the limiter isn't asked
@@ -81,8 +77,7 @@ pub record PermitsGrowth {S : Type 0} (rules : Rules S) (x : TableValue) (m : Me
 pub growth_permitted : {S : Type 0} (rules : Rules S) (x : TableValue) (m : Meter) (n reference : ℕ)
     {question : Question} {l p : S} {answer : Answer} → (n ≡ 0 → ⊥) → IsAsked (growth_of x n reference) question
     → answer ≡ Ok true → rules.asked l question answer p → PermitsGrowth rules x m l n reference question p
-growth_permitted rules x m n reference some asked says asks =
-    record { some = some; is = asked; asks = rw says at asks }
+growth_permitted rules x m n reference some asked says asks = record { some = some; is = asked; asks = rw says at asks }
 
 -- a growth that is permitted, by what was tested after the permission
 module _ {S : Type 0} {rules : Rules S} {x : TableValue} {m : Meter} {l : S} {n reference : ℕ} {question : Question}
@@ -136,8 +131,7 @@ module _ {S : Type 0} (rules : Rules S) (n reference : ℕ) (x : TableValue) (l 
   unmetered s = record s { meter = None }
 
   -- a growth with a meter that is off is one without, whether the type is the same or not
-  by_type : (same : Bool)
-      → MatchBool same (GrowsTableRawCharging rules n reference off result charge s')
+  by_type : (same : Bool) → MatchBool same (GrowsTableRawCharging rules n reference off result charge s')
       ((result ≡ Err ElementTypeMismatch) × (charge ≡ 0) × (s' ≡ off))
       → MatchBool same (GrowsTableRawCharging rules n reference (unmetered off) result charge (unmetered s'))
       ((result ≡ Err ElementTypeMismatch) × (charge ≡ 0) × (unmetered s' ≡ unmetered off))
@@ -167,8 +161,7 @@ module _ {I : Type 0} {steps : I → Option ℕ → I → Type 0} {can : I → T
   -- memory was refused for one more item
   pub read_refused : length xs < most_items → IsOutOfMemory steps s u
   read_refused few = record {
-    items = e.items ++ x ∷ [];
-    run = Yields-snoc steps s t u e.items x e.run next;
+    items = e.items ++ x ∷ []; run = Yields-snoc steps s t u e.items x e.run next;
     some = omega (arith, length-append e.items (x ∷ []));
     short = omega (arith, few, e.counted, length-append e.items (x ∷ []));
   }

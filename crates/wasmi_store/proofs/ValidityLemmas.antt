@@ -14,9 +14,9 @@ use Rattle.wasmi_store.specs.Buffer.{Room, with_zeros}
 use Rattle.wasmi_store.specs.Growth.{Growth, Makes, Grows}
 use Rattle.wasmi_store.specs.declared.memory.ty.PageSize.{PageSize}
 use Rattle.wasmi_store.specs.declared.memory.ty.PageSize.TheVariants.{Byte, Wasm}
-use Rattle.wasmi_store.specs.Memory.{MemoryTypeValue, page_bytes, minimum_bytes, greatest_pages, in_bounds, MemoryValue, buffer_of, pages_of, new_memory, IsValidMemory, MakesMemory, GrowsMemoryCharging}
+use Rattle.wasmi_store.specs.Memory.{MemoryTypeValue, page_bytes, minimum_bytes, in_bounds, MemoryValue, buffer_of, pages_of, new_memory, IsValidMemory, MakesMemory, GrowsMemoryCharging}
 use Rattle.wasmi_store.specs.Memory as memory
-use Rattle.wasmi_store.specs.Table.{TableTypeValue, is_indexable, is_within_maximum, same_type, TableValue, size_of, new_table, with_added, IsValidTable, MakesTable, GrowsTableCharging}
+use Rattle.wasmi_store.specs.Table.{TableTypeValue, same_type, TableValue, size_of, new_table, with_added, IsValidTable, MakesTable, GrowsTableCharging}
 use Rattle.wasmi_store.specs.Table as table
 use Rattle.wasmi_store.proofs.GrowthLemmas.{on_test}
 
@@ -92,8 +92,7 @@ made_memory_is_valid rules room ty l x l' valid makes =
     rw met.0 (record {
       type = valid;
       sized = rw (length-replicate {A = ℕ} (minimum_bytes ty) 0) (record {
-        whole = pages.0;
-        minimum = omega (arith, pages.1);
+        whole = pages.0; minimum = omega (arith, pages.1);
         within = subst (λ n. in_bounds ty n ≡ true) (sym pages.1) bounds;
       });
     })
@@ -113,8 +112,7 @@ grown_memory_is_valid rules pages s result charge s' valid grows =
     (λ early late. record {
       type = valid.type;
       sized = rw size (record {
-        whole = added.0;
-        minimum = omega (arith, added.1, valid.sized.minimum);
+        whole = added.0; minimum = omega (arith, added.1, valid.sized.minimum);
         within = subst (λ k. in_bounds x.ty k ≡ true) (sym added.1) (passed _ _ early);
       });
     }) result charge grows
@@ -128,8 +126,7 @@ made_table_is_valid rules ty init l x l' valid makes =
     rw met.0 (record {
       type = valid;
       sized = rw (length-replicate ty.minimum init.raw) (record {
-        minimum = omega arith;
-        indexable = grind (arith, nat_tests);
+        minimum = omega arith; indexable = grind (arith, nat_tests);
         within = maximum_holds ty.minimum ty.maximum (λ m is. (valid.maximum m is).0);
       });
     })
@@ -142,15 +139,12 @@ grown_table_is_valid rules n init s result charge s' valid grows =
     let x = s.value in
     let size : length (with_added x n init.raw).elements ≡ size_of x + n =
     length-append x.elements (replicate n init.raw) ∙ ap (λ k. size_of x + k) (length-replicate n init.raw) in
-    on_test (same_type x.ty.element init.ty) _ _ grows
-    (λ raw. grown_valid rules
+    on_test (same_type x.ty.element init.ty) _ _ grows (λ raw. grown_valid rules
     (record { amount = n; size = size_of x; request = table.growth_of x n init.raw }) IsValidTable s s' valid
     (λ early late. record {
       type = valid.type;
       sized = rw size (record {
-        minimum = omega (arith, valid.sized.minimum);
-        indexable = passed _ _ early;
-        within = passed _ _ late;
+        minimum = omega (arith, valid.sized.minimum); indexable = passed _ _ early; within = passed _ _ late;
       });
     }) result charge raw)
     (λ refused. subst (λ (t : MeteredValue TableValue _). IsValidTable t.value) (sym refused.2) valid)

@@ -1,5 +1,5 @@
 -- The calls that write over a part of a list of elements: by what was tested on the way, and a copy a part at a time.
-use Rattle.std.proofs.Common.{◌≡◌, ℕ, suc, ◌+◌, ◌<◌, true, Option, Some, None, Ok, Err, inl, inr, List, [], ◌∷◌, ◌++◌, length, take, drop, refl, sym, ap, ◌∙◌, arith, append_assoc, ◌-◌, ◌≤◌, length-drop}
+use Rattle.std.proofs.Common.{◌≡◌, ℕ, suc, ◌+◌, ◌<◌, true, Option, Some, None, Err, inl, inr, List, [], ◌∷◌, ◌++◌, length, take, drop, refl, sym, ap, ◌∙◌, arith, append_assoc, ◌-◌, ◌≤◌, length-drop}
 use Rattle.std.proofs.lemmas.Bool.{cases_Bool}
 use Rattle.std.proofs.lemmas.Bool.Decides.{nat_tests}
 use lib.ListN.{set}
@@ -30,8 +30,7 @@ module _ (write : TableValue → TableWrite) (ty : TableTypeValue) (xs : List �
     Written = WritesTable write s result (metered (table_of ty xs') (Some m'))
 
     -- a write that is refused takes nothing
-    refused : (cause : TableError)
-        → Ends w s (record { result = Err cause; charge = 0; value = table_of ty xs })
+    refused : (cause : TableError) → Ends w s (record { result = Err cause; charge = 0; value = table_of ty xs })
         → (result ≡ Err cause) × (metered xs' (Some m') ≡ metered xs (Some m)) → Written
     refused cause ends (is, kept) =
         let elements : xs' ≡ xs = ap (λ s. s.value) kept in
@@ -101,8 +100,7 @@ copied_down {A = A} xs ys dst src done n down fits is =
     ap (λ l. l ++ take n (drop (src + done) ys) ++ drop (dst + done + n) ys) head
     ∙ ap (λ l. take dst xs ++ take done s ++ take n l ++ drop (dst + done + n) ys) ahead
     ∙ ap (λ l. take dst xs ++ take done s ++ take n (drop done s) ++ l) tail
-    ∙ ap (λ l. l ++ drop (dst + (done + n)) xs)
-    (append_assoc (take dst xs) (take done s) (take n (drop done s))
+    ∙ ap (λ l. l ++ drop (dst + (done + n)) xs) (append_assoc (take dst xs) (take done s) (take n (drop done s))
     ∙ ap (λ l. take dst xs ++ l) (sym (take-add done n s)))
 
 -- a part copied before what was copied upwards
@@ -138,7 +136,6 @@ copied_up {A = A} xs ys dst src len left n up some within fits is =
     ∙ ap (λ l. b ++ take n t ++ l) tail
     ∙ sym (append_assoc (b ++ take n t) (take rest s) z)
     ∙ ap (λ l. b ++ take n t ++ take rest l ++ z) split
-    ∙ ap (λ l. l ++ z)
-    (append_assoc b (take n t) (take rest (drop n t))
+    ∙ ap (λ l. l ++ z) (append_assoc b (take n t) (take rest (drop n t))
     ∙ ap (λ l. b ++ l) (sym (take-add n rest t) ∙ ap (λ k. take k t) sum))
     ∙ ap (λ k. b ++ take (len - less) t ++ drop k xs) end

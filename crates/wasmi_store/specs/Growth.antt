@@ -1,6 +1,6 @@
 -- Making and growing a memory or a table, as an attempt with its answer, and what the bulk instructions write and take.
 use Rattle.std.specs.Prelude.{◌≡◌, ◌<◌, ◌⊎◌, ℕ, Option, None, Result, Ok, List, replicate, MatchBool, Some, Err}
-use Rattle.wasmi_meter.specs.Limiter.{Question, Rules}
+use Rattle.wasmi_meter.specs.Limiter.{Question, Answer, IsDenial, Rules}
 use Rattle.wasmi_meter.specs.Meter.{Meter, copy_cost, meter_after}
 use Rattle.wasmi_meter.specs.Attempt.{MeteredValue, alone, Request, AttemptOutcome, Attempt, answer_of, optional_due, covers}
 use Rattle.std.specs.Option.{option_map, option_and_then}
@@ -24,6 +24,10 @@ WithCharge Acts s result s' = (charge : ℕ) × Acts s result charge s'
 pub record IsAsked {V E : Type 0} (e : Request V E) (question : Question) : Type 0 where
   pub early : e.early ≡ None
   pub question_is : question ≡ e.question
+
+-- a limiter was asked a question, and denied it
+abbrev pub IsDenied : {S : Type 0} → Rules S → Question → S → S → Type 0
+IsDenied rules question l l' = (answer : Answer) × IsDenial answer × rules.asked l question answer l'
 
 -- an attempt to make a value, which is returned if the attempt is met; no fuel is charged
 abbrev pub Makes : {T E S : Type 0} → Rules S → Request (Unit {0}) E → T → S → Result T E → S → Type 0

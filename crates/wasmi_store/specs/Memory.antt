@@ -29,7 +29,7 @@ pub record MemoryTypeValue : Type 0 where
   pub minimum : ℕ
   pub maximum : Option ℕ
 
--- the bytes of a page, and the power of two that they are
+-- how many bytes a page has
 abbrev pub page_bytes : PageSize → ℕ
 page_bytes Byte = 1
 page_bytes Wasm = 65536
@@ -47,7 +47,7 @@ page_of_log2 log2 = if nat_eq log2 0 then Some Byte else (if nat_eq log2 16 then
 abbrev pub greatest_pages : MemoryTypeValue → ℕ
 greatest_pages ty = 2 ^ address_bits ty.index / page_bytes ty.page
 
--- the minimum and the maximum in bytes; the maximum is cut at the greatest number of 64 bits
+-- the minimum in bytes
 abbrev pub minimum_bytes : MemoryTypeValue → ℕ
 minimum_bytes ty = ty.minimum * page_bytes ty.page
 
@@ -60,7 +60,8 @@ pub record IsValid (ty : MemoryTypeValue) : Type 0 where
   pub minimum : ty.minimum ≤ greatest_pages ty
   pub maximum : ForSome ty.maximum (λ maximum. (ty.minimum ≤ maximum) × (maximum ≤ greatest_pages ty))
 
--- whether a memory of the type may have so many pages: as many as it can address, and no more than its maximum
+-- whether a memory of the type may have so many pages: no more than it can address, nor than its maximum, and less than
+-- 2 ^ 64 bytes
 abbrev pub in_bounds : MemoryTypeValue → ℕ → Bool
 in_bounds ty pages =
     nat_le pages (greatest_pages ty) && option_map_or (λ maximum. nat_le pages maximum) ty.maximum true && nat_lt
@@ -86,8 +87,7 @@ default_settings = record { index = I32; page_size_log2 = 16; minimum = 0; maxim
 
 -- the type that the settings name, if there is a page of that size
 abbrev pub named_type : Settings → Option MemoryTypeValue
-named_type s =
-    option_map (λ page. record { index = s.index; page = page; minimum = s.minimum; maximum = s.maximum })
+named_type s = option_map (λ page. record { index = s.index; page = page; minimum = s.minimum; maximum = s.maximum })
     (page_of_log2 s.page_size_log2)
 
 -- a memory: its type, its bytes, and the room that these may grow into
@@ -129,22 +129,16 @@ dynamic_type x = record x.ty { minimum = pages_of x }
 
 -- may a memory get from so many bytes to so many, where its type allows at most so many?
 abbrev pub size_question : ℕ → ℕ → Option ℕ → Question
-size_question current desired maximum =
-    record { kind = Bytes; current = current; desired = desired; maximum = maximum }
+size_question current desired maximum = record { kind = Bytes; current = current; desired = desired; maximum = maximum }
 
 -- what is asked where a memory of a type is made in a room, and the causes of a refusal; it costs no fuel
 abbrev pub creation_of : Room → MemoryTypeValue → Request (Unit {0}) MemoryError
 creation_of room ty = record {
   early = if nat_lt (minimum_bytes ty) (2 ^ 64) then None else Some MinimumSizeOverflow;
   question = size_question 0 (minimum_bytes ty) (maximum_bytes ty);
-  denial = ResourceLimiterDeniedAllocation;
-  refusal = ResourceLimiterDeniedAllocation;
-  notice = MemoryFailure;
+  denial = ResourceLimiterDeniedAllocation; refusal = ResourceLimiterDeniedAllocation; notice = MemoryFailure;
   late = if fits_room room (minimum_bytes ty) then None else Some InvalidStaticBufferSize;
-  price = None;
-  unpaid = OutOfFuel;
-  refuses = LacksMemory room;
-  grown = tt;
+  price = None; unpaid = OutOfFuel; refuses = LacksMemory room; grown = tt;
 }
 
 -- what is asked and paid where a memory grows by so many pages, and the causes of a refusal: a short region before want
@@ -153,13 +147,9 @@ abbrev pub growth_of : MemoryValue → ℕ → Request MemoryValue MemoryError
 growth_of x pages = let added = pages * page_bytes x.ty.page in record {
   early = if in_bounds x.ty (pages_of x + pages) then None else Some OutOfBoundsGrowth;
   question = size_question (length x.bytes) (length x.bytes + added) (maximum_bytes x.ty);
-  denial = OutOfBoundsGrowth;
-  refusal = ResourceLimiterDeniedAllocation;
-  notice = MemoryFailure;
+  denial = OutOfBoundsGrowth; refusal = ResourceLimiterDeniedAllocation; notice = MemoryFailure;
   late = if fits_room x.room added then None else Some InvalidStaticBufferSize;
-  price = Some (λ costs. copy_cost costs added 1);
-  unpaid = OutOfFuel;
-  refuses = LacksMemory x.room;
+  price = Some (λ costs. copy_cost costs added 1); unpaid = OutOfFuel; refuses = LacksMemory x.room;
   grown = memory_of x.ty (with_zeros (buffer_of x) added);
 }
 
@@ -170,8 +160,7 @@ MakesMemory rules room ty l result l' = Makes rules (creation_of room ty) (new_m
 
 -- the minimum of a type is permitted in bytes, or an error ends the making of a memory, whatever its room
 abbrev pub PermitsMinimum : {S : Type 0} → Rules S → MemoryTypeValue → S → Result ℕ MemoryError → S → Type 0
-PermitsMinimum rules ty l (Ok size) l' =
-    (size ≡ minimum_bytes ty) × (nat_lt (minimum_bytes ty) (2 ^ 64) ≡ true)
+PermitsMinimum rules ty l (Ok size) l' = (size ≡ minimum_bytes ty) × (nat_lt (minimum_bytes ty) (2 ^ 64) ≡ true)
     × rules.asked l (creation_of Owned ty).question (Ok true) l'
 PermitsMinimum rules ty l (Err error) l' = (room : Room) → MakesMemory rules room ty l (Err error) l'
 

@@ -2776,7 +2776,7 @@ module _ {Region : Type 0} where
     #[doc = r####"Making and growing a memory or a table, as an attempt with its answer, and what the bulk instructions write and take.
 
 <pre><code>use Rattle.std.specs.Prelude.{◌≡◌, ◌&lt;◌, ◌⊎◌, ℕ, Option, None, Result, Ok, List, replicate, MatchBool, Some, Err}
-use Rattle.wasmi_meter.specs.Limiter.{<a href="../../meter/Limiter/index.html#Question">Question</a>, <a href="../../meter/Limiter/index.html#Rules">Rules</a>}
+use Rattle.wasmi_meter.specs.Limiter.{<a href="../../meter/Limiter/index.html#Question">Question</a>, <a href="../../meter/Limiter/index.html#Answer">Answer</a>, <a href="../../meter/Limiter/index.html#IsDenial">IsDenial</a>, <a href="../../meter/Limiter/index.html#Rules">Rules</a>}
 use Rattle.wasmi_meter.specs.Meter.{<a href="../../meter/Meter/index.html#Meter">Meter</a>, <a href="../../meter/Meter/index.html#copy_cost">copy_cost</a>, <a href="../../meter/Meter/index.html#meter_after">meter_after</a>}
 use Rattle.wasmi_meter.specs.Attempt.{<a href="../../meter/Attempt/index.html#MeteredValue">MeteredValue</a>, <a href="../../meter/Attempt/index.html#alone">alone</a>, <a href="../../meter/Attempt/index.html#Request">Request</a>, <a href="../../meter/Attempt/index.html#AttemptOutcome">AttemptOutcome</a>, <a href="../../meter/Attempt/index.html#Attempt">Attempt</a>, <a href="../../meter/Attempt/index.html#answer_of">answer_of</a>, <a href="../../meter/Attempt/index.html#optional_due">optional_due</a>, <a href="../../meter/Attempt/index.html#covers">covers</a>}
 use Rattle.std.specs.Option.{option_map, option_and_then}
@@ -2800,6 +2800,10 @@ abbrev pub <b id="WithCharge">WithCharge</b> : {A R : Type 0} → (A → R → �
 pub record <b id="IsAsked">IsAsked</b> {V E : Type 0} (e : <a href="../../meter/Attempt/index.html#Request">Request</a> V E) (question : <a href="../../meter/Limiter/index.html#Question">Question</a>) : Type 0 where
   pub <b id="early">early</b> : e.early ≡ None
   pub <b id="question_is">question_is</b> : question ≡ e.question
+
+-- a limiter was asked a question, and denied it
+abbrev pub <b id="IsDenied">IsDenied</b> : {S : Type 0} → <a href="../../meter/Limiter/index.html#Rules">Rules</a> S → <a href="../../meter/Limiter/index.html#Question">Question</a> → S → S → Type 0
+<a href="../../store/Growth/index.html#IsDenied">IsDenied</a> rules question l l&#x27; = (answer : <a href="../../meter/Limiter/index.html#Answer">Answer</a>) × <a href="../../meter/Limiter/index.html#IsDenial">IsDenial</a> answer × rules.asked l question answer l&#x27;
 
 -- an attempt to make a value, which is returned if the attempt is met; no fuel is charged
 abbrev pub <b id="Makes">Makes</b> : {T E S : Type 0} → <a href="../../meter/Limiter/index.html#Rules">Rules</a> S → <a href="../../meter/Attempt/index.html#Request">Request</a> (Unit {0}) E → T → S → Result T E → S → Type 0
@@ -2892,7 +2896,7 @@ pub record <b id="MemoryTypeValue">MemoryTypeValue</b> : Type 0 where
   pub <b id="minimum">minimum</b> : ℕ
   pub <b id="maximum">maximum</b> : Option ℕ
 
--- the bytes of a page, and the power of two that they are
+-- how many bytes a page has
 abbrev pub <b id="page_bytes">page_bytes</b> : PageSize → ℕ
 <a href="../../store/Memory/index.html#page_bytes">page_bytes</a> Byte = 1
 <a href="../../store/Memory/index.html#page_bytes">page_bytes</a> Wasm = 65536
@@ -2910,7 +2914,7 @@ abbrev pub <b id="page_of_log2">page_of_log2</b> : ℕ → Option PageSize
 abbrev pub <b id="greatest_pages">greatest_pages</b> : <a href="../../store/Memory/index.html#MemoryTypeValue">MemoryTypeValue</a> → ℕ
 <a href="../../store/Memory/index.html#greatest_pages">greatest_pages</a> <a href="../../store/Memory/index.html#ty">ty</a> = 2 ^ <a href="../../types/Value/index.html#address_bits">address_bits</a> ty.index / <a href="../../store/Memory/index.html#page_bytes">page_bytes</a> ty.page
 
--- the minimum and the maximum in bytes; the maximum is cut at the greatest number of 64 bits
+-- the minimum in bytes
 abbrev pub <b id="minimum_bytes">minimum_bytes</b> : <a href="../../store/Memory/index.html#MemoryTypeValue">MemoryTypeValue</a> → ℕ
 <a href="../../store/Memory/index.html#minimum_bytes">minimum_bytes</a> <a href="../../store/Memory/index.html#ty">ty</a> = ty.minimum * <a href="../../store/Memory/index.html#page_bytes">page_bytes</a> ty.page
 
@@ -2923,7 +2927,8 @@ pub record <b id="IsValid">IsValid</b> (<a href="../../store/Memory/index.html#t
   pub <b id="minimum">minimum</b> : ty.minimum ≤ <a href="../../store/Memory/index.html#greatest_pages">greatest_pages</a> <a href="../../store/Memory/index.html#ty">ty</a>
   pub <b id="maximum">maximum</b> : ForSome ty.maximum (λ <a href="../../store/Memory/index.html#maximum">maximum</a>. (ty.minimum ≤ <a href="../../store/Memory/index.html#maximum">maximum</a>) × (<a href="../../store/Memory/index.html#maximum">maximum</a> ≤ <a href="../../store/Memory/index.html#greatest_pages">greatest_pages</a> <a href="../../store/Memory/index.html#ty">ty</a>))
 
--- whether a memory of the type may have so many pages: as many as it can address, and no more than its maximum
+-- whether a memory of the type may have so many pages: no more than it can address, nor than its maximum, and less than
+-- 2 ^ 64 bytes
 abbrev pub <b id="in_bounds">in_bounds</b> : <a href="../../store/Memory/index.html#MemoryTypeValue">MemoryTypeValue</a> → ℕ → Bool
 <a href="../../store/Memory/index.html#in_bounds">in_bounds</a> <a href="../../store/Memory/index.html#ty">ty</a> pages =
     nat_le pages (<a href="../../store/Memory/index.html#greatest_pages">greatest_pages</a> <a href="../../store/Memory/index.html#ty">ty</a>) &amp;&amp; option_map_or (λ <a href="../../store/Memory/index.html#maximum">maximum</a>. nat_le pages <a href="../../store/Memory/index.html#maximum">maximum</a>) ty.maximum true &amp;&amp; nat_lt
@@ -2949,8 +2954,7 @@ abbrev pub <b id="default_settings">default_settings</b> : <a href="../../store/
 
 -- the type that the settings name, if there is a page of that size
 abbrev pub <b id="named_type">named_type</b> : <a href="../../store/Memory/index.html#Settings">Settings</a> → Option <a href="../../store/Memory/index.html#MemoryTypeValue">MemoryTypeValue</a>
-<a href="../../store/Memory/index.html#named_type">named_type</a> s =
-    option_map (λ <a href="../../store/Memory/index.html#page">page</a>. record { <a href="../../store/Memory/index.html#index">index</a> = s.index; <a href="../../store/Memory/index.html#page">page</a> = <a href="../../store/Memory/index.html#page">page</a>; <a href="../../store/Memory/index.html#minimum">minimum</a> = s.minimum; <a href="../../store/Memory/index.html#maximum">maximum</a> = s.maximum })
+<a href="../../store/Memory/index.html#named_type">named_type</a> s = option_map (λ <a href="../../store/Memory/index.html#page">page</a>. record { <a href="../../store/Memory/index.html#index">index</a> = s.index; <a href="../../store/Memory/index.html#page">page</a> = <a href="../../store/Memory/index.html#page">page</a>; <a href="../../store/Memory/index.html#minimum">minimum</a> = s.minimum; <a href="../../store/Memory/index.html#maximum">maximum</a> = s.maximum })
     (<a href="../../store/Memory/index.html#page_of_log2">page_of_log2</a> s.page_size_log2)
 
 -- a memory: its type, its bytes, and the room that these may grow into
@@ -2992,22 +2996,16 @@ abbrev pub <b id="dynamic_type">dynamic_type</b> : <a href="../../store/Memory/i
 
 -- may a memory get from so many bytes to so many, where its type allows at most so many?
 abbrev pub <b id="size_question">size_question</b> : ℕ → ℕ → Option ℕ → <a href="../../meter/Limiter/index.html#Question">Question</a>
-<a href="../../store/Memory/index.html#size_question">size_question</a> current desired <a href="../../store/Memory/index.html#maximum">maximum</a> =
-    record { kind = Bytes; current = current; desired = desired; <a href="../../store/Memory/index.html#maximum">maximum</a> = <a href="../../store/Memory/index.html#maximum">maximum</a> }
+<a href="../../store/Memory/index.html#size_question">size_question</a> current desired <a href="../../store/Memory/index.html#maximum">maximum</a> = record { kind = Bytes; current = current; desired = desired; <a href="../../store/Memory/index.html#maximum">maximum</a> = <a href="../../store/Memory/index.html#maximum">maximum</a> }
 
 -- what is asked where a memory of a type is made in a room, and the causes of a refusal; it costs no fuel
 abbrev pub <b id="creation_of">creation_of</b> : <a href="../../store/Buffer/index.html#Room">Room</a> → <a href="../../store/Memory/index.html#MemoryTypeValue">MemoryTypeValue</a> → <a href="../../meter/Attempt/index.html#Request">Request</a> (Unit {0}) MemoryError
 <a href="../../store/Memory/index.html#creation_of">creation_of</a> <a href="../../store/Memory/index.html#room">room</a> <a href="../../store/Memory/index.html#ty">ty</a> = record {
   early = if nat_lt (<a href="../../store/Memory/index.html#minimum_bytes">minimum_bytes</a> <a href="../../store/Memory/index.html#ty">ty</a>) (2 ^ 64) then None else Some MinimumSizeOverflow;
   question = <a href="../../store/Memory/index.html#size_question">size_question</a> 0 (<a href="../../store/Memory/index.html#minimum_bytes">minimum_bytes</a> <a href="../../store/Memory/index.html#ty">ty</a>) (<a href="../../store/Memory/index.html#maximum_bytes">maximum_bytes</a> <a href="../../store/Memory/index.html#ty">ty</a>);
-  denial = ResourceLimiterDeniedAllocation;
-  refusal = ResourceLimiterDeniedAllocation;
-  notice = <a href="../../meter/Limiter/index.html#MemoryFailure">MemoryFailure</a>;
+  denial = ResourceLimiterDeniedAllocation; refusal = ResourceLimiterDeniedAllocation; notice = <a href="../../meter/Limiter/index.html#MemoryFailure">MemoryFailure</a>;
   late = if <a href="../../store/Buffer/index.html#fits_room">fits_room</a> <a href="../../store/Memory/index.html#room">room</a> (<a href="../../store/Memory/index.html#minimum_bytes">minimum_bytes</a> <a href="../../store/Memory/index.html#ty">ty</a>) then None else Some InvalidStaticBufferSize;
-  price = None;
-  unpaid = OutOfFuel;
-  refuses = <a href="../../store/Buffer/index.html#LacksMemory">LacksMemory</a> <a href="../../store/Memory/index.html#room">room</a>;
-  grown = tt;
+  price = None; unpaid = OutOfFuel; refuses = <a href="../../store/Buffer/index.html#LacksMemory">LacksMemory</a> <a href="../../store/Memory/index.html#room">room</a>; grown = tt;
 }
 
 -- what is asked and paid where a memory grows by so many pages, and the causes of a refusal: a short region before want
@@ -3016,13 +3014,9 @@ abbrev pub <b id="growth_of">growth_of</b> : <a href="../../store/Memory/index.h
 <a href="../../store/Memory/index.html#growth_of">growth_of</a> x pages = let added = pages * <a href="../../store/Memory/index.html#page_bytes">page_bytes</a> x.ty.<a href="../../store/Memory/index.html#page">page</a> in record {
   early = if <a href="../../store/Memory/index.html#in_bounds">in_bounds</a> x.ty (<a href="../../store/Memory/index.html#pages_of">pages_of</a> x + pages) then None else Some OutOfBoundsGrowth;
   question = <a href="../../store/Memory/index.html#size_question">size_question</a> (length x.bytes) (length x.bytes + added) (<a href="../../store/Memory/index.html#maximum_bytes">maximum_bytes</a> x.ty);
-  denial = OutOfBoundsGrowth;
-  refusal = ResourceLimiterDeniedAllocation;
-  notice = <a href="../../meter/Limiter/index.html#MemoryFailure">MemoryFailure</a>;
+  denial = OutOfBoundsGrowth; refusal = ResourceLimiterDeniedAllocation; notice = <a href="../../meter/Limiter/index.html#MemoryFailure">MemoryFailure</a>;
   late = if <a href="../../store/Buffer/index.html#fits_room">fits_room</a> x.room added then None else Some InvalidStaticBufferSize;
-  price = Some (λ costs. <a href="../../meter/Meter/index.html#copy_cost">copy_cost</a> costs added 1);
-  unpaid = OutOfFuel;
-  refuses = <a href="../../store/Buffer/index.html#LacksMemory">LacksMemory</a> x.room;
+  price = Some (λ costs. <a href="../../meter/Meter/index.html#copy_cost">copy_cost</a> costs added 1); unpaid = OutOfFuel; refuses = <a href="../../store/Buffer/index.html#LacksMemory">LacksMemory</a> x.room;
   grown = <a href="../../store/Memory/index.html#memory_of">memory_of</a> x.ty (<a href="../../store/Buffer/index.html#with_zeros">with_zeros</a> (<a href="../../store/Memory/index.html#buffer_of">buffer_of</a> x) added);
 }
 
@@ -3033,8 +3027,7 @@ abbrev pub <b id="MakesMemory">MakesMemory</b> : {S : Type 0} → <a href="../..
 
 -- the minimum of a type is permitted in bytes, or an error ends the making of a memory, whatever its room
 abbrev pub <b id="PermitsMinimum">PermitsMinimum</b> : {S : Type 0} → <a href="../../meter/Limiter/index.html#Rules">Rules</a> S → <a href="../../store/Memory/index.html#MemoryTypeValue">MemoryTypeValue</a> → S → Result ℕ MemoryError → S → Type 0
-<a href="../../store/Memory/index.html#PermitsMinimum">PermitsMinimum</a> rules <a href="../../store/Memory/index.html#ty">ty</a> l (Ok size) l&#x27; =
-    (size ≡ <a href="../../store/Memory/index.html#minimum_bytes">minimum_bytes</a> <a href="../../store/Memory/index.html#ty">ty</a>) × (nat_lt (<a href="../../store/Memory/index.html#minimum_bytes">minimum_bytes</a> <a href="../../store/Memory/index.html#ty">ty</a>) (2 ^ 64) ≡ true)
+<a href="../../store/Memory/index.html#PermitsMinimum">PermitsMinimum</a> rules <a href="../../store/Memory/index.html#ty">ty</a> l (Ok size) l&#x27; = (size ≡ <a href="../../store/Memory/index.html#minimum_bytes">minimum_bytes</a> <a href="../../store/Memory/index.html#ty">ty</a>) × (nat_lt (<a href="../../store/Memory/index.html#minimum_bytes">minimum_bytes</a> <a href="../../store/Memory/index.html#ty">ty</a>) (2 ^ 64) ≡ true)
     × rules.asked l (<a href="../../store/Memory/index.html#creation_of">creation_of</a> <a href="../../store/Buffer/index.html#Owned">Owned</a> <a href="../../store/Memory/index.html#ty">ty</a>).question (Ok true) l&#x27;
 <a href="../../store/Memory/index.html#PermitsMinimum">PermitsMinimum</a> rules <a href="../../store/Memory/index.html#ty">ty</a> l (Err error) l&#x27; = (<a href="../../store/Memory/index.html#room">room</a> : <a href="../../store/Buffer/index.html#Room">Room</a>) → <a href="../../store/Memory/index.html#MakesMemory">MakesMemory</a> rules <a href="../../store/Memory/index.html#room">room</a> <a href="../../store/Memory/index.html#ty">ty</a> l (Err error) l&#x27;
 
@@ -3229,14 +3222,8 @@ abbrev pub <b id="creation_of">creation_of</b> : <a href="../../store/Table/inde
 <a href="../../store/Table/index.html#creation_of">creation_of</a> <a href="../../store/Table/index.html#ty">ty</a> init = record {
   early = if <a href="../../store/Table/index.html#same_type">same_type</a> ty.element init then None else Some ElementTypeMismatch;
   question = record { kind = Elements; current = 0; desired = ty.minimum; <a href="../../store/Table/index.html#maximum">maximum</a> = ty.maximum };
-  denial = ResourceLimiterDeniedAllocation;
-  refusal = ResourceLimiterDeniedAllocation;
-  notice = <a href="../../meter/Limiter/index.html#TableFailure">TableFailure</a>;
-  late = None;
-  price = None;
-  unpaid = OutOfFuel;
-  refuses = λ cause. cause ≡ OutOfSystemMemory;
-  grown = tt;
+  denial = ResourceLimiterDeniedAllocation; refusal = ResourceLimiterDeniedAllocation; notice = <a href="../../meter/Limiter/index.html#TableFailure">TableFailure</a>;
+  late = None; price = None; unpaid = OutOfFuel; refuses = λ cause. cause ≡ OutOfSystemMemory; grown = tt;
 }
 
 -- what is asked and paid where a table grows by n elements, and the causes of a refusal: the maximum is tested after
@@ -3245,13 +3232,9 @@ abbrev pub <b id="growth_of">growth_of</b> : <a href="../../store/Table/index.ht
 <a href="../../store/Table/index.html#growth_of">growth_of</a> x n reference = record {
   early = if <a href="../../store/Table/index.html#is_indexable">is_indexable</a> x.ty (<a href="../../store/Table/index.html#size_of">size_of</a> x + n) then None else Some GrowOutOfBounds;
   question = record { kind = Elements; current = <a href="../../store/Table/index.html#size_of">size_of</a> x; desired = <a href="../../store/Table/index.html#size_of">size_of</a> x + n; <a href="../../store/Table/index.html#maximum">maximum</a> = x.ty.<a href="../../store/Table/index.html#maximum">maximum</a> };
-  denial = GrowOutOfBounds;
-  refusal = ResourceLimiterDeniedAllocation;
-  notice = <a href="../../meter/Limiter/index.html#TableFailure">TableFailure</a>;
+  denial = GrowOutOfBounds; refusal = ResourceLimiterDeniedAllocation; notice = <a href="../../meter/Limiter/index.html#TableFailure">TableFailure</a>;
   late = if <a href="../../store/Table/index.html#is_within_maximum">is_within_maximum</a> x.ty (<a href="../../store/Table/index.html#size_of">size_of</a> x + n) then None else Some GrowOutOfBounds;
-  price = Some (<a href="../../store/Table/index.html#element_price">element_price</a> n);
-  unpaid = OutOfFuel;
-  refuses = λ cause. cause ≡ OutOfSystemMemory;
+  price = Some (<a href="../../store/Table/index.html#element_price">element_price</a> n); unpaid = OutOfFuel; refuses = λ cause. cause ≡ OutOfSystemMemory;
   grown = <a href="../../store/Table/index.html#with_added">with_added</a> x n reference;
 }
 
@@ -3299,8 +3282,7 @@ abbrev pub <b id="SetsTableRaw">SetsTableRaw</b> : ℕ → ℕ → <a href="../.
 -- the element at an index is set to a reference that has a type, which is tested first
 abbrev pub <b id="SetsTable">SetsTable</b> : ℕ → TypedRawRef → <a href="../../store/Table/index.html#TableValue">TableValue</a> → Result (Unit {0}) TableError → <a href="../../store/Table/index.html#TableValue">TableValue</a> → Type 0
 <a href="../../store/Table/index.html#SetsTable">SetsTable</a> <a href="../../store/Table/index.html#index">index</a> <a href="../../store/Table/index.html#value">value</a> x <a href="../../store/Table/index.html#result">result</a> x&#x27; = MatchBool (<a href="../../store/Table/index.html#same_type">same_type</a> x.ty.<a href="../../store/Table/index.html#element">element</a> value.ty)
-    (<a href="../../store/Table/index.html#SetsTableRaw">SetsTableRaw</a> <a href="../../store/Table/index.html#index">index</a> value.raw x <a href="../../store/Table/index.html#result">result</a> x&#x27;)
-    ((<a href="../../store/Table/index.html#result">result</a> ≡ Err ElementTypeMismatch) × (x&#x27; ≡ x))
+    (<a href="../../store/Table/index.html#SetsTableRaw">SetsTableRaw</a> <a href="../../store/Table/index.html#index">index</a> value.raw x <a href="../../store/Table/index.html#result">result</a> x&#x27;) ((<a href="../../store/Table/index.html#result">result</a> ≡ Err ElementTypeMismatch) × (x&#x27; ≡ x))
 
 -- A call that writes over a part of a table: whether the types are the same; the elements afterwards, or none where a
 -- range ends past its list; the error there; and how many elements are paid for, if any.
@@ -3313,37 +3295,25 @@ pub record <b id="TableWrite">TableWrite</b> : Type 0 where
 -- so many elements from dst on are filled with a reference, whose type isn&#x27;t tested
 abbrev pub <b id="raw_filling_of">raw_filling_of</b> : ℕ → ℕ → ℕ → <a href="../../store/Table/index.html#TableValue">TableValue</a> → <a href="../../store/Table/index.html#TableWrite">TableWrite</a>
 <a href="../../store/Table/index.html#raw_filling_of">raw_filling_of</a> dst reference len x =
-    record {
-      <a href="../../store/Table/index.html#typed">typed</a> = true;
-      <a href="../../store/Table/index.html#written">written</a> = <a href="../../store/Growth/index.html#filled">filled</a> x.elements dst reference len;
-      <a href="../../store/Table/index.html#outside">outside</a> = FillOutOfBounds;
-      <a href="../../store/Table/index.html#paid">paid</a> = Some len;
-    }
+    record { <a href="../../store/Table/index.html#typed">typed</a> = true; <a href="../../store/Table/index.html#written">written</a> = <a href="../../store/Growth/index.html#filled">filled</a> x.elements dst reference len; <a href="../../store/Table/index.html#outside">outside</a> = FillOutOfBounds; <a href="../../store/Table/index.html#paid">paid</a> = Some len }
 
 -- so many elements from dst on are filled with a reference, whose type is tested
 abbrev pub <b id="filling_of">filling_of</b> : ℕ → TypedRawRef → ℕ → <a href="../../store/Table/index.html#TableValue">TableValue</a> → <a href="../../store/Table/index.html#TableWrite">TableWrite</a>
-<a href="../../store/Table/index.html#filling_of">filling_of</a> dst <a href="../../store/Table/index.html#value">value</a> len x =
-    record (<a href="../../store/Table/index.html#raw_filling_of">raw_filling_of</a> dst value.raw len x) { <a href="../../store/Table/index.html#typed">typed</a> = <a href="../../store/Table/index.html#same_type">same_type</a> x.ty.<a href="../../store/Table/index.html#element">element</a> value.ty }
+<a href="../../store/Table/index.html#filling_of">filling_of</a> dst <a href="../../store/Table/index.html#value">value</a> len x = record (<a href="../../store/Table/index.html#raw_filling_of">raw_filling_of</a> dst value.raw len x) { <a href="../../store/Table/index.html#typed">typed</a> = <a href="../../store/Table/index.html#same_type">same_type</a> x.ty.<a href="../../store/Table/index.html#element">element</a> value.ty }
 
 -- so many elements from src on of a table, perhaps the same one, are copied over those from dst on
 abbrev pub <b id="copy_of">copy_of</b> : ℕ → ℕ → ℕ → <a href="../../store/Table/index.html#TableValue">TableValue</a> → <a href="../../store/Table/index.html#TableValue">TableValue</a> → <a href="../../store/Table/index.html#TableWrite">TableWrite</a>
-<a href="../../store/Table/index.html#copy_of">copy_of</a> dst src len source x =
-    record {
-      <a href="../../store/Table/index.html#typed">typed</a> = <a href="../../store/Table/index.html#same_type">same_type</a> x.ty.<a href="../../store/Table/index.html#element">element</a> source.ty.<a href="../../store/Table/index.html#element">element</a>;
-      <a href="../../store/Table/index.html#written">written</a> = <a href="../../store/Growth/index.html#copied">copied</a> x.elements dst source.elements src len;
-      <a href="../../store/Table/index.html#outside">outside</a> = CopyOutOfBounds;
-      <a href="../../store/Table/index.html#paid">paid</a> = Some len;
-    }
+<a href="../../store/Table/index.html#copy_of">copy_of</a> dst src len source x = record {
+  <a href="../../store/Table/index.html#typed">typed</a> = <a href="../../store/Table/index.html#same_type">same_type</a> x.ty.<a href="../../store/Table/index.html#element">element</a> source.ty.<a href="../../store/Table/index.html#element">element</a>; <a href="../../store/Table/index.html#written">written</a> = <a href="../../store/Growth/index.html#copied">copied</a> x.elements dst source.elements src len;
+  <a href="../../store/Table/index.html#outside">outside</a> = CopyOutOfBounds; <a href="../../store/Table/index.html#paid">paid</a> = Some len;
+}
 
 -- so many items from src on of an element segment are copied over the elements from dst on; no item is free
 abbrev pub <b id="initialization_of">initialization_of</b> : ℕ → ℕ → ℕ → <a href="../../store/Segment/index.html#SegmentValue">SegmentValue</a> → <a href="../../store/Table/index.html#TableValue">TableValue</a> → <a href="../../store/Table/index.html#TableWrite">TableWrite</a>
-<a href="../../store/Table/index.html#initialization_of">initialization_of</a> dst src len segment x =
-    record {
-      <a href="../../store/Table/index.html#typed">typed</a> = <a href="../../store/Table/index.html#same_type">same_type</a> x.ty.<a href="../../store/Table/index.html#element">element</a> segment.ty;
-      <a href="../../store/Table/index.html#written">written</a> = <a href="../../store/Growth/index.html#copied">copied</a> x.elements dst segment.items src len;
-      <a href="../../store/Table/index.html#outside">outside</a> = InitOutOfBounds;
-      <a href="../../store/Table/index.html#paid">paid</a> = if nat_eq len 0 then None else Some len;
-    }
+<a href="../../store/Table/index.html#initialization_of">initialization_of</a> dst src len segment x = record {
+  <a href="../../store/Table/index.html#typed">typed</a> = <a href="../../store/Table/index.html#same_type">same_type</a> x.ty.<a href="../../store/Table/index.html#element">element</a> segment.ty; <a href="../../store/Table/index.html#written">written</a> = <a href="../../store/Growth/index.html#copied">copied</a> x.elements dst segment.items src len;
+  <a href="../../store/Table/index.html#outside">outside</a> = InitOutOfBounds; <a href="../../store/Table/index.html#paid">paid</a> = if nat_eq len 0 then None else Some len;
+}
 
 -- a table with its meter, if there is one; a write asks no limiter
 abbrev pub <b id="MeteredTable">MeteredTable</b> : Type 0
@@ -5624,15 +5594,12 @@ pub mod region {
 
 <pre><code>use Rattle.std.specs.Prelude.{◌≡◌, ◌+◌, ◌≤◌, ◌⊎◌, ℕ, true, Option, Result, Ok}
 use Rattle.wasmi_meter.specs.Attempt.{<a href="../../meter/Attempt/index.html#MeteredValue">MeteredValue</a>, <a href="../../meter/Attempt/index.html#optional_due">optional_due</a>, <a href="../../meter/Attempt/index.html#covers">covers</a>}
-use Rattle.wasmi_meter.specs.Limiter.{<a href="../../meter/Limiter/index.html#Question">Question</a>, <a href="../../meter/Limiter/index.html#Answer">Answer</a>, <a href="../../meter/Limiter/index.html#IsDenial">IsDenial</a>, <a href="../../meter/Limiter/index.html#Rules">Rules</a>}
+use Rattle.wasmi_meter.specs.Limiter.{<a href="../../meter/Limiter/index.html#Rules">Rules</a>}
 use Rattle.wasmi_meter.specs.Meter.{<a href="../../meter/Meter/index.html#Meter">Meter</a>}
 use Rattle.wasmi_meter.specs.declared.error.TableError.{TableError}
+use Rattle.wasmi_store.specs.Growth.{<a href="../../store/Growth/index.html#IsDenied">IsDenied</a>}
 use Rattle.wasmi_store.specs.Table.{<a href="../../store/Table/index.html#TableValue">TableValue</a>, <a href="../../store/Table/index.html#MakesTable">MakesTable</a>, <a href="../../store/Table/index.html#GrowsTableRaw">GrowsTableRaw</a>, <a href="../../store/Table/index.html#new_table">new_table</a>, <a href="../../store/Table/index.html#size_of">size_of</a>, <a href="../../store/Table/index.html#TableTypeValue">TableTypeValue</a>, <a href="../../store/Table/index.html#is_indexable">is_indexable</a>, <a href="../../store/Table/index.html#is_within_maximum">is_within_maximum</a>}
 use Rattle.wasmi_region.specs.Table.{<a href="../../region/Table/index.html#MakesTableIn">MakesTableIn</a>, <a href="../../region/Table/index.html#GrowsTableIn">GrowsTableIn</a>, <a href="../../region/Table/index.html#creation_in">creation_in</a>, <a href="../../region/Table/index.html#growth_in">growth_in</a>, <a href="../../region/Table/index.html#typed_as">typed_as</a>}
-
--- a limiter was asked a question, and denied it
-abbrev pub <b id="IsDenied">IsDenied</b> : {S : Type 0} → <a href="../../meter/Limiter/index.html#Rules">Rules</a> S → <a href="../../meter/Limiter/index.html#Question">Question</a> → S → S → Type 0
-<a href="../../region/Laws/index.html#IsDenied">IsDenied</a> rules question l l&#x27; = (answer : <a href="../../meter/Limiter/index.html#Answer">Answer</a>) × <a href="../../meter/Limiter/index.html#IsDenial">IsDenial</a> answer × rules.asked l question answer l&#x27;
 
 -- a table can grow by n elements on a region of so many references: its type and the region have place for them, and a
 -- meter, if there is one, can pay them
@@ -5648,7 +5615,7 @@ module _ {S : Type 0} (rules : <a href="../../meter/Limiter/index.html#Rules">Ru
   <a href="../../region/Laws/index.html#TableCreationsSucceed">TableCreationsSucceed</a> =
       (ty : <a href="../../store/Table/index.html#TableTypeValue">TableTypeValue</a>) (room reference : ℕ) (l : S) (result : Result <a href="../../store/Table/index.html#TableValue">TableValue</a> TableError) (l&#x27; : S)
       → ty.minimum ≤ room → <a href="../../region/Table/index.html#MakesTableIn">MakesTableIn</a> rules ty room reference l result l&#x27;
-      → (result ≡ Ok (<a href="../../store/Table/index.html#new_table">new_table</a> ty reference)) ⊎ <a href="../../region/Laws/index.html#IsDenied">IsDenied</a> rules (<a href="../../region/Table/index.html#creation_in">creation_in</a> ty room).question l l&#x27;
+      → (result ≡ Ok (<a href="../../store/Table/index.html#new_table">new_table</a> ty reference)) ⊎ <a href="../../store/Growth/index.html#IsDenied">IsDenied</a> rules (<a href="../../region/Table/index.html#creation_in">creation_in</a> ty room).question l l&#x27;
 
   -- a growth of a table that its type and its region have place for, and that can be paid, is refused by the limiter
   -- alone
@@ -5658,7 +5625,7 @@ module _ {S : Type 0} (rules : <a href="../../meter/Limiter/index.html#Rules">Ru
       (s&#x27; : <a href="../../meter/Attempt/index.html#MeteredValue">MeteredValue</a> <a href="../../store/Table/index.html#TableValue">TableValue</a> S) → <a href="../../region/Laws/index.html#CanGrowIn">CanGrowIn</a> room n s.value s.meter
       → <a href="../../region/Table/index.html#GrowsTableIn">GrowsTableIn</a> rules room n reference s result s&#x27;
       → (result ≡ Ok (<a href="../../store/Table/index.html#size_of">size_of</a> s.value))
-      ⊎ <a href="../../region/Laws/index.html#IsDenied">IsDenied</a> rules (<a href="../../region/Table/index.html#growth_in">growth_in</a> room s.value n reference).question s.limiter s&#x27;.limiter
+      ⊎ <a href="../../store/Growth/index.html#IsDenied">IsDenied</a> rules (<a href="../../region/Table/index.html#growth_in">growth_in</a> room s.value n reference).question s.limiter s&#x27;.limiter
 
   -- a table that is made on a region is made as one that owns its elements
   abbrev pub <b id="CreationsAreTables">CreationsAreTables</b> : Type 0

@@ -13,21 +13,18 @@ pub returns-in_err-permission-clause-refused : goal.returns-in_err-permission-cl
 returns-in_err-permission-clause-refused g c =
     let p = err_from_is_err_and c.from_residual.result c.from_residual.ensures.1 in
     rw p.1 (λ x pages some asked fits. rw p.2 (
-    grows_denied
-    (growing (optional_rules g.L.ResourceLimiter.rules) x c.args.fuel.now _ pages (above_none pages some))
+    grows_denied (growing (optional_rules g.L.ResourceLimiter.rules) x c.args.fuel.now _ pages (above_none pages some))
     _ asked _ _ c.memory_growing-answer.ensures.asked _ c.in_err-permission.ensures
     ))
 
 pub returns-then-not-has_room-clause-refused : goal.returns-then-not-has_room-clause-refused
-returns-then-not-has_room-clause-refused g c =
-    λ x pages some asked fits.
+returns-then-not-has_room-clause-refused g c = λ x pages some asked fits.
     let permits = growth_permitted (optional_rules g.L.ResourceLimiter.rules) x c.args.fuel.now pages
     (above_none pages some) asked c.in_ok-permission.ensures c.memory_growing-answer.ensures.asked in
     grows_short permits (fits ∙ c.if-not-has_room.true) _ _ c.tell.ensures.told
 
 pub returns-in-Err-clause-refused : goal.returns-in-Err-clause-refused
-returns-in-Err-clause-refused g c =
-    λ x pages some asked fits.
+returns-in-Err-clause-refused g c = λ x pages some asked fits.
     let permits = growth_permitted (optional_rules g.L.ResourceLimiter.rules) x c.args.fuel.now pages
     (above_none pages some) asked c.in_ok-permission.ensures c.memory_growing-answer.ensures.asked in
     grows_unpaid permits

@@ -11,15 +11,11 @@ pub returns-in_err-permission-clause-permitted : goal.returns-in_err-permission-
 returns-in_err-permission-clause-permitted g c =
     let p = err_from_is_err_and c.from_residual.result c.from_residual.ensures.1 in
     rw (p.1, p.2) (
-    minimum_denied
-    (optional_rules g.L.ResourceLimiter.rules) c.args.ty _ c.in-Some.size c.in-Some.ensures.size _
-    c.maximum_size.ensures
-    _ _ c.memory_growing-answer.ensures.asked _ c.in_err-permission.ensures
+    minimum_denied (optional_rules g.L.ResourceLimiter.rules) c.args.ty _ c.in-Some.size c.in-Some.ensures.size _
+    c.maximum_size.ensures _ _ c.memory_growing-answer.ensures.asked _ c.in_err-permission.ensures
     )
 
 pub returns-clause-permitted : goal.returns-clause-permitted
-returns-clause-permitted g c =
-    minimum_permitted
+returns-clause-permitted g c = minimum_permitted
     (optional_rules g.L.ResourceLimiter.rules) c.args.ty _ c.in-Some.size c.in-Some.ensures.size _
-    c.maximum_size.ensures
-    _ (rw c.in_ok-permission.ensures at c.memory_growing-answer.ensures.asked)
+    c.maximum_size.ensures _ (rw c.in_ok-permission.ensures at c.memory_growing-answer.ensures.asked)

@@ -17,5 +17,4 @@ returns-in-Err-clause-made g c =
     let rules = optional_rules g.L.ResourceLimiter.rules in
     makes_refused rules (creation_of Owned c.args.ty) (new_memory Owned c.args.ty) _ _
     (making_reaches rules Owned c.args.ty _ _ c.in_ok-size.size c.in_ok-size.ensures.permitted refl)
-    _ c.in-Err.ensures.err
-    _ _ c.tell.ensures.told
+    _ c.in-Err.ensures.err _ _ c.tell.ensures.told

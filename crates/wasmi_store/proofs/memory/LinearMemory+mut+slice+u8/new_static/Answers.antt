@@ -13,6 +13,5 @@ pub returns-in-Err-clause-made : goal.returns-in-Err-clause-made
 returns-in-Err-clause-made g c =
     let e = c.in-Err.ensures.err in
     makes_short (optional_rules g.L.ResourceLimiter.rules)
-    (Lent c.args.region.now) c.args.ty _ _ c.in_ok-size.size c.in_ok-size.ensures.permitted e.0
-    _ _
+    (Lent c.args.region.now) c.args.ty _ _ c.in_ok-size.size c.in_ok-size.ensures.permitted e.0 _ _
     (rw e.1 at c.tell.ensures.told)

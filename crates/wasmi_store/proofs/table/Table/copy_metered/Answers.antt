@@ -1,4 +1,4 @@
-use Rattle.std.proofs.Common.{◌∙◌, ap, length, refl, sym}
+use Rattle.std.proofs.Common.{◌∙◌, ap, length, sym}
 use Rattle.std.proofs.lemmas.List.{with_items_is}
 use Rattle.wasmi_store.proofs.WriteLemmas.{writes_elements}
 use Rattle.wasmi_store.proofs.table.Table.copy_metered.Goals as goal

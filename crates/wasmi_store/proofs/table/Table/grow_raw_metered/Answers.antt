@@ -7,9 +7,7 @@ use Rattle.wasmi_store.proofs.TableLemmas.{resized, growing, grows_unasked, grow
 use Rattle.wasmi_store.proofs.table.Table.grow_raw_metered.Goals as goal
 
 pub returns-in_default-clause-grown : goal.returns-in_default-clause-grown
-returns-in_default-clause-grown g c =
-    rw (← c.self.view_is)
-    (grows_unasked
+returns-in_default-clause-grown g c = rw (← c.self.view_is) (grows_unasked
     (optional_rules g.L.ResourceLimiter.rules) _ c.args.fuel.now _ c.args.delta c.args.init c.if-delta-eq0.false
     (rw (rw (← c.self.view_is) at c.size-size.ensures.value) at c.in_default.ensures))
 
@@ -17,12 +15,10 @@ pub returns-in_err-permission-clause-grown : goal.returns-in_err-permission-clau
 returns-in_err-permission-clause-grown g c =
     let p = err_from_is_err_and c.from_residual.result c.from_residual.ensures.1 in
     rw (p.1, p.2, ← c.self.view_is) (
-    grows_denied
-    (growing (optional_rules g.L.ResourceLimiter.rules) _ c.args.fuel.now _ c.args.delta c.args.init
+    grows_denied (growing (optional_rules g.L.ResourceLimiter.rules) _ c.args.fuel.now _ c.args.delta c.args.init
     c.if-delta-eq0.false)
     _ (growth_asked _ c.args.delta c.args.init (rw (← c.self.view_is) at c.size-size.ensures.value) c.in-Some.ensures
-    c.maximum_size.ensures)
-    _ _ c.table_growing-answer.ensures.asked _ c.in_err-permission.ensures
+    c.maximum_size.ensures) _ _ c.table_growing-answer.ensures.asked _ c.in_err-permission.ensures
     )
 
 pub returns-then-not-allows_size-clause-grown : goal.returns-then-not-allows_size-clause-grown

@@ -34,6 +34,4 @@ returns-in-Err-clause-made g c =
       permits = permitted_by rules creation _ asked _ _
           (rw c.in_ok-permission.ensures at c.table_growing-answer.ensures.asked);
       late = refl;
-    })
-    _ refl
-    _ _ c.tell.ensures.told
+    }) _ refl _ _ c.tell.ensures.told

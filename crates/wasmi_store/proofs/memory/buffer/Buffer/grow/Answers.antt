@@ -21,12 +21,10 @@ returns-clause-ok g c =
           (subst (λ s. length (view_of bytes s len).bytes ≤ n) w.in-Owned.is below) w.in-Ok.ensures.items)
       | in-Lent w ↦
           rw (w.self-inside-is, ← c.self.view_is, w.in-Lent.is) (
-          lent_grows bytes len n w.in-Lent.region
-          (g.R.Region.refilled w.in-Lent.region n w.fill_range.new.elements)
+          lent_grows bytes len n w.in-Lent.region (g.R.Region.refilled w.in-Lent.region n w.fill_range.new.elements)
           (subst (λ s. EndsWithin bytes s len) w.in-Lent.is c.self.invariant)
           (subst (λ s. length (view_of bytes s len).bytes ≤ n) w.in-Lent.is below)
           (subst (λ s. fits_room (view_of bytes s len).room (n - length (view_of bytes s len).bytes) ≡ true)
-          w.in-Lent.is room)
-          w.fill_range.new.elements (rw (← w.front_mut.ensures.value) w.fill_range.ensures.filled)
+          w.in-Lent.is room) w.fill_range.new.elements (rw (← w.front_mut.ensures.value) w.fill_range.ensures.filled)
           (g.met.R.Region.refills w.in-Lent.region n w.fill_range.new.elements))
     ]
