@@ -76,8 +76,7 @@ module _ {V E S : Type 0} (rules : Rules S) (e : Request V E) (x : V) (m : Meter
   attempt_paid (Unasked cause) attempt = paid_free m charge attempt.charged
   attempt_paid (Denied answer) attempt = paid_free m charge attempt.charged
   attempt_paid Met attempt = paid_due m _ charge attempt.may_end.2 attempt.charged
-  attempt_paid (Failed cause notice_answer) attempt =
-      paid_if m (optional_due (Some m) e.price) charge
+  attempt_paid (Failed cause notice_answer) attempt = paid_if m (optional_due (Some m) e.price) charge
       (is_none e.late && covers (Some m) (optional_due (Some m) e.price)) (λ both. (and_parts _ _ both).1)
       attempt.charged
 
@@ -161,8 +160,7 @@ acts_takes : {X R S : Type 0} (Acts : MeteredValue X S → R → ℕ → Metered
     → ((x : X) (result : R) (x' : X) → Acts (with_value (before t) x) result t.charge (with_value (after t) x')
     → PaysCharge t.first.meter t.charge t.last.meter)
     → ActsAt k reply_to Acts (before t) reply t.charge (after t) → PaysCharge t.first.meter t.charge t.last.meter
-acts_takes {X = X} {S = S} Acts k reply_to t reply takes acts =
-    on_live (live_at t.first.value k) _ _ acts
+acts_takes {X = X} {S = S} Acts k reply_to t reply takes acts = on_live (live_at t.first.value k) _ _ acts
     (λ missing. takes_nothing t.first.meter t.last.meter t.charge missing.1
     (same_Some t.last.meter t.first.meter (ap (λ (s : MeteredValue (List (Slot X)) S). s.meter) missing.2)))
     (λ x found act. takes x act.0 act.1 act.2)
@@ -171,22 +169,18 @@ acts_takes {X = X} {S = S} Acts k reply_to t reply takes acts =
 memory_growth_takes : {S : Type 0} (rules : Rules S) (k pages : ℕ) (t : Growing (List (Slot MemoryValue)) S)
     (reply : Reply)
     → ActsAt k (reply_of replied.Number replied.Memory) (GrowsMemoryCharging rules pages) (before t) reply t.charge
-    (after t)
-    → PaysCharge t.first.meter t.charge t.last.meter
+    (after t) → PaysCharge t.first.meter t.charge t.last.meter
 memory_growth_takes rules k pages t reply acts =
     acts_takes (GrowsMemoryCharging rules pages) k (reply_of replied.Number replied.Memory) t reply
     (λ x result x'. grows_takes rules
     (record { amount = pages; size = pages_of x; request = memory.growth_of x pages }) x t.first.meter t.first.limiter
-    result
-    t.charge x' t.last.meter t.last.limiter)
-    acts
+    result t.charge x' t.last.meter t.last.limiter) acts
 
 -- a growth of the table of an index
 table_growth_takes : {S : Type 0} (rules : Rules S) (k n : ℕ) (init : TypedRawRef)
     (t : Growing (List (Slot TableValue)) S) (reply : Reply)
     → ActsAt k (reply_of replied.Number replied.Table) (GrowsTableCharging rules n init) (before t) reply t.charge
-    (after t)
-    → PaysCharge t.first.meter t.charge t.last.meter
+    (after t) → PaysCharge t.first.meter t.charge t.last.meter
 table_growth_takes rules k n init t reply acts =
     acts_takes (GrowsTableCharging rules n init) k (reply_of replied.Number replied.Table) t reply
     (λ x result x'. table_grows_takes rules n init x t.first.meter t.first.limiter result t.charge x' t.last.meter
@@ -196,24 +190,20 @@ table_growth_takes rules k n init t reply acts =
 table_write_takes : (k : ℕ) (write : TableValue → TableWrite) (slots : List (Slot TableValue)) (m : Meter)
     (reply : Reply) (charge : ℕ) (slots' : List (Slot TableValue)) (m' : Meter)
     → WritesTableAt k write (metered slots (Some m)) reply charge (metered slots' (Some m')) → PaysCharge m charge m'
-table_write_takes k write slots m reply charge slots' m' writes =
-    acts_takes {X = TableValue} {S = Unit {0}}
+table_write_takes k write slots m reply charge slots' m' writes = acts_takes {X = TableValue} {S = Unit {0}}
     (WritesTableCharging write) k (reply_of (λ _. replied.Done) replied.Table)
     (record {
       first = record { value = slots; meter = m; limiter = tt };
       charge = charge;
       last = record { value = slots'; meter = m'; limiter = tt };
-    })
-    reply (λ x result x'. write_takes write x m result charge x' m') writes
+    }) reply (λ x result x'. write_takes write x m result charge x' m') writes
 
 -- a write over a part of a table, which may be missing, takes its charge
 part_takes : (k : ℕ) (part : Option (TableValue → TableWrite)) (slots : List (Slot TableValue)) (m : Meter)
     (reply : Reply) (charge : ℕ) (slots' : List (Slot TableValue)) (m' : Meter)
     → WritesRangeAt k part (metered slots (Some m)) reply charge (metered slots' (Some m')) → PaysCharge m charge m'
-part_takes k part slots m reply charge slots' m' writes =
-    on_live part _ _ writes
-    (λ missing. takes_nothing m m' charge missing.1
-    (same_Some m' m (ap (λ (s : MeteredTables). s.meter) missing.2)))
+part_takes k part slots m reply charge slots' m' writes = on_live part _ _ writes
+    (λ missing. takes_nothing m m' charge missing.1 (same_Some m' m (ap (λ (s : MeteredTables). s.meter) missing.2)))
     (λ write found h. table_write_takes k write slots m reply charge slots' m' h)
 
 -- what an effect with a charge makes of the meter
@@ -244,27 +234,20 @@ module _ {S : Type 0} (rules : Rules S) (w : World S) (turn : Turn) (w' : World 
       → ChangesMeterBy effect w.state.meter turn.charge w'.state.meter
   effect_meter (FuelSet fuel) step =
       ap (λ (v : World S). v.state.meter) step.after ∙ ap (λ (s : State). s.meter) step.effect.1
-  effect_meter (Changed change) step =
-      free_in w turn w' step.after step.free.0
+  effect_meter (Changed change) step = free_in w turn w' step.after step.free.0
       ((change_facts w.state change).meter turn.reply step.machine step.effect)
-  effect_meter (MemoryGrown k pages) step =
-      paid_in w turn w' step.after
-      (memory_growth_takes rules k pages
+  effect_meter (MemoryGrown k pages) step = paid_in w turn w' step.after (memory_growth_takes rules k pages
       (growing w w.state.memories turn.charge step.part step.meter step.limiter) turn.reply step.effect)
-  effect_meter (TableGrown k n init) step =
-      paid_in w turn w' step.after
-      (table_growth_takes rules k n init
+  effect_meter (TableGrown k n init) step = paid_in w turn w' step.after (table_growth_takes rules k n init
       (growing w w.state.tables turn.charge step.part step.meter step.limiter) turn.reply step.effect)
-  effect_meter (RangeWritten k source dst len) step =
-      paid_in w turn w' step.after
+  effect_meter (RangeWritten k source dst len) step = paid_in w turn w' step.after
       (part_takes k (write_of source dst len) w.state.tables w.state.meter turn.reply turn.charge step.part step.meter
       step.effect)
   effect_meter effect step = free_in w turn w' step.after step.free.0 refl
 
   -- each step changes the meter as its call says
   pub step_meter : Step rules w turn w' → ChangesMeter turn.call w.state.meter turn.charge w'.state.meter
-  step_meter step =
-      changed_meter w.state turn.call w.state.meter turn.charge w'.state.meter
+  step_meter step = changed_meter w.state turn.call w.state.meter turn.charge w'.state.meter
       (effect_meter (effect_of w.state turn.call) step)
 
 -- an account that balances does so after a call that changes the meter
@@ -285,8 +268,7 @@ module _ {S : Type 0} (rules : Rules S) where
       → (turns : List Turn) (w' : World S) → Run rules w turns w'
       → Balances (account_after account turns) w'.state.meter
   run_balances account w b [] w' ran = rw ran b
-  run_balances account w b (turn ∷ turns) w' (v, step, ran) =
-      run_balances (charged_by account turn.call turn.charge) v
+  run_balances account w b (turn ∷ turns) w' (v, step, ran) = run_balances (charged_by account turn.call turn.charge) v
       (call_balances account turn.call w.state.meter turn.charge v.state.meter (step_meter rules w turn v step) b)
       turns w' ran
 

@@ -22,8 +22,7 @@ pub record Carries {S T : Type 0} (image : S → T) (rules : Rules S) (rules' : 
   pub asked : (l : S) (question : Question) (answer : Answer) (l' : S) → rules.asked l question answer l'
       → rules'.asked (image l) question answer (image l')
   pub noticed : (l : S) (failure : Failure) (notice_answer : NoticeAnswer) (l' : S)
-      → rules.noticed l failure notice_answer l'
-      → rules'.noticed (image l) failure notice_answer (image l')
+      → rules.noticed l failure notice_answer l' → rules'.noticed (image l) failure notice_answer (image l')
 
 -- the world with the image of its limiter
 abbrev pub carried : {S T : Type 0} → (S → T) → World S → World T
@@ -35,14 +34,11 @@ module _ {S T : Type 0} (image : S → T) where
   moved s = record { value = s.value; meter = s.meter; limiter = image s.limiter }
 
   -- a call on what an index names
-  acts_too : {X R : Type 0} (k : ℕ) (reply_to : R → Reply)
-      (Acts : MeteredValue X S → R → ℕ → MeteredValue X S → Type 0)
+  acts_too : {X R : Type 0} (k : ℕ) (reply_to : R → Reply) (Acts : MeteredValue X S → R → ℕ → MeteredValue X S → Type 0)
       (Acts' : MeteredValue X T → R → ℕ → MeteredValue X T → Type 0)
       → ((s s' : MeteredValue X S) (result : R) (charge : ℕ) → Acts s result charge s'
-      → Acts' (moved s) result charge (moved s'))
-      → (s s' : MeteredValue (List (Slot X)) S) (reply : Reply) (charge : ℕ)
-      → ActsAt k reply_to Acts s reply charge s'
-      → ActsAt k reply_to Acts' (moved s) reply charge (moved s')
+      → Acts' (moved s) result charge (moved s')) → (s s' : MeteredValue (List (Slot X)) S) (reply : Reply) (charge : ℕ)
+      → ActsAt k reply_to Acts s reply charge s' → ActsAt k reply_to Acts' (moved s) reply charge (moved s')
   acts_too k reply_to Acts Acts' too s s' reply charge acts =
       on_live_too (live_at s.value k) _ _ _ _ (λ missing. (missing.0, missing.1, ap moved missing.2))
       (λ x h. (h.0, h.1, too _ _ h.0 charge h.2, h.3, h.4)) acts
@@ -56,22 +52,17 @@ module _ {S T : Type 0} (image : S → T) where
       follows_too (Denied answer) l l' asks = carries.asked l e.question answer l' asks
       follows_too Met l l' asks = carries.asked l e.question _ l' asks
       follows_too (Failed cause notice_answer) l l' (permitted, asks, notices) = (
-        image permitted,
-        carries.asked l e.question _ permitted asks,
-        carries.noticed permitted (e.notice cause)
-            notice_answer l' notices,
+        image permitted, carries.asked l e.question _ permitted asks,
+        carries.noticed permitted (e.notice cause) notice_answer l' notices,
       )
 
       -- an attempt
       attempt_too : (s s' : MeteredValue V S) (outcome : AttemptOutcome E) (charge : ℕ)
-          → Attempt rules e s outcome charge s'
-          → Attempt rules' e (moved s) outcome charge (moved s')
+          → Attempt rules e s outcome charge s' → Attempt rules' e (moved s) outcome charge (moved s')
       attempt_too s s' outcome charge a = record {
         may_end = a.may_end;
         follows = follows_too outcome s.limiter s'.limiter a.follows;
-        charged = a.charged;
-        meter = a.meter;
-        value = a.value;
+        charged = a.charged; meter = a.meter; value = a.value;
       }
 
     -- a creation
@@ -83,22 +74,15 @@ module _ {S T : Type 0} (image : S → T) where
     -- a growth
     grows_too : {V E : Type 0} (g : Growth V E) (s s' : MeteredValue V S) (result : Result ℕ E) (charge : ℕ)
         → Grows rules g s result charge s' → Grows rules' g (moved s) result charge (moved s')
-    grows_too g s s' result charge (inl none) =
-        inl (record {
-          none = none.none;
-          answered = none.answered;
-          uncharged = none.uncharged;
-          same = ap moved
-              none.same;
-        })
-    grows_too g s s' result charge (inr some) =
-        inr (record {
-          some = some.some;
-          outcome = some.outcome;
-          attempt = attempt_too g.request s s' some.outcome charge
-              some.attempt;
-          answered = some.answered;
-        })
+    grows_too g s s' result charge (inl none) = inl (record {
+      none = none.none; answered = none.answered; uncharged = none.uncharged;
+      same = ap moved none.same;
+    })
+    grows_too g s s' result charge (inr some) = inr (record {
+      some = some.some; outcome = some.outcome;
+      attempt = attempt_too g.request s s' some.outcome charge some.attempt;
+      answered = some.answered;
+    })
 
     -- a creation in a new slot
     creates_too : {X E : Type 0} (refusal : E → Reply) (e : Request (Unit {0}) E) (made : X)
@@ -111,14 +95,11 @@ module _ {S T : Type 0} (image : S → T) where
 
     -- a growth of a table, whose type is tested first
     table_growth_too : (n : ℕ) (init : TypedRawRef) (s s' : MeteredValue TableValue S) (result : Result ℕ _)
-        (charge : ℕ)
-        → GrowsTableCharging rules n init s result charge s'
+        (charge : ℕ) → GrowsTableCharging rules n init s result charge s'
         → GrowsTableCharging rules' n init (moved s) result charge (moved s')
-    table_growth_too n init s s' result charge grows =
-        on_test_too (same_type s.value.ty.element init.ty) _ _ _ _
+    table_growth_too n init s s' result charge grows = on_test_too (same_type s.value.ty.element init.ty) _ _ _ _
         (grows_too (record { amount = n; size = size_of s.value; request = table.growth_of s.value n init.raw }) s s'
-        result charge)
-        (λ mismatch. (mismatch.0, mismatch.1, ap moved mismatch.2)) grows
+        result charge) (λ mismatch. (mismatch.0, mismatch.1, ap moved mismatch.2)) grows
 
     module _ (w : World S) (turn : Turn) (w' : World S) where
       -- a turn that makes something under the limiter
@@ -127,10 +108,7 @@ module _ {S T : Type 0} (image : S → T) where
           → Relation' (image w.limiter) turn.reply step.part (image step.limiter)
           → Asks (carried image w) turn (carried image w') with_part Relation'
       asks_too step effect = record {
-        free = step.free;
-        part = step.part;
-        limiter = image step.limiter;
-        effect = effect;
+        free = step.free; part = step.part; limiter = image step.limiter; effect = effect;
         after = ap (carried image) step.after;
       }
 
@@ -140,15 +118,10 @@ module _ {S T : Type 0} (image : S → T) where
           {Relation' : MeteredValue A T → Reply → ℕ → MeteredValue A T → Type 0} {bytes : Reply → ℕ}
           (step : ActsMetered w turn w' old with_part Relation bytes)
           → Relation' (record { value = old; meter = Some w.state.meter; limiter = image w.limiter }) turn.reply
-          turn.charge
-          (record { value = step.part; meter = Some step.meter; limiter = image step.limiter })
+          turn.charge (record { value = step.part; meter = Some step.meter; limiter = image step.limiter })
           → ActsMetered (carried image w) turn (carried image w') old with_part Relation' bytes
       pays_too step effect = record {
-        part = step.part;
-        meter = step.meter;
-        limiter = image step.limiter;
-        effect = effect;
-        wrote = step.wrote;
+        part = step.part; meter = step.meter; limiter = image step.limiter; effect = effect; wrote = step.wrote;
         after = ap (carried image) step.after;
       }
 
@@ -169,34 +142,24 @@ module _ {S T : Type 0} (image : S → T) where
           pays_too step (acts_too k (reply_of replied.Number replied.Memory) (GrowsMemoryCharging rules pages)
           (GrowsMemoryCharging rules' pages)
           (λ s. grows_too (record { amount = pages; size = pages_of s.value; request = memory.growth_of s.value pages })
-          s)
-          _ _ turn.reply turn.charge step.effect)
+          s) _ _ turn.reply turn.charge step.effect)
       effect_carried (TableMade ty init) step =
           asks_too step (creates_too replied.Table (table.creation_of ty init.ty) (new_table ty init.raw) w.state.tables
           step.part turn.reply w.limiter step.limiter step.effect)
       effect_carried (TableGrown k n init) step =
           pays_too step (acts_too k (reply_of replied.Number replied.Table) (GrowsTableCharging rules n init)
           (GrowsTableCharging rules' n init) (table_growth_too n init) _ _ turn.reply turn.charge step.effect)
-      effect_carried (RangeWritten k source dst len) step =
-          record {
-            part = step.part;
-            meter = step.meter;
-            effect = step.effect;
-            wrote = step.wrote;
-            after = ap
-                (carried image) step.after;
-          }
+      effect_carried (RangeWritten k source dst len) step = record {
+        part = step.part; meter = step.meter; effect = step.effect; wrote = step.wrote;
+        after = ap (carried image) step.after;
+      }
       effect_carried (Told told) step =
           record { free = step.free; effect = step.effect; after = ap (carried image) step.after }
       effect_carried (BytesRead k offset len) step =
           record { free = step.free; effect = step.effect; after = ap (carried image) step.after }
-      effect_carried effect step =
-          record {
-            free = step.free;
-            machine = step.machine;
-            effect = step.effect;
-            after = ap (carried image) step.after;
-          }
+      effect_carried effect step = record {
+        free = step.free; machine = step.machine; effect = step.effect; after = ap (carried image) step.after;
+      }
 
 -- a run under the first is one under the second, with the same turns and machines
 pub runs_too : {S T : Type 0} (image : S → T) (rules : Rules S) (rules' : Rules T) → Carries image rules rules'

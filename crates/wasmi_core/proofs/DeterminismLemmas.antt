@@ -111,8 +111,7 @@ module _ {S : Type 0} {rules : Rules S} (once : IsDeterministic rules) where
         (same.0, charged, λ k. record { value = value k; meter = meter k; limiter = same.1 k })
 
   -- two creations
-  makes_same : {T E : Type 0} (e : Request (Unit {0}) E)
-      → Wants e
+  makes_same : {T E : Type 0} (e : Request (Unit {0}) E) → Wants e
       → (made : T) (l : S) (result result' : Result T E) (l' l'' : S) → Makes told e made l result l'
       → Makes told e made l result' l'' → (result ≡ result') × (l' ≡ l'')
   makes_same e wants made l result result' l' l'' (outcome, a, answered) (outcome', b, answered') =
@@ -123,8 +122,7 @@ module _ {S : Type 0} {rules : Rules S} (once : IsDeterministic rules) where
       )
 
   -- two growths
-  grows_same : {V E : Type 0} (g : Growth V E)
-      → Wants g.request
+  grows_same : {V E : Type 0} (g : Growth V E) → Wants g.request
       → (s : MeteredValue V S) (result result' : Result ℕ E) (charge charge' : ℕ) (s' s'' : MeteredValue V S)
       → Grows told g s result charge s' → Grows told g s result' charge' s''
       → (result ≡ result') × (charge ≡ charge') × (s' ≡ s'')
@@ -157,23 +155,19 @@ memory_same {rules = rules} once room ty slots l =
 lent_same : {S : Type 0} {rules : Rules S} → IsDeterministic rules → (ty : MemoryTypeValue) (part : MemoryPart) (l : S)
     → HasOneOutcome (CreatesLent (never_out_of_memory rules) ty part l)
 lent_same once ty part l o o' has has' a b =
-    on_both part.spare _ _ _ _ a b (λ h h'. (h.0 ∙ sym h'.0, h.1 ∙ sym h'.1, h.2 ∙ sym h'.2))
-    (λ region h h'.
+    on_both part.spare _ _ _ _ a b (λ h h'. (h.0 ∙ sym h'.0, h.1 ∙ sym h'.1, h.2 ∙ sym h'.2)) (λ region h h'.
     let same = memory_same once (Lent region) ty part.slots l
     (record { reply = o.reply; part = o.part.slots; limiter = o.limiter })
-    (record { reply = o'.reply; part = o'.part.slots; limiter = o'.limiter }) has has' h.0 h'.0
-    in
+    (record { reply = o'.reply; part = o'.part.slots; limiter = o'.limiter }) has has' h.0 h'.0 in
     let spare = h.1 ∙ ap (λ r. spare_after r part.spare) same.0 ∙ sym h'.1 in
     (same.0, λ i. record { slots = same.1 i; spare = spare i }, same.2))
 
 -- what a turn on one part of the state ends in
 abbrev acted : {A S : Type 0} → Turn → A → Meter → S → Acted A S
-acted t part meter limiter =
-    record {
-      reply = t.reply;
-      charge = t.charge;
-      after = record { value = part; meter = Some meter; limiter = limiter };
-    }
+acted t part meter limiter = record {
+  reply = t.reply; charge = t.charge;
+  after = record { value = part; meter = Some meter; limiter = limiter };
+}
 
 -- two turns from one world, whose effects are one
 module _ {S : Type 0} (w : World S) (t t' : Turn) (v v' : World S) where
@@ -184,9 +178,7 @@ module _ {S : Type 0} (w : World S) (t t' : Turn) (v v' : World S) where
   told_unique : {Relation : Reply → Type 0} → OnlyReplies w t v Relation → OnlyReplies w t' v' Relation
       → (Relation t.reply → Relation t'.reply → t.reply ≡ t'.reply) → Same
   told_unique step step' once = (
-    once step.effect step'.effect,
-    step.free.0 ∙ sym step'.free.0,
-    step.free.1 ∙ sym step'.free.1,
+    once step.effect step'.effect, step.free.0 ∙ sym step'.free.0, step.free.1 ∙ sym step'.free.1,
     step.after ∙ sym step'.after,
   )
 
@@ -195,9 +187,7 @@ module _ {S : Type 0} (w : World S) (t t' : Turn) (v v' : World S) where
       → ((s s' : State) → Relation t.reply s → Relation t'.reply s' → (t.reply ≡ t'.reply) × (s ≡ s')) → Same
   changed_unique step step' once =
       let same = once step.machine step'.machine step.effect step'.effect in (
-        same.0,
-        step.free.0 ∙ sym step'.free.0,
-        step.free.1 ∙ sym step'.free.1,
+        same.0, step.free.0 ∙ sym step'.free.0, step.free.1 ∙ sym step'.free.1,
         step.after ∙ ap (λ s. let u : World S = record w { state = s } in u) same.1 ∙ sym step'.after,
       )
 
@@ -207,13 +197,10 @@ module _ {S : Type 0} (w : World S) (t t' : Turn) (v v' : World S) where
         → Asks w t' v' with_part Relation
         → IsNotOutOfMemory t.reply → IsNotOutOfMemory t'.reply → HasOneOutcome (Relation w.limiter) → Same
     made_unique step step' has has' once =
-        let same =
-        once (record { reply = t.reply; part = step.part; limiter = step.limiter })
+        let same = once (record { reply = t.reply; part = step.part; limiter = step.limiter })
         (record { reply = t'.reply; part = step'.part; limiter = step'.limiter }) has has' step.effect step'.effect
         in (
-          same.0,
-          step.free.0 ∙ sym step'.free.0,
-          step.free.1 ∙ sym step'.free.1,
+          same.0, step.free.0 ∙ sym step'.free.0, step.free.1 ∙ sym step'.free.1,
           step.after ∙ (λ i. record { state = with_part (same.1 i); limiter = same.2 i }) ∙ sym step'.after,
         )
 
@@ -229,9 +216,7 @@ module _ {S : Type 0} (w : World S) (t t' : Turn) (v v' : World S) where
           let parts = ap (λ (s : MeteredValue A S). s.value) same.2 in
           let meters = same_Some step.meter step'.meter (ap (λ (s : MeteredValue A S). s.meter) same.2) in
           let limiters = ap (λ (s : MeteredValue A S). s.limiter) same.2 in (
-            same.0,
-            same.1,
-            step.wrote ∙ ap bytes same.0 ∙ sym step'.wrote,
+            same.0, same.1, step.wrote ∙ ap bytes same.0 ∙ sym step'.wrote,
             step.after
                 ∙ (λ i. record { state = record (with_part (parts i)) { meter = meters i }; limiter = limiters i })
                 ∙ sym step'.after,
@@ -247,9 +232,7 @@ module _ {S : Type 0} (w : World S) (t t' : Turn) (v v' : World S) where
           once (acted t step.part step.meter tt) (acted t' step'.part step'.meter tt) step.effect step'.effect in
           let parts = ap (λ (s : MeteredValue A (Unit {0})). s.value) same.2 in
           let meters = same_Some step.meter step'.meter (ap (λ (s : MeteredValue A (Unit {0})). s.meter) same.2) in (
-            same.0,
-            same.1,
-            step.wrote ∙ ap bytes same.0 ∙ sym step'.wrote,
+            same.0, same.1, step.wrote ∙ ap bytes same.0 ∙ sym step'.wrote,
             step.after
                 ∙ (λ i. record { state = record (with_part (parts i)) { meter = meters i }; limiter = w.limiter })
                 ∙ sym step'.after,
@@ -271,11 +254,9 @@ table_growth_same {rules = rules} once n init s result result' charge charge' s'
         → MatchBool same (table.GrowsTableRawCharging (never_out_of_memory rules) n init.raw s result' charge' s'')
         ((result' ≡ Err TableError.ElementTypeMismatch) × (charge' ≡ 0) × (s'' ≡ s))
         → (result ≡ result') × (charge ≡ charge') × (s' ≡ s'')
-    by_type true h h' =
-        grows_same once
+    by_type true h h' = grows_same once
         (record { amount = n; size = size_of s.value; request = table.growth_of s.value n init.raw })
-        (record { wants = table_wants }) s
-        result result' charge charge' s' s'' h h'
+        (record { wants = table_wants }) s result result' charge charge' s' s'' h h'
     by_type false h h' = (h.0 ∙ sym h'.0, h.1 ∙ sym h'.1, h.2 ∙ sym h'.2)
 
 module _ {S : Type 0} (rules : Rules S) (once : IsDeterministic rules) (w : World S) (t t' : Turn) (v v' : World S)
@@ -288,8 +269,7 @@ module _ {S : Type 0} (rules : Rules S) (once : IsDeterministic rules) (w : Worl
       told_unique w t t' v v' step step' (reads_same k offset len w.state.memories t.reply t'.reply room room')
   effect_same (FuelSet fuel) step step' =
       changed_unique w t t' v v' step step' (λ s s' is is'. (is.0 ∙ sym is'.0, is.1 ∙ sym is'.1))
-  effect_same (Changed change) step step' =
-      changed_unique w t t' v v' step step'
+  effect_same (Changed change) step step' = changed_unique w t t' v v' step step'
       (λ s s'. (change_facts w.state change).same t.reply t'.reply s s' room room')
   effect_same (MemoryMade ty) step step' =
       made_unique w t t' v v' step step' room room' (memory_same once Owned ty w.state.memories w.limiter)
@@ -300,8 +280,7 @@ module _ {S : Type 0} (rules : Rules S) (once : IsDeterministic rules) (w : Worl
       (λ s. grows_same once
       (record { amount = pages; size = pages_of s.value; request = memory.growth_of s.value pages })
       (record { wants = memory_wants s.value.room }) s) k (reply_of replied.Number replied.Memory) _)
-  effect_same (TableMade ty init) step step' =
-      made_unique w t t' v v' step step' room room'
+  effect_same (TableMade ty init) step step' = made_unique w t t' v v' step step' room room'
       (creates_same replied.Table (MakesTable (never_out_of_memory rules) ty init)
       (makes_same once (table.creation_of ty init.ty) (record { wants = table_wants }) (new_table ty init.raw))
       w.state.tables w.limiter)
@@ -322,11 +301,9 @@ module _ {S : Type 0} (rules : Rules S) (once : IsDeterministic rules) where
   runs_are_one w (t ∷ turns) [] v v' calls rooms rooms' ran ran' = absurd cc
   runs_are_one w (t ∷ turns) (t' ∷ turns') v v' calls (room, rooms) (room', rooms') (u, step, ran) (u', step', ran') =
       let call = first_same t.call t'.call (map Turn.call turns) (map Turn.call turns') calls in
-      let one =
-      effect_same rules once w t t' u u' room room' (effect_of w.state t.call) step
+      let one = effect_same rules once w t t' u u' room room' (effect_of w.state t.call) step
       (subst (λ c. HasEffect (never_out_of_memory rules) (effect_of w.state c) w t' u') (sym call.0) step') in
-      let rest =
-      runs_are_one u turns turns' v v' call.1 rooms rooms' ran
+      let rest = runs_are_one u turns turns' v v' call.1 rooms rooms' ran
       (subst (λ x. Run (never_out_of_memory rules) x turns' v') (sym one.3) ran') in
       let turn : t ≡ t' = λ i. record { call = call.0 i; reply = one.0 i; charge = one.1 i; written = one.2 i } in
       (λ i. turn i ∷ rest.0 i, rest.1)
@@ -338,8 +315,7 @@ module _ {S : Type 0} (rules : Rules S) (once : IsDeterministic rules) where
 -- where none has a known answer, and where it neither comes nor goes
 once_if : {L A : Type 0} (Answers : Option L → A → Option L → Type 0) (known : A)
     → ((l : L) (a a' : A) (l' l'' : L) → Answers (Some l) a (Some l') → Answers (Some l) a' (Some l'')
-    → (a ≡ a') × (l' ≡ l''))
-    → ((a : A) → Answers None a None → a ≡ known)
+    → (a ≡ a') × (l' ≡ l'')) → ((a : A) → Answers None a None → a ≡ known)
     → ((l : L) (a : A) → (Answers (Some l) a None → ⊥) × (Answers None a (Some l) → ⊥))
     → (l : Option L) (a a' : A) (l' l'' : Option L) → Answers l a l' → Answers l a' l'' → (a ≡ a') × (l' ≡ l'')
 once_if Answers known once none stays (Some l) a a' (Some l') (Some l'') h h' =
@@ -353,10 +329,10 @@ once_if Answers known once none stays None a a' None (Some l'') h h' = absurd ((
 -- a limiter that may be absent leaves no choice where the limiter leaves none
 pub optional_unique : {L : Type 0} (rules : Rules L) → IsDeterministic rules → IsDeterministic (optional_rules rules)
 optional_unique rules once = record {
-  asked = λ l question. once_if (λ l a l'. AskedIf rules l question a l') (Ok true)
-      (λ l a a' l' l'' h h'. once.asked l question a a' l' l'' h h') (λ a h. h) (λ l a. (λ h. h, λ h. h)) l;
-  noticed = λ l failure. once_if (λ l a l'. NoticedIf rules l failure a l') (Ok tt)
-      (λ l a a' l' l'' h h'. once.noticed l failure a a' l' l'' h h') (λ a h. h) (λ l a. (λ h. h, λ h. h)) l;
+  asked = λ l question. once_if (λ l. AskedIf rules l question) (Ok true)
+      (λ l. once.asked l question) (λ a h. h) (λ l a. (λ h. h, λ h. h)) l;
+  noticed = λ l failure. once_if (λ l. NoticedIf rules l failure) (Ok tt)
+      (λ l. once.noticed l failure) (λ a h. h) (λ l a. (λ h. h, λ h. h)) l;
 }
 
 -- the limiter that permits everything

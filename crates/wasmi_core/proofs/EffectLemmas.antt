@@ -63,8 +63,7 @@ module _ {X : Type 0} where
   pub item_back : (k : ℕ) (items : List X) (reply : Reply) (items' : List X) (Change : X → X → Type 0)
       → ((x x' : X) → Change x x' → x' ≡ x) → ChangesItem k items reply items' Change → items' ≡ items
   item_back k items reply items' Change same changes =
-      found_back (slice_get items k) (slice_set items k) items reply items' Change
-      (λ x found. set_read items k x found) same changes
+      found_back (slice_get items k) (slice_set items k) items reply items' Change (set_read items k) same changes
 
   -- a refused drop leaves the slots
   pub drops_back : (count : X → ℕ) (k : ℕ) (slots : List (Slot X)) (reply : Reply) (slots' : List (Slot X))
@@ -106,8 +105,7 @@ module _ {E : Type 0} (refusal : E → Reply) where
 
 -- two facts of one live value, or of none
 pub on_both : {X C : Type 0} (o : Option X) (Missing Missing' : Type 0) (Fact Fact' : X → Type 0)
-    → OnLive o Missing Fact → OnLive o Missing' Fact' → (Missing → Missing' → C) → ((x : X) → Fact x → Fact' x → C)
-    → C
+    → OnLive o Missing Fact → OnLive o Missing' Fact' → (Missing → Missing' → C) → ((x : X) → Fact x → Fact' x → C) → C
 on_both None Missing Missing' Fact Fact' h h' missing live = missing h h'
 on_both (Some x) Missing Missing' Fact Fact' h h' missing live = live x h h'
 
@@ -133,23 +131,19 @@ HasOneOutcome {A} {S} Relation =
 -- two creations in a new slot
 pub creates_same : {X E S : Type 0} (refusal : E → Reply) (Makes : S → Result X E → S → Type 0)
     → ((l : S) (result result' : Result X E) (l' l'' : S) → Makes l result l' → Makes l result' l''
-    → (result ≡ result') × (l' ≡ l''))
-    → (slots : List (Slot X)) (l : S) → HasOneOutcome (Creates refusal Makes slots l)
+    → (result ≡ result') × (l' ≡ l'')) → (slots : List (Slot X)) (l : S) → HasOneOutcome (Creates refusal Makes slots l)
 creates_same refusal Makes same slots l o o' room room' (inl none) b = absurd (rw none.0 at room)
 creates_same refusal Makes same slots l o o' room room' (inr a) (inl none) = absurd (rw none.0 at room')
 creates_same refusal Makes same slots l o o' room room' (inr (result, makes, appends))
     (inr (result', makes', appends')) =
     let made = same l result result' o.limiter o'.limiter makes makes' in
-    let put =
-    appends_same Live refusal result slots o.reply o'.reply o.part o'.part appends
-    (subst (λ r. AddsEntry Live refusal r slots o'.reply o'.part) (sym made.0) appends')
-    in
+    let put = appends_same Live refusal result slots o.reply o'.reply o.part o'.part appends
+    (subst (λ r. AddsEntry Live refusal r slots o'.reply o'.part) (sym made.0) appends') in
     (put.0, put.1, made.1)
 
 -- an effect on a part is decided: two of it are one
 abbrev pub IsDecided : {A : Type 0} → (Reply → A → Type 0) → Type 0
-IsDecided {A} Relation =
-    (reply reply' : Reply) (part part' : A) → Relation reply part → Relation reply' part'
+IsDecided {A} Relation = (reply reply' : Reply) (part part' : A) → Relation reply part → Relation reply' part'
     → (reply ≡ reply') × (part ≡ part')
 
 -- a change is decided, where the change of what was found is
@@ -205,47 +199,35 @@ acts_same {X = X} {S = S} Acts same k reply_to s o o' a b =
     let value = put ∙ ap (λ (t : MeteredValue X S). slice_set s.value k (Live t.value)) both.2 ∙ sym put' in
     let meter = ap (λ (t : MeteredValue X S). t.meter) both.2 in
     let limiter = ap (λ (t : MeteredValue X S). t.limiter) both.2 in (
-      replies ∙ ap reply_to both.0 ∙ sym replies',
-      both.1,
-      λ i. record {
-        value = value i;
-        meter = meter i;
-        limiter =
-            limiter i;
-      },
+      replies ∙ ap reply_to both.0 ∙ sym replies', both.1,
+      λ i. record { value = value i; meter = meter i; limiter = limiter i },
     ))
 
 module _ {X : Type 0} (count : X → ℕ) (k : ℕ) (slots : List (Slot X)) (reply : Reply) (slots' : List (Slot X)) where
   -- a change that keeps the count keeps the sizes
   pub changes_kept : (Change : X → X → Type 0) → ((x x' : X) → Change x x' → count x' ≡ count x)
       → ChangesAt k slots reply slots' Change → map (slot_count count) slots' ≡ map (slot_count count) slots
-  changes_kept Change same changes =
-      on_live (live_at slots k) _ _ changes
+  changes_kept Change same changes = on_live (live_at slots k) _ _ changes
       (λ missing. ap (map (slot_count count)) missing.1)
       (λ x found h. ap (map (slot_count count)) h.2 ∙ counts_kept count slots k x (Live h.0) found (same x h.0 h.1))
 
   -- a drop keeps the sizes
   pub drops_kept : DropsAt count k slots reply slots' → map (slot_count count) slots' ≡ map (slot_count count) slots
-  drops_kept drops =
-      on_live (live_at slots k) _ _ drops
-      (λ missing. ap (map (slot_count count)) missing.1)
+  drops_kept drops = on_live (live_at slots k) _ _ drops (λ missing. ap (map (slot_count count)) missing.1)
       (λ x found h. ap (map (slot_count count)) h.1 ∙ counts_kept count slots k x (Gone (count x)) found refl)
 
 module _ {X : Type 0} (Valid : X → Type 0) where
   -- an item that is read of a list of valid ones
   read_valid : (items : List X) (k : ℕ) (x : X) → slice_get items k ≡ Some x → All Valid items → Valid x
-  read_valid items k x found valid =
-      subst Valid (get_or_from_slice_get items k x x found)
+  read_valid items k x found valid = subst Valid (get_or_from_slice_get items k x x found)
       (All-get_or Valid items k x (slice_get_within items k x found) valid)
 
   -- a change of one item
   pub item_valid : (k : ℕ) (items : List X) (reply : Reply) (items' : List X) (Change : X → X → Type 0)
       → ((x x' : X) → Valid x → Change x x' → Valid x') → ChangesItem k items reply items' Change → All Valid items
       → All Valid items'
-  item_valid k items reply items' Change keeps changes valid =
-      on_live (slice_get items k) _ _ changes
-      (λ missing. subst (All Valid) (sym missing.1) valid)
-      (λ x found h. subst (All Valid) (sym h.2)
+  item_valid k items reply items' Change keeps changes valid = on_live (slice_get items k) _ _ changes
+      (λ missing. subst (All Valid) (sym missing.1) valid) (λ x found h. subst (All Valid) (sym h.2)
       (All-set Valid items k h.0 (keeps x h.0 (read_valid items k x found valid) h.1) valid))
 
   -- a new entry at the end
@@ -282,8 +264,7 @@ module _ {X : Type 0} (Valid : X → Type 0) where
   pub changes_valid : (k : ℕ) (slots : List (Slot X)) (reply : Reply) (slots' : List (Slot X))
       (Change : X → X → Type 0) → ((x x' : X) → Valid x → Change x x' → Valid x')
       → ChangesAt k slots reply slots' Change → AllValid slots → AllValid slots'
-  changes_valid k slots reply slots' Change keeps changes valid =
-      on_live (live_at slots k) _ _ changes
+  changes_valid k slots reply slots' Change keeps changes valid = on_live (live_at slots k) _ _ changes
       (λ missing. subst AllValid (sym missing.1) valid)
       (λ x found h. put_valid slots slots' k (Live h.0) h.2 (keeps x h.0 (live_valid slots k x found valid) h.1) valid)
 
@@ -293,8 +274,7 @@ module _ {X : Type 0} (Valid : X → Type 0) where
       → ((s s' : MeteredValue X S) (result : R) (charge : ℕ) → Valid s.value → Acts s result charge s' → Valid s'.value)
       → (s s' : MeteredValue (List (Slot X)) S) (reply : Reply) (charge : ℕ) → ActsAt k reply_to Acts s reply charge s'
       → AllValid s.value → AllValid s'.value
-  acts_valid k reply_to Acts keeps s s' reply charge acts valid =
-      on_live (live_at s.value k) _ _ acts
+  acts_valid k reply_to Acts keeps s s' reply charge acts valid = on_live (live_at s.value k) _ _ acts
       (λ missing. subst (λ (t : MeteredValue (List (Slot X)) _). AllValid t.value) (sym missing.2) valid)
       (λ x found h. put_valid s.value s'.value k (Live h.1) h.4
       (keeps _ _ h.0 charge (live_valid s.value k x found valid) h.2) valid)
@@ -302,8 +282,7 @@ module _ {X : Type 0} (Valid : X → Type 0) where
   -- a drop
   pub drops_valid : (count : X → ℕ) (k : ℕ) (slots : List (Slot X)) (reply : Reply) (slots' : List (Slot X))
       → DropsAt count k slots reply slots' → AllValid slots → AllValid slots'
-  drops_valid count k slots reply slots' drops valid =
-      on_live (live_at slots k) _ _ drops
+  drops_valid count k slots reply slots' drops valid = on_live (live_at slots k) _ _ drops
       (λ missing. subst AllValid (sym missing.1) valid)
       (λ x found h. put_valid slots slots' k (Gone (count x)) h.1 tt valid)
 

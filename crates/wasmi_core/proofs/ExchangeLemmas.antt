@@ -167,8 +167,7 @@ record IsAnswered {S V E : Type 0} (t : Meeting S) (e : Request V E) (meter : Op
 
 -- the reply to a growth, by its outcome
 growth_replies : {V E : Type 0} (g : Growth V E) (refusal : E → Reply) → IsToldBy g.request refusal → (reply : Reply)
-    (outcome : AttemptOutcome E)
-    → reply ≡ reply_of replied.Number refusal (answer_of g.request g.size outcome)
+    (outcome : AttemptOutcome E) → reply ≡ reply_of replied.Number refusal (answer_of g.request g.size outcome)
     → RepliesTo (exchange_of g.request outcome) reply
 growth_replies g refusal told reply (Unasked cause) is = tt
 growth_replies g refusal told reply (Denied answer) is =
@@ -190,12 +189,7 @@ module _ {S : Type 0} (rules : Rules S) (t : Meeting S) (place : Place) where
   nothing_passes : AsksFor t.question Nothing t.reply → t.last ≡ t.first → NothingGrows t.before t.after
       → IsCharged place Nothing t.meter t.charge → Passed
   nothing_passes unasked same still free = record {
-    exchange = Nothing;
-    asks = unasked;
-    passes = same;
-    replies = tt;
-    grows = still;
-    charged = free;
+    exchange = Nothing; asks = unasked; passes = same; replies = tt; grows = still; charged = free;
   }
 
   -- an attempt passes by its outcome: one kind is watched, and the sizes of the other stay
@@ -219,28 +213,17 @@ module _ {S : Type 0} (rules : Rules S) (t : Meeting S) (place : Place) where
     attempt_passes meter (Unasked cause) is follows own charged =
         nothing_passes (inl (is.asks ∙ no_question_refused e cause is.may_end)) follows (still own) charged
     attempt_passes meter (Denied answer) is follows own charged = record {
-      exchange = Denial e.question answer;
-      asks = is.asks ∙ question_unrefused e is.may_end.0;
-      passes = (is.may_end.1, follows);
-      replies = is.replies;
-      grows = still own;
-      charged = charged;
+      exchange = Denial e.question answer; asks = is.asks ∙ question_unrefused e is.may_end.0;
+      passes = (is.may_end.1, follows); replies = is.replies; grows = still own; charged = charged;
     }
     attempt_passes meter Met is follows own charged = record {
-      exchange = Permission e.question;
-      asks = is.asks ∙ question_unrefused e is.may_end.0;
-      passes = follows;
-      replies = is.replies;
-      grows = (own, others);
-      charged = charged;
+      exchange = Permission e.question; asks = is.asks ∙ question_unrefused e is.may_end.0; passes = follows;
+      replies = is.replies; grows = (own, others); charged = charged;
     }
     attempt_passes meter (Failed cause notice_answer) is follows own charged = record {
       exchange = Notice e.question (e.notice cause) notice_answer;
-      asks = is.asks ∙ question_unrefused e is.may_end.0;
-      passes = (tells cause, follows.0, follows.1, follows.2);
-      replies = is.replies;
-      grows = still own;
-      charged = charged;
+      asks = is.asks ∙ question_unrefused e is.may_end.0; passes = (tells cause, follows.0, follows.1, follows.2);
+      replies = is.replies; grows = still own; charged = charged;
     }
 
 -- slots before and after an exchange, and what is counted of each value
@@ -290,8 +273,7 @@ module _ {S X : Type 0} (rules : Rules S) (v : Watch S X) where
       → AsksFor v.meeting.question Nothing v.meeting.reply → v.meeting.last ≡ v.meeting.first
       → map (slot_count v.count) v.later ≡ map (slot_count v.count) v.slots
       → IsCharged place Nothing v.meeting.meter v.meeting.charge → Passed rules v.meeting place
-  kept_passes kind watched place unasked same kept free =
-      nothing_passes rules v.meeting place unasked same
+  kept_passes kind watched place unasked same kept free = nothing_passes rules v.meeting place unasked same
       (of_each (λ k. v.meeting.after k ≡ v.meeting.before k) kind
       (watched.own' ∙ kept ∙ sym watched.own) watched.others) free
 
@@ -340,8 +322,7 @@ module _ {S X : Type 0} (rules : Rules S) (v : Watch S X) where
         kept_passes e.question.kind watched New (inr none.0) none.2 (ap (map (slot_count v.count)) none.1) free
     creates_passes refusal told is free (inr (result, (outcome, attempt, answered), appends)) =
         let adds : AddsEntry Live refusal (answer_of e made outcome) v.slots v.meeting.reply v.later =
-        rw answered at appends
-        in
+        rw answered at appends in
         attempt_passes rules v.meeting New e new.tells watched.others None outcome
         (record { may_end = attempt.may_end; asks = is; replies = made_replies refusal told outcome adds })
         attempt.follows (made_sizes refusal outcome v.meeting.reply adds) free
@@ -373,8 +354,7 @@ module _ {S X : Type 0} (rules : Rules S) (v : Watch S X) where
         → Grows rules g (record { value = x; meter = Some v.meeting.meter; limiter = v.meeting.first }) result
         v.meeting.charge (record { value = x'; meter = Some m'; limiter = v.meeting.last })
         → Passed rules v.meeting (At k)
-    grows_passes m' result is (inl none) =
-        kept_passes g.request.question.kind watched (At k)
+    grows_passes m' result is (inl none) = kept_passes g.request.question.kind watched (At k)
         (inl (is.asks ∙ ap (λ n. growth_question n g.request) none.none))
         (ap (λ (s : MeteredValue X S). s.limiter) none.same)
         (same_count k x x' replaced (ap (λ (s : MeteredValue X S). v.count s.value) none.same)) none.uncharged
@@ -385,8 +365,7 @@ module _ {S X : Type 0} (rules : Rules S) (v : Watch S X) where
           asks = is.asks ∙ growth_question_by_request g.amount g.request some.some;
           replies = growth_replies g growth.refusal growth.told v.meeting.reply some.outcome
               (is.replies ∙ ap (reply_of replied.Number growth.refusal) some.answered);
-        })
-        some.attempt.follows (grown_sizes some.outcome some.attempt.value)
+        }) some.attempt.follows (grown_sizes some.outcome some.attempt.value)
         (charged_by_outcome g.request v.meeting.meter v.meeting.charge growth.priced some.outcome some.attempt.may_end
         some.attempt.charged)
 
@@ -394,15 +373,13 @@ module _ {S X : Type 0} (rules : Rules S) (v : Watch S X) where
   acts_pass : {R : Type 0} (kind : Kind) → IsWatched v kind → (k : ℕ) (asked : X → Option Question)
       → v.meeting.question ≡ option_and_then asked (live_at v.slots k) → (reply_to : R → Reply)
       (Acts : MeteredValue X S → R → ℕ → MeteredValue X S → Type 0) (m' : Meter)
-      → ((x x' : X) (result : R) → Replaced v k x x' → v.meeting.question ≡ asked x
-      → v.meeting.reply ≡ reply_to result
+      → ((x x' : X) (result : R) → Replaced v k x x' → v.meeting.question ≡ asked x → v.meeting.reply ≡ reply_to result
       → Acts (record { value = x; meter = Some v.meeting.meter; limiter = v.meeting.first }) result v.meeting.charge
       (record { value = x'; meter = Some m'; limiter = v.meeting.last }) → Passed rules v.meeting (At k))
       → ActsAt k reply_to Acts (record { value = v.slots; meter = Some v.meeting.meter; limiter = v.meeting.first })
       v.meeting.reply v.meeting.charge (record { value = v.later; meter = Some m'; limiter = v.meeting.last })
       → Passed rules v.meeting (At k)
-  acts_pass kind watched k asked is reply_to Acts m' passes acts =
-      on_found (live_at v.slots k) _ _ acts
+  acts_pass kind watched k asked is reply_to Acts m' passes acts = on_found (live_at v.slots k) _ _ acts
       (λ none missing. kept_passes kind watched (At k) (inl (is ∙ ap (option_and_then asked) none))
       (ap (λ (s : MeteredValue (List (Slot X)) S). s.limiter) missing.2)
       (ap (λ (s : MeteredValue (List (Slot X)) S). map (slot_count v.count) s.value) missing.2) missing.1)
@@ -443,18 +420,14 @@ table_fails cause (Err error) = refl
 new_memory_is : (room : Room) (ty : MemoryTypeValue)
     → IsCreationOf byte_count (new_memory room ty) (memory.creation_of room ty)
 new_memory_is room ty = record {
-  tells = λ cause. refl;
-  fresh = refl;
-  full = length-replicate {A = ℕ} (minimum_bytes ty) 0;
+  tells = λ cause. refl; fresh = refl; full = length-replicate {A = ℕ} (minimum_bytes ty) 0;
 }
 
 -- a new table is what is made
 new_table_is : (ty : TableTypeValue) (init : TypedRawRef)
     → IsCreationOf size_of (new_table ty init.raw) (table.creation_of ty init.ty)
 new_table_is ty init = record {
-  tells = λ cause. refl;
-  fresh = refl;
-  full = length-replicate {A = ℕ} ty.minimum init.raw;
+  tells = λ cause. refl; fresh = refl; full = length-replicate {A = ℕ} ty.minimum init.raw;
 }
 
 -- a late cause that a test decides
@@ -465,8 +438,7 @@ late_is false late cause is = same_Some late cause is
 -- what memory refuses is want of it
 memory_wanted : (room : Room) (cause : MemoryError) → LacksMemory room cause → (price : ℕ)
     → failed_charge (MemoryFailure cause) price ≡ price
-memory_wanted Owned cause wants price =
-    subst (λ c. failed_charge (MemoryFailure c) price ≡ price) (sym wants) refl
+memory_wanted Owned cause wants price = subst (λ c. failed_charge (MemoryFailure c) price ≡ price) (sym wants) refl
 memory_wanted (Lent rest) cause wants price = absurd wants
 
 -- the price of a growth of a memory
@@ -475,8 +447,7 @@ memory_priced pages x m = record {
   price = due_again m 1 (length x.bytes) (pages * page_bytes x.ty.page);
   late = λ cause is price. subst (λ c. failed_charge (MemoryFailure c) price ≡ 0)
       (late_is (fits_room x.room (pages * page_bytes x.ty.page)) memory_error.InvalidStaticBufferSize cause is) refl;
-  unpaid = λ due price. refl;
-  refuses = λ cause wants price. memory_wanted x.room cause wants price;
+  unpaid = λ due price. refl; refuses = memory_wanted x.room;
 }
 
 -- the growth of a memory by so many pages
@@ -488,13 +459,10 @@ memory_growth_is : (pages : ℕ) (x : MemoryValue) (m : Meter) → IsGrowthOf by
 memory_growth_is pages x m =
     let added = pages * page_bytes x.ty.page in
     record {
-      tells = λ cause. refl;
-      now = refl;
+      tells = λ cause. refl; now = refl;
       full = length-append x.bytes (replicate added 0)
           ∙ ap (λ n. length x.bytes + n) (length-replicate {A = ℕ} added 0);
-      up = omega arith;
-      priced = memory_priced pages x m;
-      refusal = replied.Memory;
+      up = omega arith; priced = memory_priced pages x m; refusal = replied.Memory;
       told = record { refuses = λ error. tt; fails = memory_fails };
     }
 
@@ -515,27 +483,18 @@ table_growth n reference x = record { amount = n; size = size_of x; request = ta
 -- the growth of a table is one of its elements
 table_growth_is : (n reference : ℕ) (x : TableValue) (m : Meter) → IsGrowthOf size_of x m (table_growth n reference x)
 table_growth_is n reference x m = record {
-  tells = λ cause. refl;
-  now = refl;
+  tells = λ cause. refl; now = refl;
   full = length-append x.elements (replicate n reference)
       ∙ ap (λ k. length x.elements + k) (length-replicate {A = ℕ} n reference);
-  up = omega arith;
-  priced = table_priced n reference x m;
-  refusal = replied.Table;
+  up = omega arith; priced = table_priced n reference x m; refusal = replied.Table;
   told = record { refuses = λ error. tt; fails = table_fails };
 }
 
 -- a turn, as an exchange is between its limiters
 abbrev meeting_of : {S : Type 0} → World S → Turn → Option Question → World S → Meeting S
 meeting_of w turn question w' = record {
-  first = w.limiter;
-  last = w'.limiter;
-  before = sizes w.state;
-  after = sizes w'.state;
-  meter = w.state.meter;
-  charge = turn.charge;
-  reply = turn.reply;
-  question = question;
+  first = w.limiter; last = w'.limiter; before = sizes w.state; after = sizes w'.state; meter = w.state.meter;
+  charge = turn.charge; reply = turn.reply; question = question;
 }
 
 module _ {S : Type 0} (rules : Rules S) (w : World S) (turn : Turn) (w' : World S) where
@@ -549,34 +508,26 @@ module _ {S : Type 0} (rules : Rules S) (w : World S) (turn : Turn) (w' : World 
     -- its memories, and its tables
     abbrev memories_watch : Watch S MemoryValue
     memories_watch = record {
-      meeting = meeting_of w turn question w';
-      count = byte_count;
-      slots = w.state.memories;
-      later = w'.state.memories;
+      meeting = meeting_of w turn question w'; count = byte_count; slots = w.state.memories; later = w'.state.memories;
     }
 
     -- its tables
     abbrev tables_watch : Watch S TableValue
     tables_watch = record {
-      meeting = meeting_of w turn question w';
-      count = size_of;
-      slots = w.state.tables;
-      later = w'.state.tables;
+      meeting = meeting_of w turn question w'; count = size_of; slots = w.state.tables; later = w'.state.tables;
     }
 
     -- its memories, where the tables stay
     memories_watched : w'.state.tables ≡ w.state.tables → IsWatched memories_watch Bytes
     memories_watched same = record {
-      own = refl;
-      own' = refl;
+      own = refl; own' = refl;
       others = but_bytes (λ kind. sizes w'.state kind ≡ sizes w.state kind) (ap (map (slot_count size_of)) same);
     }
 
     -- its tables, where the memories stay
     tables_watched : w'.state.memories ≡ w.state.memories → IsWatched tables_watch Elements
     tables_watched same = record {
-      own = refl;
-      own' = refl;
+      own = refl; own' = refl;
       others = but_elements (λ kind. sizes w'.state kind ≡ sizes w.state kind) (ap (map (slot_count byte_count)) same);
     }
 
@@ -584,8 +535,7 @@ module _ {S : Type 0} (rules : Rules S) (w : World S) (turn : Turn) (w' : World 
     memory_made : w'.state.tables ≡ w.state.tables → turn.charge ≡ 0 → (room : Room) (ty : MemoryTypeValue)
         → question ≡ question_in (memory.creation_of room ty)
         → Creates replied.Memory (MakesMemory rules room ty) w.state.memories w.limiter turn.reply w'.state.memories
-        w'.limiter
-        → Passed rules (meeting_of w turn question w') New
+        w'.limiter → Passed rules (meeting_of w turn question w') New
     memory_made same free room ty is creates =
         creates_passes rules memories_watch (memory.creation_of room ty) (new_memory room ty) (new_memory_is room ty)
         (memories_watched same) replied.Memory (record { refuses = λ error. tt; fails = memory_fails }) is free creates
@@ -643,8 +593,7 @@ module _ {S : Type 0} (rules : Rules S) (w : World S) (turn : Turn) (w' : World 
       acts_pass rules watch Elements watched k (table_growth_question n init) refl
       (reply_of replied.Number replied.Table) (GrowsTableCharging rules n init) m'
       (λ x x' result replaced asks replies grows.
-      let by_type : Bool → Option Question =
-      λ b. if b then growth_question n (table.growth_of x n init.raw) else None
+      let by_type : Bool → Option Question = λ b. if b then growth_question n (table.growth_of x n init.raw) else None
       in
       on_tested (same_type x.ty.element init.ty) _ _ grows
       (λ typed h. grows_passes rules watch (table_growth n init.raw x) watched k x x'
@@ -736,14 +685,12 @@ module _ (k : ℕ) (slots : List (Slot TableValue)) (m : Meter) (reply : Reply) 
   write_charge : (write : TableValue → TableWrite) → IsChargedFor elements write
       → WritesTableAt k write (metered slots (Some m)) reply charge (metered slots' (Some m'))
       → charge ≡ writing_charge m elements reply
-  write_charge write pays writes =
-      on_live (live_at slots k) _ _ writes missing_charge
+  write_charge write pays writes = on_live (live_at slots k) _ _ writes missing_charge
       (λ x found h. ends_charge (write x) x m charge h.1 elements (pays x) (write x).typed (write x).written _ h.0
       h.2.ends ∙ sym (ap (writing_charge m elements) h.3))
 
   -- a write over a range of a table, which may be missing, is charged for its elements
-  range_charge : (part : Option (TableValue → TableWrite))
-      → OnLive part (Unit {0}) (IsChargedFor elements)
+  range_charge : (part : Option (TableValue → TableWrite)) → OnLive part (Unit {0}) (IsChargedFor elements)
       → WritesRangeAt k part (metered slots (Some m)) reply charge (metered slots' (Some m'))
       → charge ≡ writing_charge m elements reply
   range_charge part pays writes =
@@ -763,8 +710,7 @@ IsChargedForWriting effect m reply charge = charge ≡ writing_charge m (element
 
 -- the charge of an effect is that of the call
 same_charge : (s : State) (call : Call) (exchange : Exchange) (m : Meter) (reply : Reply) (charge : ℕ)
-    → IsCharged (place_by (effect_of s call)) exchange m charge
-    → IsChargedForWriting (effect_of s call) m reply charge
+    → IsCharged (place_by (effect_of s call)) exchange m charge → IsChargedForWriting (effect_of s call) m reply charge
     → charge ≡ charge_at (place_of call) exchange m (writing_charge m (elements_paid call) reply)
 same_charge s (NewMemory ty) exchange m reply charge charged writing = charged
 same_charge s (NewLentMemory ty) exchange m reply charge charged writing = charged
@@ -779,11 +725,9 @@ module _ {S : Type 0} (rules : Rules S) (w : World S) (turn : Turn) (w' : World 
       → Passed rules (meeting_of w turn (question_by w.state effect) w') (place_by effect)
   effect_passes (FuelSet fuel) step =
       idle rules w turn w' step.after refl (λ kind. ap (λ t. sizes t kind) step.effect.1)
-  effect_passes (Changed change) step =
-      idle rules w turn w' step.after refl
+  effect_passes (Changed change) step = idle rules w turn w' step.after refl
       ((change_facts w.state change).still turn.reply step.machine step.effect)
-  effect_passes (MemoryMade ty) step =
-      memory_made rules w turn w' (question_of w.state (NewMemory ty))
+  effect_passes (MemoryMade ty) step = memory_made rules w turn w' (question_of w.state (NewMemory ty))
       (ap (λ (v : World S). v.state.tables) step.after) step.free.0 Owned ty refl (rw step.after step.effect)
   effect_passes (LentMemoryMade ty) step =
       lent_made rules w turn w' (ap (λ (v : World S). v.state.tables) step.after) step.free.0 ty
@@ -797,8 +741,7 @@ module _ {S : Type 0} (rules : Rules S) (w : World S) (turn : Turn) (w' : World 
   effect_passes (TableGrown k n init) step =
       table_grows rules w turn w' (ap (λ (v : World S). v.state.memories) step.after) k n init step.meter
       (rw step.after step.effect)
-  effect_passes (RangeWritten k source dst len) step =
-      idle rules w turn w' step.after refl
+  effect_passes (RangeWritten k source dst len) step = idle rules w turn w' step.after refl
       (each_kind (λ kind. sizes (with_tables w.state step.part) kind ≡ sizes w.state kind) refl
       (part_kept k (metered w.state.tables (Some w.state.meter))
       (metered step.part (Some step.meter)) turn.reply turn.charge len
@@ -821,14 +764,12 @@ pub growths_are_permitted : {S : Type 0} (rules : Rules S) (w : World S) (turn :
 growths_are_permitted rules w turn w' step =
     let effect = effect_of w.state turn.call in
     let passed : Passed rules (meeting_of w turn (question_by w.state effect) w') (place_by effect) =
-    effect_passes rules w turn w' effect step
-    in
+    effect_passes rules w turn w' effect step in
     record {
       exchange = passed.exchange;
       asks = subst (λ question. AsksFor question passed.exchange turn.reply) (same_question w.state turn.call)
           passed.asks;
-      passes = passed.passes;
-      replies = passed.replies;
+      passes = passed.passes; replies = passed.replies;
       grows = subst (λ place. GrowsBy place passed.exchange (sizes w.state) (sizes w'.state))
           (same_place w.state turn.call) passed.grows;
       charged = same_charge w.state turn.call passed.exchange w.state.meter turn.reply turn.charge passed.charged

@@ -52,12 +52,11 @@ module _ (s s' : State) where
   -- the totals are held where nothing grows
   still_held : (h h' : Holdings) → HoldsTotals h s → HoldsTheSame h h' → NothingGrows (sizes s) (sizes s')
       → HoldsTotals h' s'
-  still_held h h' held same still =
-      record {
-        bytes = same.bytes ∙ held.bytes ∙ ap sum (sym (still Bytes));
-        elements = same.elements ∙ held.elements
-            ∙ ap sum (sym (still Elements));
-      }
+  still_held h h' held same still = record {
+    bytes = same.bytes ∙ held.bytes ∙ ap sum (sym (still Bytes));
+    elements = same.elements ∙ held.elements
+        ∙ ap sum (sym (still Elements));
+  }
 
   -- the totals are held after a growth
   more_held : (kind : Kind) (n : ℕ) (h h' : Holdings) → HoldsTotals h s → h' ≡ with_more h kind n
@@ -77,8 +76,7 @@ pub record KeepsHoldings {L : Type 0} (rules : Rules L) (holdings : L → Holdin
   pub reserves : (l l' : L) (q : Question) (answer : Answer) → rules.asked l q answer l'
       → Reserves q answer (holdings l) (holdings l')
   pub gives_back : (l l' : L) (failure : Failure) (notice_answer : NoticeAnswer)
-      → rules.noticed l failure notice_answer l'
-      → GivesBack (kind_of failure) (holdings l) (holdings l')
+      → rules.noticed l failure notice_answer l' → GivesBack (kind_of failure) (holdings l) (holdings l')
 
 module _ {L : Type 0} (rules : Rules L) (holdings : L → Holdings) (keeps : KeepsHoldings rules holdings) where
   -- a limiter is there, and holds the totals
@@ -92,26 +90,22 @@ module _ {L : Type 0} (rules : Rules L) (holdings : L → Holdings) (keeps : Kee
   exchange_holds s s' l limiter place Nothing held passes grows =
       (l, passes, still_held s s' (holdings l) (holdings l) held (record { bytes = refl; elements = refl }) grows)
   exchange_holds s s' l (Some l') place (Denial q answer) held (denial, asks) grows = (
-    l',
-    refl,
+    l', refl,
     still_held s s' (holdings l) (holdings l') held
         (denial_keeps q answer (holdings l) (holdings l') denial (keeps.reserves l l' q answer asks)) grows,
   )
   exchange_holds s s' l None place (Denial q answer) held (denial, asks) grows = absurd asks
   exchange_holds s s' l (Some l') place (Permission q) held asks (grows, others) = (
-    l',
-    refl,
+    l', refl,
     more_held s s' q.kind (q.desired - q.current) (holdings l) (holdings l') held
         (keeps.reserves l l' q (Ok true) asks) (grown_sum place q (sizes s q.kind) (sizes s' q.kind) grows) others,
   )
   exchange_holds s s' l None place (Permission q) held asks grows = absurd asks
   exchange_holds s s' l (Some l') place (Notice q failure notice_answer) held (kind, Some p, asks, notices) grows = (
-    l',
-    refl,
+    l', refl,
     still_held s s' (holdings l) (holdings l') held
         (given_back q.kind (q.desired - q.current) (holdings l) (holdings p) (holdings l')
-        (keeps.reserves l p q (Ok true) asks)
-        (rw kind at (keeps.gives_back p l' failure notice_answer notices))) grows,
+        (keeps.reserves l p q (Ok true) asks) (rw kind at (keeps.gives_back p l' failure notice_answer notices))) grows,
   )
   exchange_holds s s' l None place (Notice q failure notice_answer) held (kind, Some p, asks, notices) grows =
       absurd notices
@@ -121,13 +115,11 @@ module _ {L : Type 0} (rules : Rules L) (holdings : L → Holdings) (keeps : Kee
   -- a run keeps them held
   pub totals_are_held : (s : State) (l : L) → HoldsTotals (holdings l) s → (turns : List Turn) (w' : World (Option L))
       → Run (optional_rules rules) (world s (Some l)) turns w' → Holds w'.limiter w'.state
-  totals_are_held s l held [] w' ran =
-      rw ran (l, refl, held)
+  totals_are_held s l held [] w' ran = rw ran (l, refl, held)
   totals_are_held s l held (turn ∷ turns) w' (v, step, ran) =
       let passed = growths_are_permitted (optional_rules rules) (world s (Some l)) turn v step in
       let next =
-      exchange_holds s v.state l v.limiter (place_of turn.call) passed.exchange held passed.passes passed.grows
-      in
+      exchange_holds s v.state l v.limiter (place_of turn.call) passed.exchange held passed.passes passed.grows in
       totals_are_held v.state next.0 next.2 turns w' (rw next.1 at ran)
 
   -- a run by the answers that a caller sees keeps the totals held
@@ -144,8 +136,7 @@ module _ {L : Type 0} (rules : Rules L) (holdings : L → Holdings) (keeps : Kee
 module _ {L : Type 0} (rules : Rules L) (Kept : L → Type 0)
     (asked : (l : L) (q : Question) (answer : Answer) (l' : L) → Kept l → rules.asked l q answer l' → Kept l')
     (noticed : (l : L) (failure : Failure) (notice_answer : NoticeAnswer) (l' : L) → Kept l
-    → rules.noticed l failure notice_answer l'
-    → Kept l') where
+    → rules.noticed l failure notice_answer l' → Kept l') where
   -- the limiter is there, and is as it was
   abbrev IsKept : Option L → Type 0
   IsKept limiter = (l : L) × (limiter ≡ Some l) × Kept l
@@ -169,8 +160,7 @@ module _ {L : Type 0} (rules : Rules L) (Kept : L → Type 0)
   run_keeps w l is kept [] w' ran = rw ran (l, is, kept)
   run_keeps w l is kept (turn ∷ turns) w' (v, step, ran) =
       let passed = growths_are_permitted (optional_rules rules) w turn v step in
-      let passes =
-      subst (λ limiter. Passes (optional_rules rules) limiter passed.exchange v.limiter) is passed.passes
+      let passes = subst (λ limiter. Passes (optional_rules rules) limiter passed.exchange v.limiter) is passed.passes
       in
       let next = exchange_keeps l v.limiter passed.exchange kept passes in
       run_keeps v next.0 next.1 next.2 turns w' ran
@@ -205,7 +195,6 @@ pub quota_stays_within : (s : State) (l : Quota) → IsWithinCaps l → (turns :
     → Run (optional_rules quota_rules) (world s (Some l)) turns w'
     → (l' : Quota) × (w'.limiter ≡ Some l') × IsWithinCaps l' × SameCaps l l'
 quota_stays_within s l within turns w' ran =
-    let kept =
-    run_keeps quota_rules (IsLater l) (asked_later l) (noticed_later l) (world s (Some l)) l refl
+    let kept = run_keeps quota_rules (IsLater l) (asked_later l) (noticed_later l) (world s (Some l)) l refl
     (record { within = within; caps = λ kind. refl }) turns w' ran in
     (kept.0, kept.1, kept.2.within, kept.2.caps)

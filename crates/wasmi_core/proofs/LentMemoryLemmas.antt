@@ -20,9 +20,10 @@ use Rattle.wasmi_core.specs.declared.calls.Reply.{Reply}
 use Rattle.wasmi_core.specs.declared.slots.Slot.{Slot}
 use Rattle.wasmi_core.specs.declared.slots.Slot.TheVariants.{Gone, Live}
 use Rattle.wasmi_meter.specs.Attempt.{Attempt, Denied, Request, Failed, AttemptOutcome, Follows, IsFirstCause, MayEnd, Met, MeteredValue, Unasked, optional_due, answer_of, covers, outcome_charge, value_after, with_value}
-use Rattle.wasmi_meter.specs.Limiter.{Answer, IsDenial, Rules}
+use Rattle.wasmi_meter.specs.Limiter.{Rules}
 use Rattle.wasmi_meter.specs.Meter.{Meter}
 use Rattle.wasmi_meter.specs.declared.error.MemoryError.{MemoryError}
+use Rattle.wasmi_store.specs.Growth.{IsDenied}
 use Rattle.wasmi_store.specs.Buffer.{LacksMemory, Lent, Owned, Room, fits_room}
 use Rattle.wasmi_store.specs.Memory.{GrowsMemory, GrowsMemoryCharging, MakesMemory, MemoryValue, WritesMemory, new_memory, pages_of, MemoryTypeValue, in_bounds, minimum_bytes, page_bytes}
 use Rattle.wasmi_store.specs.Memory as memory
@@ -99,14 +100,12 @@ module _ {V E : Type 0} (e : Request V E) (refuses : E → Type 0)
   -- an attempt is one of the eased request
   attempts : {S : Type 0} (rules : Rules S) (s s' : MeteredValue V S) (outcome : AttemptOutcome E) (charge : ℕ) → IsEasy
       → Attempt rules e s outcome charge s'
-      → Attempt rules eased (with_value s (own s.value)) outcome charge (with_value s'
-      (own s'.value))
+      → Attempt rules eased (with_value s (own s.value)) outcome charge (with_value s' (own s'.value))
   attempts rules s s' outcome charge easy a = record {
     may_end = ends s.meter easy outcome a.may_end;
     follows = follows rules s.limiter s'.limiter outcome a.follows;
     charged = a.charged ∙ charges s.meter easy outcome a.may_end;
-    meter = a.meter;
-    value = ap own a.value ∙ values s.value outcome;
+    meter = a.meter; value = ap own a.value ∙ values s.value outcome;
   }
 
 -- what a room of one's own may refuse after the charge
@@ -143,30 +142,24 @@ fits_easy : (pages : ℕ) (x : MemoryValue) → FitsRoom pages x
     → IsEasy (memory.growth_of x pages) (LacksMemory Owned) (lacks_owned x.room) owned_memory
 fits_easy pages x (inl fits) =
     inl (late_of (fits_room x.room (pages * page_bytes x.ty.page)) MemoryError.InvalidStaticBufferSize fits)
-fits_easy pages x (inr outside) =
-    inr (
-      MemoryError.OutOfBoundsGrowth,
-      early_of (in_bounds x.ty (pages_of x + pages)) MemoryError.OutOfBoundsGrowth
-          outside,
-    )
+fits_easy pages x (inr outside) = inr (
+  MemoryError.OutOfBoundsGrowth,
+  early_of (in_bounds x.ty (pages_of x + pages)) MemoryError.OutOfBoundsGrowth outside,
+)
 
 -- a memory that grows within its room grows as one of its own
 grows_owned : {S : Type 0} (rules : Rules S) (pages : ℕ) (s : MeteredValue MemoryValue S)
-    (result : Result ℕ MemoryError)
-    (charge : ℕ) (s' : MeteredValue MemoryValue S) → FitsRoom pages s.value
+    (result : Result ℕ MemoryError) (charge : ℕ) (s' : MeteredValue MemoryValue S) → FitsRoom pages s.value
     → GrowsMemoryCharging rules pages s result charge s'
     → GrowsMemoryCharging rules pages (with_value s (owned_memory s.value)) result charge
     (with_value s' (owned_memory s'.value))
 grows_owned {S} rules pages s result charge s' fits (inl none) = inl (record {
-  none = none.none;
-  answered = none.answered;
-  uncharged = none.uncharged;
+  none = none.none; answered = none.answered; uncharged = none.uncharged;
   same = ap (λ (t : MeteredValue MemoryValue S). with_value t (owned_memory t.value)) none.same;
 })
 grows_owned rules pages s result charge s' fits (inr some) =
     let e = memory.growth_of s.value pages in inr (record {
-      some = some.some;
-      outcome = some.outcome;
+      some = some.some; outcome = some.outcome;
       attempt = attempts e (LacksMemory Owned) (lacks_owned s.value.room) owned_memory rules s s' some.outcome charge
           (fits_easy pages s.value fits) some.attempt;
       answered = some.answered ∙ answered_eased some.outcome;
@@ -206,8 +199,7 @@ module _ (slots : List (Slot MemoryValue)) (k : ℕ) where
   on_owned : (Missing Missing' : Type 0) (Fact Fact' : MemoryValue → Type 0) → OnLive (live_at slots k) Missing Fact
       → (Missing → Missing') → ((x : MemoryValue) → Fact x → Fact' (owned_memory x))
       → OnLive (live_at (map owned_slot slots) k) Missing' Fact'
-  on_owned Missing Missing' Fact Fact' h missing live =
-      subst (λ o. OnLive o Missing' Fact') (sym (owned_at slots k))
+  on_owned Missing Missing' Fact Fact' h missing live = subst (λ o. OnLive o Missing' Fact') (sym (owned_at slots k))
       (owned_fact (live_at slots k) Missing Missing' Fact Fact' h missing live)
 
   -- a slot is written
@@ -221,17 +213,14 @@ module _ (slots : List (Slot MemoryValue)) (k : ℕ) where
         → ((x x' : MemoryValue) → Change x x' → Change (owned_memory x) (owned_memory x'))
         → ChangesAt k slots reply slots' Change
         → ChangesAt k (map owned_slot slots) reply (map owned_slot slots') Change
-    changes_owned Change change changes =
-        on_owned _ _ _ _ changes
+    changes_owned Change change changes = on_owned _ _ _ _ changes
         (λ missing. (missing.0, ap (map owned_slot) missing.1))
         (λ x h. (owned_memory h.0, change x h.0 h.1, put_owned slots' (Live h.0) h.2))
 
     -- a drop
     drops_owned : DropsAt byte_count k slots reply slots'
         → DropsAt byte_count k (map owned_slot slots) reply (map owned_slot slots')
-    drops_owned drops =
-        on_owned _ _ _ _ drops
-        (λ missing. (missing.0, ap (map owned_slot) missing.1))
+    drops_owned drops = on_owned _ _ _ _ drops (λ missing. (missing.0, ap (map owned_slot) missing.1))
         (λ x h. (h.0, put_owned slots' (Gone (byte_count x)) h.1))
 
     -- a write
@@ -239,8 +228,7 @@ module _ (slots : List (Slot MemoryValue)) (k : ℕ) where
         → WritesMemoryAt k offset source (map owned_slot slots) reply (map owned_slot slots')
     writes_owned offset source writes = changes_owned _ (λ x x' c. (c.0, written x x' c.0 c.1, c.2)) writes
       where
-        written : (x x' : MemoryValue) (result : Result (Unit {0}) MemoryError)
-            → WritesMemory x offset source result x'
+        written : (x x' : MemoryValue) (result : Result (Unit {0}) MemoryError) → WritesMemory x offset source result x'
             → WritesMemory (owned_memory x) offset source result (owned_memory x')
         written x x' (Ok _) h = (h.0, h.1, refl)
         written x x' (Err error) h = (h.0, h.1, ap owned_memory h.2)
@@ -275,16 +263,13 @@ growth_owned : {S : Type 0} (rules : Rules S) (k pages : ℕ) (s s' : MeteredVal
 growth_owned {S} rules k pages s s' reply charge fits acts =
     on_owned s.value k _ _ _ _ (both_live (live_at s.value k) _ _ _ _ fits acts)
     (λ missing. (
-      missing.1.0,
-      missing.1.1,
+      missing.1.0, missing.1.1,
       ap (λ (t : MeteredValue (List (Slot MemoryValue)) S). with_value t (map owned_slot t.value)) missing.1.2,
     ))
     (λ x h. (
-      h.1.0,
-      owned_memory h.1.1,
+      h.1.0, owned_memory h.1.1,
       grows_owned rules pages (with_value s x) h.1.0 charge (with_value s' h.1.1) h.0 h.1.2,
-      h.1.3,
-      put_owned s.value k s'.value (Live h.1.1) h.1.4,
+      h.1.3, put_owned s.value k s'.value (Live h.1.1) h.1.4,
     ))
 
 -- a memory is made in a slot
@@ -305,12 +290,10 @@ creates_owned : {S : Type 0} (rules : Rules S) (room : Room) (ty : MemoryTypeVal
     → Creates replied.Memory (MakesMemory rules room ty) slots l reply slots' l'
     → Creates replied.Memory (MakesMemory rules Owned ty) (map owned_slot slots) l reply (map owned_slot slots') l'
 creates_owned rules room ty slots l reply slots' l' fits (inl none) = inl (none.0, ap (map owned_slot) none.1, none.2)
-creates_owned rules room ty slots l reply slots' l' fits (inr (result, makes, appends)) =
-    inr (
-      result_map_both owned_memory (λ error. error) result,
-      makes_owned rules room ty l result l' fits makes,
-      appends_owned result slots reply slots' appends,
-    )
+creates_owned rules room ty slots l reply slots' l' fits (inr (result, makes, appends)) = inr (
+  result_map_both owned_memory (λ error. error) result, makes_owned rules room ty l result l' fits makes,
+  appends_owned result slots reply slots' appends,
+)
 
 -- an effect that fits the regions, as its call does
 abbrev EffectFits : State → Effect → Type 0
@@ -326,37 +309,28 @@ effect_fits s call fits = fits
 -- a call has the same effect on both machines
 effect_kept : (s : State) (call : Call) → effect_of s call ≡ effect_of (owned s) call
 effect_kept s (Load op k ptr offset) = ap Told (made_owned s.memories k (load_reply op (ptr + offset)) (λ x. refl))
-effect_kept s (VectorLoad op dst k ptr offset) =
-    ap (λ given. Changed (RegisterSet dst given))
+effect_kept s (VectorLoad op dst k ptr offset) = ap (λ given. Changed (RegisterSet dst given))
     (made_owned s.memories k (vector_loaded op (ptr + offset)) (λ x. refl))
-effect_kept s (LoadLane op dst a k ptr offset) =
-    ap (λ given. Changed (RegisterSet dst given))
+effect_kept s (LoadLane op dst a k ptr offset) = ap (λ given. Changed (RegisterSet dst given))
     (made_owned s.memories k (lane_loaded op (ptr + offset) (vector_at s.registers a)) (λ x. refl))
 effect_kept s call = refl
 
 -- a change of one part is the same change with such memories
 change_owned : (s : State) (reply : Reply) (s' : State) (change : Change) → HasChange change s reply s'
     → HasChange change (owned s) reply (owned s')
-change_owned s reply s' (BytesWritten k offset bytes) c =
-    record {
-      part = map owned_slot c.part;
-      effect = writes_owned s.memories k reply c.part offset bytes c.effect;
-      after = ap
-          owned c.after;
-    }
-change_owned s reply s' (BytesStored k a stored) c =
-    record {
-      part = map owned_slot c.part;
-      effect = vector_stores_owned s.memories k reply c.part a stored c.effect;
-      after =
-          ap owned c.after;
-    }
-change_owned s reply s' (MemoryDropped k) c =
-    record {
-      part = map owned_slot c.part;
-      effect = drops_owned s.memories k reply c.part c.effect;
-      after = ap owned c.after;
-    }
+change_owned s reply s' (BytesWritten k offset bytes) c = record {
+  part = map owned_slot c.part;
+  effect = writes_owned s.memories k reply c.part offset bytes c.effect;
+  after = ap owned c.after;
+}
+change_owned s reply s' (BytesStored k a stored) c = record {
+  part = map owned_slot c.part;
+  effect = vector_stores_owned s.memories k reply c.part a stored c.effect;
+  after = ap owned c.after;
+}
+change_owned s reply s' (MemoryDropped k) c = record {
+  part = map owned_slot c.part; effect = drops_owned s.memories k reply c.part c.effect; after = ap owned c.after;
+}
 change_owned s reply s' change c = record { part = c.part; effect = c.effect; after = ap owned c.after }
 
 module _ {S : Type 0} (rules : Rules S) (w : World S) (turn : Turn) (w' : World S) where
@@ -365,42 +339,32 @@ module _ {S : Type 0} (rules : Rules S) (w : World S) (turn : Turn) (w' : World 
       → HasEffect rules effect (owned_world w) turn (owned_world w')
   effect_owned (Told told) fits step =
       record { free = step.free; effect = step.effect; after = ap owned_world step.after }
-  effect_owned (BytesRead k offset len) fits step =
-      record {
-        free = step.free;
-        effect = on_owned w.state.memories k _ _ _ _ step.effect (λ missing. missing) (λ x h. h);
-        after = ap owned_world step.after;
-      }
+  effect_owned (BytesRead k offset len) fits step = record {
+    free = step.free;
+    effect = on_owned w.state.memories k _ _ _ _ step.effect (λ missing. missing) (λ x h. h);
+    after = ap owned_world step.after;
+  }
   effect_owned (FuelSet fuel) fits step =
       changes_too step (owned step.machine) (step.effect.0, ap owned step.effect.1) (ap owned_world step.after)
   effect_owned (Changed change) fits step =
       changes_too step (owned step.machine) (change_owned w.state turn.reply step.machine change step.effect)
       (ap owned_world step.after)
-  effect_owned (MemoryMade ty) fits step =
-      asks_too step (map owned_slot step.part)
+  effect_owned (MemoryMade ty) fits step = asks_too step (map owned_slot step.part)
       (creates_owned rules Owned ty w.state.memories w.limiter turn.reply step.part step.limiter refl step.effect)
       (ap owned_world step.after)
   effect_owned (LentMemoryMade ty) fits step = absurd fits
-  effect_owned (MemoryGrown k pages) fits step =
-      acts_too step (map owned_slot step.part)
-      (growth_owned rules k pages
-      (record { value = w.state.memories; meter = Some w.state.meter; limiter = w.limiter })
+  effect_owned (MemoryGrown k pages) fits step = acts_too step (map owned_slot step.part) step.meter
+      (growth_owned rules k pages (record { value = w.state.memories; meter = Some w.state.meter; limiter = w.limiter })
       (record { value = step.part; meter = Some step.meter; limiter = step.limiter }) turn.reply turn.charge fits
-      step.effect)
-      (made_owned w.state.memories k (λ o. bytes_appended o pages turn.reply) (λ x. refl))
+      step.effect) (made_owned w.state.memories k (λ o. bytes_appended o pages turn.reply) (λ x. refl))
       (ap owned_world step.after)
   effect_owned (TableMade ty init) fits step = asks_too step step.part step.effect (ap owned_world step.after)
   effect_owned (TableGrown k n init) fits step =
-      acts_too step step.part step.effect refl (ap owned_world step.after)
-  effect_owned (RangeWritten k source dst len) fits step =
-      record {
-        part = step.part;
-        meter = step.meter;
-        effect = step.effect;
-        wrote = step.wrote;
-        after = ap owned_world
-            step.after;
-      }
+      acts_too step step.part step.meter step.effect refl (ap owned_world step.after)
+  effect_owned (RangeWritten k source dst len) fits step = record {
+    part = step.part; meter = step.meter; effect = step.effect; wrote = step.wrote;
+    after = ap owned_world step.after;
+  }
 
 -- a run
 pub run_is_owned : {S : Type 0} (rules : Rules S) (w : World S) (turns : List Turn) (w' : World S)
@@ -426,9 +390,7 @@ creation_is_owned rules w turn w' ty region called spare fits step =
     (λ c. HasEffect rules (effect_of w.state c) w turn w') called step in
     let creates = on_spare _ _ w.state.spare region spare lent.effect in
     record {
-      free = lent.free;
-      part = map owned_slot lent.part.slots;
-      limiter = lent.limiter;
+      free = lent.free; part = map owned_slot lent.part.slots; limiter = lent.limiter;
       effect = creates_owned rules (Lent region) ty w.state.memories w.limiter turn.reply lent.part.slots lent.limiter
           (grind (arith, nat_tests, fits)) creates.0;
       after = ap unlent_world lent.after;
@@ -446,8 +408,7 @@ module _ {S : Type 0} (rules : Rules S) (pages : ℕ) (s : MeteredValue MemoryVa
   -- a growth has succeeded, or the limiter has denied it
   abbrev Succeeds : Type 0
   Succeeds =
-      (result ≡ Ok (pages_of s.value)) ⊎ ((answer : Answer) × IsDenial answer × rules.asked s.limiter
-      (memory.growth_of s.value pages).question answer s'.limiter)
+      (result ≡ Ok (pages_of s.value)) ⊎ IsDenied rules (memory.growth_of s.value pages).question s.limiter s'.limiter
 
   -- nothing refuses it before the limiter is asked
   no_early : (inner : Bool) → inner ≡ true → (if inner then None else Some MemoryError.OutOfBoundsGrowth) ≡ None
@@ -493,8 +454,7 @@ pub lent_growth_succeeds : {S : Type 0} (rules : Rules S) (pages : ℕ) (s : Met
     → fits_room s.value.room (pages * page_bytes s.value.ty.page) ≡ true
     → covers s.meter (optional_due s.meter (memory.growth_of s.value pages).price) ≡ true
     → (result : Result ℕ MemoryError) (s' : MeteredValue MemoryValue S) → GrowsMemory rules pages s result s'
-    → (result ≡ Ok (pages_of s.value)) ⊎ ((answer : Answer) × IsDenial answer
-    × rules.asked s.limiter (memory.growth_of s.value pages).question answer s'.limiter)
+    → (result ≡ Ok (pages_of s.value)) ⊎ IsDenied rules (memory.growth_of s.value pages).question s.limiter s'.limiter
 lent_growth_succeeds rules pages s rest lent inside fits payable result s' (charge, grows) =
     growth_succeeds rules pages s rest (record { lent = lent; inside = inside; fits = fits; payable = payable })
     result charge s' grows

@@ -54,8 +54,7 @@ vector_store_back k slots reply slots' a refused (Some stored) stores =
 pub lent_back : {S : Type 0} (rules : Rules S) (ty : MemoryTypeValue) (part : MemoryPart) (l : S) (reply : Reply)
     (part' : MemoryPart) (l' : S) → IsRefusal reply → CreatesLent rules ty part l reply part' l'
     → part'.slots ≡ part.slots
-lent_back rules ty part l reply part' l' refused creates =
-    on_live part.spare _ _ creates
+lent_back rules ty part l reply part' l' refused creates = on_live part.spare _ _ creates
     (λ none. ap (λ (p : MemoryPart). p.slots) none.1)
     (λ region found h. creates_back replied.Memory (MakesMemory rules (Lent region) ty) part.slots l reply part'.slots
     l' refused h.0)
@@ -66,8 +65,7 @@ spare_by : {S : Type 0} (rules : Rules S) (ty : MemoryTypeValue) (part : MemoryP
     → MatchOption spare ((reply ≡ replied.NoRegion) × (part' ≡ part) × (l' ≡ l))
     (λ region. Creates replied.Memory (MakesMemory rules (Lent region) ty) part.slots l reply part'.slots
     l' × (part'.spare ≡ spare_after reply part.spare)) → part'.spare ≡ spare_after reply part.spare
-spare_by rules ty part l reply part' l' None is none =
-    ap (λ (p : MemoryPart). p.spare) none.1 ∙ is
+spare_by rules ty part l reply part' l' None is none = ap (λ (p : MemoryPart). p.spare) none.1 ∙ is
     ∙ sym (ap (spare_after reply) is ∙ ap (λ r. spare_after r None) none.0)
 spare_by rules ty part l reply part' l' (Some region) is made = made.1
 
@@ -82,8 +80,7 @@ pub memory_growth_back : {S : Type 0} (rules : Rules S) (k pages : ℕ) (s s' : 
     (reply : Reply) (charge : ℕ) → IsRefusal reply
     → ActsAt k (reply_of replied.Number replied.Memory) (GrowsMemoryCharging rules pages) s reply charge s'
     → s'.value ≡ s.value
-memory_growth_back {S} rules k pages s s' reply charge refused acts =
-    on_live (live_at s.value k) _ _ acts
+memory_growth_back {S} rules k pages s s' reply charge refused acts = on_live (live_at s.value k) _ _ acts
     (λ missing. ap (λ (s : MeteredValue (List (Slot MemoryValue)) S). s.value) missing.2)
     (λ x found a. a.4 ∙ put_back s.value k x a.1 found
     (grows_back replied.Memory rules (record { amount = pages; size = pages_of x; request = memory.growth_of x pages })
@@ -108,8 +105,7 @@ read_same (Some bytes) reply reply' room room' (inr a) (inr b) = a ∙ sym b
 pub reads_same : (k offset len : ℕ) (slots : List (Slot MemoryValue)) (reply reply' : Reply) → IsNotOutOfMemory reply
     → IsNotOutOfMemory reply' → ReadsMemoryAt k offset len slots reply → ReadsMemoryAt k offset len slots reply'
     → reply ≡ reply'
-reads_same k offset len slots reply reply' room room' a b =
-    on_both (live_at slots k) _ _ _ _ a b (λ h h'. h ∙ sym h')
+reads_same k offset len slots reply reply' room room' a b = on_both (live_at slots k) _ _ _ _ a b (λ h h'. h ∙ sym h')
     (λ x h h'. read_same (at x.bytes offset len) reply reply' room room' h h')
 
 -- two memories with the same type, bytes and room
@@ -142,16 +138,14 @@ store_same x x' x'' a stored (Err trap) (Err trap') (bytes, ty, room) (bytes', t
 -- two writes to the memory of an index
 pub writes_same : (k offset : ℕ) (source : List ℕ) (slots : List (Slot MemoryValue))
     → IsDecided (WritesMemoryAt k offset source slots)
-writes_same k offset source slots =
-    slot_same k slots _ (λ x reply reply' x' x'' h h'.
+writes_same k offset source slots = slot_same k slots _ (λ x reply reply' x' x'' h h'.
     let both = write_same x x' x'' offset source h.0 h'.0 h.1 h'.1 in
     (h.2 ∙ ap (reply_of (λ _. replied.Done) replied.Memory) both.0 ∙ sym h'.2, both.1))
 
 -- two stores to it
 stores_same : (k a : ℕ) (stored : List ℕ) (slots : List (Slot MemoryValue))
     → IsDecided (StoresMemoryAt k a stored slots)
-stores_same k a stored slots =
-    slot_same k slots _ (λ x reply reply' x' x'' h h'.
+stores_same k a stored slots = slot_same k slots _ (λ x reply reply' x' x'' h h'.
     let both = store_same x x' x'' a stored h.0 h'.0 h.1 h'.1 in
     (h.2 ∙ ap (reply_of (λ _. replied.Done) replied.Trap) both.0 ∙ sym h'.2, both.1))
 
@@ -240,6 +234,5 @@ pub vector_store_valid : (k a : ℕ) (stored : Option (List ℕ)) (slots : List 
     (slots' : List (Slot MemoryValue)) → StoresVectorAt k a stored slots reply slots' → AllValid IsValidMemory slots
     → AllValid IsValidMemory slots'
 vector_store_valid k a None slots reply slots' stores valid = subst (AllValid IsValidMemory) (sym stores.1) valid
-vector_store_valid k a (Some bytes) slots reply slots' stores valid =
-    changes_valid IsValidMemory k slots reply slots'
+vector_store_valid k a (Some bytes) slots reply slots' stores valid = changes_valid IsValidMemory k slots reply slots'
     _ (λ x x' h change. stored_valid x x' a bytes change.0 h change.1) stores valid

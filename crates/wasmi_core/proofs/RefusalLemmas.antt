@@ -5,12 +5,12 @@ use Rattle.std.proofs.lemmas.Option.{same_Some}
 use Rattle.std.specs.Prelude.{All, if◌then◌else◌, is_some}
 use Rattle.wasmi_core.proofs.MemoryEffectsLemmas.{lent_back, lent_spare, memory_growth_back}
 use Rattle.wasmi_core.proofs.EffectLemmas.{creates_back}
-use Rattle.wasmi_core.proofs.ExchangeLemmas.{IsOutOfMemoryOrFree, growths_are_permitted, out_of_memory_or_free}
+use Rattle.wasmi_core.proofs.ExchangeLemmas.{growths_are_permitted, out_of_memory_or_free}
 use Rattle.wasmi_core.proofs.StepsLemmas.{change_facts}
 use Rattle.wasmi_core.proofs.TableEffectsLemmas.{part_back, table_growth_back}
 use Rattle.wasmi_core.proofs.StoreLemmas.{each_turn}
 use Rattle.wasmi_core.specs.Account.{ChangesMeter, PaysCharge}
-use Rattle.wasmi_core.specs.Exchange.{AsksFor, At, Denial, Exchange, Exchanges, New, Nothing, Notice, Nowhere, Passes, Permission, Place, RepliesTo, charge_at, elements_paid, failed_charge, failed_reply, growth_charge, growth_due, place_of, question_of, writing_charge}
+use Rattle.wasmi_core.specs.Exchange.{AsksFor, At, Denial, Exchange, Exchanges, New, Nothing, Notice, Nowhere, Passes, Permission, Place, RepliesTo, charge_at, elements_paid, growth_charge, growth_due, place_of, question_of, writing_charge}
 use Rattle.wasmi_core.specs.Laws.{Keeps, KeepsMeter, KeepsSpare, RefusalsInRunsKeepContents, SameContents}
 use Rattle.wasmi_core.specs.MemoryEffects.{spare_after}
 use Rattle.wasmi_core.specs.Steps.{Run, Changed, Effect, FuelSet, LentMemoryMade, MemoryGrown, MemoryMade, RangeWritten, Step, TableGrown, TableMade, HasEffect, effect_of}
@@ -21,7 +21,7 @@ use Rattle.wasmi_core.specs.declared.calls.Call.{Call}
 use Rattle.wasmi_core.specs.declared.calls.Call.TheVariants.{NewLentMemory, SetFuel}
 use Rattle.wasmi_core.specs.declared.calls.Reply.{Reply}
 use Rattle.wasmi_meter.proofs.AttemptLemmas.{meter_after_nothing}
-use Rattle.wasmi_meter.specs.Limiter.{Failure, NoticeAnswer, Question, Rules}
+use Rattle.wasmi_meter.specs.Limiter.{Rules}
 use Rattle.wasmi_meter.specs.Meter.{Meter, meter_after, meter_set}
 use Rattle.wasmi_meter.specs.declared.fuel.CustomFuelCosts.{CustomFuelCosts}
 use Rattle.wasmi_meter.specs.declared.fuel.FuelError.TheVariants.{FuelMeteringDisabled}
@@ -43,22 +43,15 @@ spare_kept s s' call reply leaves = leaves
 
 -- the turn ends in a world with the same state, or with the same state but for its meter
 module _ {S : Type 0} (w w' : World S) where
-  -- with the same state, the contents and the spare region are the same
-  kept : {v : World S} → w' ≡ v → v.state ≡ w.state → SameContents w.state w'.state × (w'.state.spare ≡ w.state.spare)
-  kept is same =
-      rw (is, same) (
-        record { memories = refl; tables = refl; segments = refl; globals = refl; registers = refl },
-        refl,
-      )
-
   -- with another meter, the contents and the spare region are the same
   paid : (m : Meter) → {v : World S} → w' ≡ v → v.state ≡ record w.state { meter = m }
       → SameContents w.state w'.state × (w'.state.spare ≡ w.state.spare)
   paid m is same =
-      rw (is, same) (
-        record { memories = refl; tables = refl; segments = refl; globals = refl; registers = refl },
-        refl,
-      )
+      rw (is, same) (record { memories = refl; tables = refl; segments = refl; globals = refl; registers = refl }, refl)
+
+  -- with the same state, the contents and the spare region are the same
+  kept : {v : World S} → w' ≡ v → v.state ≡ w.state → SameContents w.state w'.state × (w'.state.spare ≡ w.state.spare)
+  kept = paid w.state.meter
 
 module _ {S : Type 0} (rules : Rules S) (w : World S) (turn : Turn) (w' : World S)
     (refused : IsRefusal turn.reply) where
@@ -68,8 +61,7 @@ module _ {S : Type 0} (rules : Rules S) (w : World S) (turn : Turn) (w' : World 
   effect_back (FuelSet fuel) step = paid w w' _ step.after step.effect.1
   effect_back (Changed change) step =
       kept w w' step.after ((change_facts w.state change).back turn.reply step.machine refused step.effect)
-  effect_back (MemoryMade ty) step =
-      kept w w' step.after
+  effect_back (MemoryMade ty) step = kept w w' step.after
       (ap (with_memories w.state) (creates_back replied.Memory (MakesMemory rules Owned ty) w.state.memories w.limiter
       turn.reply step.part step.limiter refused step.effect))
   effect_back (LentMemoryMade ty) step = (
@@ -77,38 +69,30 @@ module _ {S : Type 0} (rules : Rules S) (w : World S) (turn : Turn) (w' : World 
         (record {
           memories = lent_back rules ty (memory_part w.state) w.limiter turn.reply step.part step.limiter refused
               step.effect;
-          tables = refl;
-          segments = refl;
-          globals = refl;
-          registers = refl;
+          tables = refl; segments = refl; globals = refl; registers = refl;
         }),
     ap (λ (x : World S). x.state.spare) step.after
         ∙ lent_spare rules ty (memory_part w.state) w.limiter turn.reply step.part step.limiter step.effect,
   )
-  effect_back (MemoryGrown k pages) step =
-      paid w w' step.meter step.after
+  effect_back (MemoryGrown k pages) step = paid w w' step.meter step.after
       (ap (λ part. let s : State = record (with_memories w.state part) { meter = step.meter } in s)
       (memory_growth_back rules k pages
       (record { value = w.state.memories; meter = Some w.state.meter; limiter = w.limiter })
       (record { value = step.part; meter = Some step.meter; limiter = step.limiter }) turn.reply turn.charge refused
       step.effect))
-  effect_back (TableMade ty init) step =
-      kept w w' step.after
+  effect_back (TableMade ty init) step = kept w w' step.after
       (ap (with_tables w.state) (creates_back replied.Table (MakesTable rules ty init) w.state.tables w.limiter
       turn.reply step.part step.limiter refused step.effect))
-  effect_back (TableGrown k n init) step =
-      paid w w' step.meter step.after
+  effect_back (TableGrown k n init) step = paid w w' step.meter step.after
       (ap (λ part. let s : State = record (with_tables w.state part) { meter = step.meter } in s)
       (table_growth_back rules k n init
       (record { value = w.state.tables; meter = Some w.state.meter; limiter = w.limiter })
       (record { value = step.part; meter = Some step.meter; limiter = step.limiter }) turn.reply turn.charge refused
       step.effect))
-  effect_back (RangeWritten k source dst len) step =
-      paid w w' step.meter step.after
+  effect_back (RangeWritten k source dst len) step = paid w w' step.meter step.after
       (ap (λ part. let s : State = record (with_tables w.state part) { meter = step.meter } in s)
       (part_back k (metered w.state.tables (Some w.state.meter))
-      (metered step.part (Some step.meter)) turn.reply turn.charge refused
-      (write_of source dst len) step.effect))
+      (metered step.part (Some step.meter)) turn.reply turn.charge refused (write_of source dst len) step.effect))
   effect_back effect step = kept w w' step.after refl
 
 -- a meter of which nothing was taken
@@ -130,43 +114,13 @@ refused_writing : (m : Meter) (elements : Option ℕ) (reply : Reply) → IsRefu
 refused_writing m elements replied.Done refused = absurd refused
 refused_writing m elements reply refused = refl
 
--- a growth that was permitted failed
-record IsFailed {S : Type 0} (rules : Rules S) (w : World S) (turn : Turn) (w' : World S) : Type 0 where
-  at : (k : ℕ) × (place_of turn.call ≡ At k)
-  question : Question
-  asks : question_of w.state turn.call ≡ Some question
-  failure : Failure
-  notice_answer : NoticeAnswer
-  tells : Passes rules w.limiter (Notice question failure notice_answer) w'.limiter
-  replies : turn.reply ≡ failed_reply failure notice_answer
-  charged : turn.charge ≡ failed_charge failure (growth_due w.state.meter question)
-
 module _ {S : Type 0} (rules : Rules S) (w : World S) (turn : Turn) (w' : World S)
     (refused : IsRefusal turn.reply) where
   -- the meter stays, where nothing was charged
   stays : PaysCharge w.state.meter turn.charge w'.state.meter → turn.charge ≡ 0 → KeepsMeter rules w turn w'
   stays takes free = inl (free_meter w.state.meter w'.state.meter turn.charge free takes)
 
-  -- where memory was wanting, its price is taken
-  failed_meter : (failed : IsFailed rules w turn w') → PaysCharge w.state.meter turn.charge w'.state.meter
-      → IsOutOfMemoryOrFree failed.failure → KeepsMeter rules w turn w'
-  failed_meter failed takes (inl (wants, paid)) = inr (record {
-    index = failed.at.0;
-    grows = failed.at.1;
-    question = failed.question;
-    asks = failed.asks;
-    failure = failed.failure;
-    notice_answer = failed.notice_answer;
-    wants = wants;
-    tells = failed.tells;
-    replies = failed.replies;
-    meter = subst (λ c. PaysCharge w.state.meter c w'.state.meter)
-        (failed.charged ∙ paid (growth_due w.state.meter failed.question)) takes;
-  })
-  failed_meter failed takes (inr free) =
-      stays takes (failed.charged ∙ free (growth_due w.state.meter failed.question))
-
-  -- by its exchange
+  -- a refused growth keeps the meter, but for the price where memory was wanting
   growth_meter : (k : ℕ) × (place_of turn.call ≡ At k) → (exchange : Exchange)
       → AsksFor (question_of w.state turn.call) exchange turn.reply → Passes rules w.limiter exchange w'.limiter
       → RepliesTo exchange turn.reply → turn.charge ≡ growth_charge exchange w.state.meter
@@ -175,23 +129,21 @@ module _ {S : Type 0} (rules : Rules S) (w : World S) (turn : Turn) (w' : World 
   growth_meter at (Denial question answer) asks passes replies charged takes = stays takes charged
   growth_meter at (Permission question) asks passes replies charged takes = absurd (replies refused)
   growth_meter at (Notice question failure notice_answer) asks passes replies charged takes =
-      failed_meter (record {
-        at = at;
-        question = question;
-        asks = asks;
-        failure = failure;
-        notice_answer = notice_answer;
-        tells = passes;
-        replies = replies;
-        charged = charged;
-      }) takes (out_of_memory_or_free failure)
+      elim (out_of_memory_or_free failure) [
+        | inl wanting ↦ inr (record {
+            index = at.0; grows = at.1; question = question; asks = asks; failure = failure;
+            notice_answer = notice_answer; wants = wanting.0; tells = passes; replies = replies;
+            meter = subst (λ c. PaysCharge w.state.meter c w'.state.meter)
+                (charged ∙ wanting.1 (growth_due w.state.meter question)) takes;
+          })
+        | inr free ↦ stays takes (charged ∙ free (growth_due w.state.meter question))
+      ]
 
   module _ (x : Exchanges rules w turn w') (takes : PaysCharge w.state.meter turn.charge w'.state.meter) where
     -- by its place
     place_meter : (place : Place) → place_of turn.call ≡ place
         → turn.charge ≡ charge_at place x.exchange w.state.meter (writing_charge w.state.meter
-        (elements_paid turn.call) turn.reply)
-        → KeepsMeter rules w turn w'
+        (elements_paid turn.call) turn.reply) → KeepsMeter rules w turn w'
     place_meter Nowhere at charged =
         stays takes (charged ∙ refused_writing w.state.meter (elements_paid turn.call) turn.reply refused)
     place_meter New at charged = stays takes charged
@@ -201,8 +153,7 @@ module _ {S : Type 0} (rules : Rules S) (w : World S) (turn : Turn) (w' : World 
   set_meter : (fuel : ℕ) → turn.call ≡ SetFuel fuel → Step rules w turn w' → w'.state.meter ≡ w.state.meter
   set_meter fuel is step =
       let sets : HasEffect rules (FuelSet fuel) w turn w' =
-      subst (λ call. HasEffect rules (effect_of w.state call) w turn w') is step
-      in
+      subst (λ call. HasEffect rules (effect_of w.state call) w turn w') is step in
       ap (λ (v : World S). v.state.meter) sets.after ∙ (ap (λ (s : State). s.meter) sets.effect.1
       ∙ unset w.state.meter.left w.state.meter.costs fuel turn.reply refused sets.effect.0)
 
@@ -232,10 +183,8 @@ run_refusals_keep_contents rules = each_turn rules _ (refusals_keep_contents rul
 -- contents that are the same twice
 same_twice : (s t u : State) → SameContents s t → SameContents t u → SameContents s u
 same_twice s t u first second = record {
-  memories = second.memories ∙ first.memories;
-  tables = second.tables ∙ first.tables;
-  segments = second.segments ∙ first.segments;
-  globals = second.globals ∙ first.globals;
+  memories = second.memories ∙ first.memories; tables = second.tables ∙ first.tables;
+  segments = second.segments ∙ first.segments; globals = second.globals ∙ first.globals;
   registers = second.registers ∙ first.registers;
 }
 
@@ -245,8 +194,7 @@ pub refused_run_keeps_contents : {S : Type 0} (rules : Rules S) (w : World S) (t
 refused_run_keeps_contents rules w [] w' ran refused =
     rw ran (record { memories = refl; tables = refl; segments = refl; globals = refl; registers = refl })
 refused_run_keeps_contents rules w (turn ∷ turns) w' (v, step, ran) refused =
-    let first =
-    (refusals_keep_contents rules w turn v step
+    let first = (refusals_keep_contents rules w turn v step
     (All-head IsRefusal turn.reply (map Turn.reply turns) refused)).contents in
     same_twice w.state v.state w'.state first
     (refused_run_keeps_contents rules v turns w' ran (All-tail IsRefusal turn.reply (map Turn.reply turns) refused))

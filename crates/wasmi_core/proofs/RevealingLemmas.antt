@@ -34,8 +34,7 @@ IsErrorOf e (Failed cause notice_answer) c = c ≡ error_of_failure e.refusal ca
 
 -- the error of an attempt is what is answered
 answered_error : {V E T : Type 0} (e : Request V E) (value : T) (outcome : AttemptOutcome E) (c : E)
-    → IsErrorOf e outcome c
-    → answer_of e value outcome ≡ Err c
+    → IsErrorOf e outcome c → answer_of e value outcome ≡ Err c
 answered_error e value (Unasked cause) c is = ap Err (sym is)
 answered_error e value (Denied answer) c is = ap Err (sym is)
 answered_error e value Met c is = absurd is
@@ -65,8 +64,7 @@ module _ {S : Type 0} (n : Narrowing S) where
   abbrev pub Reveals : {V E : Type 0} → (E → Reply) → Request V E → Type 0
   Reveals {V} {E} refusal e =
       (outcome : AttemptOutcome E) (l l' : S) → n.within l → ((c : E) → IsErrorOf e outcome c → n.shown (refusal c))
-      → Follows e n.rules l outcome l'
-      → Follows e n.narrower l outcome l'
+      → Follows e n.rules l outcome l' → Follows e n.narrower l outcome l'
 
   -- where the replies to an attempt's errors show it, the attempt is one by the narrower rules
   attempt_revealed : {V E : Type 0} (refusal : E → Reply) (e : Request V E) → Reveals refusal e
@@ -76,9 +74,7 @@ module _ {S : Type 0} (n : Narrowing S) where
   attempt_revealed refusal e reveals s s' outcome charge within shown a = record {
     may_end = a.may_end;
     follows = reveals outcome s.limiter s'.limiter within shown a.follows;
-    charged = a.charged;
-    meter = a.meter;
-    value = a.value;
+    charged = a.charged; meter = a.meter; value = a.value;
   }
 
   -- a creation
@@ -90,8 +86,7 @@ module _ {S : Type 0} (n : Narrowing S) where
   creates_revealed refusal e reveals made slots l o within shows (inr (result, (outcome, attempt, answered), appends)) =
       let shown : (c : _) → IsErrorOf e outcome c → n.shown (refusal c) =
       λ c is. subst n.shown (subst (λ r. AddsEntry Live refusal r slots o.reply o.part)
-      (answered ∙ answered_error e made outcome c is) appends).0 shows
-      in
+      (answered ∙ answered_error e made outcome c is) appends).0 shows in
       inr (
         result,
         (
@@ -113,10 +108,8 @@ module _ {S : Type 0} (n : Narrowing S) where
       λ c error. subst n.shown (ap (reply_of replied.Number refusal)
       (some.answered ∙ answered_error g.request g.size some.outcome c error)) shows in
       inr (record {
-        some = some.some;
-        outcome = some.outcome;
-        attempt = attempt_revealed refusal g.request reveals s s'
-            some.outcome charge within shown some.attempt;
+        some = some.some; outcome = some.outcome;
+        attempt = attempt_revealed refusal g.request reveals s s' some.outcome charge within shown some.attempt;
         answered = some.answered;
       })
 
@@ -135,8 +128,7 @@ module _ {S : Type 0} (n : Narrowing S) where
         → GrowsTableCharging n.rules delta init s result charge s'
         → GrowsTableCharging n.narrower delta init s result charge s'
     table_growth_revealed delta init s s' result charge within shows grows =
-        on_test_too (same_type s.value.ty.element init.ty) _ _ _ _
-        (grows_revealed
+        on_test_too (same_type s.value.ty.element init.ty) _ _ _ _ (grows_revealed
         (record { amount = delta; size = size_of s.value; request = table.growth_of s.value delta init.raw })
         replied.Table (each.table_grown s.value delta init.raw) s s' result charge within shows)
         (λ mismatch. mismatch) grows
@@ -156,28 +148,24 @@ module _ {S : Type 0} (n : Narrowing S) where
           → Relation' (record { value = old; meter = Some w.state.meter; limiter = w.limiter }) turn.reply turn.charge
           (record { value = step.part; meter = Some step.meter; limiter = step.limiter })
           → ActsMetered w turn w' old with_part Relation' bytes
-      pays_revealed step effect = acts_too step step.part effect refl step.after
+      pays_revealed step effect = acts_too step step.part step.meter effect refl step.after
 
       -- where its reply shows it, an effect under the one rules is one under the others
-      effect_revealed : (effect : Effect) → HasEffect n.rules effect w turn w'
-          → HasEffect n.narrower effect w turn w'
+      effect_revealed : (effect : Effect) → HasEffect n.rules effect w turn w' → HasEffect n.narrower effect w turn w'
       effect_revealed (MemoryMade ty) step =
           asks_revealed step (creates_revealed replied.Memory (memory.creation_of Owned ty) (each.memory_made Owned ty)
           (new_memory Owned ty) w.state.memories w.limiter
           (record { reply = turn.reply; part = step.part; limiter = step.limiter }) within shows step.effect)
-      effect_revealed (LentMemoryMade ty) step =
-          asks_revealed step (on_live_too w.state.spare _ _ _ _ (λ none. none)
+      effect_revealed (LentMemoryMade ty) step = asks_revealed step (on_live_too w.state.spare _ _ _ _ (λ none. none)
           (λ region h. (
             creates_revealed replied.Memory (memory.creation_of (Lent region) ty)
                 (each.memory_made (Lent region) ty) (new_memory (Lent region) ty) w.state.memories w.limiter
                 (record { reply = turn.reply; part = step.part.slots; limiter = step.limiter }) within shows h.0,
             h.1,
           )) step.effect)
-      effect_revealed (MemoryGrown k pages) step =
-          pays_revealed step
+      effect_revealed (MemoryGrown k pages) step = pays_revealed step
           (acts_revealed k (reply_of replied.Number replied.Memory) (GrowsMemoryCharging n.rules pages)
-          (GrowsMemoryCharging n.narrower pages) _ _ turn.reply turn.charge
-          (λ x x' result is. grows_revealed
+          (GrowsMemoryCharging n.narrower pages) _ _ turn.reply turn.charge (λ x x' result is. grows_revealed
           (record { amount = pages; size = pages_of x; request = memory.growth_of x pages }) replied.Memory
           (each.memory_grown x pages) (record { value = x; meter = Some w.state.meter; limiter = w.limiter })
           (record { value = x'; meter = Some step.meter; limiter = step.limiter }) result turn.charge within
@@ -186,8 +174,7 @@ module _ {S : Type 0} (n : Narrowing S) where
           asks_revealed step (creates_revealed replied.Table (table.creation_of ty init.ty) (each.table_made ty init.ty)
           (new_table ty init.raw) w.state.tables w.limiter
           (record { reply = turn.reply; part = step.part; limiter = step.limiter }) within shows step.effect)
-      effect_revealed (TableGrown k delta init) step =
-          pays_revealed step
+      effect_revealed (TableGrown k delta init) step = pays_revealed step
           (acts_revealed k (reply_of replied.Number replied.Table) (GrowsTableCharging n.rules delta init)
           (GrowsTableCharging n.narrower delta init) _ _ turn.reply turn.charge
           (λ x x' result is. table_growth_revealed delta init
@@ -198,8 +185,7 @@ module _ {S : Type 0} (n : Narrowing S) where
 
     -- a run whose turns keep the limiter in such states
     pub run_revealed : ((w : World S) (turn : Turn) (w' : World S) → n.within w.limiter → Step n.rules w turn w'
-        → n.within w'.limiter)
-        → (w : World S) (turns : List Turn) (w' : World S) → n.within w.limiter
+        → n.within w'.limiter) → (w : World S) (turns : List Turn) (w' : World S) → n.within w.limiter
         → All n.shown (map Turn.reply turns) → Run n.rules w turns w' → Run n.narrower w turns w'
     run_revealed keeps w [] w' within shown ran = ran
     run_revealed keeps w (turn ∷ turns) w' within shown (v, step, ran) = (
@@ -213,13 +199,11 @@ module _ {S : Type 0} (n : Narrowing S) where
 module _ {S : Type 0} (rules : Rules S) where
   -- the replies that tell of no denial, in any state of the limiter
   abbrev undenied : Narrowing S
-  undenied =
-      record { rules = rules; narrower = permitting rules; shown = TellsNoDenial; within = λ l. Unit {0} }
+  undenied = record { rules = rules; narrower = permitting rules; shown = TellsNoDenial; within = λ l. Unit {0} }
 
   -- the replies to an attempt's errors tell whether it was denied, where those of a denial do
   denial_revealed : {V E : Type 0} (refusal : E → Reply) (e : Request V E) → (TellsNoDenial (refusal e.denial) → ⊥)
-      → (TellsNoDenial (refusal e.refusal) → ⊥)
-      → Reveals undenied refusal e
+      → (TellsNoDenial (refusal e.refusal) → ⊥) → Reveals undenied refusal e
   denial_revealed refusal e denied failed (Unasked c) l l' within shown f = f
   denial_revealed refusal e denied failed (Denied (Ok permitted)) l l' within shown f = absurd (denied (shown _ refl))
   denial_revealed refusal e denied failed (Denied (Err error)) l l' within shown f = absurd (failed (shown _ refl))
@@ -239,5 +223,4 @@ module _ {S : Type 0} (rules : Rules S) where
         table_made = λ ty init. denial_revealed replied.Table (table.creation_of ty init) (λ told. told) (λ told. told);
         table_grown = λ x n reference. denial_revealed replied.Table (table.growth_of x n reference) (λ told. told)
             (λ told. told);
-      })
-      (λ v turn v' within step. tt) w turns w' tt
+      }) (λ v turn v' within step. tt) w turns w' tt

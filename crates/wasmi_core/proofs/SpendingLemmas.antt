@@ -27,8 +27,7 @@ charges_added account [] none = (omega arith, refl)
 charges_added account (turn ∷ turns) none =
     let more : charges (turn ∷ turns) ≡ turn.charge + charges turns = sum_by-cons (λ (t : Turn). t.charge) turn turns in
     let next = goes_on account turn.call turn.charge (All-head SetsNoFuel turn.call (map Turn.call turns) none) in
-    let rest =
-    charges_added (charged_by account turn.call turn.charge) turns
+    let rest = charges_added (charged_by account turn.call turn.charge) turns
     (All-tail SetsNoFuel turn.call (map Turn.call turns) none) in (
       rest.0 ∙ ap (λ (a : Account). a.charged + charges turns) next ∙ omega (arith, more),
       rest.1
@@ -63,11 +62,9 @@ module _ {S : Type 0} (rules : Rules S) where
       let spent : balance.0 + charges turns ≡ left = omega (arith, balance.2, added.0, added.1) in
       let most : rate * charges_for_writing turns ≤ rate * (left - balance.0) = mul-le-mul_left rate
       (omega (arith, writing_within turns, spent)) in (
-        balance.0,
-        balance.1,
+        balance.0, balance.1,
         record {
           charged = spent;
-          written = λ rated. omega
-              (arith, (writing_is_bounded rules w left on rated turns w' ran).by_charges, most);
+          written = λ rated. omega (arith, (writing_is_bounded rules w left on rated turns w' ran).by_charges, most);
         },
       )

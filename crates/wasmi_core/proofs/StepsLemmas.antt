@@ -10,7 +10,7 @@ use Rattle.wasmi_core.proofs.TotalLemmas.{each_kind}
 use Rattle.wasmi_core.specs.Determinism.{IsNotOutOfMemory}
 use Rattle.wasmi_core.specs.Exchange.{NothingGrows}
 use Rattle.wasmi_core.specs.Laws.{IsRefusal}
-use Rattle.wasmi_core.specs.Effects.{ChangesPart, OnLive}
+use Rattle.wasmi_core.specs.Effects.{ChangesPart, DropsAt, OnLive}
 use Rattle.wasmi_core.specs.State.{State, with_globals, with_memories, with_registers, with_segments, with_tables, byte_count, sizes, slot_count, IsValid, IsValidSegment}
 use Rattle.wasmi_core.specs.Steps.{BytesStored, BytesWritten, Change, ElementSet, GlobalMade, GlobalSet, ItemsDropped, MemoryDropped, RegisterSet, SegmentMade, TableDropped, HasChange}
 use Rattle.wasmi_core.specs.TableEffects.{OfReference, OfSegment, OfTable, Source, write_of}
@@ -26,18 +26,14 @@ use Rattle.wasmi_types.specs.Access.{at}
 pub record EffectFacts {A : Type 0} (Effect : Reply → A → Type 0) (old : A) (Keeps : A → Type 0) : Type 0 where
   pub back : (reply : Reply) (part : A) → IsRefusal reply → Effect reply part → part ≡ old
   pub same : (reply reply' : Reply) (part part' : A) → IsNotOutOfMemory reply → IsNotOutOfMemory reply'
-      → Effect reply part
-      → Effect reply' part'
-      → (reply ≡ reply') × (part ≡ part')
+      → Effect reply part → Effect reply' part' → (reply ≡ reply') × (part ≡ part')
   pub keeps : (reply : Reply) (part : A) → Effect reply part → Keeps part
 
 -- what holds of a change of one part: so for the state, whose meter, sizes and validity stay
 pub record ChangeFacts (s : State) (Becomes : Reply → State → Type 0) : Type 0 where
   pub back : (reply : Reply) (s' : State) → IsRefusal reply → Becomes reply s' → s' ≡ s
   pub same : (reply reply' : Reply) (s' s'' : State) → IsNotOutOfMemory reply → IsNotOutOfMemory reply'
-      → Becomes reply s'
-      → Becomes reply' s''
-      → (reply ≡ reply') × (s' ≡ s'')
+      → Becomes reply s' → Becomes reply' s'' → (reply ≡ reply') × (s' ≡ s'')
   pub meter : (reply : Reply) (s' : State) → Becomes reply s' → s'.meter ≡ s.meter
   pub still : (reply : Reply) (s' : State) → Becomes reply s' → NothingGrows (sizes s) (sizes s')
   pub valid : (reply : Reply) (s' : State) → IsValid s → Becomes reply s' → IsValid s'
@@ -49,21 +45,20 @@ record PartOf (s : State) {A : Type 0} (with_part : A → State) (old : A) (Keep
   pub still : (part : A) → Keeps part → NothingGrows (sizes s) (sizes (with_part part))
   pub valid : (part : A) → Keeps part → IsValid s → IsValid (with_part part)
 
--- what holds of an effect holds of the change of the part
-change_of : (s : State) {A : Type 0} (with_part : A → State) (old : A) (Keeps : A → Type 0)
-    (Effect : Reply → A → Type 0)
-    → PartOf s with_part old Keeps
-    → EffectFacts Effect old Keeps → ChangeFacts s (ChangesPart with_part Effect)
-change_of s with_part old Keeps Effect part facts = record {
-  back = λ reply s' refused c. c.after ∙ ap with_part (facts.back reply c.part refused c.effect) ∙ part.whole;
-  same = λ reply reply' s' s'' has has' c c'.
-      let both = facts.same reply reply' c.part c'.part has has' c.effect c'.effect in
-      (both.0, c.after ∙ ap with_part both.1 ∙ sym c'.after);
-  meter = λ reply s' c. ap (λ (t : State). t.meter) c.after ∙ part.meter c.part;
-  still = λ reply s' c kind. ap (λ t. sizes t kind) c.after
-      ∙ part.still c.part (facts.keeps reply c.part c.effect) kind;
-  valid = λ reply s' valid c. subst IsValid (sym c.after) (part.valid c.part (facts.keeps reply c.part c.effect) valid);
-}
+module _ {s : State} {A : Type 0} {with_part : A → State} {old : A} {Keeps : A → Type 0}
+    {Effect : Reply → A → Type 0} where
+  -- what holds of an effect holds of the change of the part
+  change_of : PartOf s with_part old Keeps → EffectFacts Effect old Keeps → ChangeFacts s (ChangesPart with_part Effect)
+  change_of part facts = record {
+    back = λ reply s' refused c. c.after ∙ ap with_part (facts.back reply c.part refused c.effect) ∙ part.whole;
+    same = λ reply reply' s' s'' has has' c c'.
+        let both = facts.same reply reply' c.part c'.part has has' c.effect c'.effect in
+        (both.0, c.after ∙ ap with_part both.1 ∙ sym c'.after);
+    meter = λ reply s' c. ap (λ (t : State). t.meter) c.after ∙ part.meter c.part;
+    still = λ reply s' c kind. ap (λ t. sizes t kind) c.after
+        ∙ part.still c.part (facts.keeps reply c.part c.effect) kind;
+    valid = λ reply s' v c. subst IsValid (sym c.after) (part.valid c.part (facts.keeps reply c.part c.effect) v);
+  }
 
 -- what a change of memories, tables, element segments or registers has to keep
 abbrev KeepsMemories : State → List (Slot MemoryValue) → Type 0
@@ -91,9 +86,7 @@ valid_by : (s s' : State) → (AllValid IsValidMemory s.memories → AllValid Is
     → (All IsValidSegment s.segments → All IsValidSegment s'.segments)
     → (length s.registers ≡ 16 → length s'.registers ≡ 16) → IsValid s → IsValid s'
 valid_by s s' memories tables segments registers v = record {
-  memories = memories v.memories;
-  tables = tables v.tables;
-  segments = segments v.segments;
+  memories = memories v.memories; tables = tables v.tables; segments = segments v.segments;
   registers = registers v.registers;
 }
 
@@ -102,8 +95,7 @@ module _ (s : State) where
   -- the memories
   the_memories : PartOf s (with_memories s) s.memories (KeepsMemories s)
   the_memories = record {
-    whole = refl;
-    meter = λ part. refl;
+    whole = refl; meter = λ part. refl;
     still = λ part keeps. each_kind (λ kind. sizes (with_memories s part) kind ≡ sizes s kind) keeps.0 refl;
     valid = λ part keeps. valid_by s (with_memories s part) keeps.1 (λ v. v) (λ v. v) (λ v. v);
   }
@@ -111,8 +103,7 @@ module _ (s : State) where
   -- the tables
   the_tables : PartOf s (with_tables s) s.tables (KeepsTables s)
   the_tables = record {
-    whole = refl;
-    meter = λ part. refl;
+    whole = refl; meter = λ part. refl;
     still = λ part keeps. each_kind (λ kind. sizes (with_tables s part) kind ≡ sizes s kind) refl keeps.0;
     valid = λ part keeps. valid_by s (with_tables s part) (λ v. v) keeps.1 (λ v. v) (λ v. v);
   }
@@ -123,8 +114,7 @@ module _ (s : State) where
       × ((with_part part).meter ≡ s.meter))
       → ((part : A) → Keeps part → IsValid s → IsValid (with_part part)) → PartOf s with_part old Keeps
   unsized with_part old Keeps whole same valid = record {
-    whole = whole;
-    meter = λ part. (same part).2;
+    whole = whole; meter = λ part. (same part).2;
     still = λ part keeps. each_kind (λ kind. sizes (with_part part) kind ≡ sizes s kind)
         (ap (map (slot_count byte_count)) (same part).0) (ap (map (slot_count size_of)) (same part).1);
     valid = valid;
@@ -132,122 +122,86 @@ module _ (s : State) where
 
   -- the element segments
   the_segments : PartOf s (with_segments s) s.segments (KeepsSegments s)
-  the_segments =
-      unsized (with_segments s) s.segments (KeepsSegments s) refl (λ part. (refl, refl, refl))
+  the_segments = unsized (with_segments s) s.segments (KeepsSegments s) refl (λ part. (refl, refl, refl))
       (λ part keeps. valid_by s (with_segments s part) (λ v. v) (λ v. v) keeps (λ v. v))
 
   -- the globals
   the_globals : PartOf s (with_globals s) s.globals (λ globals. Unit {0})
-  the_globals =
-      unsized (with_globals s) s.globals (λ globals. Unit {0}) refl (λ part. (refl, refl, refl))
+  the_globals = unsized (with_globals s) s.globals (λ globals. Unit {0}) refl (λ part. (refl, refl, refl))
       (λ part keeps. valid_by s (with_globals s part) (λ v. v) (λ v. v) (λ v. v) (λ v. v))
 
   -- the registers
   the_registers : PartOf s (with_registers s) s.registers (KeepsRegisters s)
-  the_registers =
-      unsized (with_registers s) s.registers (KeepsRegisters s) refl (λ part. (refl, refl, refl))
+  the_registers = unsized (with_registers s) s.registers (KeepsRegisters s) refl (λ part. (refl, refl, refl))
       (λ part keeps. valid_by s (with_registers s part) (λ v. v) (λ v. v) (λ v. v) (λ v. keeps ∙ v))
+
+-- a drop of the live value of a slot
+drop_facts : {X : Type 0} (count : X → ℕ) (Valid : X → Type 0) (k : ℕ) (slots : List (Slot X))
+    → EffectFacts (DropsAt count k slots) slots (λ after. (map (slot_count count) after ≡ map (slot_count count) slots)
+    × (AllValid Valid slots → AllValid Valid after))
+drop_facts count Valid k slots = record {
+  back = drops_back count k slots;
+  same = λ reply reply' part part' has has'. drops_same count k slots reply reply' part part';
+  keeps = λ reply part drops. (
+    drops_kept count k slots reply part drops, drops_valid Valid count k slots reply part drops,
+  );
+}
 
 -- each change of one part
 pub change_facts : (s : State) (change : Change) → ChangeFacts s (HasChange change s)
-change_facts s (BytesWritten k offset bytes) =
-    change_of s (with_memories s) s.memories (KeepsMemories s) _ (the_memories s) (record {
-      back = λ reply part refused effect. write_refused k offset bytes s.memories reply part refused effect;
-      same = λ reply reply' part part' has has' effect effect'. writes_same k offset bytes s.memories reply reply' part
-          part'
-          effect effect';
-      keeps = λ reply part effect. (
-        written_kept k s.memories reply part offset bytes effect,
-        changes_valid IsValidMemory k s.memories reply part
-            _ (λ x x' valid change. write_valid x x' offset bytes change.0 valid change.1) effect,
-      );
-    })
-change_facts s (BytesStored k a stored) =
-    change_of s (with_memories s) s.memories (KeepsMemories s) _ (the_memories s) (record {
-      back = λ reply part refused effect. vector_store_back k s.memories reply part a refused stored effect;
-      same = λ reply reply' part part' has has' effect effect'.
-          vector_stores_same k a stored s.memories reply reply' part part'
-          effect effect';
-      keeps = λ reply part effect. (
-        vector_store_kept k s.memories reply part a stored effect,
-        vector_store_valid k a stored
-            s.memories reply part effect,
-      );
-    })
-change_facts s (RegisterSet dst given) =
-    change_of s (with_registers s) s.registers (KeepsRegisters s) _ (the_registers s) (record {
-      back = λ reply part refused effect.
-          takes_back given (slice_get s.registers dst) dst s.registers reply part refused effect;
-      same = λ reply reply' part part' has has' effect effect'. takes_same given
-          (slice_get s.registers dst) dst s.registers
-          reply reply' part part' effect effect';
-      keeps = λ reply part effect. takes_count given (slice_get s.registers dst) dst s.registers reply part effect;
-    })
-change_facts s (MemoryDropped k) =
-    change_of s (with_memories s) s.memories (KeepsMemories s) _ (the_memories s) (record {
-      back = λ reply part refused effect. drops_back byte_count k s.memories reply part refused effect;
-      same = λ reply reply' part part' has has' effect effect'. drops_same byte_count k s.memories reply reply' part
-          part' effect
-          effect';
-      keeps = λ reply part effect. (
-        drops_kept byte_count k s.memories reply part effect,
-        drops_valid IsValidMemory byte_count k
-            s.memories reply part effect,
-      );
-    })
-change_facts s (TableDropped k) = change_of s (with_tables s) s.tables (KeepsTables s) _ (the_tables s) (record {
-  back = λ reply part refused effect. drops_back size_of k s.tables reply part refused effect;
-  same = λ reply reply' part part' has has' effect effect'. drops_same size_of k s.tables reply reply' part part' effect
-      effect';
+change_facts s (BytesWritten k offset bytes) = change_of (the_memories s) (record {
+  back = write_refused k offset bytes s.memories;
+  same = λ reply reply' part part' has has'. writes_same k offset bytes s.memories reply reply' part part';
   keeps = λ reply part effect. (
-    drops_kept size_of k s.tables reply part effect,
-    drops_valid IsValidTable size_of k s.tables
-        reply part effect,
+    written_kept k s.memories reply part offset bytes effect,
+    changes_valid IsValidMemory k s.memories reply part
+        _ (λ x x' valid change. write_valid x x' offset bytes change.0 valid change.1) effect,
   );
 })
-change_facts s (ElementSet k index value) =
-    change_of s (with_tables s) s.tables (KeepsTables s) _ (the_tables s) (record {
-      back = λ reply part refused effect. set_refused k index value s.tables reply part refused effect;
-      same = λ reply reply' part part' has has' effect effect'.
-          sets_same k index value s.tables reply reply' part part' effect effect';
-      keeps = λ reply part effect. (
-        set_kept k s.tables reply part index value effect,
-        set_valid k index value s.tables reply
-            part effect,
-      );
-    })
-change_facts s (SegmentMade ty items) =
-    change_of s (with_segments s) s.segments (KeepsSegments s) _ (the_segments s) (record {
-      back = λ reply part refused effect. segment_back ty items s.segments reply part refused effect;
-      same = λ reply reply' part part' has has' effect effect'. segments_same ty items s.segments reply reply' part
-          part' has
-          has' effect effect';
-      keeps = λ reply part effect. creates_segment_valid ty items s.segments reply part effect;
-    })
-change_facts s (ItemsDropped k) =
-    change_of s (with_segments s) s.segments (KeepsSegments s) _ (the_segments s) (record {
-      back = λ reply part refused effect. items_refused k s.segments reply part refused effect;
-      same = λ reply reply' part part' has has' effect effect'. items_same k s.segments reply reply' part part' effect
-          effect';
-      keeps = λ reply part effect. item_valid IsValidSegment k s.segments reply part
-          _ (λ x x' valid change. subst IsValidSegment (sym change.1) (omega arith)) effect;
-    })
-change_facts s (GlobalMade global) =
-    change_of s (with_globals s) s.globals (λ globals. Unit {0}) _ (the_globals s) (record {
-      back = λ reply part refused effect. global_made_back global s.globals reply part refused effect;
-      same = λ reply reply' part part' has has' effect effect'. globals_same global s.globals reply reply' part part'
-          has has'
-          effect effect';
-      keeps = λ reply part effect. tt;
-    })
-change_facts s (GlobalSet k value) =
-    change_of s (with_globals s) s.globals (λ globals. Unit {0}) _ (the_globals s) (record {
-      back = λ reply part refused effect. global_refused k value s.globals reply part refused effect;
-      same = λ reply reply' part part' has has' effect effect'. global_sets_same k value s.globals reply reply' part
-          part' effect
-          effect';
-      keeps = λ reply part effect. tt;
-    })
+change_facts s (BytesStored k a stored) = change_of (the_memories s) (record {
+  back = λ reply part refused effect. vector_store_back k s.memories reply part a refused stored effect;
+  same = λ reply reply' part part' has has' effect effect'.
+      vector_stores_same k a stored s.memories reply reply' part part' effect effect';
+  keeps = λ reply part effect. (
+    vector_store_kept k s.memories reply part a stored effect,
+    vector_store_valid k a stored s.memories reply part effect,
+  );
+})
+change_facts s (RegisterSet dst given) = change_of (the_registers s) (record {
+  back = λ reply part refused effect.
+      takes_back given (slice_get s.registers dst) dst s.registers reply part refused effect;
+  same = λ reply reply' part part' has has'.
+      takes_same given (slice_get s.registers dst) dst s.registers reply reply' part part';
+  keeps = takes_count given (slice_get s.registers dst) dst s.registers;
+})
+change_facts s (MemoryDropped k) = change_of (the_memories s) (drop_facts byte_count IsValidMemory k s.memories)
+change_facts s (TableDropped k) = change_of (the_tables s) (drop_facts size_of IsValidTable k s.tables)
+change_facts s (ElementSet k index value) = change_of (the_tables s) (record {
+  back = set_refused k index value s.tables;
+  same = λ reply reply' part part' has has' effect effect'.
+      sets_same k index value s.tables reply reply' part part' effect effect';
+  keeps = λ reply part effect. (
+    set_kept k s.tables reply part index value effect, set_valid k index value s.tables reply part effect,
+  );
+})
+change_facts s (SegmentMade ty items) = change_of (the_segments s) (record {
+  back = segment_back ty items s.segments; same = segments_same ty items s.segments;
+  keeps = creates_segment_valid ty items s.segments;
+})
+change_facts s (ItemsDropped k) = change_of (the_segments s) (record {
+  back = items_refused k s.segments;
+  same = λ reply reply' part part' has has'. items_same k s.segments reply reply' part part';
+  keeps = λ reply part effect. item_valid IsValidSegment k s.segments reply part
+      _ (λ x x' valid change. subst IsValidSegment (sym change.1) (omega arith)) effect;
+})
+change_facts s (GlobalMade global) = change_of (the_globals s) (record {
+  back = global_made_back global s.globals; same = globals_same global s.globals; keeps = λ reply part effect. tt;
+})
+change_facts s (GlobalSet k value) = change_of (the_globals s) (record {
+  back = global_refused k value s.globals;
+  same = λ reply reply' part part' has has'. global_sets_same k value s.globals reply reply' part part';
+  keeps = λ reply part effect. tt;
+})
 
 -- an initialization by no item is free
 init_pays : (len : ℕ) (none : Bool) → nat_eq len 0 ≡ none → ((if none then None else Some len) ≡ Some len) ⊎ (len ≡ 0)

@@ -11,20 +11,18 @@ use Rattle.std.proofs.lemmas.List.{take_more, map_push, map-append}
 use Rattle.wasmi_meter.specs.Limiter.{Rules}
 use Rattle.wasmi_core.specs.Steps.{Step, RepliesWith, Sequence, Run, IsRunOf}
 
--- a turn by this call with this reply, that is neither charged nor written by
+-- a free turn by this call with this reply
 abbrev pub free_turn : Call → Reply → Turn
 free_turn call reply = record { call = call; reply = reply; charge = 0; written = 0 }
 
 -- a call is answered by a reply: it takes a turn with some charge and some bytes written
 abbrev pub IsAnswered : Call → Reply → (Turn → Type 0) → Type 0
-IsAnswered call reply Takes =
-    (charge : ℕ) × (written : ℕ)
+IsAnswered call reply Takes = (charge : ℕ) × (written : ℕ)
     × Takes (record { call = call; reply = reply; charge = charge; written = written })
 
 module _ {S : Type 0} {w : World S} {call : Call} {reply : Reply} where
   -- a turn of a call that only replies
-  pub only_replies : {Relation : Reply → Type 0} → Relation reply
-      → OnlyReplies w (free_turn call reply) w Relation
+  pub only_replies : {Relation : Reply → Type 0} → Relation reply → OnlyReplies w (free_turn call reply) w Relation
   only_replies effect = record { free = (refl, refl); effect = effect; after = refl }
 
   -- a call that only replies is answered
@@ -42,21 +40,18 @@ module _ {S : Type 0} {w : World S} {call : Call} {reply : Reply} where
     pub changes_part : {Relation : Reply → A → Type 0} → Relation reply part
         → Changes w (free_turn call reply) (record w { state = with_part part }) (ChangesPart with_part Relation)
     changes_part effect = record {
-      free = (refl, refl);
-      machine = _;
+      free = (refl, refl); machine = _;
       effect = record { part = part; effect = effect; after = refl };
       after = refl;
     }
 
     -- a call that changes one part of the state is answered
-    pub alters : {Relation : Reply → A → Type 0} → Relation reply part
-        → IsAnswered call reply
+    pub alters : {Relation : Reply → A → Type 0} → Relation reply part → IsAnswered call reply
         (λ turn. Changes w turn (record w { state = with_part part }) (ChangesPart with_part Relation))
     alters effect = (0, 0, changes_part effect)
 
     -- a call that makes something under the limiter is answered
-    pub asks : {Relation : S → Reply → A → S → Type 0} {l : S} → Relation w.limiter reply part l
-        → IsAnswered call reply
+    pub asks : {Relation : S → Reply → A → S → Type 0} {l : S} → Relation w.limiter reply part l → IsAnswered call reply
         (λ turn. Asks w turn (world (with_part part) l) with_part Relation)
     asks effect = (0, 0, record { free = (refl, refl); part = part; limiter = _; effect = effect; after = refl })
 
@@ -65,12 +60,10 @@ module _ {S : Type 0} {w : World S} {call : Call} {reply : Reply} where
     -- a call that acts on one part of the state, with some charge, is answered
     pub acts : {Relation : MeteredValue A S → Reply → ℕ → MeteredValue A S → Type 0} {l : S}
         → WithCharge Relation (metered_value old (Some w.state.meter) w.limiter) reply
-        (metered_value part (Some meter) l)
-        → IsAnswered call reply (λ turn. ActsMetered w turn
+        (metered_value part (Some meter) l) → IsAnswered call reply (λ turn. ActsMetered w turn
         (world (record (with_part part) { meter = meter }) l) old with_part Relation bytes)
     acts (charge, effect) = (
-      charge,
-      bytes reply,
+      charge, bytes reply,
       record { part = part; meter = meter; limiter = _; effect = effect; wrote = refl; after = refl },
     )
 
@@ -92,8 +85,7 @@ module _ {S : Type 0} {v v' w w' : World S} {turn : Turn} where
   module _ {A : Type 0} {with_part with_part' : A → State} where
     -- a turn that makes something under the limiter
     pub asks_too : {Relation Relation' : S → Reply → A → S → Type 0} (step : Asks v turn v' with_part Relation)
-        (part : A)
-        → Relation' w.limiter turn.reply part step.limiter
+        (part : A) → Relation' w.limiter turn.reply part step.limiter
         → w' ≡ world (with_part' part) step.limiter → Asks w turn w' with_part' Relation'
     asks_too step part effect after =
         record { free = step.free; part = part; limiter = step.limiter; effect = effect; after = after }
@@ -101,18 +93,12 @@ module _ {S : Type 0} {v v' w w' : World S} {turn : Turn} where
     -- a turn that acts on one part of the state, with a charge
     pub acts_too : {old old' : A} {Relation Relation' : MeteredValue A S → Reply → ℕ → MeteredValue A S → Type 0}
         {bytes bytes' : Reply → ℕ} (step : ActsMetered v turn v' old with_part Relation bytes) (part : A)
-        → Relation' (metered_value old' (Some w.state.meter) w.limiter) turn.reply turn.charge
-        (metered_value part (Some step.meter) step.limiter)
-        → bytes turn.reply ≡ bytes' turn.reply
-        → w' ≡ world (record (with_part' part) { meter = step.meter }) step.limiter
+        (meter : Meter) → Relation' (metered_value old' (Some w.state.meter) w.limiter) turn.reply turn.charge
+        (metered_value part (Some meter) step.limiter) → bytes turn.reply ≡ bytes' turn.reply
+        → w' ≡ world (record (with_part' part) { meter = meter }) step.limiter
         → ActsMetered w turn w' old' with_part' Relation' bytes'
-    acts_too step part effect same after = record {
-      part = part;
-      meter = step.meter;
-      limiter = step.limiter;
-      effect = effect;
-      wrote = step.wrote ∙ same;
-      after = after;
+    acts_too step part meter effect same after = record {
+      part = part; meter = meter; limiter = step.limiter; effect = effect; wrote = step.wrote ∙ same; after = after;
     }
 
 -- one call more: the turns so far are by the calls up to a place, and the next turn is by the one there

@@ -40,16 +40,14 @@ module _ {S : Type 0} (rules : Rules S) (IsAccepting : S → Type 0) (stays : St
 
   -- the replies to an attempt's errors tell whether the limiter is told of want of memory
   want_revealed : {V E : Type 0} (refusal : E → Reply) (e : Request V E)
-      → ((c : E) → IsNotOutOfMemory (refusal c) → IsOtherFailure (e.notice c))
-      → Reveals telling refusal e
+      → ((c : E) → IsNotOutOfMemory (refusal c) → IsOtherFailure (e.notice c)) → Reveals telling refusal e
   want_revealed refusal e nowant (Unasked c) l l' within shown f = f
   want_revealed refusal e nowant (Denied answer) l l' within shown f = f
   want_revealed refusal e nowant Met l l' within shown f = f
   want_revealed refusal e nowant (Failed c notice_answer) l l' within shown (permitted, asks, notices) =
       let still = stays.asked l e.question (Ok true) permitted within asks in
       let accepted = stays.noticed permitted (e.notice c) notice_answer l' still notices in (
-        permitted,
-        asks,
+        permitted, asks,
         (
           notices,
           nowant c (subst (λ h. IsNotOutOfMemory (refusal (error_of_failure e.refusal c h))) accepted.0 (shown _ refl)),
@@ -81,8 +79,7 @@ module _ {S : Type 0} (rules : Rules S) (IsAccepting : S → Type 0) (stays : St
         memory_grown = λ x pages. want_revealed replied.Memory (memory.growth_of x pages) no_memory;
         table_made = λ ty init. want_revealed replied.Table (table.creation_of ty init) no_table;
         table_grown = λ x n reference. want_revealed replied.Table (table.growth_of x n reference) no_table;
-      })
-      step_stays
+      }) step_stays
 
 -- turns whose replies have memory, and their replies
 all_shown : (turns : List Turn) → AreNotOutOfMemory turns → All IsNotOutOfMemory (map Turn.reply turns)
@@ -95,14 +92,12 @@ all_have : (turns : List Turn) → All IsNotOutOfMemory (map Turn.reply turns) �
 all_have [] has = tt
 all_have (turn ∷ turns) has = (
   All-head IsNotOutOfMemory turn.reply (map Turn.reply turns) has,
-  all_have turns
-      (All-tail IsNotOutOfMemory turn.reply (map Turn.reply turns) has),
+  all_have turns (All-tail IsNotOutOfMemory turn.reply (map Turn.reply turns) has),
 )
 
 -- turns whose replies do not say out of memory do not either
 replies_have : (turns : List Turn) (replies : List Reply) → map Turn.reply turns ≡ replies
-    → All IsNotOutOfMemory replies
-    → AreNotOutOfMemory turns
+    → All IsNotOutOfMemory replies → AreNotOutOfMemory turns
 replies_have turns replies is has = all_have turns (subst (All IsNotOutOfMemory) (sym is) has)
 
 -- a limiter that accepts each notice does so in any state
@@ -124,8 +119,7 @@ module _ {L : Type 0} (rules : Rules L) (IsAccepting : L → Type 0) (stays : St
 
   -- by a notice
   noticed_stays : (l : Option L) (failure : Failure) (notice_answer : NoticeAnswer) (l' : Option L)
-      → IsIn IsAccepting l → NoticedIf rules l failure notice_answer l'
-      → (notice_answer ≡ Ok tt) × IsIn IsAccepting l'
+      → IsIn IsAccepting l → NoticedIf rules l failure notice_answer l' → (notice_answer ≡ Ok tt) × IsIn IsAccepting l'
   noticed_stays (Some l) failure notice_answer (Some l') within notices =
       stays.noticed l failure notice_answer l' within notices
   noticed_stays (Some l) failure notice_answer None within notices = absurd notices

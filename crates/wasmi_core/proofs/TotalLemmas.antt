@@ -32,13 +32,11 @@ module _ (slots front back : List (Slot TableValue)) (many : ℕ) (split : IsSpl
   -- a slot of the first part
   in_front : (k : ℕ) (slot : Slot TableValue) → k < many → k < length slots
       → slice_get slots k ≡ Some (get_or front k slot)
-  in_front k slot before within =
-      slice_get-get_or slots k slot within ∙ ap Some (sym (split.by_index.0 k slot before))
+  in_front k slot before within = slice_get-get_or slots k slot within ∙ ap Some (sym (split.by_index.0 k slot before))
 
   -- the first slot of the rest
   in_back : (slot : Slot TableValue) → many < length slots → slice_get slots many ≡ Some (get_or back 0 slot)
-  in_back slot within =
-      slice_get-get_or slots many slot within
+  in_back slot within = slice_get-get_or slots many slot within
       ∙ ap Some (ap (λ k. get_or slots k slot) (omega arith) ∙ sym (split.by_index.1 0 slot))
 
 -- a copy into the slot of one index from that of another: what it writes, the slots and the meter before it
@@ -56,13 +54,10 @@ module _ (copy : Copying) (reply : Reply) (charge : ℕ) (s' : MeteredValue (Slo
       → (slots' : List (Slot TableValue)) → slots' ≡ set copy.slots copy.into s'.value
       → (let after : MeteredTables = record { value = slots'; meter = s'.meter; limiter = tt } in after)
       ≡ metered copy.slots (Some copy.meter)
-  nothing_put slot at_i same slots' put =
-      λ k. record {
-        value = (put ∙ ap (λ s. set copy.slots copy.into s.value) same ∙ set_read copy.slots copy.into slot at_i) k;
-        meter =
-            (same k).meter;
-        limiter = tt;
-      }
+  nothing_put slot at_i same slots' put = λ k. record {
+    value = (put ∙ ap (λ s. set copy.slots copy.into s.value) same ∙ set_read copy.slots copy.into slot at_i) k;
+    meter = (same k).meter; limiter = tt;
+  }
 
   -- a table is written over with what another slot has
   copies_at : (slot source : Slot TableValue) → slice_get copy.slots copy.into ≡ Some slot
@@ -70,8 +65,7 @@ module _ (copy : Copying) (reply : Reply) (charge : ℕ) (s' : MeteredValue (Slo
       → CopiesSlot copy.write source (record { value = slot; meter = Some copy.meter; limiter = tt }) reply charge s'
       → (slots' : List (Slot TableValue)) → slots' ≡ set copy.slots copy.into s'.value
       → WritesTableFrom (live_at copy.slots copy.from) copy.into copy.write
-      (metered copy.slots (Some copy.meter)) reply charge
-      (record { value = slots'; meter = s'.meter; limiter = tt })
+      (metered copy.slots (Some copy.meter)) reply charge (record { value = slots'; meter = s'.meter; limiter = tt })
   copies_at slot (Gone size) at_i at_j (replied, charged, same) slots' put =
       rw at_j (replied, charged, nothing_put slot at_i same slots' put)
   copies_at (Gone size) (Live y) at_i at_j (replied, charged, same) slots' put =
@@ -130,10 +124,8 @@ module _ {X : Type 0} (count : X → ℕ) where
 
   -- a slot is written anew, and has as many
   pub counts_kept : (slots : List (Slot X)) (k : ℕ) (x : X) (slot : Slot X) → live_at slots k ≡ Some x
-      → slot_count count slot ≡ count x → map (slot_count count) (slice_set slots k slot) ≡ map (slot_count
-      count) slots
-  counts_kept slots k x slot found same =
-      counts_set slots k slot ∙ ap (set (map (slot_count count) slots) k) same
+      → slot_count count slot ≡ count x → map (slot_count count) (slice_set slots k slot) ≡ map (slot_count count) slots
+  counts_kept slots k x slot found same = counts_set slots k slot ∙ ap (set (map (slot_count count) slots) k) same
       ∙ set_read (map (slot_count count) slots) k (count x) (count_at slots k x found)
 
 -- the sum, as one number grows or a new one comes

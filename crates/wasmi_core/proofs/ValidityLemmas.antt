@@ -63,54 +63,38 @@ module _ {S : Type 0} (rules : Rules S) (w : World S) (turn : Turn) (w' : World 
 
   -- each effect
   effect_valid : (effect : Effect) → IsValidEffect effect → HasEffect rules effect w turn w' → IsValid w'.state
-  effect_valid (FuelSet fuel) typed step =
-      rw (ap now step.after, step.effect.1)
+  effect_valid (FuelSet fuel) typed step = rw (ap now step.after, step.effect.1)
       (record {
-        memories = valid.memories;
-        tables = valid.tables;
-        segments = valid.segments;
-        registers =
-            valid.registers;
+        memories = valid.memories; tables = valid.tables; segments = valid.segments;
+        registers = valid.registers;
       })
   effect_valid (Changed change) typed step =
       rw (ap now step.after) ((change_facts w.state change).valid turn.reply step.machine valid step.effect)
-  effect_valid (MemoryMade ty) typed step =
-      memories_valid w.state valid m step.part w.state.spare
+  effect_valid (MemoryMade ty) typed step = memories_valid w.state valid m step.part w.state.spare
       (creates_valid IsValidMemory replied.Memory (MakesMemory rules Owned ty)
       (λ l l' x makes. store.made_memory_is_valid rules Owned ty l x l' typed makes) w.state.memories w.limiter
-      turn.reply step.part step.limiter step.effect valid.memories)
-      w'.state (ap now step.after)
-  effect_valid (LentMemoryMade ty) typed step =
-      memories_valid w.state valid m step.part.slots step.part.spare
+      turn.reply step.part step.limiter step.effect valid.memories) w'.state (ap now step.after)
+  effect_valid (LentMemoryMade ty) typed step = memories_valid w.state valid m step.part.slots step.part.spare
       (on_live w.state.spare _ _ step.effect
       (λ none. subst (AllValid IsValidMemory) (ap (λ (p : MemoryPart). p.slots) (sym none.1)) valid.memories)
       (λ region found h. creates_valid IsValidMemory replied.Memory (MakesMemory rules (Lent region) ty)
       (λ l l' x makes. store.made_memory_is_valid rules (Lent region) ty l x l' typed makes) w.state.memories
-      w.limiter turn.reply step.part.slots step.limiter h.0 valid.memories))
-      w'.state (ap now step.after)
-  effect_valid (MemoryGrown k pages) typed step =
-      memories_valid w.state valid step.meter step.part w.state.spare
+      w.limiter turn.reply step.part.slots step.limiter h.0 valid.memories)) w'.state (ap now step.after)
+  effect_valid (MemoryGrown k pages) typed step = memories_valid w.state valid step.meter step.part w.state.spare
       (acts_valid IsValidMemory k (reply_of replied.Number replied.Memory) (GrowsMemoryCharging rules pages)
       (λ s s' result charge h grows. store.grown_memory_is_valid rules pages s result charge s' h grows)
-      _ _ turn.reply turn.charge step.effect valid.memories)
-      w'.state (ap now step.after)
-  effect_valid (TableMade ty init) typed step =
-      tables_valid w.state valid m step.part
+      _ _ turn.reply turn.charge step.effect valid.memories) w'.state (ap now step.after)
+  effect_valid (TableMade ty init) typed step = tables_valid w.state valid m step.part
       (creates_valid IsValidTable replied.Table (MakesTable rules ty init)
       (λ l l' x makes. store.made_table_is_valid rules ty init l x l' typed makes) w.state.tables w.limiter turn.reply
-      step.part step.limiter step.effect valid.tables)
-      w'.state (ap now step.after)
-  effect_valid (TableGrown k n init) typed step =
-      tables_valid w.state valid step.meter step.part
+      step.part step.limiter step.effect valid.tables) w'.state (ap now step.after)
+  effect_valid (TableGrown k n init) typed step = tables_valid w.state valid step.meter step.part
       (acts_valid IsValidTable k (reply_of replied.Number replied.Table) (GrowsTableCharging rules n init)
       (λ s s' result charge h grows. store.grown_table_is_valid rules n init s result charge s' h grows)
-      _ _ turn.reply turn.charge step.effect valid.tables)
-      w'.state (ap now step.after)
-  effect_valid (RangeWritten k source dst len) typed step =
-      tables_valid w.state valid step.meter step.part
+      _ _ turn.reply turn.charge step.effect valid.tables) w'.state (ap now step.after)
+  effect_valid (RangeWritten k source dst len) typed step = tables_valid w.state valid step.meter step.part
       (part_valid k (metered w.state.tables (Some m)) (metered step.part (Some step.meter)) turn.reply turn.charge len
-      (write_of source dst len) (source_writes source dst len) step.effect valid.tables)
-      w'.state (ap now step.after)
+      (write_of source dst len) (source_writes source dst len) step.effect valid.tables) w'.state (ap now step.after)
   effect_valid effect typed step = rw (ap now step.after) valid
 
 -- a call that is answered leads from a valid state to a valid one, where the type that it names is valid
@@ -125,7 +109,6 @@ pub run_keeps_validity : {S : Type 0} (rules : Rules S) (w : World S) (turns : L
     → IsValid w.state → All IsValidCall (map Turn.call turns) → Run rules w turns w' → IsValid w'.state
 run_keeps_validity rules w [] w' valid typed ran = rw ran valid
 run_keeps_validity rules w (turn ∷ turns) w' valid typed (v, step, ran) =
-    let next =
-    effect_valid rules w turn v valid (effect_of w.state turn.call)
+    let next = effect_valid rules w turn v valid (effect_of w.state turn.call)
     (names_valid w.state turn.call (All-head IsValidCall turn.call (map Turn.call turns) typed)) step in
     run_keeps_validity rules v turns w' next (All-tail IsValidCall turn.call (map Turn.call turns) typed) ran

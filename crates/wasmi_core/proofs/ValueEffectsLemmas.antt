@@ -108,8 +108,7 @@ segments_same ty items segments reply reply' segments' segments'' room room' (in
 
 -- two drops of items
 pub items_same : (k : ℕ) (segments : List SegmentValue) → IsDecided (DropsItemsAt k segments)
-items_same k segments =
-    item_same k segments _ (λ x reply reply' x' x'' h h'. (h.0 ∙ sym h'.0, h.1 ∙ sym h'.1))
+items_same k segments = item_same k segments _ (λ x reply reply' x' x'' h h'. (h.0 ∙ sym h'.0, h.1 ∙ sym h'.1))
 
 -- two creations of a global
 pub globals_same : (global : GlobalInstance) (globals : List GlobalInstance) (reply reply' : Reply)
@@ -140,8 +139,7 @@ global_same x x' x'' value (Err TypeMismatch) (Err TypeMismatch) a b = (refl, a.
 -- two calls that set a global of a list are one
 pub global_sets_same : (k : ℕ) (value : TypedRawVal) (globals : List GlobalInstance)
     → IsDecided (SetsGlobalAt k value globals)
-global_sets_same k value globals =
-    item_same k globals _ (λ x reply reply' x' x'' h h'.
+global_sets_same k value globals = item_same k globals _ (λ x reply reply' x' x'' h h'.
     let both = global_same x x' x'' value h.0 h'.0 h.1 h'.1 in
     (h.2 ∙ ap (reply_of (λ _. replied.Done) replied.Global) both.0 ∙ sym h'.2, both.1))
 

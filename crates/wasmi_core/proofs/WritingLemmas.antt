@@ -55,8 +55,7 @@ record Wrote (m : Meter) (charge written : ℕ) (wrote : Bool) (set : ℕ) (m' :
 -- a turn that writes nothing
 idles : (m m' : Meter) (charge written : ℕ) → written ≡ 0 → m' ≡ m → Wrote m charge written false 0 m'
 idles m m' charge written none same = record {
-  costs = ap (λ (m : Meter). m.costs) same;
-  paid = λ left on rated. omega (arith, none);
+  costs = ap (λ (m : Meter). m.costs) same; paid = λ left on rated. omega (arith, none);
   spent = λ left on. (left, ap (λ (m : Meter). m.left) same ∙ on, omega arith);
 }
 
@@ -64,16 +63,14 @@ idles m m' charge written none same = record {
 sets : (fuel : ℕ) (m m' : Meter) (charge written : ℕ) → written ≡ 0 → m' ≡ meter_set m fuel
     → Wrote m charge written false fuel m'
 sets fuel m m' charge written none same = record {
-  costs = ap (λ (m : Meter). m.costs) same;
-  paid = λ left on rated. omega (arith, none);
+  costs = ap (λ (m : Meter). m.costs) same; paid = λ left on rated. omega (arith, none);
   spent = λ left on. (fuel, ap (λ (m : Meter). m.left) same ∙ ap (option_map (λ n. fuel)) on, omega arith);
 }
 
 -- a refusal: something may be charged, and nothing is written
 refuses : (m m' : Meter) (charge : ℕ) → m'.costs ≡ m.costs → PaysCharge m charge m' → Wrote m charge 0 false 0 m'
 refuses m m' charge same takes = record {
-  costs = same;
-  paid = λ left on rated. omega arith;
+  costs = same; paid = λ left on rated. omega arith;
   spent = λ left on. let t = rest_left m m' charge takes left on in (t.0, t.1, omega (arith, t.2));
 }
 
@@ -82,8 +79,7 @@ pays : (m m' : Meter) (charge written : ℕ) → m'.costs ≡ m.costs → PaysCh
     → ((left : ℕ) → m.left ≡ Some left → 0 < rate m → written ≤ rate m * charge + (rate m - 1))
     → Wrote m charge written true 0 m'
 pays m m' charge written same takes bound = record {
-  costs = same;
-  paid = bound;
+  costs = same; paid = bound;
   spent = λ left on. let t = rest_left m m' charge takes left on in (t.0, t.1, omega (arith, t.2));
 }
 
@@ -99,8 +95,7 @@ price_pays rate n cost false free rated is =
 -- what is due for so many bytes pays for them
 due_pays : (m : Meter) (left values size charge : ℕ) → m.left ≡ Some left → 0 < rate m
     → charge ≡ due m (λ costs. copy_cost costs values size) → cut_product values size ≤ rate m * charge + (rate m - 1)
-due_pays m left values size charge on rated is =
-    price_pays (rate m) (cut_product values size) charge _ refl rated
+due_pays m left values size charge on rated is = price_pays (rate m) (cut_product values size) charge _ refl rated
     (is ∙ ap (λ (o : Option ℕ). if is_some o then copy_cost m.costs values size else 0) on)
 
 -- the costs stay
@@ -114,8 +109,7 @@ module _ {V E S : Type 0} (rules : Rules S) (g : Growth V E) (t : Growing V S) w
 
   -- the costs stay
   growth_costs : (result : Result ℕ E) → Grown result → t.last.meter.costs ≡ t.first.meter.costs
-  growth_costs result (inl none) =
-      ap (λ (m : Meter). m.costs)
+  growth_costs result (inl none) = ap (λ (m : Meter). m.costs)
       (same_Some t.last.meter t.first.meter (ap (λ (s : MeteredValue V S). s.meter) none.same))
   growth_costs result (inr some) = same_costs t.first.meter t.last.meter t.charge some.attempt.meter
 
@@ -163,10 +157,8 @@ added_fits : (b c : Bool) (x : MemoryValue) (pages : ℕ)
     → pages * page_bytes x.ty.page < 2 ^ 64
 added_fits b c x pages inside =
     let below : (pages_of x + pages) * page_bytes x.ty.page < 2 ^ 64 = grind (
-      arith,
-      nat_tests,
-      (and_parts (b && c) (nat_lt ((pages_of x + pages) * page_bytes x.ty.page) (2 ^ 64))
-          inside).1,
+      arith, nat_tests,
+      (and_parts (b && c) (nat_lt ((pages_of x + pages) * page_bytes x.ty.page) (2 ^ 64)) inside).1,
     ) in
     let split : (pages_of x + pages) * page_bytes x.ty.page ≡ pages_of x * page_bytes x.ty.page + pages * page_bytes
     x.ty.page = add-mul (pages_of x) pages (page_bytes x.ty.page) in
@@ -188,24 +180,19 @@ module _ {S : Type 0} (rules : Rules S) (pages : ℕ) (t : Growing MemoryValue S
       → pages * page_bytes t.first.value.ty.page ≤ rate t.first.meter * t.charge + (rate t.first.meter - 1)
   memory_bound left on rated early charged =
       let x = t.first.value in
-      let fits =
-      added_fits (nat_le (pages_of x + pages) (greatest_pages x.ty))
+      let fits = added_fits (nat_le (pages_of x + pages) (greatest_pages x.ty))
       (option_map_or (λ maximum. nat_le (pages_of x + pages) maximum) x.ty.maximum true) x pages
-      (early_none (in_bounds x.ty (pages_of x + pages)) MemoryError.OutOfBoundsGrowth early)
-      in
+      (early_none (in_bounds x.ty (pages_of x + pages)) MemoryError.OutOfBoundsGrowth early) in
       let bytes = pages * page_bytes x.ty.page in
       let paid : cut_product bytes 1 ≤ rate t.first.meter * t.charge + (rate t.first.meter - 1) =
-      due_pays t.first.meter left bytes 1 t.charge on rated charged
-      in
+      due_pays t.first.meter left bytes 1 t.charge on rated charged in
       omega (arith, fits, paid)
 
   -- what it has written, by its result
-  memory_result : (result : Result ℕ MemoryError) → Grown rules growth t result
-      → Wrote t.first.meter t.charge
+  memory_result : (result : Result ℕ MemoryError) → Grown rules growth t result → Wrote t.first.meter t.charge
       (bytes_appended (Some t.first.value) pages (reply_of replied.Number replied.Memory result))
       (is_accepted (reply_of replied.Number replied.Memory result)) 0 t.last.meter
-  memory_result (Ok size) grows =
-      growth_pays rules growth t (pages * page_bytes t.first.value.ty.page)
+  memory_result (Ok size) grows = growth_pays rules growth t (pages * page_bytes t.first.value.ty.page)
       (λ none. ap (λ n. n * page_bytes t.first.value.ty.page) none ∙ omega arith) memory_bound size grows
   memory_result (Err error) grows = growth_refuses rules growth t error grows
 
@@ -222,11 +209,9 @@ nothing_appended (Some x) pages = refl
 memory_growth_writes : {S : Type 0} (rules : Rules S) (k pages : ℕ) (t : Growing (List (Slot MemoryValue)) S)
     (reply : Reply)
     → ActsAt k (reply_of replied.Number replied.Memory) (GrowsMemoryCharging rules pages) (before t) reply t.charge
-    (after t)
-    → Wrote t.first.meter t.charge (bytes_appended (live_at t.first.value k) pages reply)
+    (after t) → Wrote t.first.meter t.charge (bytes_appended (live_at t.first.value k) pages reply)
     (is_accepted reply) 0 t.last.meter
-memory_growth_writes {S} rules k pages t reply acts =
-    on_live (live_at t.first.value k) _ _ acts
+memory_growth_writes {S} rules k pages t reply acts = on_live (live_at t.first.value k) _ _ acts
     (λ missing. rw missing.0
     (idles t.first.meter t.last.meter t.charge _ (nothing_appended (live_at t.first.value k) pages)
     (same_Some t.last.meter t.first.meter (ap (λ (s : MeteredValue (List (Slot MemoryValue)) S). s.meter) missing.2))))
@@ -252,10 +237,8 @@ module _ {S : Type 0} (rules : Rules S) (n reference : ℕ) (t : Growing TableVa
 table_growth_writes : {S : Type 0} (rules : Rules S) (k n : ℕ) (init : TypedRawRef)
     (t : Growing (List (Slot TableValue)) S) (reply : Reply)
     → ActsAt k (reply_of replied.Number replied.Table) (GrowsTableCharging rules n init) (before t) reply t.charge
-    (after t)
-    → Wrote t.first.meter t.charge (element_bytes n reply) (is_accepted reply) 0 t.last.meter
-table_growth_writes {S} rules k n init t reply acts =
-    on_live (live_at t.first.value k) _ _ acts
+    (after t) → Wrote t.first.meter t.charge (element_bytes n reply) (is_accepted reply) 0 t.last.meter
+table_growth_writes {S} rules k n init t reply acts = on_live (live_at t.first.value k) _ _ acts
     (λ missing. rw missing.0 (idles t.first.meter t.last.meter t.charge _ refl
     (same_Some t.last.meter t.first.meter (ap (λ (s : MeteredValue (List (Slot TableValue)) S). s.meter) missing.2))))
     (λ x found a. rw a.3 (on_test (same_type x.ty.element init.ty) _ _ a.2
@@ -272,8 +255,7 @@ module _ (write : TableValue → TableWrite) (x : TableValue) (len : ℕ) (m : M
   -- the charge pays for the elements, where there are some
   len_bound : (paid : (w.paid ≡ Some len) ⊎ (len ≡ 0)) → charge ≡ write_due w (metered x (Some m)) → (left : ℕ)
       → m.left ≡ Some left → 0 < rate m → cut_product len 4 ≤ rate m * charge + (rate m - 1)
-  len_bound (inl paid) charged left on rated =
-      due_pays m left len 4 charge on rated
+  len_bound (inl paid) charged left on rated = due_pays m left len 4 charge on rated
       (charged ∙ ap (λ p. optional_due (Some m) (option_map element_price p)) paid)
   len_bound (inr none) charged left on rated =
       let nothing : cut_product len 4 ≡ 0 = ap (λ k. cut_product k 4) none ∙ omega arith in omega (arith, nothing)
@@ -294,8 +276,7 @@ module _ (write : TableValue → TableWrite) (x : TableValue) (len : ℕ) (m : M
       → WritesTableCharging write (metered x (Some m)) result charge (metered x' (Some m'))
       → Wrote m charge (element_bytes len (reply_of (λ _. replied.Done) replied.Table result))
       (is_accepted (reply_of (λ _. replied.Done) replied.Table result)) 0 m'
-  write_result paid x' m' (Ok tt) writes =
-      pays m m' charge (cut_product len 4) (same_costs m m' charge writes.meter)
+  write_result paid x' m' (Ok tt) writes = pays m m' charge (cut_product len 4) (same_costs m m' charge writes.meter)
       (write_takes write x m (Ok tt) charge x' m' writes) (ends_bound paid x' w.typed w.written _ writes.ends)
   write_result paid x' m' (Err error) writes =
       refuses m m' charge (same_costs m m' charge writes.meter) (write_takes write x m (Err error) charge x' m' writes)
@@ -307,9 +288,7 @@ module _ (k len : ℕ) (slots : List (Slot TableValue)) (m : Meter) (reply : Rep
   table_write_writes : (write : TableValue → TableWrite) → IsWrite len write
       → WritesTableAt k write (metered slots (Some m)) reply charge (metered slots' (Some m'))
       → Wrote m charge (element_bytes len reply) (is_accepted reply) 0 m'
-  table_write_writes write is writes =
-      on_live (live_at slots k) _ _ writes
-      (λ missing. rw missing.0
+  table_write_writes write is writes = on_live (live_at slots k) _ _ writes (λ missing. rw missing.0
       (idles m m' charge _ refl (same_Some m' m (ap (λ (s : MeteredTables). s.meter) missing.2))))
       (λ x found a. rw a.3 (write_result write x len m charge (is x).1 a.1 m' a.0 a.2))
 
@@ -317,9 +296,7 @@ module _ (k len : ℕ) (slots : List (Slot TableValue)) (m : Meter) (reply : Rep
   part_writes : (part : Option (TableValue → TableWrite)) → OnLive part (Unit {0}) (IsWrite len)
       → WritesRangeAt k part (metered slots (Some m)) reply charge (metered slots' (Some m'))
       → Wrote m charge (element_bytes len reply) (is_accepted reply) 0 m'
-  part_writes part is writes =
-      on_live part _ _ (both_live part _ _ _ _ is writes)
-      (λ missing. rw missing.1.0
+  part_writes part is writes = on_live part _ _ (both_live part _ _ _ _ is writes) (λ missing. rw missing.1.0
       (idles m m' charge _ refl (same_Some m' m (ap (λ (s : MeteredTables). s.meter) missing.1.2))))
       (λ write found h. table_write_writes write h.0 h.1)
 
@@ -358,21 +335,17 @@ module _ {S : Type 0} (rules : Rules S) (w : World S) (turn : Turn) (w' : World 
   effect_writes : (effect : Effect) → HasEffect rules effect w turn w'
       → Wrote w.state.meter turn.charge turn.written (is_charged_effect effect && is_accepted turn.reply)
       (amount_set_by effect) w'.state.meter
-  effect_writes (FuelSet fuel) step =
-      sets fuel w.state.meter w'.state.meter turn.charge turn.written step.free.1
+  effect_writes (FuelSet fuel) step = sets fuel w.state.meter w'.state.meter turn.charge turn.written step.free.1
       (ap (λ (v : World S). v.state.meter) step.after ∙ ap (λ (s : State). s.meter) step.effect.1)
   effect_writes (Changed change) step =
       idle w turn w' step.after step.free.1 ((change_facts w.state change).meter turn.reply step.machine step.effect)
-  effect_writes (MemoryGrown k pages) step =
-      writes_as w turn w' step.after step.wrote
+  effect_writes (MemoryGrown k pages) step = writes_as w turn w' step.after step.wrote
       (memory_growth_writes rules k pages
       (growing w w.state.memories turn.charge step.part step.meter step.limiter) turn.reply step.effect)
-  effect_writes (TableGrown k n init) step =
-      writes_as w turn w' step.after step.wrote
+  effect_writes (TableGrown k n init) step = writes_as w turn w' step.after step.wrote
       (table_growth_writes rules k n init
       (growing w w.state.tables turn.charge step.part step.meter step.limiter) turn.reply step.effect)
-  effect_writes (RangeWritten k source dst len) step =
-      writes_as w turn w' step.after step.wrote
+  effect_writes (RangeWritten k source dst len) step = writes_as w turn w' step.after step.wrote
       (part_writes k len w.state.tables w.state.meter turn.reply turn.charge step.part step.meter
       (write_of source dst len) (source_writes source dst len) step.effect)
   effect_writes effect step = idle w turn w' step.after step.free.1 refl

@@ -50,12 +50,10 @@ IsOtherFailure failure = Unit {0}
 
 -- the rules by which no limiter is notified that memory was refused
 abbrev pub never_out_of_memory : {S : Type 0} → Rules S → Rules S
-never_out_of_memory rules =
-    record {
-      asked = rules.asked;
-      noticed = λ l failure notice_answer l'. rules.noticed l failure notice_answer l'
-          × IsOtherFailure failure;
-    }
+never_out_of_memory rules = record {
+  asked = rules.asked;
+  noticed = λ l failure notice_answer l'. rules.noticed l failure notice_answer l' × IsOtherFailure failure;
+}
 
 -- the reply doesn't say out of memory
 abbrev pub IsNotOutOfMemory : Reply → Type 0
@@ -72,12 +70,10 @@ AreNotOutOfMemory (turn ∷ turns) = IsNotOutOfMemory turn.reply × AreNotOutOfM
 
 -- the rules by which each question is permitted
 abbrev pub permitting : {S : Type 0} → Rules S → Rules S
-permitting rules =
-    record {
-      asked = λ l question answer l'. (answer ≡ Ok true)
-          × rules.asked l question answer l';
-      noticed = rules.noticed;
-    }
+permitting rules = record {
+  asked = λ l question answer l'. (answer ≡ Ok true) × rules.asked l question answer l';
+  noticed = rules.noticed;
+}
 
 -- the reply reports no denial, and is no error by which a denial is reported
 abbrev pub TellsNoDenial : Reply → Type 0

@@ -1,12 +1,13 @@
 -- What holds of all turns and runs of a machine.
 use Rattle.std.specs.Prelude.{◌≡◌, ◌⊎◌, ◌<◌, ◌≤◌, ◌+◌, ◌*◌, ◌++◌, ℕ, true, Option, Some, Result, Ok, List, length, map, All}
 use Rattle.wasmi_meter.specs.declared.holdings.Holdings.{Holdings}
-use Rattle.wasmi_meter.specs.Limiter.{Question, Rules, Answer, IsDenial, Failure, NoticeAnswer, optional_rules}
+use Rattle.wasmi_meter.specs.Limiter.{Question, Rules, Failure, NoticeAnswer, optional_rules}
 use Rattle.wasmi_meter.specs.Attempt.{MeteredValue, optional_due, covers}
 use Rattle.wasmi_meter.specs.declared.error.MemoryError.{MemoryError}
 use Rattle.wasmi_meter.specs.declared.quota.Quota.{Quota}
 use Rattle.wasmi_meter.specs.Capped.{SameCaps, IsWithinCaps, quota_rules}
 use Rattle.wasmi_store.specs.Buffer.{Lent, fits_room}
+use Rattle.wasmi_store.specs.Growth.{IsDenied}
 use Rattle.wasmi_store.specs.Memory.{MemoryTypeValue, page_bytes, minimum_bytes, in_bounds, MemoryValue, pages_of, growth_of, GrowsMemory}
 use Rattle.wasmi_core.specs.declared.calls.Call.{Call}
 use Rattle.wasmi_core.specs.declared.calls.Call.TheVariants.{NewMemory, NewLentMemory}
@@ -83,8 +84,7 @@ module _ {S : Type 0} (rules : Rules S) where
 
   -- in a run each turn asks, grows and is charged as a step does (`Exchanges`)
   abbrev pub RunsGrowAsPermitted : Type 0
-  RunsGrowAsPermitted =
-      (w : World S) (turns : List Turn) (w' : World S) → Run rules w turns w'
+  RunsGrowAsPermitted = (w : World S) (turns : List Turn) (w' : World S) → Run rules w turns w'
       → Sequence (λ v turn v'. Step rules v turn v' × Exchanges rules v turn v') w turns w'
 
   -- a run in which no reply reports a denial is one in which each question was permitted
@@ -117,10 +117,8 @@ module _ {S : Type 0} (rules : Rules S) where
   -- while metering is on, what calls that don't set the fuel were charged is what was left before and isn't left after,
   -- and it bounds what they have written
   abbrev pub ChargesAreSpent : Type 0
-  ChargesAreSpent =
-      (w : World S) (left : ℕ) → w.state.meter.left ≡ Some left → (turns : List Turn) (w' : World S)
-      → Run rules w turns w' → All SetsNoFuel (map Turn.call turns)
-      → (left' : ℕ) × (w'.state.meter.left ≡ Some left')
+  ChargesAreSpent = (w : World S) (left : ℕ) → w.state.meter.left ≡ Some left → (turns : List Turn) (w' : World S)
+      → Run rules w turns w' → All SetsNoFuel (map Turn.call turns) → (left' : ℕ) × (w'.state.meter.left ≡ Some left')
       × IsSpent w.state.meter.costs.bytes_copied_per_fuel left left' turns
 
   -- turns of a run, and those of a run from where it ends, are one run
@@ -132,15 +130,13 @@ module _ {S : Type 0} (rules : Rules S) where
   abbrev pub RunsOfCallsJoin : Type 0
   RunsOfCallsJoin =
       (calls calls' : List Call) (u v w : World S) (replies replies' : List Reply) → IsRunOf rules calls u replies v
-      → IsRunOf rules calls' v replies' w
-      → IsRunOf rules (calls ++ calls') u (replies ++ replies') w
+      → IsRunOf rules calls' v replies' w → IsRunOf rules (calls ++ calls') u (replies ++ replies') w
 
 module _ {S : Type 0} (rules : Rules S) where
   -- a run that makes no memory in a region and grows none past its own is a run of the same machine with memories of
   -- their own
   abbrev pub LentRunsAreOwned : Type 0
-  LentRunsAreOwned =
-      (w : World S) (turns : List Turn) (w' : World S) → RunInRegions rules w turns w'
+  LentRunsAreOwned = (w : World S) (turns : List Turn) (w' : World S) → RunInRegions rules w turns w'
       → Run rules (owned_world w) turns (owned_world w')
 
   -- a creation in a spare region of at least the minimum is a creation of a memory of its own
@@ -153,15 +149,12 @@ module _ {S : Type 0} (rules : Rules S) where
   -- a growth of a lent memory that its type and its region have place for, and that can be paid, is refused by the
   -- limiter alone
   abbrev pub LentGrowthsSucceed : Type 0
-  LentGrowthsSucceed =
-      (pages : ℕ) (s : MeteredValue MemoryValue S) (rest : List ℕ) → s.value.room ≡ Lent rest
+  LentGrowthsSucceed = (pages : ℕ) (s : MeteredValue MemoryValue S) (rest : List ℕ) → s.value.room ≡ Lent rest
       → in_bounds s.value.ty (pages_of s.value + pages) ≡ true
       → fits_room s.value.room (pages * page_bytes s.value.ty.page) ≡ true
       → covers s.meter (optional_due s.meter (growth_of s.value pages).price) ≡ true
       → (result : Result ℕ MemoryError) (s' : MeteredValue MemoryValue S) → GrowsMemory rules pages s result s'
-      → (result ≡ Ok (pages_of s.value))
-      ⊎ ((answer : Answer) × IsDenial answer
-      × rules.asked s.limiter (growth_of s.value pages).question answer s'.limiter)
+      → (result ≡ Ok (pages_of s.value)) ⊎ IsDenied rules (growth_of s.value pages).question s.limiter s'.limiter
 
 -- if the limiter is deterministic, two runs of one list of calls from one world, in which neither a reply nor a notice
 -- says out of memory, are one
@@ -181,8 +174,7 @@ RepliesTell {L} rules =
 -- if the limiter is deterministic and accepts each notice, two runs of one list of calls from one world, in which no
 -- reply says out of memory, have the same replies and end in one world
 abbrev pub RepliesAreOne : {L : Type 0} → Rules L → Type 0
-RepliesAreOne {L} rules =
-    IsDeterministic rules → AcceptsNotices rules
+RepliesAreOne {L} rules = IsDeterministic rules → AcceptsNotices rules
     → (calls : List Call) (w : World (Option L)) (replies replies' : List Reply) (v v' : World (Option L))
     → All IsNotOutOfMemory replies → All IsNotOutOfMemory replies'
     → IsRunOf (optional_rules rules) calls w replies v → IsRunOf (optional_rules rules) calls w replies' v'
@@ -191,13 +183,11 @@ RepliesAreOne {L} rules =
 -- a limiter that holds the totals before a run is there after it, and holds the totals then
 abbrev pub HoldsTotalsAlways : {L : Type 0} → Rules L → (L → Holdings) → Type 0
 HoldsTotalsAlways {L} rules holdings = (s : State) (l : L) → HoldsTotals (holdings l) s
-    → (turns : List Turn) (w' : World (Option L))
-    → Run (optional_rules rules) (world s (Some l)) turns w'
+    → (turns : List Turn) (w' : World (Option L)) → Run (optional_rules rules) (world s (Some l)) turns w'
     → (l' : L) × (w'.limiter ≡ Some l') × HoldsTotals (holdings l') w'.state
 
 -- a quota that holds at most its caps before a run does so after it, and has the same caps
 abbrev pub QuotasStayWithin : Type 0
-QuotasStayWithin =
-    (s : State) (quota : Quota) → IsWithinCaps quota → (turns : List Turn) (w' : World (Option Quota))
+QuotasStayWithin = (s : State) (quota : Quota) → IsWithinCaps quota → (turns : List Turn) (w' : World (Option Quota))
     → Run (optional_rules quota_rules) (world s (Some quota)) turns w'
     → (quota' : Quota) × (w'.limiter ≡ Some quota') × IsWithinCaps quota' × SameCaps quota quota'

@@ -49,16 +49,10 @@ pub record State : Type 0 where
 
 -- a machine on which nothing was made yet, with 16 registers of zeros
 abbrev pub new_state : Meter → State
-new_state meter =
-    record {
-      memories = [];
-      tables = [];
-      segments = [];
-      globals = [];
-      registers = replicate 16 (raw_of 0);
-      meter = meter;
-      spare = None;
-    }
+new_state meter = record {
+  memories = []; tables = []; segments = []; globals = []; registers = replicate 16 (raw_of 0); meter = meter;
+  spare = None;
+}
 
 -- the state with this spare region
 abbrev pub with_spare : State → List ℕ → State
@@ -106,14 +100,15 @@ pub record World (S : Type 0) : Type 0 where
 abbrev pub world : {S : Type 0} → State → S → World S
 world machine limiter = record { state = machine; limiter = limiter }
 
--- one call: its reply, the fuel that it was charged and the bytes that it has written by growing or copying
+-- one call with its reply, the fuel that it was charged, and how many bytes it has written by a growth or over a part of
+-- a table
 pub record Turn : Type 0 where
   pub call : Call
   pub reply : Reply
   pub charge : ℕ
   pub written : ℕ
 
--- a turn that is neither charged nor written by
+-- a turn that is charged nothing, and that has written nothing by a growth or over a part of a table
 abbrev pub IsFree : Turn → Type 0
 IsFree turn = (turn.charge ≡ 0) × (turn.written ≡ 0)
 

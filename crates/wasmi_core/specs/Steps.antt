@@ -36,7 +36,7 @@ pub data Subject : Type 0 where
   RegisterFile : Subject
   VectorAccesses : Subject
 
--- what each call is about: a line for each
+-- what each call is about: a line for each, but for those on registers
 abbrev pub subject_of : Call → Subject
 subject_of (call.SetFuel fuel) = TheMeter
 subject_of call.GetFuel = TheMeter
@@ -61,21 +61,11 @@ subject_of (call.DropItems k) = Values
 subject_of (call.NewGlobal value ty) = Values
 subject_of (call.SetGlobal k value) = Values
 subject_of (call.GetGlobal k) = Values
-subject_of (call.SetRegister dst value) = RegisterFile
-subject_of (call.GetRegister a) = RegisterFile
-subject_of (call.Make op dst a) = RegisterFile
-subject_of (call.Unary op dst a) = RegisterFile
-subject_of (call.Binary op dst a b) = RegisterFile
-subject_of (call.Ternary op dst a b c) = RegisterFile
-subject_of (call.Shift op dst a amount) = RegisterFile
-subject_of (call.Test op a) = RegisterFile
-subject_of (call.Extract op a) = RegisterFile
-subject_of (call.Replace op dst a item) = RegisterFile
-subject_of (call.Shuffle dst a b lanes) = RegisterFile
 subject_of (call.VectorLoad op dst k ptr offset) = VectorAccesses
 subject_of (call.LoadLane op dst a k ptr offset) = VectorAccesses
 subject_of (call.VectorStore a k ptr offset) = VectorAccesses
 subject_of (call.StoreLane op a k ptr offset) = VectorAccesses
+subject_of call = RegisterFile
 
 -- the calls that are charged for what they write: growths, and those that write over a part of a table
 abbrev pub is_charged : Call → Bool
@@ -145,15 +135,13 @@ effect_of s (call.Make op dst a) =
 effect_of s (call.Unary op dst a) = Changed (RegisterSet dst (of_one (unary_vector op) (vector_at s.registers a)))
 effect_of s (call.Binary op dst a b) =
     Changed (RegisterSet dst (of_two (binary_vector op) (vector_at s.registers a) (vector_at s.registers b)))
-effect_of s (call.Ternary op dst a b c) =
-    Changed (RegisterSet dst
+effect_of s (call.Ternary op dst a b c) = Changed (RegisterSet dst
     (of_three (ternary_vector op) (vector_at s.registers a) (vector_at s.registers b) (vector_at s.registers c)))
 effect_of s (call.Shift op dst a amount) =
     Changed (RegisterSet dst (of_one (λ v. shifted_vector op v amount) (vector_at s.registers a)))
 effect_of s (call.Test op a) = Told (raw_reply (option_map (tested_raw op) (vector_at s.registers a)))
 effect_of s (call.Extract op a) = Told (raw_reply (option_map (extracted_raw op) (vector_at s.registers a)))
-effect_of s (call.Replace op dst a item) =
-    Changed (RegisterSet dst
+effect_of s (call.Replace op dst a item) = Changed (RegisterSet dst
     (option_and_then (λ raw. of_one (λ v. replaced_vector op v raw) (vector_at s.registers a))
     (slice_get s.registers item)))
 effect_of s (call.Shuffle dst a b lanes) =
@@ -183,22 +171,19 @@ HasChange (GlobalSet k value) s = ChangesPart (with_globals s) (SetsGlobalAt k v
 -- an effect takes place from one world to the next: a line for each kind
 abbrev pub HasEffect : {S : Type 0} → Rules S → Effect → World S → Turn → World S → Type 0
 HasEffect rules (Told told) w turn w' = OnlyReplies w turn w' (λ answer. answer ≡ told)
-HasEffect rules (BytesRead k offset len) w turn w' =
-    OnlyReplies w turn w' (ReadsMemoryAt k offset len w.state.memories)
+HasEffect rules (BytesRead k offset len) w turn w' = OnlyReplies w turn w' (ReadsMemoryAt k offset len w.state.memories)
 HasEffect rules (FuelSet fuel) w turn w' = Changes w turn w' (SetsFuel fuel w.state)
 HasEffect rules (Changed change) w turn w' = Changes w turn w' (HasChange change w.state)
 HasEffect rules (MemoryMade ty) w turn w' =
     Asks w turn w' (with_memories w.state) (Creates reply.Memory (MakesMemory rules Owned ty) w.state.memories)
 HasEffect rules (LentMemoryMade ty) w turn w' =
     Asks w turn w' (with_memory_part w.state) (CreatesLent rules ty (memory_part w.state))
-HasEffect rules (MemoryGrown k pages) w turn w' =
-    ActsMetered w turn w' w.state.memories (with_memories w.state)
+HasEffect rules (MemoryGrown k pages) w turn w' = ActsMetered w turn w' w.state.memories (with_memories w.state)
     (ActsAt k (reply_of reply.Number reply.Memory) (GrowsMemoryCharging rules pages))
     (bytes_appended (live_at w.state.memories k) pages)
 HasEffect rules (TableMade ty init) w turn w' =
     Asks w turn w' (with_tables w.state) (Creates reply.Table (MakesTable rules ty init) w.state.tables)
-HasEffect rules (TableGrown k n init) w turn w' =
-    ActsMetered w turn w' w.state.tables (with_tables w.state)
+HasEffect rules (TableGrown k n init) w turn w' = ActsMetered w turn w' w.state.tables (with_tables w.state)
     (ActsAt k (reply_of reply.Number reply.Table) (GrowsTableCharging rules n init)) (element_bytes n)
 HasEffect rules (RangeWritten k source dst len) w turn w' =
     ActsMeteredUnasked w turn w' w.state.tables (with_tables w.state) (WritesRangeAt k (write_of source dst len))
@@ -210,16 +195,13 @@ Step rules w turn w' = HasEffect rules (effect_of w.state turn.call) w turn w'
 
 -- a call is answered by a reply: there is a step by it, with some charge and some bytes written
 abbrev pub RepliesWith : {S : Type 0} → Rules S → Call → World S → Reply → World S → Type 0
-RepliesWith rules call w reply w' =
-    (charge : ℕ) × (written : ℕ)
+RepliesWith rules call w reply w' = (charge : ℕ) × (written : ℕ)
     × Step rules w (record { call = call; reply = reply; charge = charge; written = written }) w'
 
 -- a call is answered by a reply without the limiter, whatever the limiter is, in a step that charges and writes nothing
 abbrev pub RepliesWithoutLimiter : {S : Type 0} → Rules S → Call → State → Reply → State → Type 0
-RepliesWithoutLimiter {S} rules call s reply s' =
-    (limiter : S)
-    → Step rules (world s limiter) (record { call = call; reply = reply; charge = 0; written = 0 })
-    (world s' limiter)
+RepliesWithoutLimiter {S} rules call s reply s' = (limiter : S)
+    → Step rules (world s limiter) (record { call = call; reply = reply; charge = 0; written = 0 }) (world s' limiter)
 
 -- turns one after another from one world to another, each of which relates the worlds before and after it
 abbrev pub Sequence : {S : Type 0} → (World S → Turn → World S → Type 0) → World S → List Turn → World S → Type 0

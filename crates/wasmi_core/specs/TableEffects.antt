@@ -25,8 +25,7 @@ GetsElementAt k index slots reply = reply ≡ element_reply index (live_at slots
 -- an element of the table of an index is set, or the call is refused
 abbrev pub SetsElementAt : ℕ → ℕ → TypedRawRef → List (Slot TableValue) → Reply → List (Slot TableValue) → Type 0
 SetsElementAt k index value slots reply slots' = ChangesAt k slots reply slots'
-    (λ x x'. (result : Result (Unit {0}) TableError)
-    × SetsTable index value x result x'
+    (λ x x'. (result : Result (Unit {0}) TableError) × SetsTable index value x result x'
     × (reply ≡ reply_of (λ _. Done) Table result))
 
 -- tables, and the meter that is charged
@@ -40,16 +39,14 @@ WritesTableAt k write = ActsAt k (reply_of (λ _. Done) Table) (WritesTableCharg
 -- a part of the table of an index is written over with what a source has, with its charge; without a source the reply
 -- is `NoSuch`, and nothing has changed
 abbrev pub WritesTableFrom : {X : Type 0} → Option X → ℕ → (X → TableValue → TableWrite) → MeteredTables → Reply → ℕ
-    → MeteredTables
-    → Type 0
+    → MeteredTables → Type 0
 WritesTableFrom source k write s reply charge s' =
     OnLive source (IsNoSuch s reply charge s') (λ x. WritesTableAt k (write x) s reply charge s')
 
 -- a slot's table is written over with what another slot's table has
 abbrev pub CopiesSlot : (TableValue → TableValue → TableWrite) → Slot TableValue
     → MeteredValue (Slot TableValue) (Unit {0}) → Reply → ℕ → MeteredValue (Slot TableValue) (Unit {0}) → Type 0
-CopiesSlot write source s reply charge s' =
-    OnLive (live_value source) (IsNoSuch s reply charge s')
+CopiesSlot write source s reply charge s' = OnLive (live_value source) (IsNoSuch s reply charge s')
     (λ y. OnLive (live_value s.value) (IsNoSuch s reply charge s')
     (λ x. (result : Result (Unit {0}) TableError) × (x' : TableValue)
     × WritesTableCharging (write y) (with_value s x) result charge (with_value s' x')

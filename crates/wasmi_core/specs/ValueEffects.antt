@@ -53,8 +53,7 @@ GetsGlobalAt k globals reply = reply ≡ global_reply (slice_get globals k)
 
 -- the fuel that is left is set, where the meter is on
 abbrev pub SetsFuel : ℕ → State → Reply → State → Type 0
-SetsFuel fuel s reply s' =
-    (reply ≡ (if is_some s.meter.left then Done else Fuel FuelMeteringDisabled))
+SetsFuel fuel s reply s' = (reply ≡ (if is_some s.meter.left then Done else Fuel FuelMeteringDisabled))
     × (s' ≡ record s { meter = meter_set s.meter fuel })
 
 -- the fuel that is left is asked for

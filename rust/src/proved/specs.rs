@@ -3525,12 +3525,10 @@ abbrev pub <b id="IsOtherFailure">IsOtherFailure</b> : <a href="../../meter/Limi
 
 -- the rules by which no limiter is notified that memory was refused
 abbrev pub <b id="never_out_of_memory">never_out_of_memory</b> : {S : Type 0} → <a href="../../meter/Limiter/index.html#Rules">Rules</a> S → <a href="../../meter/Limiter/index.html#Rules">Rules</a> S
-<a href="../../machine/Determinism/index.html#never_out_of_memory">never_out_of_memory</a> rules =
-    record {
-      <a href="../../machine/Determinism/index.html#asked">asked</a> = rules.asked;
-      <a href="../../machine/Determinism/index.html#noticed">noticed</a> = λ l failure notice_answer l&#x27;. rules.noticed l failure notice_answer l&#x27;
-          × <a href="../../machine/Determinism/index.html#IsOtherFailure">IsOtherFailure</a> failure;
-    }
+<a href="../../machine/Determinism/index.html#never_out_of_memory">never_out_of_memory</a> rules = record {
+  <a href="../../machine/Determinism/index.html#asked">asked</a> = rules.asked;
+  <a href="../../machine/Determinism/index.html#noticed">noticed</a> = λ l failure notice_answer l&#x27;. rules.noticed l failure notice_answer l&#x27; × <a href="../../machine/Determinism/index.html#IsOtherFailure">IsOtherFailure</a> failure;
+}
 
 -- the reply doesn&#x27;t say out of memory
 abbrev pub <b id="IsNotOutOfMemory">IsNotOutOfMemory</b> : Reply → Type 0
@@ -3547,12 +3545,10 @@ abbrev pub <b id="AreNotOutOfMemory">AreNotOutOfMemory</b> : List <a href="../..
 
 -- the rules by which each question is permitted
 abbrev pub <b id="permitting">permitting</b> : {S : Type 0} → <a href="../../meter/Limiter/index.html#Rules">Rules</a> S → <a href="../../meter/Limiter/index.html#Rules">Rules</a> S
-<a href="../../machine/Determinism/index.html#permitting">permitting</a> rules =
-    record {
-      <a href="../../machine/Determinism/index.html#asked">asked</a> = λ l question answer l&#x27;. (answer ≡ Ok true)
-          × rules.asked l question answer l&#x27;;
-      <a href="../../machine/Determinism/index.html#noticed">noticed</a> = rules.noticed;
-    }
+<a href="../../machine/Determinism/index.html#permitting">permitting</a> rules = record {
+  <a href="../../machine/Determinism/index.html#asked">asked</a> = λ l question answer l&#x27;. (answer ≡ Ok true) × rules.asked l question answer l&#x27;;
+  <a href="../../machine/Determinism/index.html#noticed">noticed</a> = rules.noticed;
+}
 
 -- the reply reports no denial, and is no error by which a denial is reported
 abbrev pub <b id="TellsNoDenial">TellsNoDenial</b> : Reply → Type 0
@@ -3891,12 +3887,13 @@ pub record <b id="Exchanges">Exchanges</b> {S : Type 0} (rules : <a href="../../
 
 <pre><code><a href="../../machine/Laws/index.html#use">use</a> Rattle.std.specs.Prelude.{◌≡◌, ◌⊎◌, ◌&lt;◌, ◌≤◌, ◌+◌, ◌*◌, ◌++◌, ℕ, true, Option, Some, Result, Ok, List, length, map, All}
 <a href="../../machine/Laws/index.html#use">use</a> Rattle.wasmi_meter.specs.declared.holdings.Holdings.{Holdings}
-<a href="../../machine/Laws/index.html#use">use</a> Rattle.wasmi_meter.specs.Limiter.{<a href="../../meter/Limiter/index.html#Question">Question</a>, <a href="../../meter/Limiter/index.html#Rules">Rules</a>, <a href="../../meter/Limiter/index.html#Answer">Answer</a>, <a href="../../meter/Limiter/index.html#IsDenial">IsDenial</a>, <a href="../../meter/Limiter/index.html#Failure">Failure</a>, <a href="../../meter/Limiter/index.html#NoticeAnswer">NoticeAnswer</a>, <a href="../../meter/Limiter/index.html#optional_rules">optional_rules</a>}
+<a href="../../machine/Laws/index.html#use">use</a> Rattle.wasmi_meter.specs.Limiter.{<a href="../../meter/Limiter/index.html#Question">Question</a>, <a href="../../meter/Limiter/index.html#Rules">Rules</a>, <a href="../../meter/Limiter/index.html#Failure">Failure</a>, <a href="../../meter/Limiter/index.html#NoticeAnswer">NoticeAnswer</a>, <a href="../../meter/Limiter/index.html#optional_rules">optional_rules</a>}
 <a href="../../machine/Laws/index.html#use">use</a> Rattle.wasmi_meter.specs.Attempt.{<a href="../../meter/Attempt/index.html#MeteredValue">MeteredValue</a>, <a href="../../meter/Attempt/index.html#optional_due">optional_due</a>, <a href="../../meter/Attempt/index.html#covers">covers</a>}
 <a href="../../machine/Laws/index.html#use">use</a> Rattle.wasmi_meter.specs.declared.error.MemoryError.{MemoryError}
 <a href="../../machine/Laws/index.html#use">use</a> Rattle.wasmi_meter.specs.declared.quota.Quota.{Quota}
 <a href="../../machine/Laws/index.html#use">use</a> Rattle.wasmi_meter.specs.Capped.{<a href="../../meter/Capped/index.html#SameCaps">SameCaps</a>, <a href="../../meter/Capped/index.html#IsWithinCaps">IsWithinCaps</a>, <a href="../../meter/Capped/index.html#quota_rules">quota_rules</a>}
 <a href="../../machine/Laws/index.html#use">use</a> Rattle.wasmi_store.specs.Buffer.{<a href="../../store/Buffer/index.html#Lent">Lent</a>, <a href="../../store/Buffer/index.html#fits_room">fits_room</a>}
+<a href="../../machine/Laws/index.html#use">use</a> Rattle.wasmi_store.specs.Growth.{<a href="../../store/Growth/index.html#IsDenied">IsDenied</a>}
 <a href="../../machine/Laws/index.html#use">use</a> Rattle.wasmi_store.specs.Memory.{<a href="../../store/Memory/index.html#MemoryTypeValue">MemoryTypeValue</a>, <a href="../../store/Memory/index.html#page_bytes">page_bytes</a>, <a href="../../store/Memory/index.html#minimum_bytes">minimum_bytes</a>, <a href="../../store/Memory/index.html#in_bounds">in_bounds</a>, <a href="../../store/Memory/index.html#MemoryValue">MemoryValue</a>, <a href="../../store/Memory/index.html#pages_of">pages_of</a>, <a href="../../store/Memory/index.html#growth_of">growth_of</a>, <a href="../../store/Memory/index.html#GrowsMemory">GrowsMemory</a>}
 <a href="../../machine/Laws/index.html#use">use</a> Rattle.wasmi_core.specs.declared.calls.Call.{Call}
 <a href="../../machine/Laws/index.html#use">use</a> Rattle.wasmi_core.specs.declared.calls.Call.TheVariants.{NewMemory, NewLentMemory}
@@ -3973,8 +3970,7 @@ module _ {S : Type 0} (rules : <a href="../../meter/Limiter/index.html#Rules">Ru
 
   -- in a run each turn asks, grows and is charged as a step does (`Exchanges`)
   abbrev pub <b id="RunsGrowAsPermitted">RunsGrowAsPermitted</b> : Type 0
-  <a href="../../machine/Laws/index.html#RunsGrowAsPermitted">RunsGrowAsPermitted</a> =
-      (w : <a href="../../machine/State/index.html#World">World</a> S) (turns : List <a href="../../machine/State/index.html#Turn">Turn</a>) (w&#x27; : <a href="../../machine/State/index.html#World">World</a> S) → <a href="../../machine/Steps/index.html#Run">Run</a> rules w turns w&#x27;
+  <a href="../../machine/Laws/index.html#RunsGrowAsPermitted">RunsGrowAsPermitted</a> = (w : <a href="../../machine/State/index.html#World">World</a> S) (turns : List <a href="../../machine/State/index.html#Turn">Turn</a>) (w&#x27; : <a href="../../machine/State/index.html#World">World</a> S) → <a href="../../machine/Steps/index.html#Run">Run</a> rules w turns w&#x27;
       → <a href="../../machine/Steps/index.html#Sequence">Sequence</a> (λ v turn v&#x27;. <a href="../../machine/Steps/index.html#Step">Step</a> rules v turn v&#x27; × <a href="../../machine/Exchange/index.html#Exchanges">Exchanges</a> rules v turn v&#x27;) w turns w&#x27;
 
   -- a run in which no reply reports a denial is one in which each question was permitted
@@ -4007,10 +4003,8 @@ module _ {S : Type 0} (rules : <a href="../../meter/Limiter/index.html#Rules">Ru
   -- while metering is on, what calls that don&#x27;t set the fuel were charged is what was left before and isn&#x27;t left after,
   -- and it bounds what they have written
   abbrev pub <b id="ChargesAreSpent">ChargesAreSpent</b> : Type 0
-  <a href="../../machine/Laws/index.html#ChargesAreSpent">ChargesAreSpent</a> =
-      (w : <a href="../../machine/State/index.html#World">World</a> S) (left : ℕ) → w.state.meter.left ≡ Some left → (turns : List <a href="../../machine/State/index.html#Turn">Turn</a>) (w&#x27; : <a href="../../machine/State/index.html#World">World</a> S)
-      → <a href="../../machine/Steps/index.html#Run">Run</a> rules w turns w&#x27; → All <a href="../../machine/Account/index.html#SetsNoFuel">SetsNoFuel</a> (map Turn.call turns)
-      → (left&#x27; : ℕ) × (w&#x27;.state.meter.left ≡ Some left&#x27;)
+  <a href="../../machine/Laws/index.html#ChargesAreSpent">ChargesAreSpent</a> = (w : <a href="../../machine/State/index.html#World">World</a> S) (left : ℕ) → w.state.meter.left ≡ Some left → (turns : List <a href="../../machine/State/index.html#Turn">Turn</a>) (w&#x27; : <a href="../../machine/State/index.html#World">World</a> S)
+      → <a href="../../machine/Steps/index.html#Run">Run</a> rules w turns w&#x27; → All <a href="../../machine/Account/index.html#SetsNoFuel">SetsNoFuel</a> (map Turn.call turns) → (left&#x27; : ℕ) × (w&#x27;.state.meter.left ≡ Some left&#x27;)
       × <a href="../../machine/Account/index.html#IsSpent">IsSpent</a> w.state.meter.costs.bytes_copied_per_fuel left left&#x27; turns
 
   -- turns of a run, and those of a run from where it ends, are one run
@@ -4022,15 +4016,13 @@ module _ {S : Type 0} (rules : <a href="../../meter/Limiter/index.html#Rules">Ru
   abbrev pub <b id="RunsOfCallsJoin">RunsOfCallsJoin</b> : Type 0
   <a href="../../machine/Laws/index.html#RunsOfCallsJoin">RunsOfCallsJoin</a> =
       (calls calls&#x27; : List Call) (u v w : <a href="../../machine/State/index.html#World">World</a> S) (<a href="../../machine/Laws/index.html#replies">replies</a> replies&#x27; : List Reply) → <a href="../../machine/Steps/index.html#IsRunOf">IsRunOf</a> rules calls u <a href="../../machine/Laws/index.html#replies">replies</a> v
-      → <a href="../../machine/Steps/index.html#IsRunOf">IsRunOf</a> rules calls&#x27; v replies&#x27; w
-      → <a href="../../machine/Steps/index.html#IsRunOf">IsRunOf</a> rules (calls ++ calls&#x27;) u (<a href="../../machine/Laws/index.html#replies">replies</a> ++ replies&#x27;) w
+      → <a href="../../machine/Steps/index.html#IsRunOf">IsRunOf</a> rules calls&#x27; v replies&#x27; w → <a href="../../machine/Steps/index.html#IsRunOf">IsRunOf</a> rules (calls ++ calls&#x27;) u (<a href="../../machine/Laws/index.html#replies">replies</a> ++ replies&#x27;) w
 
 module _ {S : Type 0} (rules : <a href="../../meter/Limiter/index.html#Rules">Rules</a> S) where
   -- a run that makes no memory in a region and grows none past its own is a run of the same machine with memories of
   -- their own
   abbrev pub <b id="LentRunsAreOwned">LentRunsAreOwned</b> : Type 0
-  <a href="../../machine/Laws/index.html#LentRunsAreOwned">LentRunsAreOwned</a> =
-      (w : <a href="../../machine/State/index.html#World">World</a> S) (turns : List <a href="../../machine/State/index.html#Turn">Turn</a>) (w&#x27; : <a href="../../machine/State/index.html#World">World</a> S) → <a href="../../machine/LentMemory/index.html#RunInRegions">RunInRegions</a> rules w turns w&#x27;
+  <a href="../../machine/Laws/index.html#LentRunsAreOwned">LentRunsAreOwned</a> = (w : <a href="../../machine/State/index.html#World">World</a> S) (turns : List <a href="../../machine/State/index.html#Turn">Turn</a>) (w&#x27; : <a href="../../machine/State/index.html#World">World</a> S) → <a href="../../machine/LentMemory/index.html#RunInRegions">RunInRegions</a> rules w turns w&#x27;
       → <a href="../../machine/Steps/index.html#Run">Run</a> rules (<a href="../../machine/LentMemory/index.html#owned_world">owned_world</a> w) turns (<a href="../../machine/LentMemory/index.html#owned_world">owned_world</a> w&#x27;)
 
   -- a creation in a spare region of at least the minimum is a creation of a memory of its own
@@ -4043,15 +4035,12 @@ module _ {S : Type 0} (rules : <a href="../../meter/Limiter/index.html#Rules">Ru
   -- a growth of a lent memory that its type and its region have place for, and that can be paid, is refused by the
   -- limiter alone
   abbrev pub <b id="LentGrowthsSucceed">LentGrowthsSucceed</b> : Type 0
-  <a href="../../machine/Laws/index.html#LentGrowthsSucceed">LentGrowthsSucceed</a> =
-      (pages : ℕ) (s : <a href="../../meter/Attempt/index.html#MeteredValue">MeteredValue</a> <a href="../../store/Memory/index.html#MemoryValue">MemoryValue</a> S) (rest : List ℕ) → s.value.room ≡ <a href="../../store/Buffer/index.html#Lent">Lent</a> rest
+  <a href="../../machine/Laws/index.html#LentGrowthsSucceed">LentGrowthsSucceed</a> = (pages : ℕ) (s : <a href="../../meter/Attempt/index.html#MeteredValue">MeteredValue</a> <a href="../../store/Memory/index.html#MemoryValue">MemoryValue</a> S) (rest : List ℕ) → s.value.room ≡ <a href="../../store/Buffer/index.html#Lent">Lent</a> rest
       → <a href="../../store/Memory/index.html#in_bounds">in_bounds</a> s.value.ty (<a href="../../store/Memory/index.html#pages_of">pages_of</a> s.value + pages) ≡ true
       → <a href="../../store/Buffer/index.html#fits_room">fits_room</a> s.value.room (pages * <a href="../../store/Memory/index.html#page_bytes">page_bytes</a> s.value.ty.page) ≡ true
       → <a href="../../meter/Attempt/index.html#covers">covers</a> s.meter (<a href="../../meter/Attempt/index.html#optional_due">optional_due</a> s.meter (<a href="../../store/Memory/index.html#growth_of">growth_of</a> s.value pages).price) ≡ true
       → (result : Result ℕ MemoryError) (s&#x27; : <a href="../../meter/Attempt/index.html#MeteredValue">MeteredValue</a> <a href="../../store/Memory/index.html#MemoryValue">MemoryValue</a> S) → <a href="../../store/Memory/index.html#GrowsMemory">GrowsMemory</a> rules pages s result s&#x27;
-      → (result ≡ Ok (<a href="../../store/Memory/index.html#pages_of">pages_of</a> s.value))
-      ⊎ ((answer : <a href="../../meter/Limiter/index.html#Answer">Answer</a>) × <a href="../../meter/Limiter/index.html#IsDenial">IsDenial</a> answer
-      × rules.asked s.limiter (<a href="../../store/Memory/index.html#growth_of">growth_of</a> s.value pages).<a href="../../machine/Laws/index.html#question">question</a> answer s&#x27;.limiter)
+      → (result ≡ Ok (<a href="../../store/Memory/index.html#pages_of">pages_of</a> s.value)) ⊎ <a href="../../store/Growth/index.html#IsDenied">IsDenied</a> rules (<a href="../../store/Memory/index.html#growth_of">growth_of</a> s.value pages).<a href="../../machine/Laws/index.html#question">question</a> s.limiter s&#x27;.limiter
 
 -- if the limiter is deterministic, two runs of one list of calls from one world, in which neither a reply nor a notice
 -- says out of memory, are one
@@ -4071,8 +4060,7 @@ abbrev pub <b id="RepliesTell">RepliesTell</b> : {L : Type 0} → <a href="../..
 -- if the limiter is deterministic and accepts each notice, two runs of one list of calls from one world, in which no
 -- reply says out of memory, have the same replies and end in one world
 abbrev pub <b id="RepliesAreOne">RepliesAreOne</b> : {L : Type 0} → <a href="../../meter/Limiter/index.html#Rules">Rules</a> L → Type 0
-<a href="../../machine/Laws/index.html#RepliesAreOne">RepliesAreOne</a> {L} rules =
-    <a href="../../machine/Determinism/index.html#IsDeterministic">IsDeterministic</a> rules → <a href="../../machine/Determinism/index.html#AcceptsNotices">AcceptsNotices</a> rules
+<a href="../../machine/Laws/index.html#RepliesAreOne">RepliesAreOne</a> {L} rules = <a href="../../machine/Determinism/index.html#IsDeterministic">IsDeterministic</a> rules → <a href="../../machine/Determinism/index.html#AcceptsNotices">AcceptsNotices</a> rules
     → (calls : List Call) (w : <a href="../../machine/State/index.html#World">World</a> (Option L)) (<a href="../../machine/Laws/index.html#replies">replies</a> replies&#x27; : List Reply) (v v&#x27; : <a href="../../machine/State/index.html#World">World</a> (Option L))
     → All <a href="../../machine/Determinism/index.html#IsNotOutOfMemory">IsNotOutOfMemory</a> <a href="../../machine/Laws/index.html#replies">replies</a> → All <a href="../../machine/Determinism/index.html#IsNotOutOfMemory">IsNotOutOfMemory</a> replies&#x27;
     → <a href="../../machine/Steps/index.html#IsRunOf">IsRunOf</a> (<a href="../../meter/Limiter/index.html#optional_rules">optional_rules</a> rules) calls w <a href="../../machine/Laws/index.html#replies">replies</a> v → <a href="../../machine/Steps/index.html#IsRunOf">IsRunOf</a> (<a href="../../meter/Limiter/index.html#optional_rules">optional_rules</a> rules) calls w replies&#x27; v&#x27;
@@ -4081,14 +4069,12 @@ abbrev pub <b id="RepliesAreOne">RepliesAreOne</b> : {L : Type 0} → <a href=".
 -- a limiter that holds the totals before a run is there after it, and holds the totals then
 abbrev pub <b id="HoldsTotalsAlways">HoldsTotalsAlways</b> : {L : Type 0} → <a href="../../meter/Limiter/index.html#Rules">Rules</a> L → (L → Holdings) → Type 0
 <a href="../../machine/Laws/index.html#HoldsTotalsAlways">HoldsTotalsAlways</a> {L} rules holdings = (s : <a href="../../machine/State/index.html#State">State</a>) (l : L) → <a href="../../machine/State/index.html#HoldsTotals">HoldsTotals</a> (holdings l) s
-    → (turns : List <a href="../../machine/State/index.html#Turn">Turn</a>) (w&#x27; : <a href="../../machine/State/index.html#World">World</a> (Option L))
-    → <a href="../../machine/Steps/index.html#Run">Run</a> (<a href="../../meter/Limiter/index.html#optional_rules">optional_rules</a> rules) (<a href="../../machine/State/index.html#world">world</a> s (Some l)) turns w&#x27;
+    → (turns : List <a href="../../machine/State/index.html#Turn">Turn</a>) (w&#x27; : <a href="../../machine/State/index.html#World">World</a> (Option L)) → <a href="../../machine/Steps/index.html#Run">Run</a> (<a href="../../meter/Limiter/index.html#optional_rules">optional_rules</a> rules) (<a href="../../machine/State/index.html#world">world</a> s (Some l)) turns w&#x27;
     → (l&#x27; : L) × (w&#x27;.limiter ≡ Some l&#x27;) × <a href="../../machine/State/index.html#HoldsTotals">HoldsTotals</a> (holdings l&#x27;) w&#x27;.state
 
 -- a quota that holds at most its caps before a run does so after it, and has the same caps
 abbrev pub <b id="QuotasStayWithin">QuotasStayWithin</b> : Type 0
-<a href="../../machine/Laws/index.html#QuotasStayWithin">QuotasStayWithin</a> =
-    (s : <a href="../../machine/State/index.html#State">State</a>) (quota : Quota) → <a href="../../meter/Capped/index.html#IsWithinCaps">IsWithinCaps</a> quota → (turns : List <a href="../../machine/State/index.html#Turn">Turn</a>) (w&#x27; : <a href="../../machine/State/index.html#World">World</a> (Option Quota))
+<a href="../../machine/Laws/index.html#QuotasStayWithin">QuotasStayWithin</a> = (s : <a href="../../machine/State/index.html#State">State</a>) (quota : Quota) → <a href="../../meter/Capped/index.html#IsWithinCaps">IsWithinCaps</a> quota → (turns : List <a href="../../machine/State/index.html#Turn">Turn</a>) (w&#x27; : <a href="../../machine/State/index.html#World">World</a> (Option Quota))
     → <a href="../../machine/Steps/index.html#Run">Run</a> (<a href="../../meter/Limiter/index.html#optional_rules">optional_rules</a> <a href="../../meter/Capped/index.html#quota_rules">quota_rules</a>) (<a href="../../machine/State/index.html#world">world</a> s (Some quota)) turns w&#x27;
     → (quota&#x27; : Quota) × (w&#x27;.limiter ≡ Some quota&#x27;) × <a href="../../meter/Capped/index.html#IsWithinCaps">IsWithinCaps</a> quota&#x27; × <a href="../../meter/Capped/index.html#SameCaps">SameCaps</a> quota quota&#x27;
 </code></pre>
@@ -4344,16 +4330,10 @@ pub record <b id="State">State</b> : Type 0 where
 
 -- a machine on which nothing was made yet, with 16 registers of zeros
 abbrev pub <b id="new_state">new_state</b> : <a href="../../meter/Meter/index.html#Meter">Meter</a> → <a href="../../machine/State/index.html#State">State</a>
-<a href="../../machine/State/index.html#new_state">new_state</a> <a href="../../machine/State/index.html#meter">meter</a> =
-    record {
-      <a href="../../machine/State/index.html#memories">memories</a> = [];
-      <a href="../../machine/State/index.html#tables">tables</a> = [];
-      <a href="../../machine/State/index.html#segments">segments</a> = [];
-      <a href="../../machine/State/index.html#globals">globals</a> = [];
-      <a href="../../machine/State/index.html#registers">registers</a> = replicate 16 (<a href="../../raw/RawVal/index.html#raw_of">raw_of</a> 0);
-      <a href="../../machine/State/index.html#meter">meter</a> = <a href="../../machine/State/index.html#meter">meter</a>;
-      <a href="../../machine/State/index.html#spare">spare</a> = None;
-    }
+<a href="../../machine/State/index.html#new_state">new_state</a> <a href="../../machine/State/index.html#meter">meter</a> = record {
+  <a href="../../machine/State/index.html#memories">memories</a> = []; <a href="../../machine/State/index.html#tables">tables</a> = []; <a href="../../machine/State/index.html#segments">segments</a> = []; <a href="../../machine/State/index.html#globals">globals</a> = []; <a href="../../machine/State/index.html#registers">registers</a> = replicate 16 (<a href="../../raw/RawVal/index.html#raw_of">raw_of</a> 0); <a href="../../machine/State/index.html#meter">meter</a> = <a href="../../machine/State/index.html#meter">meter</a>;
+  <a href="../../machine/State/index.html#spare">spare</a> = None;
+}
 
 -- the state with this spare region
 abbrev pub <b id="with_spare">with_spare</b> : <a href="../../machine/State/index.html#State">State</a> → List ℕ → <a href="../../machine/State/index.html#State">State</a>
@@ -4401,14 +4381,15 @@ pub record <b id="World">World</b> (S : Type 0) : Type 0 where
 abbrev pub <b id="world">world</b> : {S : Type 0} → <a href="../../machine/State/index.html#State">State</a> → S → <a href="../../machine/State/index.html#World">World</a> S
 <a href="../../machine/State/index.html#world">world</a> machine <a href="../../machine/State/index.html#limiter">limiter</a> = record { <a href="../../machine/State/index.html#state">state</a> = machine; <a href="../../machine/State/index.html#limiter">limiter</a> = <a href="../../machine/State/index.html#limiter">limiter</a> }
 
--- one call: its reply, the fuel that it was charged and the bytes that it has written by growing or copying
+-- one call with its reply, the fuel that it was charged, and how many bytes it has written by a growth or over a part of
+-- a table
 pub record <b id="Turn">Turn</b> : Type 0 where
   pub <b id="call">call</b> : Call
   pub <b id="reply">reply</b> : Reply
   pub <b id="charge">charge</b> : ℕ
   pub <b id="written">written</b> : ℕ
 
--- a turn that is neither charged nor written by
+-- a turn that is charged nothing, and that has written nothing by a growth or over a part of a table
 abbrev pub <b id="IsFree">IsFree</b> : <a href="../../machine/State/index.html#Turn">Turn</a> → Type 0
 <a href="../../machine/State/index.html#IsFree">IsFree</a> turn = (turn.charge ≡ 0) × (turn.written ≡ 0)
 
@@ -4510,7 +4491,7 @@ pub data <b id="Subject">Subject</b> : Type 0 where
   <b id="RegisterFile">RegisterFile</b> : <a href="../../machine/Steps/index.html#Subject">Subject</a>
   <b id="VectorAccesses">VectorAccesses</b> : <a href="../../machine/Steps/index.html#Subject">Subject</a>
 
--- what each call is about: a line for each
+-- what each call is about: a line for each, but for those on registers
 abbrev pub <b id="subject_of">subject_of</b> : Call → <a href="../../machine/Steps/index.html#Subject">Subject</a>
 <a href="../../machine/Steps/index.html#subject_of">subject_of</a> (call.SetFuel fuel) = <a href="../../machine/Steps/index.html#TheMeter">TheMeter</a>
 <a href="../../machine/Steps/index.html#subject_of">subject_of</a> call.GetFuel = <a href="../../machine/Steps/index.html#TheMeter">TheMeter</a>
@@ -4535,21 +4516,11 @@ abbrev pub <b id="subject_of">subject_of</b> : Call → <a href="../../machine/S
 <a href="../../machine/Steps/index.html#subject_of">subject_of</a> (call.NewGlobal value ty) = <a href="../../machine/Steps/index.html#Values">Values</a>
 <a href="../../machine/Steps/index.html#subject_of">subject_of</a> (call.SetGlobal k value) = <a href="../../machine/Steps/index.html#Values">Values</a>
 <a href="../../machine/Steps/index.html#subject_of">subject_of</a> (call.GetGlobal k) = <a href="../../machine/Steps/index.html#Values">Values</a>
-<a href="../../machine/Steps/index.html#subject_of">subject_of</a> (call.SetRegister dst value) = <a href="../../machine/Steps/index.html#RegisterFile">RegisterFile</a>
-<a href="../../machine/Steps/index.html#subject_of">subject_of</a> (call.GetRegister a) = <a href="../../machine/Steps/index.html#RegisterFile">RegisterFile</a>
-<a href="../../machine/Steps/index.html#subject_of">subject_of</a> (call.Make op dst a) = <a href="../../machine/Steps/index.html#RegisterFile">RegisterFile</a>
-<a href="../../machine/Steps/index.html#subject_of">subject_of</a> (call.Unary op dst a) = <a href="../../machine/Steps/index.html#RegisterFile">RegisterFile</a>
-<a href="../../machine/Steps/index.html#subject_of">subject_of</a> (call.Binary op dst a b) = <a href="../../machine/Steps/index.html#RegisterFile">RegisterFile</a>
-<a href="../../machine/Steps/index.html#subject_of">subject_of</a> (call.Ternary op dst a b c) = <a href="../../machine/Steps/index.html#RegisterFile">RegisterFile</a>
-<a href="../../machine/Steps/index.html#subject_of">subject_of</a> (call.Shift op dst a amount) = <a href="../../machine/Steps/index.html#RegisterFile">RegisterFile</a>
-<a href="../../machine/Steps/index.html#subject_of">subject_of</a> (call.Test op a) = <a href="../../machine/Steps/index.html#RegisterFile">RegisterFile</a>
-<a href="../../machine/Steps/index.html#subject_of">subject_of</a> (call.Extract op a) = <a href="../../machine/Steps/index.html#RegisterFile">RegisterFile</a>
-<a href="../../machine/Steps/index.html#subject_of">subject_of</a> (call.Replace op dst a item) = <a href="../../machine/Steps/index.html#RegisterFile">RegisterFile</a>
-<a href="../../machine/Steps/index.html#subject_of">subject_of</a> (call.Shuffle dst a b lanes) = <a href="../../machine/Steps/index.html#RegisterFile">RegisterFile</a>
 <a href="../../machine/Steps/index.html#subject_of">subject_of</a> (call.VectorLoad op dst k ptr offset) = <a href="../../machine/Steps/index.html#VectorAccesses">VectorAccesses</a>
 <a href="../../machine/Steps/index.html#subject_of">subject_of</a> (call.LoadLane op dst a k ptr offset) = <a href="../../machine/Steps/index.html#VectorAccesses">VectorAccesses</a>
 <a href="../../machine/Steps/index.html#subject_of">subject_of</a> (call.VectorStore a k ptr offset) = <a href="../../machine/Steps/index.html#VectorAccesses">VectorAccesses</a>
 <a href="../../machine/Steps/index.html#subject_of">subject_of</a> (call.StoreLane op a k ptr offset) = <a href="../../machine/Steps/index.html#VectorAccesses">VectorAccesses</a>
+<a href="../../machine/Steps/index.html#subject_of">subject_of</a> call = <a href="../../machine/Steps/index.html#RegisterFile">RegisterFile</a>
 
 -- the calls that are charged for what they write: growths, and those that write over a part of a table
 abbrev pub <b id="is_charged">is_charged</b> : Call → Bool
@@ -4619,15 +4590,13 @@ abbrev pub <b id="effect_of">effect_of</b> : <a href="../../machine/State/index.
 <a href="../../machine/Steps/index.html#effect_of">effect_of</a> s (call.Unary op dst a) = <a href="../../machine/Steps/index.html#Changed">Changed</a> (<a href="../../machine/Steps/index.html#RegisterSet">RegisterSet</a> dst (<a href="../../machine/RegisterEffects/index.html#of_one">of_one</a> (<a href="../../ops/VectorOps/index.html#unary_vector">unary_vector</a> op) (<a href="../../machine/RegisterEffects/index.html#vector_at">vector_at</a> s.registers a)))
 <a href="../../machine/Steps/index.html#effect_of">effect_of</a> s (call.Binary op dst a b) =
     <a href="../../machine/Steps/index.html#Changed">Changed</a> (<a href="../../machine/Steps/index.html#RegisterSet">RegisterSet</a> dst (<a href="../../machine/RegisterEffects/index.html#of_two">of_two</a> (<a href="../../ops/VectorOps/index.html#binary_vector">binary_vector</a> op) (<a href="../../machine/RegisterEffects/index.html#vector_at">vector_at</a> s.registers a) (<a href="../../machine/RegisterEffects/index.html#vector_at">vector_at</a> s.registers b)))
-<a href="../../machine/Steps/index.html#effect_of">effect_of</a> s (call.Ternary op dst a b c) =
-    <a href="../../machine/Steps/index.html#Changed">Changed</a> (<a href="../../machine/Steps/index.html#RegisterSet">RegisterSet</a> dst
+<a href="../../machine/Steps/index.html#effect_of">effect_of</a> s (call.Ternary op dst a b c) = <a href="../../machine/Steps/index.html#Changed">Changed</a> (<a href="../../machine/Steps/index.html#RegisterSet">RegisterSet</a> dst
     (<a href="../../machine/RegisterEffects/index.html#of_three">of_three</a> (<a href="../../ops/VectorOps/index.html#ternary_vector">ternary_vector</a> op) (<a href="../../machine/RegisterEffects/index.html#vector_at">vector_at</a> s.registers a) (<a href="../../machine/RegisterEffects/index.html#vector_at">vector_at</a> s.registers b) (<a href="../../machine/RegisterEffects/index.html#vector_at">vector_at</a> s.registers c)))
 <a href="../../machine/Steps/index.html#effect_of">effect_of</a> s (call.Shift op dst a amount) =
     <a href="../../machine/Steps/index.html#Changed">Changed</a> (<a href="../../machine/Steps/index.html#RegisterSet">RegisterSet</a> dst (<a href="../../machine/RegisterEffects/index.html#of_one">of_one</a> (λ v. <a href="../../ops/VectorOps/index.html#shifted_vector">shifted_vector</a> op v amount) (<a href="../../machine/RegisterEffects/index.html#vector_at">vector_at</a> s.registers a)))
 <a href="../../machine/Steps/index.html#effect_of">effect_of</a> s (call.Test op a) = <a href="../../machine/Steps/index.html#Told">Told</a> (<a href="../../machine/RegisterEffects/index.html#raw_reply">raw_reply</a> (option_map (<a href="../../ops/VectorOps/index.html#tested_raw">tested_raw</a> op) (<a href="../../machine/RegisterEffects/index.html#vector_at">vector_at</a> s.registers a)))
 <a href="../../machine/Steps/index.html#effect_of">effect_of</a> s (call.Extract op a) = <a href="../../machine/Steps/index.html#Told">Told</a> (<a href="../../machine/RegisterEffects/index.html#raw_reply">raw_reply</a> (option_map (<a href="../../ops/LaneOps/index.html#extracted_raw">extracted_raw</a> op) (<a href="../../machine/RegisterEffects/index.html#vector_at">vector_at</a> s.registers a)))
-<a href="../../machine/Steps/index.html#effect_of">effect_of</a> s (call.Replace op dst a item) =
-    <a href="../../machine/Steps/index.html#Changed">Changed</a> (<a href="../../machine/Steps/index.html#RegisterSet">RegisterSet</a> dst
+<a href="../../machine/Steps/index.html#effect_of">effect_of</a> s (call.Replace op dst a item) = <a href="../../machine/Steps/index.html#Changed">Changed</a> (<a href="../../machine/Steps/index.html#RegisterSet">RegisterSet</a> dst
     (option_and_then (λ raw. <a href="../../machine/RegisterEffects/index.html#of_one">of_one</a> (λ v. <a href="../../ops/LaneOps/index.html#replaced_vector">replaced_vector</a> op v raw) (<a href="../../machine/RegisterEffects/index.html#vector_at">vector_at</a> s.registers a))
     (slice_get s.registers item)))
 <a href="../../machine/Steps/index.html#effect_of">effect_of</a> s (call.Shuffle dst a b lanes) =
@@ -4657,22 +4626,19 @@ abbrev pub <b id="HasChange">HasChange</b> : <a href="../../machine/Steps/index.
 -- an effect takes place from one world to the next: a line for each kind
 abbrev pub <b id="HasEffect">HasEffect</b> : {S : Type 0} → <a href="../../meter/Limiter/index.html#Rules">Rules</a> S → <a href="../../machine/Steps/index.html#Effect">Effect</a> → <a href="../../machine/State/index.html#World">World</a> S → <a href="../../machine/State/index.html#Turn">Turn</a> → <a href="../../machine/State/index.html#World">World</a> S → Type 0
 <a href="../../machine/Steps/index.html#HasEffect">HasEffect</a> rules (<a href="../../machine/Steps/index.html#Told">Told</a> told) w turn w&#x27; = <a href="../../machine/Effects/index.html#OnlyReplies">OnlyReplies</a> w turn w&#x27; (λ answer. answer ≡ told)
-<a href="../../machine/Steps/index.html#HasEffect">HasEffect</a> rules (<a href="../../machine/Steps/index.html#BytesRead">BytesRead</a> k offset len) w turn w&#x27; =
-    <a href="../../machine/Effects/index.html#OnlyReplies">OnlyReplies</a> w turn w&#x27; (<a href="../../machine/MemoryEffects/index.html#ReadsMemoryAt">ReadsMemoryAt</a> k offset len w.state.memories)
+<a href="../../machine/Steps/index.html#HasEffect">HasEffect</a> rules (<a href="../../machine/Steps/index.html#BytesRead">BytesRead</a> k offset len) w turn w&#x27; = <a href="../../machine/Effects/index.html#OnlyReplies">OnlyReplies</a> w turn w&#x27; (<a href="../../machine/MemoryEffects/index.html#ReadsMemoryAt">ReadsMemoryAt</a> k offset len w.state.memories)
 <a href="../../machine/Steps/index.html#HasEffect">HasEffect</a> rules (<a href="../../machine/Steps/index.html#FuelSet">FuelSet</a> fuel) w turn w&#x27; = <a href="../../machine/Effects/index.html#Changes">Changes</a> w turn w&#x27; (<a href="../../machine/ValueEffects/index.html#SetsFuel">SetsFuel</a> fuel w.state)
 <a href="../../machine/Steps/index.html#HasEffect">HasEffect</a> rules (<a href="../../machine/Steps/index.html#Changed">Changed</a> change) w turn w&#x27; = <a href="../../machine/Effects/index.html#Changes">Changes</a> w turn w&#x27; (<a href="../../machine/Steps/index.html#HasChange">HasChange</a> change w.state)
 <a href="../../machine/Steps/index.html#HasEffect">HasEffect</a> rules (<a href="../../machine/Steps/index.html#MemoryMade">MemoryMade</a> ty) w turn w&#x27; =
     <a href="../../machine/Effects/index.html#Asks">Asks</a> w turn w&#x27; (<a href="../../machine/State/index.html#with_memories">with_memories</a> w.state) (<a href="../../machine/Effects/index.html#Creates">Creates</a> reply.Memory (<a href="../../store/Memory/index.html#MakesMemory">MakesMemory</a> rules <a href="../../store/Buffer/index.html#Owned">Owned</a> ty) w.state.memories)
 <a href="../../machine/Steps/index.html#HasEffect">HasEffect</a> rules (<a href="../../machine/Steps/index.html#LentMemoryMade">LentMemoryMade</a> ty) w turn w&#x27; =
     <a href="../../machine/Effects/index.html#Asks">Asks</a> w turn w&#x27; (<a href="../../machine/State/index.html#with_memory_part">with_memory_part</a> w.state) (<a href="../../machine/MemoryEffects/index.html#CreatesLent">CreatesLent</a> rules ty (<a href="../../machine/State/index.html#memory_part">memory_part</a> w.state))
-<a href="../../machine/Steps/index.html#HasEffect">HasEffect</a> rules (<a href="../../machine/Steps/index.html#MemoryGrown">MemoryGrown</a> k pages) w turn w&#x27; =
-    <a href="../../machine/Effects/index.html#ActsMetered">ActsMetered</a> w turn w&#x27; w.state.memories (<a href="../../machine/State/index.html#with_memories">with_memories</a> w.state)
+<a href="../../machine/Steps/index.html#HasEffect">HasEffect</a> rules (<a href="../../machine/Steps/index.html#MemoryGrown">MemoryGrown</a> k pages) w turn w&#x27; = <a href="../../machine/Effects/index.html#ActsMetered">ActsMetered</a> w turn w&#x27; w.state.memories (<a href="../../machine/State/index.html#with_memories">with_memories</a> w.state)
     (<a href="../../machine/Effects/index.html#ActsAt">ActsAt</a> k (<a href="../../machine/Effects/index.html#reply_of">reply_of</a> reply.Number reply.Memory) (<a href="../../store/Memory/index.html#GrowsMemoryCharging">GrowsMemoryCharging</a> rules pages))
     (<a href="../../machine/MemoryEffects/index.html#bytes_appended">bytes_appended</a> (<a href="../../machine/State/index.html#live_at">live_at</a> w.state.memories k) pages)
 <a href="../../machine/Steps/index.html#HasEffect">HasEffect</a> rules (<a href="../../machine/Steps/index.html#TableMade">TableMade</a> ty init) w turn w&#x27; =
     <a href="../../machine/Effects/index.html#Asks">Asks</a> w turn w&#x27; (<a href="../../machine/State/index.html#with_tables">with_tables</a> w.state) (<a href="../../machine/Effects/index.html#Creates">Creates</a> reply.Table (<a href="../../store/Table/index.html#MakesTable">MakesTable</a> rules ty init) w.state.tables)
-<a href="../../machine/Steps/index.html#HasEffect">HasEffect</a> rules (<a href="../../machine/Steps/index.html#TableGrown">TableGrown</a> k n init) w turn w&#x27; =
-    <a href="../../machine/Effects/index.html#ActsMetered">ActsMetered</a> w turn w&#x27; w.state.tables (<a href="../../machine/State/index.html#with_tables">with_tables</a> w.state)
+<a href="../../machine/Steps/index.html#HasEffect">HasEffect</a> rules (<a href="../../machine/Steps/index.html#TableGrown">TableGrown</a> k n init) w turn w&#x27; = <a href="../../machine/Effects/index.html#ActsMetered">ActsMetered</a> w turn w&#x27; w.state.tables (<a href="../../machine/State/index.html#with_tables">with_tables</a> w.state)
     (<a href="../../machine/Effects/index.html#ActsAt">ActsAt</a> k (<a href="../../machine/Effects/index.html#reply_of">reply_of</a> reply.Number reply.Table) (<a href="../../store/Table/index.html#GrowsTableCharging">GrowsTableCharging</a> rules n init)) (<a href="../../machine/TableEffects/index.html#element_bytes">element_bytes</a> n)
 <a href="../../machine/Steps/index.html#HasEffect">HasEffect</a> rules (<a href="../../machine/Steps/index.html#RangeWritten">RangeWritten</a> k source dst len) w turn w&#x27; =
     <a href="../../machine/Effects/index.html#ActsMeteredUnasked">ActsMeteredUnasked</a> w turn w&#x27; w.state.tables (<a href="../../machine/State/index.html#with_tables">with_tables</a> w.state) (<a href="../../machine/TableEffects/index.html#WritesRangeAt">WritesRangeAt</a> k (<a href="../../machine/TableEffects/index.html#write_of">write_of</a> source dst len))
@@ -4684,16 +4650,13 @@ abbrev pub <b id="Step">Step</b> : {S : Type 0} → <a href="../../meter/Limiter
 
 -- a call is answered by a reply: there is a step by it, with some charge and some bytes written
 abbrev pub <b id="RepliesWith">RepliesWith</b> : {S : Type 0} → <a href="../../meter/Limiter/index.html#Rules">Rules</a> S → Call → <a href="../../machine/State/index.html#World">World</a> S → Reply → <a href="../../machine/State/index.html#World">World</a> S → Type 0
-<a href="../../machine/Steps/index.html#RepliesWith">RepliesWith</a> rules call w reply w&#x27; =
-    (charge : ℕ) × (written : ℕ)
+<a href="../../machine/Steps/index.html#RepliesWith">RepliesWith</a> rules call w reply w&#x27; = (charge : ℕ) × (written : ℕ)
     × <a href="../../machine/Steps/index.html#Step">Step</a> rules w (record { call = call; reply = reply; charge = charge; written = written }) w&#x27;
 
 -- a call is answered by a reply without the limiter, whatever the limiter is, in a step that charges and writes nothing
 abbrev pub <b id="RepliesWithoutLimiter">RepliesWithoutLimiter</b> : {S : Type 0} → <a href="../../meter/Limiter/index.html#Rules">Rules</a> S → Call → <a href="../../machine/State/index.html#State">State</a> → Reply → <a href="../../machine/State/index.html#State">State</a> → Type 0
-<a href="../../machine/Steps/index.html#RepliesWithoutLimiter">RepliesWithoutLimiter</a> {S} rules call s reply s&#x27; =
-    (limiter : S)
-    → <a href="../../machine/Steps/index.html#Step">Step</a> rules (<a href="../../machine/State/index.html#world">world</a> s limiter) (record { call = call; reply = reply; charge = 0; written = 0 })
-    (<a href="../../machine/State/index.html#world">world</a> s&#x27; limiter)
+<a href="../../machine/Steps/index.html#RepliesWithoutLimiter">RepliesWithoutLimiter</a> {S} rules call s reply s&#x27; = (limiter : S)
+    → <a href="../../machine/Steps/index.html#Step">Step</a> rules (<a href="../../machine/State/index.html#world">world</a> s limiter) (record { call = call; reply = reply; charge = 0; written = 0 }) (<a href="../../machine/State/index.html#world">world</a> s&#x27; limiter)
 
 -- turns one after another from one world to another, each of which relates the worlds before and after it
 abbrev pub <b id="Sequence">Sequence</b> : {S : Type 0} → (<a href="../../machine/State/index.html#World">World</a> S → <a href="../../machine/State/index.html#Turn">Turn</a> → <a href="../../machine/State/index.html#World">World</a> S → Type 0) → <a href="../../machine/State/index.html#World">World</a> S → List <a href="../../machine/State/index.html#Turn">Turn</a> → <a href="../../machine/State/index.html#World">World</a> S → Type 0
@@ -4744,8 +4707,7 @@ abbrev pub <b id="GetsElementAt">GetsElementAt</b> : ℕ → ℕ → List (Slot 
 -- an element of the table of an index is set, or the call is refused
 abbrev pub <b id="SetsElementAt">SetsElementAt</b> : ℕ → ℕ → TypedRawRef → List (Slot <a href="../../store/Table/index.html#TableValue">TableValue</a>) → Reply → List (Slot <a href="../../store/Table/index.html#TableValue">TableValue</a>) → Type 0
 <a href="../../machine/TableEffects/index.html#SetsElementAt">SetsElementAt</a> k index value slots reply slots&#x27; = <a href="../../machine/Effects/index.html#ChangesAt">ChangesAt</a> k slots reply slots&#x27;
-    (λ x x&#x27;. (result : Result (Unit {0}) TableError)
-    × <a href="../../store/Table/index.html#SetsTable">SetsTable</a> index value x result x&#x27;
+    (λ x x&#x27;. (result : Result (Unit {0}) TableError) × <a href="../../store/Table/index.html#SetsTable">SetsTable</a> index value x result x&#x27;
     × (reply ≡ <a href="../../machine/Effects/index.html#reply_of">reply_of</a> (λ _. Done) Table result))
 
 -- tables, and the meter that is charged
@@ -4759,16 +4721,14 @@ abbrev pub <b id="WritesTableAt">WritesTableAt</b> : ℕ → (<a href="../../sto
 -- a part of the table of an index is written over with what a source has, with its charge; without a source the reply
 -- is `NoSuch`, and nothing has changed
 abbrev pub <b id="WritesTableFrom">WritesTableFrom</b> : {X : Type 0} → Option X → ℕ → (X → <a href="../../store/Table/index.html#TableValue">TableValue</a> → <a href="../../store/Table/index.html#TableWrite">TableWrite</a>) → <a href="../../machine/TableEffects/index.html#MeteredTables">MeteredTables</a> → Reply → ℕ
-    → <a href="../../machine/TableEffects/index.html#MeteredTables">MeteredTables</a>
-    → Type 0
+    → <a href="../../machine/TableEffects/index.html#MeteredTables">MeteredTables</a> → Type 0
 <a href="../../machine/TableEffects/index.html#WritesTableFrom">WritesTableFrom</a> source k write s reply charge s&#x27; =
     <a href="../../machine/Effects/index.html#OnLive">OnLive</a> source (<a href="../../machine/Effects/index.html#IsNoSuch">IsNoSuch</a> s reply charge s&#x27;) (λ x. <a href="../../machine/TableEffects/index.html#WritesTableAt">WritesTableAt</a> k (write x) s reply charge s&#x27;)
 
 -- a slot&#x27;s table is written over with what another slot&#x27;s table has
 abbrev pub <b id="CopiesSlot">CopiesSlot</b> : (<a href="../../store/Table/index.html#TableValue">TableValue</a> → <a href="../../store/Table/index.html#TableValue">TableValue</a> → <a href="../../store/Table/index.html#TableWrite">TableWrite</a>) → Slot <a href="../../store/Table/index.html#TableValue">TableValue</a>
     → <a href="../../meter/Attempt/index.html#MeteredValue">MeteredValue</a> (Slot <a href="../../store/Table/index.html#TableValue">TableValue</a>) (Unit {0}) → Reply → ℕ → <a href="../../meter/Attempt/index.html#MeteredValue">MeteredValue</a> (Slot <a href="../../store/Table/index.html#TableValue">TableValue</a>) (Unit {0}) → Type 0
-<a href="../../machine/TableEffects/index.html#CopiesSlot">CopiesSlot</a> write source s reply charge s&#x27; =
-    <a href="../../machine/Effects/index.html#OnLive">OnLive</a> (<a href="../../machine/State/index.html#live_value">live_value</a> source) (<a href="../../machine/Effects/index.html#IsNoSuch">IsNoSuch</a> s reply charge s&#x27;)
+<a href="../../machine/TableEffects/index.html#CopiesSlot">CopiesSlot</a> write source s reply charge s&#x27; = <a href="../../machine/Effects/index.html#OnLive">OnLive</a> (<a href="../../machine/State/index.html#live_value">live_value</a> source) (<a href="../../machine/Effects/index.html#IsNoSuch">IsNoSuch</a> s reply charge s&#x27;)
     (λ y. <a href="../../machine/Effects/index.html#OnLive">OnLive</a> (<a href="../../machine/State/index.html#live_value">live_value</a> s.value) (<a href="../../machine/Effects/index.html#IsNoSuch">IsNoSuch</a> s reply charge s&#x27;)
     (λ x. (result : Result (Unit {0}) TableError) × (x&#x27; : <a href="../../store/Table/index.html#TableValue">TableValue</a>)
     × <a href="../../store/Table/index.html#WritesTableCharging">WritesTableCharging</a> (write y) (<a href="../../meter/Attempt/index.html#with_value">with_value</a> s x) result charge (<a href="../../meter/Attempt/index.html#with_value">with_value</a> s&#x27; x&#x27;)
@@ -4893,8 +4853,7 @@ abbrev pub <b id="GetsGlobalAt">GetsGlobalAt</b> : ℕ → List <a href="../../t
 
 -- the fuel that is left is set, where the meter is on
 abbrev pub <b id="SetsFuel">SetsFuel</b> : ℕ → <a href="../../machine/State/index.html#State">State</a> → Reply → <a href="../../machine/State/index.html#State">State</a> → Type 0
-<a href="../../machine/ValueEffects/index.html#SetsFuel">SetsFuel</a> fuel s reply s&#x27; =
-    (reply ≡ (if is_some s.meter.left then Done else Fuel FuelMeteringDisabled))
+<a href="../../machine/ValueEffects/index.html#SetsFuel">SetsFuel</a> fuel s reply s&#x27; = (reply ≡ (if is_some s.meter.left then Done else Fuel FuelMeteringDisabled))
     × (s&#x27; ≡ record s { meter = <a href="../../meter/Meter/index.html#meter_set">meter_set</a> s.meter fuel })
 
 -- the fuel that is left is asked for

@@ -3,8 +3,7 @@ use Rattle.wasmi_core.proofs.HoldingLemmas.{run_holds}
 use Rattle.wasmi_core.proofs.running.run_reserving.Goals as goal
 
 pub returns-clause-held : goal.returns-clause-held
-returns-clause-held g c =
-    run_holds g.L.ResourceLimiter.rules g.L.Reserving.holdings
+returns-clause-held g c = run_holds g.L.ResourceLimiter.rules g.L.Reserving.holdings
     (record { reserves = g.met.L.Reserving.reserves; gives_back = g.met.L.Reserving.gives_back })
     (λ replies. replies.items) (world c.args.machine.now c.args.limiter.now)
     (world c.run_lending.new.machine c.run_lending.new.limiter) _ c.requires.totals _

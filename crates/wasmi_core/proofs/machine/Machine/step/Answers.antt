@@ -4,8 +4,7 @@ use Rattle.wasmi_core.proofs.ValidityLemmas.{answer_is_valid}
 use Rattle.wasmi_core.proofs.machine.Machine.step.Goals as goal
 
 pub invariant_of-self : goal.invariant_of-self
-invariant_of-self g c =
-    answer_is_valid (optional_rules g.L.ResourceLimiter.rules) c.args.call.now
+invariant_of-self g c = answer_is_valid (optional_rules g.L.ResourceLimiter.rules) c.args.call.now
     (world c.self.inside.store (lent_limiter c.args.limiter.now)) c.step.result
     (world c.step.new.self (lent_limiter c.step.new.limiter)) c.tell_valid.ensures c.self.invariant c.step.ensures.step
 

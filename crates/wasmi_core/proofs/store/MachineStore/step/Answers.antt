@@ -25,8 +25,7 @@ returns-in-SetGlobal-clause-step g c =
     rw (c.in-SetGlobal.is, ← c.self-in-SetGlobal.view_is) (alters _ c.set_global.ensures)
 
 pub returns-in-GetGlobal-clause-step : goal.returns-in-GetGlobal-clause-step
-returns-in-GetGlobal-clause-step g c =
-    rw (c.in-GetGlobal.is, ← c.self-in-GetGlobal.view_is)
+returns-in-GetGlobal-clause-step g c = rw (c.in-GetGlobal.is, ← c.self-in-GetGlobal.view_is)
     (replies (rw c.deref-in-GetGlobal.ensures.value at c.get_global.ensures))
 
 pub returns-in-VectorLoad-clause-step : goal.returns-in-VectorLoad-clause-step

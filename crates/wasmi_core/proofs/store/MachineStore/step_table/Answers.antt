@@ -29,8 +29,7 @@ returns-in_default-value_at-clause-step g c =
     (acts_unasked _ (0, (refl, refl, refl)))
 
 pub returns-in-Some-clause-step : goal.returns-in-Some-clause-step
-returns-in-Some-clause-step g c =
-    rw (c.in-InitTable.is, ← c.self.view_is, ← c.deref.ensures.value, ← c.in-Some.ensures)
+returns-in-Some-clause-step g c = rw (c.in-InitTable.is, ← c.self.view_is, ← c.deref.ensures.value, ← c.in-Some.ensures)
     (acts_unasked _ (
       c.init.ensures.0,
       subst (λ segment. WritesTableAt c.in-InitTable.table
@@ -40,8 +39,7 @@ returns-in-Some-clause-step g c =
     ))
 
 pub returns-in-CopyTable-clause-step : goal.returns-in-CopyTable-clause-step
-returns-in-CopyTable-clause-step g c =
-    rw (c.in-CopyTable.is, ← c.self.view_is)
+returns-in-CopyTable-clause-step g c = rw (c.in-CopyTable.is, ← c.self.view_is)
     (acts_unasked _ (
       c.copy.ensures.0,
       part_from (live_at c.self.inside.tables.slots.items c.in-CopyTable.src_table) c.in-CopyTable.dst_table _ _ _ _ _

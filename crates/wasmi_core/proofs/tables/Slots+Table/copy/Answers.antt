@@ -13,8 +13,7 @@ returns c =
     (arith, c.copy_to_other.auto.slots, c.as_mut_slice.ensures.len) in
     let write = copy_of c.args.dst c.args.src c.args.len in
     let charge = c.copy_to_other.ensures.copied.0 in
-    let copied =
-    subst (λ xs. WritesTableFrom (live_at xs c.args.src_index) c.args.dst_index write
+    let copied = subst (λ xs. WritesTableFrom (live_at xs c.args.src_index) c.args.dst_index write
     (metered xs (Some c.args.fuel.now))
     c.copy_to_other.result charge (metered c.copy_to_other.new.slots (Some c.copy_to_other.new.fuel)))
     c.as_mut_slice.ensures.value c.copy_to_other.ensures.copied.1 in (
