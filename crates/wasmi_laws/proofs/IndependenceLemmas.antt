@@ -26,9 +26,7 @@ use Rattle.wasmi_ops.specs.LaneOps.{extracted_raw, replaced_vector}
 use Rattle.wasmi_raw.specs.RawVal.{vector_in}
 use Rattle.wasmi_raw.specs.declared.raw.RawVal.{RawVal}
 use Rattle.wasmi_store.specs.Memory.{MemoryValue}
-use Rattle.wasmi_store.specs.Segment.{SegmentValue}
-use Rattle.wasmi_store.specs.Table.{TableValue, size_of}
-use Rattle.wasmi_typed.specs.Global.{GlobalInstance}
+use Rattle.wasmi_store.specs.Table.{size_of}
 use Rattle.wasmi_types.specs.Access.{at}
 use Rattle.wasmi_types.specs.Numbers.{le_bytes}
 use Rattle.wasmi_types.specs.declared.trap.TrapCode.{TrapCode}
@@ -77,8 +75,7 @@ back_all [] s t same = tt
 back_all (location ∷ locations) s t (same, rest) = (sym same, back_all locations s t rest)
 
 -- two items are set
-set_twice : {X : Type 0} (xs : List X) (k j : ℕ) (x y : X) → (k ≡ j → ⊥)
-    → set (set xs j y) k x ≡ set (set xs k x) j y
+set_twice : {X : Type 0} (xs : List X) (k j : ℕ) (x y : X) → (k ≡ j → ⊥) → set (set xs j y) k x ≡ set (set xs k x) j y
 set_twice [] k j x y other = refl
 set_twice (z ∷ zs) zero zero x y other = absurd (other refl)
 set_twice (z ∷ zs) zero (suc j) x y other = refl
@@ -95,19 +92,19 @@ put_outside (GlobalAt k) x (GlobalAt j) s apart = set_other s.globals k j x (λ 
 put_outside (RegisterAt k) x (RegisterAt j) s apart = set_other s.registers k j x (λ same. apart (ap RegisterAt same))
 put_outside location x other s apart = refl
 
+-- two items are set at different indices of one kind
+twice : {X : Type 0} (At : ℕ → Location) (xs : List X) (k j : ℕ) (x y : X) → (At k ≡ At j → ⊥)
+    → set (set xs j y) k x ≡ set (set xs k x) j y
+twice At xs k j x y apart = set_twice xs k j x y (λ same. apart (ap At same))
+
 -- two puts at different indices
 puts_swap : (location other : Location) (x : Content location) (y : Content other) (s : State)
     → (location ≡ other → ⊥) → put_at location x (put_at other y s) ≡ put_at other y (put_at location x s)
-puts_swap (MemoryAt k) (MemoryAt j) x y s apart =
-    ap (with_memories s) (set_twice s.memories k j x y (λ same. apart (ap MemoryAt same)))
-puts_swap (TableAt k) (TableAt j) x y s apart =
-    ap (with_tables s) (set_twice s.tables k j x y (λ same. apart (ap TableAt same)))
-puts_swap (SegmentAt k) (SegmentAt j) x y s apart =
-    ap (with_segments s) (set_twice s.segments k j x y (λ same. apart (ap SegmentAt same)))
-puts_swap (GlobalAt k) (GlobalAt j) x y s apart =
-    ap (with_globals s) (set_twice s.globals k j x y (λ same. apart (ap GlobalAt same)))
-puts_swap (RegisterAt k) (RegisterAt j) x y s apart =
-    ap (with_registers s) (set_twice s.registers k j x y (λ same. apart (ap RegisterAt same)))
+puts_swap (MemoryAt k) (MemoryAt j) x y s apart = ap (with_memories s) (twice MemoryAt s.memories k j x y apart)
+puts_swap (TableAt k) (TableAt j) x y s apart = ap (with_tables s) (twice TableAt s.tables k j x y apart)
+puts_swap (SegmentAt k) (SegmentAt j) x y s apart = ap (with_segments s) (twice SegmentAt s.segments k j x y apart)
+puts_swap (GlobalAt k) (GlobalAt j) x y s apart = ap (with_globals s) (twice GlobalAt s.globals k j x y apart)
+puts_swap (RegisterAt k) (RegisterAt j) x y s apart = ap (with_registers s) (twice RegisterAt s.registers k j x y apart)
 puts_swap location other x y s apart = refl
 
 -- two edits at different indices
@@ -128,8 +125,7 @@ edit_outside changed (Put other x) s location here apart =
 
 -- so at one that may be there
 edit_leaves_in : (changed changed' : Option Location) (e : Edit) (s : State) → IsEditAt changed e
-    → ((location : Location) → changed' ≡ Some location → changed ≡ Some location → ⊥)
-    → SameIn changed' s (edited e s)
+    → ((location : Location) → changed' ≡ Some location → changed ≡ Some location → ⊥) → SameIn changed' s (edited e s)
 edit_leaves_in changed None e s here apart = tt
 edit_leaves_in changed (Some location) e s here apart =
     edit_outside changed e s location here (λ is. apart location refl is)
@@ -167,25 +163,21 @@ module _ {X : Type 0} (k : ℕ) (Change : Reply → X → X → Type 0) where
       record { put = Some h.0; after = h.2; too = λ ys same. rw (same ∙ is) (h.0, h.1, refl) }
 
   -- by what is there
-  item_moves : (items : List X) (reply : Reply) (items' : List X)
-      → ChangesItem k items reply items' (Change reply)
+  item_moves : (items : List X) (reply : Reply) (items' : List X) → ChangesItem k items reply items' (Change reply)
       → ListMoves k (λ xs r xs'. ChangesItem k xs r xs' (Change r)) items reply items'
   item_moves items reply items' changes = item_moves_by items reply items' (slice_get items k) refl changes
 
   -- so a change of a live value
   slot_moves_by : (slots : List (Slot X)) (reply : Reply) (slots' : List (Slot X)) (found : Option X)
-      → live_at slots k ≡ found
-      → OnLive found ((reply ≡ NoSuch) × (slots' ≡ slots))
+      → live_at slots k ≡ found → OnLive found ((reply ≡ NoSuch) × (slots' ≡ slots))
       (λ x. (x' : X) × Change reply x x' × (slots' ≡ slice_set slots k (Live x')))
       → ListMoves k (λ xs r xs'. ChangesAt k xs r xs' (Change r)) slots reply slots'
   slot_moves_by slots reply slots' None is h = record {
-    put = None;
-    after = h.1;
+    put = None; after = h.1;
     too = λ ys same. rw (ap (option_and_then live_value) same ∙ is) (h.0, refl);
   }
   slot_moves_by slots reply slots' (Some x) is h = record {
-    put = Some (Live h.0);
-    after = h.2;
+    put = Some (Live h.0); after = h.2;
     too = λ ys same. rw (ap (option_and_then live_value) same ∙ is) (h.0, h.1, refl);
   }
 
@@ -197,18 +189,15 @@ module _ {X : Type 0} (k : ℕ) (Change : Reply → X → X → Type 0) where
 
 module _ {X : Type 0} (count : X → ℕ) (k : ℕ) (slots : List (Slot X)) (reply : Reply) (slots' : List (Slot X)) where
   -- so a drop
-  drop_moves_by : (found : Option X) → live_at slots k ≡ found
-      → OnLive found ((reply ≡ NoSuch) × (slots' ≡ slots))
+  drop_moves_by : (found : Option X) → live_at slots k ≡ found → OnLive found ((reply ≡ NoSuch) × (slots' ≡ slots))
       (λ x. (reply ≡ Done) × (slots' ≡ slice_set slots k (Gone (count x))))
       → ListMoves k (DropsAt count k) slots reply slots'
   drop_moves_by None is h = record {
-    put = None;
-    after = h.1;
+    put = None; after = h.1;
     too = λ ys same. rw (ap (option_and_then live_value) same ∙ is) (h.0, refl);
   }
   drop_moves_by (Some x) is h = record {
-    put = Some (Gone (count x));
-    after = h.1;
+    put = Some (Gone (count x)); after = h.1;
     too = λ ys same. rw (ap (option_and_then live_value) same ∙ is) (h.0, refl);
   }
 
@@ -231,8 +220,7 @@ module _ (dst : ℕ) (registers : List RawVal) (reply : Reply) (registers' : Lis
   register_moves_by : (given : Option (Result RawVal TrapCode)) (old : Option RawVal) → slice_get registers dst ≡ old
       → SetsAt given old dst registers reply registers'
       → ListMoves dst (SetsRegister dst given) registers reply registers'
-  register_moves_by None old is takes =
-      record { put = None; after = takes.1; too = λ ys same. (takes.0, refl) }
+  register_moves_by None old is takes = record { put = None; after = takes.1; too = λ ys same. (takes.0, refl) }
   register_moves_by (Some given) None is takes =
       record { put = None; after = takes.1; too = λ ys same. rw (same ∙ is) (takes.0, refl) }
   register_moves_by (Some (Ok value)) (Some old) is takes =
@@ -252,86 +240,59 @@ record Moves (changed : Option Location) (Becomes : State → State → Type 0) 
   after : s' ≡ edited edit s
   too : (t : State) → SameIn changed s t → Becomes t (edited edit t)
 
--- a part of a state is a list whose item at an index is what is there
-record Part (X : Type 0) (changed : Option Location) : Type 0 where
+-- the list of a state in which a location is, and the index there
+record Part (location : Location) : Type 0 where
   index : ℕ
-  read : State → List X
-  with_part : State → List X → State
-  put : X → Edit
-  here : (x : X) → IsEditAt changed (put x)
-  puts : (x : X) (s : State) → edited (put x) s ≡ with_part s (slice_set (read s) index x)
+  read : State → List (Content location)
+  with_part : State → List (Content location) → State
+  puts : (x : Content location) (s : State) → put_at location x s ≡ with_part s (slice_set (read s) index x)
   whole : (s : State) → with_part s (read s) ≡ s
-  found : (s t : State) → SameIn changed s t → slice_get (read t) index ≡ slice_get (read s) index
+  found : (s t : State) → content_at location t ≡ content_at location s
+      → slice_get (read t) index ≡ slice_get (read s) index
 
 -- a part by its fields, in their order
-abbrev part_of : {X : Type 0} {changed : Option Location} (index : ℕ) (read : State → List X)
-    (with_part : State → List X → State) (put : X → Edit) → ((x : X) → IsEditAt changed (put x))
-    → ((x : X) (s : State) → edited (put x) s ≡ with_part s (slice_set (read s) index x))
-    → ((s : State) → with_part s (read s) ≡ s)
-    → ((s t : State) → SameIn changed s t → slice_get (read t) index ≡ slice_get (read s) index) → Part X changed
-part_of index read with_part put here puts whole found = record {
-  index = index;
-  read = read;
-  with_part = with_part;
-  put = put;
-  here = here;
-  puts = puts;
-  whole = whole;
-  found = found;
-}
+abbrev part_of : {location : Location} (index : ℕ) (read : State → List (Content location))
+    (with_part : State → List (Content location) → State)
+    → ((x : Content location) (s : State) → put_at location x s ≡ with_part s (slice_set (read s) index x))
+    → ((s : State) → with_part s (read s) ≡ s) → ((s t : State) → content_at location t ≡ content_at location s
+    → slice_get (read t) index ≡ slice_get (read s) index) → Part location
+part_of index read with_part puts whole found =
+    record { index = index; read = read; with_part = with_part; puts = puts; whole = whole; found = found }
 
--- each part of a state, at an index
-abbrev the_memory : (k : ℕ) → Part (Slot MemoryValue) (Some (MemoryAt k))
-the_memory k = part_of k State.memories with_memories (Put (MemoryAt k)) (λ x. refl) (λ x s. refl) (λ s. refl)
-    (λ s t same. same)
+-- the part of each location
+abbrev part_at : (location : Location) → Part location
+part_at (MemoryAt k) = part_of k State.memories with_memories (λ x s. refl) (λ s. refl) (λ s t same. same)
+part_at (TableAt k) = part_of k State.tables with_tables (λ x s. refl) (λ s. refl) (λ s t same. same)
+part_at (SegmentAt k) = part_of k State.segments with_segments (λ x s. refl) (λ s. refl) (λ s t same. same)
+part_at (GlobalAt k) = part_of k State.globals with_globals (λ x s. refl) (λ s. refl) (λ s t same. same)
+part_at (RegisterAt k) = part_of k State.registers with_registers (λ x s. refl) (λ s. refl) (λ s t same. same)
 
-abbrev the_table : (k : ℕ) → Part (Slot TableValue) (Some (TableAt k))
-the_table k = part_of k State.tables with_tables (Put (TableAt k)) (λ x. refl) (λ x s. refl) (λ s. refl)
-    (λ s t same. same)
+module _ (location : Location) (p : Part location)
+    (Effect : List (Content location) → Reply → List (Content location) → Type 0) (s : State) (reply : Reply)
+    (s' : State) where
+  -- what a change of a part does
+  abbrev PartMoves : Type 0
+  PartMoves = Moves (Some location) (λ t t'. ChangesPart (p.with_part t) (Effect (p.read t)) reply t') s s'
 
-abbrev the_segment : (k : ℕ) → Part SegmentValue (Some (SegmentAt k))
-the_segment k = part_of k State.segments with_segments (Put (SegmentAt k)) (λ x. refl) (λ x s. refl) (λ s. refl)
-    (λ s t same. same)
-
-abbrev the_global : (k : ℕ) → Part GlobalInstance (Some (GlobalAt k))
-the_global k = part_of k State.globals with_globals (Put (GlobalAt k)) (λ x. refl) (λ x s. refl) (λ s. refl)
-    (λ s t same. same)
-
-abbrev the_register : (k : ℕ) → Part RawVal (Some (RegisterAt k))
-the_register k = part_of k State.registers with_registers (Put (RegisterAt k)) (λ x. refl) (λ x s. refl) (λ s. refl)
-    (λ s t same. same)
-
-module _ {X : Type 0} (changed : Option Location) (p : Part X changed) (Effect : List X → Reply → List X → Type 0)
-    (s : State) (reply : Reply) (s' : State) where
   -- a change of a part, as an effect on its list goes by what is at an index
-  part_moves_by : (part : List X) → s' ≡ p.with_part s part → (put : Option X) → part ≡ put_in p.index put (p.read s)
-      → ((ys : List X) → slice_get ys p.index ≡ slice_get (p.read s) p.index → Effect ys reply (put_in p.index put ys))
-      → Moves changed (λ t t'. ChangesPart (p.with_part t) (Effect (p.read t)) reply t') s s'
+  part_moves_by : (part : List (Content location)) → s' ≡ p.with_part s part → (put : Option (Content location))
+      → part ≡ put_in p.index put (p.read s)
+      → ((ys : List (Content location)) → slice_get ys p.index ≡ slice_get (p.read s) p.index
+      → Effect ys reply (put_in p.index put ys)) → PartMoves
   part_moves_by part is None after too = record {
-    edit = Keep;
-    here = tt;
-    after = is ∙ ap (p.with_part s) after ∙ p.whole s;
-    too = λ t same. record {
-      part = p.read t;
-      effect = too (p.read t) (p.found s t same);
-      after = sym (p.whole t);
-    };
+    edit = Keep; here = tt; after = is ∙ ap (p.with_part s) after ∙ p.whole s;
+    too = λ t same. record { part = p.read t; effect = too (p.read t) (p.found s t same); after = sym (p.whole t) };
   }
   part_moves_by part is (Some x) after too = record {
-    edit = p.put x;
-    here = p.here x;
-    after = is ∙ ap (p.with_part s) after ∙ sym (p.puts x s);
+    edit = Put location x; here = refl; after = is ∙ ap (p.with_part s) after ∙ sym (p.puts x s);
     too = λ t same. record {
-      part = slice_set (p.read t) p.index x;
-      effect = too (p.read t) (p.found s t same);
-      after = p.puts x t;
+      part = slice_set (p.read t) p.index x; effect = too (p.read t) (p.found s t same); after = p.puts x t;
     };
   }
 
   -- by what it puts
   part_moves : (c : ChangesPart (p.with_part s) (Effect (p.read s)) reply s')
-      → ListMoves p.index Effect (p.read s) reply c.part
-      → Moves changed (λ t t'. ChangesPart (p.with_part t) (Effect (p.read t)) reply t') s s'
+      → ListMoves p.index Effect (p.read s) reply c.part → PartMoves
   part_moves c moves = part_moves_by c.part c.after moves.put moves.after moves.too
 
 -- a change that makes nothing
@@ -344,30 +305,28 @@ IsLocalChange change = Unit {0}
 change_moves : (s : State) (reply : Reply) (s' : State) (change : Change) → IsLocalChange change
     → HasChange change s reply s' → Moves (changed_by change) (λ t t'. HasChange change t reply t') s s'
 change_moves s reply s' (BytesWritten k offset bytes) local c =
-    part_moves _ (the_memory k) (WritesMemoryAt k offset bytes) s reply s' c
+    part_moves _ (part_at (MemoryAt k)) (WritesMemoryAt k offset bytes) s reply s' c
     (slot_moves k _ s.memories reply c.part c.effect)
 change_moves s reply s' (BytesStored k a stored) local c =
-    part_moves _ (the_memory k) (StoresVectorAt k a stored) s reply s' c
+    part_moves _ (part_at (MemoryAt k)) (StoresVectorAt k a stored) s reply s' c
     (store_moves k a s.memories reply c.part stored c.effect)
 change_moves s reply s' (RegisterSet dst given) local c =
-    part_moves _ (the_register dst) (SetsRegister dst given) s reply s' c
+    part_moves _ (part_at (RegisterAt dst)) (SetsRegister dst given) s reply s' c
     (register_moves dst s.registers reply c.part given c.effect)
 change_moves s reply s' (MemoryDropped k) local c =
-    part_moves _ (the_memory k) (DropsAt byte_count k) s reply s' c
+    part_moves _ (part_at (MemoryAt k)) (DropsAt byte_count k) s reply s' c
     (drop_moves byte_count k s.memories reply c.part c.effect)
-change_moves s reply s' (TableDropped k) local c =
-    part_moves _ (the_table k) (DropsAt size_of k) s reply s' c
+change_moves s reply s' (TableDropped k) local c = part_moves _ (part_at (TableAt k)) (DropsAt size_of k) s reply s' c
     (drop_moves size_of k s.tables reply c.part c.effect)
 change_moves s reply s' (ElementSet k index value) local c =
-    part_moves _ (the_table k) (SetsElementAt k index value) s reply s' c
+    part_moves _ (part_at (TableAt k)) (SetsElementAt k index value) s reply s' c
     (slot_moves k _ s.tables reply c.part c.effect)
 change_moves s reply s' (SegmentMade ty items) local c = absurd local
-change_moves s reply s' (ItemsDropped k) local c =
-    part_moves _ (the_segment k) (DropsItemsAt k) s reply s' c
+change_moves s reply s' (ItemsDropped k) local c = part_moves _ (part_at (SegmentAt k)) (DropsItemsAt k) s reply s' c
     (item_moves k _ s.segments reply c.part c.effect)
 change_moves s reply s' (GlobalMade global) local c = absurd local
 change_moves s reply s' (GlobalSet k value) local c =
-    part_moves _ (the_global k) (SetsGlobalAt k value) s reply s' c
+    part_moves _ (part_at (GlobalAt k)) (SetsGlobalAt k value) s reply s' c
     (item_moves k _ s.globals reply c.part c.effect)
 
 -- an effect that is local
@@ -397,15 +356,11 @@ module _ {S : Type 0} (rules : Rules S) (w : World S) (turn : Turn) (w' : World 
   effect_moves : (effect : Effect) → IsLocalEffect effect → HasEffect rules effect w turn w'
       → TurnMoves (λ u u'. HasEffect rules effect u turn u') (changed_in effect) (read_in effect) w w'
   effect_moves (Told told) local step = record {
-    edit = Keep;
-    here = tt;
-    after = step.after;
+    edit = Keep; here = tt; after = step.after;
     too = λ u same reads. record { free = step.free; effect = step.effect; after = refl };
   }
   effect_moves (BytesRead k offset len) local step = record {
-    edit = Keep;
-    here = tt;
-    after = step.after;
+    edit = Keep; here = tt; after = step.after;
     too = λ u same reads. record {
       free = step.free;
       effect = subst (λ slot. OnLive (option_and_then live_value slot) (turn.reply ≡ NoSuch)
@@ -416,14 +371,10 @@ module _ {S : Type 0} (rules : Rules S) (w : World S) (turn : Turn) (w' : World 
   effect_moves (Changed change) local step =
       let moves = change_moves w.state turn.reply step.machine change local step.effect in
       record {
-        edit = moves.edit;
-        here = moves.here;
+        edit = moves.edit; here = moves.here;
         after = step.after ∙ ap (λ (s : State). let v : World S = record w { state = s } in v) moves.after;
         too = λ u same reads. record {
-          free = step.free;
-          machine = edited moves.edit u.state;
-          effect = moves.too u.state same;
-          after = refl;
+          free = step.free; machine = edited moves.edit u.state; effect = moves.too u.state same; after = refl;
         };
       }
   effect_moves effect local step = absurd local
@@ -509,8 +460,7 @@ module _ {S : Type 0} (rules : Rules S) where
         here = subst (λ l. IsEditAt l moves.edit) changed moves.here;
         after = moves.after;
         too = λ u same reads. subst (λ effect. HasEffect rules effect u turn (record u {
-          state = edited moves.edit
-              u.state;
+          state = edited moves.edit u.state;
         })) (sym (same_effect w.state u.state turn.call local reads))
             (moves.too u (subst (λ l. SameIn l w.state u.state) (sym changed) same)
             (reads_in w.state u.state turn.call reads));
@@ -527,11 +477,9 @@ module _ {S : Type 0} (rules : Rules S) where
       let one = edited a.edit w.state in
       let two = edited b.edit w.state in (
         record w { state = two },
-        b.too w
-            (back_in (changed_location second.call) w.state one
+        b.too w (back_in (changed_location second.call) w.state one
             (edit_leaves_in (changed_location first.call) (changed_location second.call) a.edit w.state a.here
-            (λ location is also. apart.changes location also is)))
-            (back_all (read_locations second.call) w.state one
+            (λ location is also. apart.changes location also is))) (back_all (read_locations second.call) w.state one
             (edit_leaves_all (changed_location first.call) (read_locations second.call) a.edit w.state a.here
             apart.first_leaves)),
         (

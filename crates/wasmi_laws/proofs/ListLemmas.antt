@@ -47,8 +47,7 @@ pub record ItemAfter {X : Type 0} (Becomes : X → X → Type 0) (x : X) (found 
 
 -- each item of a list is in its place in another one, as it may have become there
 abbrev pub EachAfter : {X : Type 0} → (ℕ → X → X → Type 0) → List X → List X → Type 0
-EachAfter {X} Becomes xs xs' =
-    (j : ℕ) (x : X) → slice_get xs j ≡ Some x → ItemAfter (Becomes j) x (slice_get xs' j)
+EachAfter {X} Becomes xs xs' = (j : ℕ) (x : X) → slice_get xs j ≡ Some x → ItemAfter (Becomes j) x (slice_get xs' j)
 
 module _ {X : Type 0} (Becomes : ℕ → X → X → Type 0) (xs xs' : List X) where
   -- the same list
@@ -108,8 +107,7 @@ entry_added Becomes entry refusal (Err error) list reply list' adds = unchanged 
 pub item_changed : {X : Type 0} (Becomes : ℕ → X → X → Type 0) (k : ℕ) (items : List X) (reply : Reply)
     (items' : List X) (Change : X → X → Type 0) → ((x x' : X) → Change x x' → Becomes k x x')
     → ChangesItem k items reply items' Change → EachAfter Becomes items items'
-item_changed Becomes k items reply items' Change becomes changes =
-    on_live (slice_get items k) _ _ changes
+item_changed Becomes k items reply items' Change becomes changes = on_live (slice_get items k) _ _ changes
     (λ missing. unchanged Becomes items items' missing.1)
     (λ x found h. put Becomes items items' k x h.0 found (becomes x h.0 h.1) h.2)
 
@@ -124,8 +122,7 @@ module _ {X : Type 0} (Becomes : ℕ → Slot X → Slot X → Type 0) where
   pub slot_changed : (k : ℕ) (slots : List (Slot X)) (reply : Reply) (slots' : List (Slot X))
       (Change : X → X → Type 0) → ((x x' : X) → Change x x' → Becomes k (Live x) (Live x'))
       → ChangesAt k slots reply slots' Change → EachAfter Becomes slots slots'
-  slot_changed k slots reply slots' Change becomes changes =
-      on_live (live_at slots k) _ _ changes
+  slot_changed k slots reply slots' Change becomes changes = on_live (live_at slots k) _ _ changes
       (λ missing. unchanged Becomes slots slots' missing.1)
       (λ x found h. slot_put k slots slots' x (Live h.0) found (becomes x h.0 h.1) h.2)
 
@@ -133,8 +130,7 @@ module _ {X : Type 0} (Becomes : ℕ → Slot X → Slot X → Type 0) where
   pub slot_dropped : (count : X → ℕ) (k : ℕ) (slots : List (Slot X)) (reply : Reply) (slots' : List (Slot X))
       → ((x : X) → Becomes k (Live x) (Gone (count x))) → DropsAt count k slots reply slots'
       → EachAfter Becomes slots slots'
-  slot_dropped count k slots reply slots' becomes drops =
-      on_live (live_at slots k) _ _ drops
+  slot_dropped count k slots reply slots' becomes drops = on_live (live_at slots k) _ _ drops
       (λ missing. unchanged Becomes slots slots' missing.1)
       (λ x found h. slot_put k slots slots' x (Gone (count x)) found (becomes x) h.1)
 
@@ -149,11 +145,8 @@ module _ {X : Type 0} (Becomes : ℕ → Slot X → Slot X → Type 0) where
   -- a call with a charge
   pub slot_acted : {R S : Type 0} (k : ℕ) (reply_to : R → Reply)
       (Acts : MeteredValue X S → R → ℕ → MeteredValue X S → Type 0) (s s' : MeteredValue (List (Slot X)) S)
-      (reply : Reply) (charge : ℕ)
-      → ((x x' : X) (result : R) → Acts (with_value s x) result charge (with_value s' x')
-      → Becomes k (Live x) (Live x'))
-      → ActsAt k reply_to Acts s reply charge s' → EachAfter Becomes s.value s'.value
-  slot_acted {R} {S} k reply_to Acts s s' reply charge becomes acts =
-      on_live (live_at s.value k) _ _ acts
+      (reply : Reply) (charge : ℕ) → ((x x' : X) (result : R) → Acts (with_value s x) result charge (with_value s' x')
+      → Becomes k (Live x) (Live x')) → ActsAt k reply_to Acts s reply charge s' → EachAfter Becomes s.value s'.value
+  slot_acted {R} {S} k reply_to Acts s s' reply charge becomes acts = on_live (live_at s.value k) _ _ acts
       (λ missing. unchanged Becomes s.value s'.value (ap (λ (t : MeteredValue (List (Slot X)) S). t.value) missing.2))
       (λ x found h. slot_put k s.value s'.value x (Live h.1) found (becomes x h.1 h.0 h.2) h.4)

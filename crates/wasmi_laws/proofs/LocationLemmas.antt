@@ -1,7 +1,8 @@
 -- What becomes of what is at each index of a machine, in a step and in a run.
-use Rattle.std.proofs.Common.{Bool, Err, List, None, Ok, Option, Result, Some, [], ap, false, ⊎_elim, inl, inr, map, refl, subst, sym, true, ℕ, ◌∙◌, ◌∷◌, ◌≡◌, ◌⊎◌}
+use Rattle.std.proofs.Common.{Err, List, None, Ok, Option, Result, Some, [], ap, ⊎_elim, inl, inr, map, refl, subst, sym, ℕ, ◌∙◌, ◌∷◌, ◌≡◌, ◌⊎◌}
 use Rattle.std.proofs.lemmas.List.Elements.{All-head, All-tail}
 use Rattle.std.specs.Prelude.{slice_get}
+use Rattle.wasmi_core.proofs.TableEffectsLemmas.{write_type}
 use Rattle.wasmi_core.proofs.EffectLemmas.{on_live}
 use Rattle.wasmi_core.specs.Effects.{reply_of}
 use Rattle.wasmi_core.specs.MemoryEffects.{CreatesLent}
@@ -28,7 +29,7 @@ use Rattle.wasmi_store.specs.Buffer.{Lent, Owned}
 use Rattle.wasmi_store.specs.Growth.{Grows, Growth, metered}
 use Rattle.wasmi_store.specs.Memory.{GrowsMemoryCharging, MakesMemory, MemoryValue, WritesMemory, pages_of, MemoryTypeValue}
 use Rattle.wasmi_store.specs.Segment.{SegmentValue}
-use Rattle.wasmi_store.specs.Table.{EndsBy, GrowsTableCharging, MakesTable, MeteredTable, SetsTable, TableValue, TableWrite, WritesTableCharging, size_of, same_type}
+use Rattle.wasmi_store.specs.Table.{GrowsTableCharging, MakesTable, SetsTable, TableValue, TableWrite, WritesTableCharging, size_of, same_type}
 use Rattle.wasmi_typed.specs.Global.{GlobalInstance, SetsGlobal}
 use Rattle.wasmi_typed.specs.declared.global.GlobalError.{GlobalError}
 use Rattle.wasmi_typed.specs.declared.global.GlobalError.TheVariants.{ImmutableWrite, TypeMismatch}
@@ -68,44 +69,25 @@ grown_type type rules g s s' result charge grown (inr some) =
 -- a table whose element is set keeps its type
 set_type : (index : ℕ) (value : TypedRawRef) (x : TableValue) (result : Result (Unit {0}) TableError) (x' : TableValue)
     → SetsTable index value x result x' → x'.ty ≡ x.ty
-set_type index value x result x' sets =
-    on_test (same_type x.ty.element value.ty) _ _ sets
+set_type index value x result x' sets = on_test (same_type x.ty.element value.ty) _ _ sets
     (λ raw. on_live (overwrite x.elements index (value.raw ∷ [])) _ _ raw
     (λ outside. ap (λ (t : TableValue). t.ty) outside.1) (λ elements found set. ap (λ (t : TableValue). t.ty) set.1))
     (λ other. ap (λ (t : TableValue). t.ty) other.1)
 
-module _ (write : TableValue → TableWrite) (s : MeteredTable) (result : Result (Unit {0}) TableError) (charge : ℕ)
-    (s' : MeteredTable) where
-  -- so does one that is written over, by how that ends
-  ended_type : (typed : Bool) (written : Option (List ℕ)) (payable : Bool)
-      → EndsBy (write s.value) s typed written payable (record { result = result; charge = charge; value = s'.value })
-      → s'.value.ty ≡ s.value.ty
-  ended_type false written payable ends = ap (λ (t : TableValue). t.ty) ends.2
-  ended_type true None payable ends = ap (λ (t : TableValue). t.ty) ends.2
-  ended_type true (Some elements) false ends = ap (λ (t : TableValue). t.ty) ends.2
-  ended_type true (Some elements) true ends = ap (λ (t : TableValue). t.ty) ends.2
-
-  -- however it ends
-  range_type : WritesTableCharging write s result charge s' → s'.value.ty ≡ s.value.ty
-  range_type writes = ended_type (write s.value).typed (write s.value).written _ writes.ends
-
--- and one that grows
+-- a table that grows keeps its type
 table_grown_type : {S : Type 0} (rules : Rules S) (n : ℕ) (init : TypedRawRef) (s s' : MeteredValue TableValue S)
     (result : Result ℕ TableError) (charge : ℕ) → GrowsTableCharging rules n init s result charge s'
     → s'.value.ty ≡ s.value.ty
-table_grown_type {S} rules n init s s' result charge grows =
-    on_test (same_type s.value.ty.element init.ty) _ _ grows
+table_grown_type {S} rules n init s s' result charge grows = on_test (same_type s.value.ty.element init.ty) _ _ grows
     (λ raw. grown_type (λ (t : TableValue). t.ty) rules
     (record { amount = n; size = size_of s.value; request = table.growth_of s.value n init.raw }) s s' result charge
-    refl raw)
-    (λ other. ap (λ (t : MeteredValue TableValue S). t.value.ty) other.2)
+    refl raw) (λ other. ap (λ (t : MeteredValue TableValue S). t.value.ty) other.2)
 
 -- a memory that grows keeps its type
 memory_grown_type : {S : Type 0} (rules : Rules S) (pages : ℕ) (s s' : MeteredValue MemoryValue S)
     (result : Result ℕ MemoryError) (charge : ℕ) → GrowsMemoryCharging rules pages s result charge s'
     → s'.value.ty ≡ s.value.ty
-memory_grown_type rules pages s s' result charge grows =
-    grown_type (λ (m : MemoryValue). m.ty) rules
+memory_grown_type rules pages s s' result charge grows = grown_type (λ (m : MemoryValue). m.ty) rules
     (record { amount = pages; size = pages_of s.value; request = memory.growth_of s.value pages }) s s' result charge
     refl grows
 
@@ -118,10 +100,8 @@ global_later : (k : ℕ) (x : GlobalInstance) (value : TypedRawVal) (result : Re
     (x' : GlobalInstance) → SetsGlobal x value result x' → IsLater (GlobalAt k) x x'
 global_later k x value (Ok _) x' sets =
     (ap (λ (g : GlobalInstance). g.ty) sets.2, λ const. absurd (const_var x.ty.mutability const sets.0))
-global_later k x value (Err ImmutableWrite) x' sets =
-    (ap (λ (g : GlobalInstance). g.ty) sets.1, λ const. sets.1)
-global_later k x value (Err TypeMismatch) x' sets =
-    (ap (λ (g : GlobalInstance). g.ty) sets.2, λ const. sets.2)
+global_later k x value (Err ImmutableWrite) x' sets = (ap (λ (g : GlobalInstance). g.ty) sets.1, λ const. sets.1)
+global_later k x value (Err TypeMismatch) x' sets = (ap (λ (g : GlobalInstance). g.ty) sets.2, λ const. sets.2)
 
 -- what may become of what is at an index, where a call may change what is at one and drop what is at one
 record May (changed dropped : Option Location) (location : Location) (x x' : Content location) : Type 0 where
@@ -139,6 +119,10 @@ same_table : (dropped : Option Location) (k : ℕ) (x x' : TableValue) → x'.ty
     → May (Some (TableAt k)) dropped (TableAt k) (Live x) (Live x')
 same_table dropped k x x' same = record { named = refl; later = same; live = λ live. inl live }
 
+-- each item of a list may stay
+stays : {X : Type 0} (Becomes : ℕ → X → X → Type 0) (xs : List X) → EachAfter Becomes xs xs
+stays Becomes xs = unchanged Becomes xs xs refl
+
 -- what becomes of each part of a state
 record EachPart (changed dropped : Option Location) (s s' : State) : Type 0 where
   memories : EachAfter (λ k. May changed dropped (MemoryAt k)) s.memories s'.memories
@@ -150,8 +134,7 @@ record EachPart (changed dropped : Option Location) (s s' : State) : Type 0 wher
 module _ (changed dropped : Option Location) where
   -- so of what is at an index
   at_location : (s s' : State) → EachPart changed dropped s s' → (location : Location) (x : Content location)
-      → content_at location s ≡ Some x
-      → ItemAfter (May changed dropped location) x (content_at location s')
+      → content_at location s ≡ Some x → ItemAfter (May changed dropped location) x (content_at location s')
   at_location s s' parts (MemoryAt k) x found = parts.memories k x found
   at_location s s' parts (TableAt k) x found = parts.tables k x found
   at_location s s' parts (SegmentAt k) x found = parts.segments k x found
@@ -172,61 +155,34 @@ module _ (changed dropped : Option Location) where
   memories_change : (s : State) (memories : _) (m : Meter) (spare : Option (List ℕ))
       → EachAfter (λ k. May changed dropped (MemoryAt k)) s.memories memories
       → EachPart changed dropped s (record s { memories = memories; meter = m; spare = spare })
-  memories_change s memories m spare each = record {
-    memories = each;
-    tables = unchanged _ _ _ refl;
-    segments = unchanged _ _ _ refl;
-    globals = unchanged _ _ _ refl;
-    registers = unchanged _ _ _ refl;
-  }
+  memories_change s memories m spare each =
+      record { memories = each; tables = stays _ _; segments = stays _ _; globals = stays _ _; registers = stays _ _ }
 
   -- the tables change, and the meter
   tables_change : (s : State) (tables : _) (m : Meter)
       → EachAfter (λ k. May changed dropped (TableAt k)) s.tables tables
       → EachPart changed dropped s (record s { tables = tables; meter = m })
-  tables_change s tables m each = record {
-    memories = unchanged _ _ _ refl;
-    tables = each;
-    segments = unchanged _ _ _ refl;
-    globals = unchanged _ _ _ refl;
-    registers = unchanged _ _ _ refl;
-  }
+  tables_change s tables m each =
+      record { memories = stays _ _; tables = each; segments = stays _ _; globals = stays _ _; registers = stays _ _ }
 
   -- the element segments change
-  segments_change : (s : State) (segments : _)
-      → EachAfter (λ k. May changed dropped (SegmentAt k)) s.segments segments
+  segments_change : (s : State) (segments : _) → EachAfter (λ k. May changed dropped (SegmentAt k)) s.segments segments
       → EachPart changed dropped s (with_segments s segments)
-  segments_change s segments each = record {
-    memories = unchanged _ _ _ refl;
-    tables = unchanged _ _ _ refl;
-    segments = each;
-    globals = unchanged _ _ _ refl;
-    registers = unchanged _ _ _ refl;
-  }
+  segments_change s segments each =
+      record { memories = stays _ _; tables = stays _ _; segments = each; globals = stays _ _; registers = stays _ _ }
 
   -- the globals change
-  globals_change : (s : State) (globals : _)
-      → EachAfter (λ k. May changed dropped (GlobalAt k)) s.globals globals
+  globals_change : (s : State) (globals : _) → EachAfter (λ k. May changed dropped (GlobalAt k)) s.globals globals
       → EachPart changed dropped s (with_globals s globals)
-  globals_change s globals each = record {
-    memories = unchanged _ _ _ refl;
-    tables = unchanged _ _ _ refl;
-    segments = unchanged _ _ _ refl;
-    globals = each;
-    registers = unchanged _ _ _ refl;
-  }
+  globals_change s globals each =
+      record { memories = stays _ _; tables = stays _ _; segments = stays _ _; globals = each; registers = stays _ _ }
 
   -- the registers change
   registers_change : (s : State) (registers : _)
       → EachAfter (λ k. May changed dropped (RegisterAt k)) s.registers registers
       → EachPart changed dropped s (with_registers s registers)
-  registers_change s registers each = record {
-    memories = unchanged _ _ _ refl;
-    tables = unchanged _ _ _ refl;
-    segments = unchanged _ _ _ refl;
-    globals = unchanged _ _ _ refl;
-    registers = each;
-  }
+  registers_change s registers each =
+      record { memories = stays _ _; tables = stays _ _; segments = stays _ _; globals = stays _ _; registers = each }
 
 -- a store to a memory, whose bytes may be missing
 stored_parts : (k a : ℕ) (slots : List (Slot MemoryValue)) (reply : Reply) (slots' : List (Slot MemoryValue))
@@ -267,8 +223,7 @@ global_made global globals reply globals' (inr made) = appended _ globals global
 lent_made : {S : Type 0} (rules : Rules S) (ty : MemoryTypeValue) (part : MemoryPart) (l : S) (reply : Reply)
     (part' : MemoryPart) (l' : S) → CreatesLent rules ty part l reply part' l'
     → EachAfter (λ j. May None None (MemoryAt j)) part.slots part'.slots
-lent_made rules ty part l reply part' l' creates =
-    on_live part.spare _ _ creates
+lent_made rules ty part l reply part' l' creates = on_live part.spare _ _ creates
     (λ none. unchanged _ part.slots part'.slots (ap (λ (p : MemoryPart). p.slots) none.1))
     (λ region found h. slot_made _ replied.Memory (MakesMemory rules (Lent region) ty) part.slots l reply part'.slots
     l' h.0)
@@ -277,11 +232,10 @@ lent_made rules ty part l reply part' l' creates =
 range_parts : (k : ℕ) (write : Option (TableValue → TableWrite)) (s : MeteredTables) (reply : Reply) (charge : ℕ)
     (s' : MeteredTables) → WritesRangeAt k write s reply charge s'
     → EachAfter (λ j. May (Some (TableAt k)) None (TableAt j)) s.value s'.value
-range_parts k write s reply charge s' writes =
-    on_live write _ _ writes
+range_parts k write s reply charge s' writes = on_live write _ _ writes
     (λ missing. unchanged _ s.value s'.value (ap (λ (t : MeteredTables). t.value) missing.2))
     (λ w found h. slot_acted _ k (reply_of (λ _. replied.Done) replied.Table) (WritesTableCharging w) s s' reply charge
-    (λ x x' result acts. same_table None k x x' (range_type w (with_value s x) result charge (with_value s' x') acts))
+    (λ x x' result acts. same_table None k x x' (write_type w (with_value s x) result charge (with_value s' x') acts))
     h)
 
 -- the index at which a change may change what is there, and the one at which it drops it
@@ -328,119 +282,80 @@ dropped_is s call = refl
 
 module _ (s : State) (reply : Reply) (s' : State) where
   -- what becomes of each part by a change
-  change_parts : (change : Change) → HasChange change s reply s'
-      → EachPart (changed_by change) (dropped_by change) s s'
-  change_parts (BytesWritten k offset bytes) c =
-      subst (EachPart _ _ s) (sym c.after)
-      (memories_change _ _ s c.part s.meter s.spare
-      (slot_changed _ k s.memories reply c.part _
+  change_parts : (change : Change) → HasChange change s reply s' → EachPart (changed_by change) (dropped_by change) s s'
+  change_parts (BytesWritten k offset bytes) c = subst (EachPart _ _ s) (sym c.after)
+      (memories_change _ _ s c.part s.meter s.spare (slot_changed _ k s.memories reply c.part _
       (λ x x' h. same_memory None k x x' (written_type x x' offset bytes h.0 h.1)) c.effect))
-  change_parts (BytesStored k a stored) c =
-      subst (EachPart _ _ s) (sym c.after)
+  change_parts (BytesStored k a stored) c = subst (EachPart _ _ s) (sym c.after)
       (memories_change _ _ s c.part s.meter s.spare (stored_parts k a s.memories reply c.part stored c.effect))
-  change_parts (RegisterSet dst given) c =
-      subst (EachPart _ _ s) (sym c.after)
-      (registers_change _ _ s c.part
+  change_parts (RegisterSet dst given) c = subst (EachPart _ _ s) (sym c.after) (registers_change _ _ s c.part
       (register_parts given (slice_get s.registers dst) dst s.registers reply c.part refl c.effect))
-  change_parts (MemoryDropped k) c =
-      subst (EachPart _ _ s) (sym c.after)
-      (memories_change _ _ s c.part s.meter s.spare
+  change_parts (MemoryDropped k) c = subst (EachPart _ _ s) (sym c.after) (memories_change _ _ s c.part s.meter s.spare
       (slot_dropped _ byte_count k s.memories reply c.part
       (λ x. record { named = refl; later = tt; live = λ live. inr refl }) c.effect))
-  change_parts (TableDropped k) c =
-      subst (EachPart _ _ s) (sym c.after)
-      (tables_change _ _ s c.part s.meter
+  change_parts (TableDropped k) c = subst (EachPart _ _ s) (sym c.after) (tables_change _ _ s c.part s.meter
       (slot_dropped _ size_of k s.tables reply c.part
       (λ x. record { named = refl; later = tt; live = λ live. inr refl }) c.effect))
-  change_parts (ElementSet k index value) c =
-      subst (EachPart _ _ s) (sym c.after)
-      (tables_change _ _ s c.part s.meter
+  change_parts (ElementSet k index value) c = subst (EachPart _ _ s) (sym c.after) (tables_change _ _ s c.part s.meter
       (slot_changed _ k s.tables reply c.part _
       (λ x x' h. same_table None k x x' (set_type index value x h.0 x' h.1)) c.effect))
-  change_parts (SegmentMade ty items) c =
-      subst (EachPart _ _ s) (sym c.after)
+  change_parts (SegmentMade ty items) c = subst (EachPart _ _ s) (sym c.after)
       (segments_change _ _ s c.part (segment_made ty items s.segments reply c.part c.effect))
-  change_parts (ItemsDropped k) c =
-      subst (EachPart _ _ s) (sym c.after)
-      (segments_change _ _ s c.part
+  change_parts (ItemsDropped k) c = subst (EachPart _ _ s) (sym c.after) (segments_change _ _ s c.part
       (item_changed _ k s.segments reply c.part _
       (λ x x' h. record {
         named = refl;
-        later = (
-          ap (λ (y : SegmentValue). y.ty) h.1,
-          inr (ap (λ (y : SegmentValue). y.items) h.1),
-        );
+        later = (ap (λ (y : SegmentValue). y.ty) h.1, inr (ap (λ (y : SegmentValue). y.items) h.1));
         live = λ live. inl tt;
       }) c.effect))
-  change_parts (GlobalMade global) c =
-      subst (EachPart _ _ s) (sym c.after)
+  change_parts (GlobalMade global) c = subst (EachPart _ _ s) (sym c.after)
       (globals_change _ _ s c.part (global_made global s.globals reply c.part c.effect))
-  change_parts (GlobalSet k value) c =
-      subst (EachPart _ _ s) (sym c.after)
-      (globals_change _ _ s c.part
+  change_parts (GlobalSet k value) c = subst (EachPart _ _ s) (sym c.after) (globals_change _ _ s c.part
       (item_changed _ k s.globals reply c.part _
-      (λ x x' h. record {
-        named = refl;
-        later = global_later k x value h.0 x' h.1;
-        live = λ live. inl tt;
-      }) c.effect))
+      (λ x x' h. record { named = refl; later = global_later k x value h.0 x' h.1; live = λ live. inl tt }) c.effect))
 
 module _ {S : Type 0} (rules : Rules S) (w : World S) (turn : Turn) (w' : World S) where
   -- what becomes of each part, by the world in which the turn ends
   ends_in : (changed dropped : Option Location) (v : World S) → w' ≡ v → EachPart changed dropped w.state v.state
       → EachPart changed dropped w.state w'.state
-  ends_in changed dropped v is parts =
-      subst (λ (x : World S). EachPart changed dropped w.state x.state) (sym is) parts
+  ends_in changed dropped v is parts = subst (λ (x : World S). EachPart changed dropped w.state x.state) (sym is) parts
 
   -- in a turn with this effect
   effect_parts : (effect : Effect) → HasEffect rules effect w turn w'
       → EachPart (changed_in effect) (dropped_in effect) w.state w'.state
   effect_parts (Told told) step = all_stay _ _ w.state w'.state (ap (λ (v : World S). v.state) step.after)
-  effect_parts (BytesRead k offset len) step =
-      all_stay _ _ w.state w'.state (ap (λ (v : World S). v.state) step.after)
-  effect_parts (FuelSet fuel) step =
-      ends_in _ _ _ step.after
-      (subst (EachPart None None w.state) (sym step.effect.1)
+  effect_parts (BytesRead k offset len) step = all_stay _ _ w.state w'.state (ap (λ (v : World S). v.state) step.after)
+  effect_parts (FuelSet fuel) step = ends_in _ _ _ step.after (subst (EachPart None None w.state) (sym step.effect.1)
       (memories_change None None w.state w.state.memories _ w.state.spare (unchanged _ _ _ refl)))
-  effect_parts (Changed change) step =
-      ends_in _ _ _ step.after
+  effect_parts (Changed change) step = ends_in _ _ _ step.after
       (change_parts w.state turn.reply step.machine change step.effect)
-  effect_parts (MemoryMade ty) step =
-      ends_in _ _ _ step.after
+  effect_parts (MemoryMade ty) step = ends_in _ _ _ step.after
       (memories_change None None w.state step.part w.state.meter w.state.spare
       (slot_made _ replied.Memory (MakesMemory rules Owned ty) w.state.memories w.limiter turn.reply step.part
       step.limiter step.effect))
-  effect_parts (LentMemoryMade ty) step =
-      ends_in _ _ _ step.after
+  effect_parts (LentMemoryMade ty) step = ends_in _ _ _ step.after
       (memories_change None None w.state step.part.slots w.state.meter step.part.spare
       (lent_made rules ty (memory_part w.state) w.limiter turn.reply step.part step.limiter step.effect))
-  effect_parts (MemoryGrown k pages) step =
-      ends_in _ _ _ step.after
+  effect_parts (MemoryGrown k pages) step = ends_in _ _ _ step.after
       (memories_change _ None w.state step.part step.meter w.state.spare
       (slot_acted _ k (reply_of replied.Number replied.Memory) (GrowsMemoryCharging rules pages)
       (record { value = w.state.memories; meter = Some w.state.meter; limiter = w.limiter })
       (record { value = step.part; meter = Some step.meter; limiter = step.limiter }) turn.reply turn.charge
-      (λ x x' result acts. same_memory None k x x'
-      (memory_grown_type rules pages
+      (λ x x' result acts. same_memory None k x x' (memory_grown_type rules pages
       (record { value = x; meter = Some w.state.meter; limiter = w.limiter })
       (record { value = x'; meter = Some step.meter; limiter = step.limiter }) result turn.charge acts)) step.effect))
-  effect_parts (TableMade ty init) step =
-      ends_in _ _ _ step.after
+  effect_parts (TableMade ty init) step = ends_in _ _ _ step.after
       (tables_change None None w.state step.part w.state.meter
       (slot_made _ replied.Table (MakesTable rules ty init) w.state.tables w.limiter turn.reply step.part step.limiter
       step.effect))
-  effect_parts (TableGrown k n init) step =
-      ends_in _ _ _ step.after
-      (tables_change _ None w.state step.part step.meter
+  effect_parts (TableGrown k n init) step = ends_in _ _ _ step.after (tables_change _ None w.state step.part step.meter
       (slot_acted _ k (reply_of replied.Number replied.Table) (GrowsTableCharging rules n init)
       (record { value = w.state.tables; meter = Some w.state.meter; limiter = w.limiter })
       (record { value = step.part; meter = Some step.meter; limiter = step.limiter }) turn.reply turn.charge
-      (λ x x' result acts. same_table None k x x'
-      (table_grown_type rules n init
+      (λ x x' result acts. same_table None k x x' (table_grown_type rules n init
       (record { value = x; meter = Some w.state.meter; limiter = w.limiter })
       (record { value = x'; meter = Some step.meter; limiter = step.limiter }) result turn.charge acts)) step.effect))
-  effect_parts (RangeWritten k source dst len) step =
-      ends_in _ _ _ step.after
+  effect_parts (RangeWritten k source dst len) step = ends_in _ _ _ step.after
       (tables_change _ None w.state step.part step.meter
       (range_parts k (write_of source dst len) (metered w.state.tables (Some w.state.meter)) turn.reply turn.charge
       (metered step.part (Some step.meter)) step.effect))
@@ -448,12 +363,10 @@ module _ {S : Type 0} (rules : Rules S) (w : World S) (turn : Turn) (w' : World 
   -- so in each turn, as its call names the indices
   step_parts : Step rules w turn w'
       → EachPart (changed_location turn.call) (dropped_location turn.call) w.state w'.state
-  step_parts step =
-      subst (λ changed. EachPart changed (dropped_location turn.call) w.state w'.state)
+  step_parts step = subst (λ changed. EachPart changed (dropped_location turn.call) w.state w'.state)
       (changed_is w.state turn.call)
       (subst (λ dropped. EachPart (changed_in (effect_of w.state turn.call)) dropped w.state w'.state)
-      (dropped_is w.state turn.call)
-      (effect_parts (effect_of w.state turn.call) step))
+      (dropped_is w.state turn.call) (effect_parts (effect_of w.state turn.call) step))
 
   -- what becomes of what is at an index
   after_step : Step rules w turn w' → (location : Location) (x : Content location)
@@ -528,8 +441,7 @@ module _ (changed dropped : Option Location) (location : Location) (x : Content 
   -- what has become of it in a turn
   later_here : (now : Content location) × (found ≡ Some now) × IsLater location x now
   later_here = (
-    after.now,
-    after.here,
+    after.now, after.here,
     ⊎_elim (λ same. subst (IsLater location x) (sym same) (later_same location x)) (λ may. may.later) after.how,
   )
 
@@ -537,8 +449,7 @@ module _ (changed dropped : Option Location) (location : Location) (x : Content 
   live_here : (dropped ≡ Some location → ⊥) → IsLive location x
       → (now : Content location) × (found ≡ Some now) × IsLive location now
   live_here not live = (
-    after.now,
-    after.here,
+    after.now, after.here,
     ⊎_elim (λ same. subst (IsLive location) (sym same) live)
         (λ may. ⊎_elim (λ now. now) (λ drops. absurd (not drops)) (may.live live)) after.how,
   )

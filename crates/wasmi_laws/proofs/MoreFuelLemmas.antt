@@ -5,6 +5,7 @@ use Rattle.std.proofs.lemmas.List.Elements.{All-head, All-tail}
 use Rattle.std.proofs.lemmas.Option.{same_Some}
 use Rattle.std.specs.Option.{option_map}
 use Rattle.std.specs.Prelude.{All, MatchBool, is_none, nat_le, ◌&&◌, if◌then◌else◌}
+use Rattle.wasmi_core.proofs.StoreLemmas.{acts_too, asks_too, changes_too}
 use Rattle.wasmi_typed.specs.declared.typed_ref.TypedRawRef.{TypedRawRef}
 use Rattle.wasmi_meter.specs.declared.error.TableError.{TableError}
 use Rattle.wasmi_meter.specs.declared.fuel.CustomFuelCosts.{CustomFuelCosts}
@@ -15,7 +16,7 @@ use Rattle.wasmi_store.specs.Growth.{Grows, Growth, metered, metered_value}
 use Rattle.wasmi_store.specs.Memory as memory
 use Rattle.wasmi_store.specs.Memory.{GrowsMemoryCharging, pages_of}
 use Rattle.wasmi_store.specs.Table as table
-use Rattle.wasmi_store.specs.Table.{EndsBy, GrowsTableCharging, TableValue, TableWrite, WriteEnding, WritesTableCharging, element_price, size_of, write_due, same_type}
+use Rattle.wasmi_store.specs.Table.{EndsBy, GrowsTableCharging, TableValue, TableWrite, WriteEnding, WritesTableCharging, element_price, size_of, same_type}
 use Rattle.wasmi_core.specs.declared.calls.Call.{Call}
 use Rattle.wasmi_core.specs.declared.calls.Call.TheVariants.{SetFuel, GetFuel}
 use Rattle.wasmi_core.specs.declared.calls.Reply.{Reply}
@@ -68,8 +69,7 @@ module _ (more : ℕ) where
 
   -- what could be paid still can
   still_covers : (left : Option ℕ) (costs : CustomFuelCosts) (amount : ℕ)
-      → covers (Some (meter_of left costs)) amount ≡ true
-      → covers (Some (richer (meter_of left costs))) amount ≡ true
+      → covers (Some (meter_of left costs)) amount ≡ true → covers (Some (richer (meter_of left costs))) amount ≡ true
   still_covers None costs amount enough = enough
   still_covers (Some n) costs amount enough =
       let within : nat_le amount n ≡ true = enough in grind (arith, nat_tests, within)
@@ -112,8 +112,7 @@ module _ (more : ℕ) where
       (unpaid : (n : ℕ) → HasFuel (refusal (e.unpaid n)) → ⊥) where
     module _ (m : Meter) where
       -- a first cause that isn't want of fuel: so much could be paid
-      tested_cause : (cause : E) → HasFuel (refusal cause) → (tested : Bool)
-          → covers (Some m) (due m e.price) ≡ tested
+      tested_cause : (cause : E) → HasFuel (refusal cause) → (tested : Bool) → covers (Some m) (due m e.price) ≡ tested
           → MatchBool tested (e.refuses cause) (cause ≡ e.unpaid (due m e.price))
           → (covers (Some m) (due m e.price) ≡ true) × e.refuses cause
       tested_cause cause has true enough first = (enough, first)
@@ -162,10 +161,7 @@ module _ (more : ℕ) where
         → Grows rules g (before t) result t.charge (after t)
         → Grows rules g (enriched (before t)) result t.charge (enriched (after t))
     grows_richer refusal g unpaid t result has (inl none) = inl (record {
-      none = none.none;
-      answered = none.answered;
-      uncharged = none.uncharged;
-      same = ap enriched none.same;
+      none = none.none; answered = none.answered; uncharged = none.uncharged; same = ap enriched none.same;
     })
     grows_richer refusal g unpaid t result has (inr some) =
         let a = some.attempt in
@@ -175,14 +171,12 @@ module _ (more : ℕ) where
         let takes = grows_takes rules g t.first.value m t.first.limiter result t.charge t.last.value t.last.meter
         t.last.limiter (inr some) in
         inr (record {
-          some = some.some;
-          outcome = some.outcome;
+          some = some.some; outcome = some.outcome;
           attempt = record {
             may_end = may_end refusal g.request unpaid m some.outcome told a.may_end;
             follows = a.follows;
             charged = a.charged ∙ same_charge refusal g.request unpaid m some.outcome told a.may_end;
-            meter = after_is m t.charge t.last.meter takes.0 a.meter;
-            value = a.value;
+            meter = after_is m t.charge t.last.meter takes.0 a.meter; value = a.value;
           };
           answered = some.answered;
         })
@@ -196,8 +190,7 @@ module _ (more : ℕ) where
         let x = t.first.value in
         on_test_too (same_type x.ty.element init.ty) _ _ _ _
         (grows_richer replied.Table (record { amount = n; size = size_of x; request = table.growth_of x n init.raw })
-        (λ n none. none) t result has)
-        (λ h. (h.0, h.1, ap enriched h.2))
+        (λ n none. none) t result has) (λ h. (h.0, h.1, ap enriched h.2))
 
   -- a call with a charge on what an index names
   acts_richer : {X R S : Type 0} (k : ℕ) (reply_to : R → Reply)
@@ -293,71 +286,34 @@ module _ (more : ℕ) {S : Type 0} (rules : Rules S) (accepts : AcceptsNotices r
     effect_richer (BytesRead k offset len) keeps step =
         record { free = step.free; effect = step.effect; after = ap richer_world step.after }
     effect_richer (FuelSet fuel) keeps step = absurd keeps
-    effect_richer (Changed change) keeps step = record {
-      free = step.free;
-      machine = richer_state more step.machine;
-      effect = change_richer more change w.state turn.reply step.machine step.effect;
-      after = ap richer_world step.after;
-    }
-    effect_richer (MemoryMade ty) keeps step = record {
-      free = step.free;
-      part = step.part;
-      limiter = step.limiter;
-      effect = step.effect;
-      after = ap richer_world step.after;
-    }
-    effect_richer (LentMemoryMade ty) keeps step = record {
-      free = step.free;
-      part = step.part;
-      limiter = step.limiter;
-      effect = step.effect;
-      after = ap richer_world step.after;
-    }
-    effect_richer (TableMade ty init) keeps step = record {
-      free = step.free;
-      part = step.part;
-      limiter = step.limiter;
-      effect = step.effect;
-      after = ap richer_world step.after;
-    }
-    effect_richer (MemoryGrown k pages) keeps step = record {
-      part = step.part;
-      meter = richer more step.meter;
-      limiter = step.limiter;
-      effect = acts_richer more k (reply_of replied.Number replied.Memory) (GrowsMemoryCharging rules pages)
-          (metered_value w.state.memories (Some w.state.meter) w.limiter)
-          (metered_value step.part (Some step.meter) step.limiter) turn.reply turn.charge has
-          (λ x x' result. grows_richer more rules accepts replied.Memory
-          (record { amount = pages; size = pages_of x; request = memory.growth_of x pages }) (λ n none. none)
-          (growing w x turn.charge x' step.meter step.limiter) result) step.effect;
-      wrote = step.wrote;
-      after = ap richer_world step.after;
-    }
-    effect_richer (TableGrown k n init) keeps step = record {
-      part = step.part;
-      meter = richer more step.meter;
-      limiter = step.limiter;
-      effect = acts_richer more k (reply_of replied.Number replied.Table) (GrowsTableCharging rules n init)
-          (metered_value w.state.tables (Some w.state.meter) w.limiter)
-          (metered_value step.part (Some step.meter) step.limiter) turn.reply turn.charge has
-          (λ x x' result. table_grows_richer more rules accepts n init
-          (growing w x turn.charge x' step.meter step.limiter) result) step.effect;
-      wrote = step.wrote;
-      after = ap richer_world step.after;
-    }
+    effect_richer (Changed change) keeps step = changes_too step (richer_state more step.machine)
+        (change_richer more change w.state turn.reply step.machine step.effect) (ap richer_world step.after)
+    effect_richer (MemoryMade ty) keeps step = asks_too step step.part step.effect (ap richer_world step.after)
+    effect_richer (LentMemoryMade ty) keeps step = asks_too step step.part step.effect (ap richer_world step.after)
+    effect_richer (TableMade ty init) keeps step = asks_too step step.part step.effect (ap richer_world step.after)
+    effect_richer (MemoryGrown k pages) keeps step = acts_too step step.part (richer more step.meter)
+        (acts_richer more k (reply_of replied.Number replied.Memory) (GrowsMemoryCharging rules pages)
+        (metered_value w.state.memories (Some w.state.meter) w.limiter)
+        (metered_value step.part (Some step.meter) step.limiter) turn.reply turn.charge has
+        (λ x x' result. grows_richer more rules accepts replied.Memory
+        (record { amount = pages; size = pages_of x; request = memory.growth_of x pages }) (λ n none. none)
+        (growing w x turn.charge x' step.meter step.limiter) result) step.effect) refl (ap richer_world step.after)
+    effect_richer (TableGrown k n init) keeps step = acts_too step step.part (richer more step.meter)
+        (acts_richer more k (reply_of replied.Number replied.Table) (GrowsTableCharging rules n init)
+        (metered_value w.state.tables (Some w.state.meter) w.limiter)
+        (metered_value step.part (Some step.meter) step.limiter) turn.reply turn.charge has
+        (λ x x' result. table_grows_richer more rules accepts n init
+        (growing w x turn.charge x' step.meter step.limiter) result) step.effect) refl (ap richer_world step.after)
     effect_richer (RangeWritten k source dst len) keeps step = record {
-      part = step.part;
-      meter = richer more step.meter;
+      part = step.part; meter = richer more step.meter;
       effect = range_richer more k (write_of source dst len) w.state.tables w.state.meter turn.reply turn.charge
           step.part step.meter has step.effect;
-      wrote = step.wrote;
-      after = ap richer_world step.after;
+      wrote = step.wrote; after = ap richer_world step.after;
     }
 
     -- so each step
     step_richer : NamesNoFuel turn.call → Step rules w turn w' → Step rules (richer_world w) turn (richer_world w')
-    step_richer other step =
-        subst (λ effect. HasEffect rules effect (richer_world w) turn (richer_world w'))
+    step_richer other step = subst (λ effect. HasEffect rules effect (richer_world w) turn (richer_world w'))
         (sym (same_effect w.state (richer more w.state.meter) turn.call other))
         (effect_richer (effect_of w.state turn.call) (keeps_fuel w.state turn.call other) step)
 
@@ -383,5 +339,4 @@ optional_accepts rules accepts None failure notice_answer None notices = notices
 
 -- a run under a limiter that accepts each notice
 pub more_fuel_changes_nothing : {L : Type 0} (rules : Rules L) → MoreFuelChangesNothing rules
-more_fuel_changes_nothing rules accepts more =
-    run_richer more (optional_rules rules) (optional_accepts rules accepts)
+more_fuel_changes_nothing rules accepts more = run_richer more (optional_rules rules) (optional_accepts rules accepts)

@@ -5,16 +5,17 @@ use Rattle.std.proofs.lemmas.Option.{same_Some}
 use Rattle.std.specs.Int.{Width, w32, w64}
 use Rattle.std.specs.Option.{option_and_then}
 use Rattle.std.specs.Prelude.{slice_get, MatchOption, slice_set}
+use Rattle.wasmi_core.proofs.StoreLemmas.{acts, alters, replies}
 use Rattle.wasmi_access.proofs.AccessLemmas.{loaded-stored, outside-stored}
 use Rattle.wasmi_access.specs.LoadStore.{IsSameOutside, IsStore, loaded}
 use Rattle.wasmi_core.proofs.EffectLemmas.{on_live}
 use Rattle.wasmi_core.proofs.MemoryEffectsLemmas.{stored_count}
 use Rattle.wasmi_core.specs.Effects.{reply_of}
-use Rattle.wasmi_core.specs.MemoryEffects.{StoresMemory, load_reply, bytes_appended}
+use Rattle.wasmi_core.specs.MemoryEffects.{StoresMemory, load_reply}
 use Rattle.wasmi_core.specs.State.{State, live_at, live_value, World}
 use Rattle.wasmi_core.specs.Steps.{RepliesWith}
 use Rattle.wasmi_core.specs.declared.calls.Call.TheVariants.{Read}
-use Rattle.wasmi_core.specs.declared.calls.Reply.TheVariants.{Done, NoSuch, Trap, Value, Bytes, Memory, Number, Table}
+use Rattle.wasmi_core.specs.declared.calls.Reply.TheVariants.{Done, NoSuch, Trap, Value, Bytes, Memory}
 use Rattle.wasmi_core.specs.declared.slots.Slot.TheVariants.{Live}
 use Rattle.wasmi_laws.proofs.ListLemmas.{live_slot, set_same}
 use Rattle.wasmi_laws.proofs.LocationLemmas.{others_stay_in_runs}
@@ -29,7 +30,6 @@ use Rattle.wasmi_types.specs.Numbers.{le_bytes}
 use Rattle.wasmi_types.specs.declared.trap.TrapCode.{TrapCode}
 use Rattle.wasmi_types.specs.Access.{at}
 use Rattle.wasmi_meter.specs.declared.error.MemoryError.TheVariants.{OutOfBoundsAccess}
-use Rattle.wasmi_core.specs.TableEffects.{element_bytes}
 use Rattle.wasmi_ops.specs.declared.scalar.access.StoreOp.TheVariants as store
 
 -- a number cut twice to as many bits
@@ -39,10 +39,8 @@ cut_twice n k = mod-eq_of_lt (mod_below n (2 ^ k) (pow_pos k))
 module _ (value : RawVal) (a : ℕ) (old new : List ℕ) where
   -- what a load without a sign gives of the low bits of a value that were stored
   narrow_read : (w : Width) (k n : ℕ) → (is : IsStore old a (le_bytes k (value.lo % 2 ^ n)) new (Ok (tt {0})))
-      → 8 * k ≡ n
-      → as_raw (signed_raw w) (loaded k pos new a) ≡ Ok (raw_of (value.lo % 2 ^ n))
-  narrow_read w k n is bits =
-      ap (as_raw (signed_raw w)) (loaded-stored k (value.lo % 2 ^ n) a old new pos is)
+      → 8 * k ≡ n → as_raw (signed_raw w) (loaded k pos new a) ≡ Ok (raw_of (value.lo % 2 ^ n))
+  narrow_read w k n is bits = ap (as_raw (signed_raw w)) (loaded-stored k (value.lo % 2 ^ n) a old new pos is)
       ∙ ap (λ m. Ok (raw_of (value.lo % 2 ^ n % 2 ^ m))) bits
       ∙ ap (λ m. Ok (raw_of m)) (cut_twice value.lo n)
 
@@ -54,8 +52,7 @@ module _ (value : RawVal) (a : ℕ) (old new : List ℕ) where
   read_back store.I64Store8 is = narrow_read w64 1 8 is refl
   read_back store.I64Store16 is = narrow_read w64 2 16 is refl
   read_back store.I64Store32 is = narrow_read w64 4 32 is refl
-  read_back store.Store32 is =
-      ap (as_raw raw_of) (loaded-stored 4 (value.lo % 2 ^ 32) a old new (λ n. n) is)
+  read_back store.Store32 is = ap (as_raw raw_of) (loaded-stored 4 (value.lo % 2 ^ 32) a old new (λ n. n) is)
       ∙ ap (λ m. Ok (raw_of m)) (cut_twice value.lo 32)
   read_back store.Store64 is = ap (as_raw raw_of) (loaded-stored 8 value.lo a old new (λ n. n) is)
 
@@ -100,13 +97,10 @@ module _ {S : Type 0} (rules : Rules S) (it : NumberStore) where
   -- by its step
   stored_by : (t u : World S) → RepliesWith rules (store_call it) t Done u
       → Stored it.memory address bytes t.state u.state
-  stored_by t u (charge, written, step) =
-      on_live (live_at t.state.memories it.memory) _ _ step.effect.effect
+  stored_by t u (charge, written, step) = on_live (live_at t.state.memories it.memory) _ _ step.effect.effect
       (λ missing. absurd (none_done missing.0))
       (λ x found h. record {
-        before = x;
-        after = h.0;
-        was = found;
+        before = x; after = h.0; was = found;
         here = ap (λ (v : World S). slice_get v.state.memories it.memory) step.after
             ∙ ap (λ (s : State). slice_get s.memories it.memory) step.effect.after
             ∙ ap (λ slots. slice_get slots it.memory) h.2
@@ -148,43 +142,21 @@ stores_keep_other_bytes rules it t u stores x x' found found' =
 module _ {S : Type 0} (rules : Rules S) where
   -- a memory grows
   pub memories_grow : MemoriesGrowAlike rules
-  memories_grow w k pages x x' result m' l' found (charge, grows) = (
-    charge,
-    bytes_appended (live_at w.state.memories k) pages (reply_of Number Memory result),
-    record {
-      part = slice_set w.state.memories k (Live x');
-      meter = m';
-      limiter = l';
-      effect = rw found (result, x', grows, refl, refl);
-      wrote = refl;
-      after = refl;
-    },
-  )
+  memories_grow w k pages x x' result m' l' found (charge, grows) =
+      acts (slice_set w.state.memories k (Live x')) (charge, rw found (result, x', grows, refl, refl))
 
   -- a table grows
   pub tables_grow : TablesGrowAlike rules
-  tables_grow w k n init x x' result m' l' found (charge, grows) = (
-    charge,
-    element_bytes n (reply_of Number Table result),
-    record {
-      part = slice_set w.state.tables k (Live x');
-      meter = m';
-      limiter = l';
-      effect = rw found (result, x', grows, refl, refl);
-      wrote = refl;
-      after = refl;
-    },
-  )
+  tables_grow w k n init x x' result m' l' found (charge, grows) =
+      acts (slice_set w.state.tables k (Live x')) (charge, rw found (result, x', grows, refl, refl))
 
   -- a read, by what is found of the memory
   read_by : (w : World S) (k offset len : ℕ) (x : MemoryValue) → live_at w.state.memories k ≡ Some x
       → (found : Option (List ℕ)) → at x.bytes offset len ≡ found
       → MatchOption found (RepliesWith rules (Read k offset len) w (Memory OutOfBoundsAccess) w)
       (λ bytes. RepliesWith rules (Read k offset len) w (Bytes bytes) w)
-  read_by w k offset len x live None is =
-      (0, 0, record { free = (refl, refl); effect = rw (live, is) refl; after = refl })
-  read_by w k offset len x live (Some bytes) is =
-      (0, 0, record { free = (refl, refl); effect = rw (live, is) (inr refl); after = refl })
+  read_by w k offset len x live None is = replies (rw (live, is) refl)
+  read_by w k offset len x live (Some bytes) is = replies (rw (live, is) (inr refl))
 
   -- a memory is read
   pub memories_read : MemoriesReadAlike rules
@@ -192,20 +164,8 @@ module _ {S : Type 0} (rules : Rules S) where
 
   -- a memory is written
   pub memories_write : MemoriesWriteAlike rules
-  memories_write w k offset bytes x x' result found writes = (
-    0,
-    0,
-    record {
-      free = (refl, refl);
-      machine = _;
-      effect = record {
-        part = slice_set w.state.memories k (Live x');
-        effect = rw found (x', (result, writes, refl), refl);
-        after = refl;
-      };
-      after = refl;
-    },
-  )
+  memories_write w k offset bytes x x' result found writes =
+      alters (slice_set w.state.memories k (Live x')) (rw found (x', (result, writes, refl), refl))
 
 -- memories and tables by themselves do as those of a machine
 pub ruleset done_alike = (memories_grow, tables_grow, memories_read, memories_write)

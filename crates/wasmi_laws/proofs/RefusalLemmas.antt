@@ -80,8 +80,7 @@ module _ {V E : Type 0} (refusal : E → Reply) (e : Request V E) (loud : AllLou
   first_loud : (m : Option Meter) (late : Option E) → e.late ≡ late → (cause : E) → IsFirstCause e m late cause
       → IsLoud (refusal cause)
   first_loud m (Some c) is cause first = loud.late cause (is ∙ ap Some (sym first))
-  first_loud m None is cause first =
-      on_test (covers m (optional_due m e.price)) _ _ first (loud.refuses cause)
+  first_loud m None is cause first = on_test (covers m (optional_due m e.price)) _ _ first (loud.refuses cause)
       (λ unpaid. subst (λ c. IsLoud (refusal c)) (sym unpaid) (loud.unpaid (optional_due m e.price)))
 
   -- an attempt
@@ -115,8 +114,7 @@ module _ {S : Type 0} (rules : Rules S) where
       let answer : X → Reply = λ x. replied.Made (length slots) in
       let told = adds_reply Live refusal result slots o.reply o.part adds ∙ ap (reply_of answer refusal) answered in
       attempt_unasked refusal e loud rules (record { answer = answer; value = made; loud = λ p. p }) (alone l)
-      (alone o.limiter) 0 outcome attempt
-      (subst IsPlainRefusal told plain)
+      (alone o.limiter) 0 outcome attempt (subst IsPlainRefusal told plain)
 
   -- any creation
   creates_unasked : {X E : Type 0} (refusal : E → Reply) (e : Request (Unit {0}) E) → AllLoud refusal e → (made : X)
@@ -132,8 +130,7 @@ module _ {S : Type 0} (rules : Rules S) where
       → IsPlainRefusal (reply_of replied.Number refusal result) → s'.limiter ≡ s.limiter
   grows_unasked {V} refusal g loud s s' result charge (inl none) plain =
       ap (λ (t : MeteredValue V S). t.limiter) none.same
-  grows_unasked refusal g loud s s' result charge (inr some) plain =
-      (attempt_unasked refusal g.request loud rules
+  grows_unasked refusal g loud s s' result charge (inr some) plain = (attempt_unasked refusal g.request loud rules
       (record { answer = replied.Number; value = g.size; loud = λ p. p }) s s' charge some.outcome some.attempt
       (subst (λ r. IsPlainRefusal (reply_of replied.Number refusal r)) some.answered plain)).same
 
@@ -167,41 +164,32 @@ table_lacks_loud c lacks plain = subst (λ x. IsPlainRefusal (replied.Table x)) 
 -- a memory is made
 memory_made_loud : (room : Room) (ty : MemoryTypeValue) → AllLoud replied.Memory (memory.creation_of room ty)
 memory_made_loud room ty = record {
-  denied = λ p. p;
-  refused = λ p. p;
+  denied = λ p. p; refused = λ p. p;
   late = tested_loud replied.Memory _ memory_error.InvalidStaticBufferSize (λ p. p);
-  unpaid = λ n p. p;
-  refuses = lacks_loud room;
+  unpaid = λ n p. p; refuses = lacks_loud room;
 }
 
 -- a memory grows
 memory_grown_loud : (x : MemoryValue) (pages : ℕ) → AllLoud replied.Memory (memory.growth_of x pages)
 memory_grown_loud x pages = record {
-  denied = λ p. p;
-  refused = λ p. p;
+  denied = λ p. p; refused = λ p. p;
   late = tested_loud replied.Memory _ memory_error.InvalidStaticBufferSize (λ p. p);
-  unpaid = λ n p. p;
-  refuses = lacks_loud x.room;
+  unpaid = λ n p. p; refuses = lacks_loud x.room;
 }
 
 -- a table is made
 table_made_loud : (ty : TableTypeValue) (init : RefType) → AllLoud replied.Table (table.creation_of ty init)
 table_made_loud ty init = record {
-  denied = λ p. p;
-  refused = λ p. p;
-  late = λ c is. absurd (none-some c is);
-  unpaid = λ n p. p;
+  denied = λ p. p; refused = λ p. p; late = λ c is. absurd (none-some c is); unpaid = λ n p. p;
   refuses = table_lacks_loud;
 }
 
 -- a table grows
 table_grown_loud : (x : TableValue) (n reference : ℕ) → AllLoud replied.Table (table.growth_of x n reference)
 table_grown_loud x n reference = record {
-  denied = λ p. p;
-  refused = λ p. p;
+  denied = λ p. p; refused = λ p. p;
   late = tested_loud replied.Table _ table_error.GrowOutOfBounds (λ p. p);
-  unpaid = λ n p. p;
-  refuses = table_lacks_loud;
+  unpaid = λ n p. p; refuses = table_lacks_loud;
 }
 
 module _ {S : Type 0} (rules : Rules S) where
@@ -219,11 +207,9 @@ module _ {S : Type 0} (rules : Rules S) where
 
   -- so the limiter stays, and the spare region too
   lent_unasked : (ty : MemoryTypeValue) (part : MemoryPart) (l : S) (reply : Reply) (part' : MemoryPart) (l' : S)
-      → CreatesLent rules ty part l reply part' l' → IsPlainRefusal reply
-      → (l' ≡ l) × (part'.spare ≡ part.spare)
+      → CreatesLent rules ty part l reply part' l' → IsPlainRefusal reply → (l' ≡ l) × (part'.spare ≡ part.spare)
   lent_unasked ty part l reply part' l' creates plain =
-      on_live part.spare _ _ creates (λ h. (h.2, ap (λ (p : MemoryPart). p.spare) h.1))
-      (λ region found h.
+      on_live part.spare _ _ creates (λ h. (h.2, ap (λ (p : MemoryPart). p.spare) h.1)) (λ region found h.
       let same = region_unasked region ty part.slots l (record { reply = reply; part = part'.slots; limiter = l' }) h.0
       plain in (same.0, h.1 ∙ ap (λ r. spare_after r part.spare) same.1))
 
@@ -231,8 +217,7 @@ module _ {S : Type 0} (rules : Rules S) where
   table_grows_unasked : (n : ℕ) (init : TypedRawRef) (s s' : MeteredValue TableValue S) (result : Result ℕ TableError)
       (charge : ℕ) → GrowsTableCharging rules n init s result charge s'
       → IsPlainRefusal (reply_of replied.Number replied.Table result) → s'.limiter ≡ s.limiter
-  table_grows_unasked n init s s' result charge grows plain =
-      on_test (same_type s.value.ty.element init.ty) _ _ grows
+  table_grows_unasked n init s s' result charge grows plain = on_test (same_type s.value.ty.element init.ty) _ _ grows
       (λ h. grows_unasked rules replied.Table
       (record { amount = n; size = size_of s.value; request = table.growth_of s.value n init.raw })
       (table_grown_loud s.value n init.raw) s s' result charge h plain)
@@ -241,28 +226,23 @@ module _ {S : Type 0} (rules : Rules S) where
   module _ (w : World S) (turn : Turn) (w' : World S) (plain : IsPlainRefusal turn.reply) where
     -- the limiter stays, by each effect
     limiter_stays : (effect : Effect) → HasEffect rules effect w turn w' → w'.limiter ≡ w.limiter
-    limiter_stays (MemoryMade ty) step =
-        ap (λ (v : World S). v.limiter) step.after
+    limiter_stays (MemoryMade ty) step = ap (λ (v : World S). v.limiter) step.after
         ∙ creates_unasked rules replied.Memory (memory.creation_of Owned ty) (memory_made_loud Owned ty)
         (new_memory Owned ty) w.state.memories w.limiter
         (record { reply = turn.reply; part = step.part; limiter = step.limiter }) step.effect plain
-    limiter_stays (LentMemoryMade ty) step =
-        ap (λ (v : World S). v.limiter) step.after
+    limiter_stays (LentMemoryMade ty) step = ap (λ (v : World S). v.limiter) step.after
         ∙ (lent_unasked ty (memory_part w.state) w.limiter turn.reply step.part step.limiter step.effect plain).0
-    limiter_stays (MemoryGrown k pages) step =
-        ap (λ (v : World S). v.limiter) step.after
+    limiter_stays (MemoryGrown k pages) step = ap (λ (v : World S). v.limiter) step.after
         ∙ acts_unasked rules k replied.Memory (GrowsMemoryCharging rules pages) _ _ turn.reply turn.charge
         (λ x x' result. grows_unasked rules replied.Memory
         (record { amount = pages; size = pages_of x; request = memory.growth_of x pages }) (memory_grown_loud x pages)
         (record { value = x; meter = Some w.state.meter; limiter = w.limiter })
         (record { value = x'; meter = Some step.meter; limiter = step.limiter }) result turn.charge) step.effect plain
-    limiter_stays (TableMade ty init) step =
-        ap (λ (v : World S). v.limiter) step.after
+    limiter_stays (TableMade ty init) step = ap (λ (v : World S). v.limiter) step.after
         ∙ creates_unasked rules replied.Table (table.creation_of ty init.ty) (table_made_loud ty init.ty)
         (new_table ty init.raw) w.state.tables w.limiter
         (record { reply = turn.reply; part = step.part; limiter = step.limiter }) step.effect plain
-    limiter_stays (TableGrown k n init) step =
-        ap (λ (v : World S). v.limiter) step.after
+    limiter_stays (TableGrown k n init) step = ap (λ (v : World S). v.limiter) step.after
         ∙ acts_unasked rules k replied.Table (GrowsTableCharging rules n init) _ _ turn.reply turn.charge
         (λ x x' result. table_grows_unasked n init
         (record { value = x; meter = Some w.state.meter; limiter = w.limiter })
@@ -274,8 +254,7 @@ module _ {S : Type 0} (rules : Rules S) where
         → KeepsSpare call turn.reply w.state w'.state → w'.state.spare ≡ w.state.spare
     spare_stays (NewLentMemory ty) is step keeps =
         let made : HasEffect rules (LentMemoryMade ty) w turn w' =
-        subst (λ call. HasEffect rules (effect_of w.state call) w turn w') is step
-        in
+        subst (λ call. HasEffect rules (effect_of w.state call) w turn w') is step in
         ap (λ (v : World S). v.state.spare) made.after
         ∙ (lent_unasked ty (memory_part w.state) w.limiter turn.reply made.part made.limiter made.effect plain).1
     spare_stays call is step keeps = keeps
@@ -292,19 +271,13 @@ want_loud failure (Ok _) wants plain = wants tt
 -- a world whose parts are all the same
 same_world : {S : Type 0} (rules : Rules S) (w : World S) (turn : Turn) (w' : World S) → Keeps rules w turn w'
     → w'.state.meter ≡ w.state.meter → w'.state.spare ≡ w.state.spare → w'.limiter ≡ w.limiter → w' ≡ w
-same_world rules w turn w' keeps meter spare limiter =
-    λ i. record {
-      state = record {
-        memories = keeps.contents.memories i;
-        tables = keeps.contents.tables i;
-        segments = keeps.contents.segments i;
-        globals = keeps.contents.globals i;
-        registers = keeps.contents.registers i;
-        meter = meter i;
-        spare = spare i;
-      };
-      limiter = limiter i;
-    }
+same_world rules w turn w' keeps meter spare limiter = λ i. record {
+  state = record {
+    memories = keeps.contents.memories i; tables = keeps.contents.tables i; segments = keeps.contents.segments i;
+    globals = keeps.contents.globals i; registers = keeps.contents.registers i; meter = meter i; spare = spare i;
+  };
+  limiter = limiter i;
+}
 
 -- a new index is a place
 new_place : New ≡ Nowhere → ⊥
@@ -375,8 +348,7 @@ module _ {S : Type 0} (rules : Rules S) where
   plainly_refused_runs_change_nothing w (turn ∷ turns) w' (v, step, ran) plain =
       plainly_refused_runs_change_nothing v turns w' ran
       (All-tail IsPlainRefusal turn.reply (map Turn.reply turns) plain)
-      ∙ plain_refusals_change_nothing w turn v step
-      (All-head IsPlainRefusal turn.reply (map Turn.reply turns) plain)
+      ∙ plain_refusals_change_nothing w turn v step (All-head IsPlainRefusal turn.reply (map Turn.reply turns) plain)
 
 -- what refusals leave
 pub ruleset refusals =

@@ -53,16 +53,12 @@ module _ {S : Type 0} (rules : Rules S) where
       record {
         between = cut.0;
         first_run = (
-          take n turns,
-          made_first Turn.call turns calls calls' made,
-          sym (take-map Turn.reply n turns) ∙ ap (take n) told,
-          cut.1,
+          take n turns, made_first Turn.call turns calls calls' made,
+          sym (take-map Turn.reply n turns) ∙ ap (take n) told, cut.1,
         );
         rest_run = (
-          drop n turns,
-          made_rest Turn.call turns calls calls' made,
-          sym (drop-map Turn.reply n turns) ∙ ap (drop n) told,
-          cut.2,
+          drop n turns, made_rest Turn.call turns calls calls' made,
+          sym (drop-map Turn.reply n turns) ∙ ap (drop n) told, cut.2,
         );
       }
 
@@ -88,8 +84,7 @@ set_shrinks (x ∷ xs) zero small large grows at_j zero n found =
     (large, refl, omega (arith, grows, same_Some n small (sym found ∙ at_j)))
 set_shrinks (x ∷ xs) zero small large grows at_j (suc k) n found = (n, found, omega arith)
 set_shrinks (x ∷ xs) (suc j) small large grows at_j zero n found = (n, found, omega arith)
-set_shrinks (x ∷ xs) (suc j) small large grows at_j (suc k) n found =
-    set_shrinks xs j small large grows at_j k n found
+set_shrinks (x ∷ xs) (suc j) small large grows at_j (suc k) n found = set_shrinks xs j small large grows at_j k n found
 
 -- where something grew as was asked
 asked_shrinks : (place : Place) (q : Question) (xs ys : List ℕ) → GrowsAsAsked place q xs ys → NoneShrinks xs ys
@@ -124,12 +119,8 @@ sum_shrinks (x ∷ xs) [] none = absurd (none-some _ (none 0 x refl).1)
 sum_shrinks (x ∷ xs) (y ∷ ys) none =
     let first = none 0 x refl in
     omega (
-      arith,
-      sum_by-cons (λ z. z) x xs,
-      sum_by-cons (λ z. z) y ys,
-      sum_shrinks xs ys (λ k n found. none (suc k) n found),
-      first.2,
-      same_Some y first.0 first.1,
+      arith, sum_by-cons (λ z. z) x xs, sum_by-cons (λ z. z) y ys,
+      sum_shrinks xs ys (λ k. none (suc k)), first.2, same_Some y first.0 first.1,
     )
 
 module _ {S : Type 0} (rules : Rules S) where
@@ -214,27 +205,24 @@ module _ {S : Type 0} (rules : Rules S) where
   -- a run keeps the costs
   pub costs_are_kept : CostsAreKept rules
   costs_are_kept w [] w' ran = ap (λ (v : World S). v.state.meter.costs) ran
-  costs_are_kept w (turn ∷ turns) w' (v, step, ran) =
-      costs_are_kept v turns w' ran
+  costs_are_kept w (turn ∷ turns) w' (v, step, ran) = costs_are_kept v turns w' ran
       ∙ costs_kept turn.call w.state.meter turn.charge v.state.meter (step_meter rules w turn v step)
 
   -- a run keeps the switch
   pub switch_is_kept : SwitchIsKept rules
   switch_is_kept w [] w' ran = ap (λ (v : World S). is_some v.state.meter.left) ran
-  switch_is_kept w (turn ∷ turns) w' (v, step, ran) =
-      switch_is_kept v turns w' ran
+  switch_is_kept w (turn ∷ turns) w' (v, step, ran) = switch_is_kept v turns w' ran
       ∙ switch_kept turn.call w.state.meter turn.charge v.state.meter (step_meter rules w turn v step)
 
   -- a run of calls that don't set the fuel leaves no more
   pub fuel_never_rises : FuelNeverRises rules
   fuel_never_rises w [] w' ran others = omega (arith, ap (λ (v : World S). amount_left v.state.meter) ran)
-  fuel_never_rises w (turn ∷ turns) w' (v, step, ran) others =
-      omega (
-        arith,
-        fuel_never_rises v turns w' ran (All-tail SetsNoFuel turn.call (map Turn.call turns) others),
-        fuel_falls turn.call (All-head SetsNoFuel turn.call (map Turn.call turns) others) w.state.meter turn.charge
-            v.state.meter (step_meter rules w turn v step),
-      )
+  fuel_never_rises w (turn ∷ turns) w' (v, step, ran) others = omega (
+    arith,
+    fuel_never_rises v turns w' ran (All-tail SetsNoFuel turn.call (map Turn.call turns) others),
+    fuel_falls turn.call (All-head SetsNoFuel turn.call (map Turn.call turns) others) w.state.meter turn.charge
+        v.state.meter (step_meter rules w turn v step),
+  )
 
 -- runs that are cut
 pub ruleset cuts = (run_is_cut, run_of_calls_is_cut)

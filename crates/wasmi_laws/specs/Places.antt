@@ -149,8 +149,7 @@ pub record IsIndependent (first second : Call) : Type 0 where
 
 -- what was at an index is there
 abbrev pub StaysAt : Location → State → State → Type 0
-StaysAt location s s' =
-    (x : Content location) → content_at location s ≡ Some x → content_at location s' ≡ Some x
+StaysAt location s s' = (x : Content location) → content_at location s ≡ Some x → content_at location s' ≡ Some x
 
 -- what may become of a slot: a live value stays of its type or is dropped, and one that was dropped stays so, with its
 -- size
@@ -226,51 +225,43 @@ load_call it = call.Load (load_of it.op) it.memory it.ptr it.offset
 module _ {S : Type 0} (rules : Rules S) where
   -- a turn leaves what is at each index except the one that its call may change
   abbrev pub OthersStay : Type 0
-  OthersStay =
-      (w : World S) (turn : Turn) (w' : World S) → Step rules w turn w' → (location : Location)
+  OthersStay = (w : World S) (turn : Turn) (w' : World S) → Step rules w turn w' → (location : Location)
       → LeavesAlone location turn.call → StaysAt location w.state w'.state
 
   -- a run leaves what is at each index that none of its calls may change
   abbrev pub OthersStayInRuns : Type 0
-  OthersStayInRuns =
-      (w : World S) (turns : List Turn) (w' : World S) → Run rules w turns w' → (location : Location)
+  OthersStayInRuns = (w : World S) (turns : List Turn) (w' : World S) → Run rules w turns w' → (location : Location)
       → All (LeavesAlone location) (map Turn.call turns) → StaysAt location w.state w'.state
 
   -- after a run, what was at an index is there, as it may have become
   abbrev pub IndicesLast : Type 0
-  IndicesLast =
-      (w : World S) (turns : List Turn) (w' : World S) → Run rules w turns w' → (location : Location)
+  IndicesLast = (w : World S) (turns : List Turn) (w' : World S) → Run rules w turns w' → (location : Location)
       → (x : Content location) → content_at location w.state ≡ Some x → HasAt location w'.state (IsLater location x)
 
   -- after a run none of whose calls drops it, what was live at an index is live
   abbrev pub LiveUntilDropped : Type 0
-  LiveUntilDropped =
-      (w : World S) (turns : List Turn) (w' : World S) → Run rules w turns w' → (location : Location)
+  LiveUntilDropped = (w : World S) (turns : List Turn) (w' : World S) → Run rules w turns w' → (location : Location)
       → All (DropsNot location) (map Turn.call turns) → HasAt location w.state (IsLive location)
       → HasAt location w'.state (IsLive location)
 
   -- an accepted store to a memory is read back by the load of the same size, after whatever turns whose calls don't
   -- change that memory
   abbrev pub StoresAreReadBack : Type 0
-  StoresAreReadBack =
-      (it : NumberStore) (t u v w : World S) (turns : List Turn) (reply : Reply)
+  StoresAreReadBack = (it : NumberStore) (t u v w : World S) (turns : List Turn) (reply : Reply)
       → RepliesWith rules (store_call it) t Done u → Run rules u turns v
       → All (LeavesAlone (MemoryAt it.memory)) (map Turn.call turns) → RepliesWith rules (load_call it) v reply w
       → (reply ≡ Value (stored_part it.op it.value)) × (w ≡ v)
 
   -- an accepted store keeps all other bytes of its memory, and how many there are
   abbrev pub StoresKeepOtherBytes : Type 0
-  StoresKeepOtherBytes =
-      (it : NumberStore) (t u : World S) → RepliesWith rules (store_call it) t Done u
+  StoresKeepOtherBytes = (it : NumberStore) (t u : World S) → RepliesWith rules (store_call it) t Done u
       → (x x' : MemoryValue) → live_at t.state.memories it.memory ≡ Some x
       → live_at u.state.memories it.memory ≡ Some x'
-      → IsSameOutside x.bytes x'.bytes (it.ptr + it.offset) (stored_size it.op)
-      × (length x'.bytes ≡ length x.bytes)
+      → IsSameOutside x.bytes x'.bytes (it.ptr + it.offset) (stored_size it.op) × (length x'.bytes ≡ length x.bytes)
 
   -- two turns one after the other whose calls are local and independent may be exchanged
   abbrev pub IndependentTurnsSwap : Type 0
-  IndependentTurnsSwap =
-      (w : World S) (first second : Turn) (w' : World S) → IsLocal first.call → IsLocal second.call
+  IndependentTurnsSwap = (w : World S) (first second : Turn) (w' : World S) → IsLocal first.call → IsLocal second.call
       → IsIndependent first.call second.call → Run rules w (first ∷ second ∷ []) w'
       → Run rules w (second ∷ first ∷ []) w'
 
@@ -293,8 +284,7 @@ module _ {S : Type 0} (rules : Rules S) where
   MemoriesGrowAlike =
       (w : World S) (k pages : ℕ) (x x' : MemoryValue) (result : Result ℕ MemoryError) (m' : Meter) (l' : S)
       → live_at w.state.memories k ≡ Some x
-      → GrowsMemory rules pages (metered_value x (Some w.state.meter) w.limiter) result
-      (metered_value x' (Some m') l')
+      → GrowsMemory rules pages (metered_value x (Some w.state.meter) w.limiter) result (metered_value x' (Some m') l')
       → RepliesWith rules (GrowMemory k pages) w (reply_of Number Memory result)
       (world (with_meter (with_memory_at w.state k x') m') l')
 
@@ -303,15 +293,13 @@ module _ {S : Type 0} (rules : Rules S) where
   TablesGrowAlike =
       (w : World S) (k n : ℕ) (init : TypedRawRef) (x x' : TableValue) (result : Result ℕ TableError) (m' : Meter)
       (l' : S) → live_at w.state.tables k ≡ Some x
-      → GrowsTable rules n init (metered_value x (Some w.state.meter) w.limiter) result
-      (metered_value x' (Some m') l')
+      → GrowsTable rules n init (metered_value x (Some w.state.meter) w.limiter) result (metered_value x' (Some m') l')
       → RepliesWith rules (GrowTable k n init) w (reply_of Number Table result)
       (world (with_meter (with_table_at w.state k x') m') l')
 
   -- bytes that are read of a memory by itself are those that the machine answers, and a read past its end is refused
   abbrev pub MemoriesReadAlike : Type 0
-  MemoriesReadAlike =
-      (w : World S) (k offset len : ℕ) (x : MemoryValue) → live_at w.state.memories k ≡ Some x
+  MemoriesReadAlike = (w : World S) (k offset len : ℕ) (x : MemoryValue) → live_at w.state.memories k ≡ Some x
       → MatchOption (at x.bytes offset len) (RepliesWith rules (Read k offset len) w (Memory OutOfBoundsAccess) w)
       (λ bytes. RepliesWith rules (Read k offset len) w (Bytes bytes) w)
 

@@ -47,27 +47,23 @@ IsPlainRefusal other = ⊥
 module _ {S : Type 0} (rules : Rules S) where
   -- a run of turns is, at each place, a run of those before it, and a run of the others from where these end
   abbrev pub RunsAreCut : Type 0
-  RunsAreCut =
-      (u : World S) (turns turns' : List Turn) (w : World S) → Run rules u (turns ++ turns') w
+  RunsAreCut = (u : World S) (turns turns' : List Turn) (w : World S) → Run rules u (turns ++ turns') w
       → (v : World S) × Run rules u turns v × Run rules v turns' w
 
   -- a run of calls is, at each place, two runs in a row
   abbrev pub RunsOfCallsAreCut : Type 0
-  RunsOfCallsAreCut =
-      (calls calls' : List Call) (u : World S) (replies : List Reply) (w : World S)
+  RunsOfCallsAreCut = (calls calls' : List Call) (u : World S) (replies : List Reply) (w : World S)
       → IsRunOf rules (calls ++ calls') u replies w → IsRunInTwo rules calls calls' u replies w
 
   -- each size, of a memory in bytes or of a table in elements, stays at its index in a run and doesn't shrink
   abbrev pub SizesNeverShrink : Type 0
-  SizesNeverShrink =
-      (w : World S) (turns : List Turn) (w' : World S) → Run rules w turns w'
+  SizesNeverShrink = (w : World S) (turns : List Turn) (w' : World S) → Run rules w turns w'
       → (kind : Kind) (k n : ℕ) → slice_get (sizes w.state kind) k ≡ Some n
       → (n' : ℕ) × (slice_get (sizes w'.state kind) k ≡ Some n') × (n ≤ n')
 
   -- the totals of a machine don't shrink in a run
   abbrev pub TotalsNeverShrink : Type 0
-  TotalsNeverShrink =
-      (w : World S) (turns : List Turn) (w' : World S) → Run rules w turns w'
+  TotalsNeverShrink = (w : World S) (turns : List Turn) (w' : World S) → Run rules w turns w'
       → (kind : Kind) → total w.state kind ≤ total w'.state kind
 
   -- a turn with a plain refusal leaves the machine, its meter and the limiter as they were
@@ -84,8 +80,7 @@ module _ {S : Type 0} (rules : Rules S) where
 
   -- a run in which each reply is a plain refusal leaves the machine, its meter and the limiter as they were
   abbrev pub PlainlyRefusedRunsChangeNothing : Type 0
-  PlainlyRefusedRunsChangeNothing =
-      (w : World S) (turns : List Turn) (w' : World S) → Run rules w turns w'
+  PlainlyRefusedRunsChangeNothing = (w : World S) (turns : List Turn) (w' : World S) → Run rules w turns w'
       → All IsPlainRefusal (map Turn.reply turns) → w' ≡ w
 
 -- a machine has no more of each kind than the caps of a quota
@@ -95,10 +90,8 @@ IsWithinCapsOf quota s = (kind : Kind) → total s kind ≤ cap_of quota kind
 -- under a quota that holds what a machine has, and no more than its caps, the machine is within these caps after each
 -- turn of a run
 abbrev pub CapsHoldInRuns : Type 0
-CapsHoldInRuns =
-    (s : State) (quota : Quota) → HoldsTotals (holdings quota) s → IsWithinCaps quota
-    → (turns : List Turn) (w' : World (Option Quota))
-    → Run (optional_rules quota_rules) (world s (Some quota)) turns w'
+CapsHoldInRuns = (s : State) (quota : Quota) → HoldsTotals (holdings quota) s → IsWithinCaps quota
+    → (turns : List Turn) (w' : World (Option Quota)) → Run (optional_rules quota_rules) (world s (Some quota)) turns w'
     → Sequence (λ v turn v'. Step (optional_rules quota_rules) v turn v' × IsWithinCapsOf quota v'.state)
     (world s (Some quota)) turns w'
 
@@ -108,8 +101,7 @@ meter_with_more more m = record m { left = option_map (λ left. left + more) m.l
 
 -- the world whose meter has so much more fuel left
 abbrev pub world_with_more : {S : Type 0} → ℕ → World S → World S
-world_with_more more w =
-    record w { state = record w.state { meter = meter_with_more more w.state.meter } }
+world_with_more more w = record w { state = record w.state { meter = meter_with_more more w.state.meter } }
 
 -- the call neither sets the fuel nor asks for it
 abbrev pub NamesNoFuel : Call → Type 0
@@ -126,20 +118,17 @@ HasFuel reply = Unit {0}
 module _ {S : Type 0} (rules : Rules S) where
   -- a run keeps the costs of the meter
   abbrev pub CostsAreKept : Type 0
-  CostsAreKept =
-      (w : World S) (turns : List Turn) (w' : World S) → Run rules w turns w'
+  CostsAreKept = (w : World S) (turns : List Turn) (w' : World S) → Run rules w turns w'
       → w'.state.meter.costs ≡ w.state.meter.costs
 
   -- a meter that is on is on after a run, and one that is off is off
   abbrev pub SwitchIsKept : Type 0
-  SwitchIsKept =
-      (w : World S) (turns : List Turn) (w' : World S) → Run rules w turns w'
+  SwitchIsKept = (w : World S) (turns : List Turn) (w' : World S) → Run rules w turns w'
       → is_some w'.state.meter.left ≡ is_some w.state.meter.left
 
   -- a run of calls that don't set the fuel leaves no more than there was
   abbrev pub FuelNeverRises : Type 0
-  FuelNeverRises =
-      (w : World S) (turns : List Turn) (w' : World S) → Run rules w turns w'
+  FuelNeverRises = (w : World S) (turns : List Turn) (w' : World S) → Run rules w turns w'
       → All SetsNoFuel (map Turn.call turns) → amount_left w'.state.meter ≤ amount_left w.state.meter
 
 -- if the limiter accepts each notice, a run of calls that neither set the fuel nor ask for it, in which no reply says
@@ -147,6 +136,5 @@ module _ {S : Type 0} (rules : Rules S) where
 abbrev pub MoreFuelChangesNothing : {L : Type 0} → Rules L → Type 0
 MoreFuelChangesNothing {L} rules =
     AcceptsNotices rules → (more : ℕ) (w : World (Option L)) (turns : List Turn) (w' : World (Option L))
-    → All NamesNoFuel (map Turn.call turns) → All HasFuel (map Turn.reply turns)
-    → Run (optional_rules rules) w turns w'
+    → All NamesNoFuel (map Turn.call turns) → All HasFuel (map Turn.reply turns) → Run (optional_rules rules) w turns w'
     → Run (optional_rules rules) (world_with_more more w) turns (world_with_more more w')

@@ -5016,8 +5016,7 @@ pub record <b id="IsIndependent">IsIndependent</b> (first second : Call) : Type 
 
 -- what was at an index is there
 abbrev pub <b id="StaysAt">StaysAt</b> : <a href="../../laws/Places/index.html#Location">Location</a> → <a href="../../machine/State/index.html#State">State</a> → <a href="../../machine/State/index.html#State">State</a> → Type 0
-<a href="../../laws/Places/index.html#StaysAt">StaysAt</a> location s s&#x27; =
-    (x : <a href="../../laws/Places/index.html#Content">Content</a> location) → <a href="../../laws/Places/index.html#content_at">content_at</a> location s ≡ Some x → <a href="../../laws/Places/index.html#content_at">content_at</a> location s&#x27; ≡ Some x
+<a href="../../laws/Places/index.html#StaysAt">StaysAt</a> location s s&#x27; = (x : <a href="../../laws/Places/index.html#Content">Content</a> location) → <a href="../../laws/Places/index.html#content_at">content_at</a> location s ≡ Some x → <a href="../../laws/Places/index.html#content_at">content_at</a> location s&#x27; ≡ Some x
 
 -- what may become of a slot: a live value stays of its type or is dropped, and one that was dropped stays so, with its
 -- size
@@ -5093,51 +5092,43 @@ abbrev pub <b id="load_call">load_call</b> : <a href="../../laws/Places/index.ht
 module _ {S : Type 0} (rules : <a href="../../meter/Limiter/index.html#Rules">Rules</a> S) where
   -- a turn leaves what is at each index except the one that its call may change
   abbrev pub <b id="OthersStay">OthersStay</b> : Type 0
-  <a href="../../laws/Places/index.html#OthersStay">OthersStay</a> =
-      (w : <a href="../../machine/State/index.html#World">World</a> S) (turn : <a href="../../machine/State/index.html#Turn">Turn</a>) (w&#x27; : <a href="../../machine/State/index.html#World">World</a> S) → <a href="../../machine/Steps/index.html#Step">Step</a> rules w turn w&#x27; → (location : <a href="../../laws/Places/index.html#Location">Location</a>)
+  <a href="../../laws/Places/index.html#OthersStay">OthersStay</a> = (w : <a href="../../machine/State/index.html#World">World</a> S) (turn : <a href="../../machine/State/index.html#Turn">Turn</a>) (w&#x27; : <a href="../../machine/State/index.html#World">World</a> S) → <a href="../../machine/Steps/index.html#Step">Step</a> rules w turn w&#x27; → (location : <a href="../../laws/Places/index.html#Location">Location</a>)
       → <a href="../../laws/Places/index.html#LeavesAlone">LeavesAlone</a> location turn.call → <a href="../../laws/Places/index.html#StaysAt">StaysAt</a> location w.state w&#x27;.state
 
   -- a run leaves what is at each index that none of its calls may change
   abbrev pub <b id="OthersStayInRuns">OthersStayInRuns</b> : Type 0
-  <a href="../../laws/Places/index.html#OthersStayInRuns">OthersStayInRuns</a> =
-      (w : <a href="../../machine/State/index.html#World">World</a> S) (turns : List <a href="../../machine/State/index.html#Turn">Turn</a>) (w&#x27; : <a href="../../machine/State/index.html#World">World</a> S) → <a href="../../machine/Steps/index.html#Run">Run</a> rules w turns w&#x27; → (location : <a href="../../laws/Places/index.html#Location">Location</a>)
+  <a href="../../laws/Places/index.html#OthersStayInRuns">OthersStayInRuns</a> = (w : <a href="../../machine/State/index.html#World">World</a> S) (turns : List <a href="../../machine/State/index.html#Turn">Turn</a>) (w&#x27; : <a href="../../machine/State/index.html#World">World</a> S) → <a href="../../machine/Steps/index.html#Run">Run</a> rules w turns w&#x27; → (location : <a href="../../laws/Places/index.html#Location">Location</a>)
       → All (<a href="../../laws/Places/index.html#LeavesAlone">LeavesAlone</a> location) (map Turn.call turns) → <a href="../../laws/Places/index.html#StaysAt">StaysAt</a> location w.state w&#x27;.state
 
   -- after a run, what was at an index is there, as it may have become
   abbrev pub <b id="IndicesLast">IndicesLast</b> : Type 0
-  <a href="../../laws/Places/index.html#IndicesLast">IndicesLast</a> =
-      (w : <a href="../../machine/State/index.html#World">World</a> S) (turns : List <a href="../../machine/State/index.html#Turn">Turn</a>) (w&#x27; : <a href="../../machine/State/index.html#World">World</a> S) → <a href="../../machine/Steps/index.html#Run">Run</a> rules w turns w&#x27; → (location : <a href="../../laws/Places/index.html#Location">Location</a>)
+  <a href="../../laws/Places/index.html#IndicesLast">IndicesLast</a> = (w : <a href="../../machine/State/index.html#World">World</a> S) (turns : List <a href="../../machine/State/index.html#Turn">Turn</a>) (w&#x27; : <a href="../../machine/State/index.html#World">World</a> S) → <a href="../../machine/Steps/index.html#Run">Run</a> rules w turns w&#x27; → (location : <a href="../../laws/Places/index.html#Location">Location</a>)
       → (x : <a href="../../laws/Places/index.html#Content">Content</a> location) → <a href="../../laws/Places/index.html#content_at">content_at</a> location w.state ≡ Some x → <a href="../../laws/Places/index.html#HasAt">HasAt</a> location w&#x27;.state (<a href="../../laws/Places/index.html#IsLater">IsLater</a> location x)
 
   -- after a run none of whose calls drops it, what was live at an index is live
   abbrev pub <b id="LiveUntilDropped">LiveUntilDropped</b> : Type 0
-  <a href="../../laws/Places/index.html#LiveUntilDropped">LiveUntilDropped</a> =
-      (w : <a href="../../machine/State/index.html#World">World</a> S) (turns : List <a href="../../machine/State/index.html#Turn">Turn</a>) (w&#x27; : <a href="../../machine/State/index.html#World">World</a> S) → <a href="../../machine/Steps/index.html#Run">Run</a> rules w turns w&#x27; → (location : <a href="../../laws/Places/index.html#Location">Location</a>)
+  <a href="../../laws/Places/index.html#LiveUntilDropped">LiveUntilDropped</a> = (w : <a href="../../machine/State/index.html#World">World</a> S) (turns : List <a href="../../machine/State/index.html#Turn">Turn</a>) (w&#x27; : <a href="../../machine/State/index.html#World">World</a> S) → <a href="../../machine/Steps/index.html#Run">Run</a> rules w turns w&#x27; → (location : <a href="../../laws/Places/index.html#Location">Location</a>)
       → All (<a href="../../laws/Places/index.html#DropsNot">DropsNot</a> location) (map Turn.call turns) → <a href="../../laws/Places/index.html#HasAt">HasAt</a> location w.state (<a href="../../laws/Places/index.html#IsLive">IsLive</a> location)
       → <a href="../../laws/Places/index.html#HasAt">HasAt</a> location w&#x27;.state (<a href="../../laws/Places/index.html#IsLive">IsLive</a> location)
 
   -- an accepted store to a memory is read back by the load of the same size, after whatever turns whose calls don&#x27;t
   -- change that memory
   abbrev pub <b id="StoresAreReadBack">StoresAreReadBack</b> : Type 0
-  <a href="../../laws/Places/index.html#StoresAreReadBack">StoresAreReadBack</a> =
-      (it : <a href="../../laws/Places/index.html#NumberStore">NumberStore</a>) (t u v w : <a href="../../machine/State/index.html#World">World</a> S) (turns : List <a href="../../machine/State/index.html#Turn">Turn</a>) (reply : Reply)
+  <a href="../../laws/Places/index.html#StoresAreReadBack">StoresAreReadBack</a> = (it : <a href="../../laws/Places/index.html#NumberStore">NumberStore</a>) (t u v w : <a href="../../machine/State/index.html#World">World</a> S) (turns : List <a href="../../machine/State/index.html#Turn">Turn</a>) (reply : Reply)
       → <a href="../../machine/Steps/index.html#RepliesWith">RepliesWith</a> rules (<a href="../../laws/Places/index.html#store_call">store_call</a> it) t Done u → <a href="../../machine/Steps/index.html#Run">Run</a> rules u turns v
       → All (<a href="../../laws/Places/index.html#LeavesAlone">LeavesAlone</a> (<a href="../../laws/Places/index.html#MemoryAt">MemoryAt</a> it.memory)) (map Turn.call turns) → <a href="../../machine/Steps/index.html#RepliesWith">RepliesWith</a> rules (<a href="../../laws/Places/index.html#load_call">load_call</a> it) v reply w
       → (reply ≡ Value (<a href="../../laws/Places/index.html#stored_part">stored_part</a> it.op it.value)) × (w ≡ v)
 
   -- an accepted store keeps all other bytes of its memory, and how many there are
   abbrev pub <b id="StoresKeepOtherBytes">StoresKeepOtherBytes</b> : Type 0
-  <a href="../../laws/Places/index.html#StoresKeepOtherBytes">StoresKeepOtherBytes</a> =
-      (it : <a href="../../laws/Places/index.html#NumberStore">NumberStore</a>) (t u : <a href="../../machine/State/index.html#World">World</a> S) → <a href="../../machine/Steps/index.html#RepliesWith">RepliesWith</a> rules (<a href="../../laws/Places/index.html#store_call">store_call</a> it) t Done u
+  <a href="../../laws/Places/index.html#StoresKeepOtherBytes">StoresKeepOtherBytes</a> = (it : <a href="../../laws/Places/index.html#NumberStore">NumberStore</a>) (t u : <a href="../../machine/State/index.html#World">World</a> S) → <a href="../../machine/Steps/index.html#RepliesWith">RepliesWith</a> rules (<a href="../../laws/Places/index.html#store_call">store_call</a> it) t Done u
       → (x x&#x27; : <a href="../../store/Memory/index.html#MemoryValue">MemoryValue</a>) → <a href="../../machine/State/index.html#live_at">live_at</a> t.state.memories it.memory ≡ Some x
       → <a href="../../machine/State/index.html#live_at">live_at</a> u.state.memories it.memory ≡ Some x&#x27;
-      → <a href="../../accesses/LoadStore/index.html#IsSameOutside">IsSameOutside</a> x.bytes x&#x27;.bytes (it.ptr + it.offset) (<a href="../../laws/Places/index.html#stored_size">stored_size</a> it.op)
-      × (length x&#x27;.bytes ≡ length x.bytes)
+      → <a href="../../accesses/LoadStore/index.html#IsSameOutside">IsSameOutside</a> x.bytes x&#x27;.bytes (it.ptr + it.offset) (<a href="../../laws/Places/index.html#stored_size">stored_size</a> it.op) × (length x&#x27;.bytes ≡ length x.bytes)
 
   -- two turns one after the other whose calls are local and independent may be exchanged
   abbrev pub <b id="IndependentTurnsSwap">IndependentTurnsSwap</b> : Type 0
-  <a href="../../laws/Places/index.html#IndependentTurnsSwap">IndependentTurnsSwap</a> =
-      (w : <a href="../../machine/State/index.html#World">World</a> S) (first second : <a href="../../machine/State/index.html#Turn">Turn</a>) (w&#x27; : <a href="../../machine/State/index.html#World">World</a> S) → <a href="../../laws/Places/index.html#IsLocal">IsLocal</a> first.call → <a href="../../laws/Places/index.html#IsLocal">IsLocal</a> second.call
+  <a href="../../laws/Places/index.html#IndependentTurnsSwap">IndependentTurnsSwap</a> = (w : <a href="../../machine/State/index.html#World">World</a> S) (first second : <a href="../../machine/State/index.html#Turn">Turn</a>) (w&#x27; : <a href="../../machine/State/index.html#World">World</a> S) → <a href="../../laws/Places/index.html#IsLocal">IsLocal</a> first.call → <a href="../../laws/Places/index.html#IsLocal">IsLocal</a> second.call
       → <a href="../../laws/Places/index.html#IsIndependent">IsIndependent</a> first.call second.call → <a href="../../machine/Steps/index.html#Run">Run</a> rules w (first ∷ second ∷ []) w&#x27;
       → <a href="../../machine/Steps/index.html#Run">Run</a> rules w (second ∷ first ∷ []) w&#x27;
 
@@ -5160,8 +5151,7 @@ module _ {S : Type 0} (rules : <a href="../../meter/Limiter/index.html#Rules">Ru
   <a href="../../laws/Places/index.html#MemoriesGrowAlike">MemoriesGrowAlike</a> =
       (w : <a href="../../machine/State/index.html#World">World</a> S) (k pages : ℕ) (x x&#x27; : <a href="../../store/Memory/index.html#MemoryValue">MemoryValue</a>) (result : Result ℕ MemoryError) (m&#x27; : <a href="../../meter/Meter/index.html#Meter">Meter</a>) (l&#x27; : S)
       → <a href="../../machine/State/index.html#live_at">live_at</a> w.state.memories k ≡ Some x
-      → <a href="../../store/Memory/index.html#GrowsMemory">GrowsMemory</a> rules pages (<a href="../../store/Growth/index.html#metered_value">metered_value</a> x (Some w.state.meter) w.limiter) result
-      (<a href="../../store/Growth/index.html#metered_value">metered_value</a> x&#x27; (Some m&#x27;) l&#x27;)
+      → <a href="../../store/Memory/index.html#GrowsMemory">GrowsMemory</a> rules pages (<a href="../../store/Growth/index.html#metered_value">metered_value</a> x (Some w.state.meter) w.limiter) result (<a href="../../store/Growth/index.html#metered_value">metered_value</a> x&#x27; (Some m&#x27;) l&#x27;)
       → <a href="../../machine/Steps/index.html#RepliesWith">RepliesWith</a> rules (GrowMemory k pages) w (<a href="../../machine/Effects/index.html#reply_of">reply_of</a> Number Memory result)
       (<a href="../../machine/State/index.html#world">world</a> (<a href="../../laws/Places/index.html#with_meter">with_meter</a> (<a href="../../laws/Places/index.html#with_memory_at">with_memory_at</a> w.state k x&#x27;) m&#x27;) l&#x27;)
 
@@ -5170,15 +5160,13 @@ module _ {S : Type 0} (rules : <a href="../../meter/Limiter/index.html#Rules">Ru
   <a href="../../laws/Places/index.html#TablesGrowAlike">TablesGrowAlike</a> =
       (w : <a href="../../machine/State/index.html#World">World</a> S) (k n : ℕ) (init : TypedRawRef) (x x&#x27; : <a href="../../store/Table/index.html#TableValue">TableValue</a>) (result : Result ℕ TableError) (m&#x27; : <a href="../../meter/Meter/index.html#Meter">Meter</a>)
       (l&#x27; : S) → <a href="../../machine/State/index.html#live_at">live_at</a> w.state.tables k ≡ Some x
-      → <a href="../../store/Table/index.html#GrowsTable">GrowsTable</a> rules n init (<a href="../../store/Growth/index.html#metered_value">metered_value</a> x (Some w.state.meter) w.limiter) result
-      (<a href="../../store/Growth/index.html#metered_value">metered_value</a> x&#x27; (Some m&#x27;) l&#x27;)
+      → <a href="../../store/Table/index.html#GrowsTable">GrowsTable</a> rules n init (<a href="../../store/Growth/index.html#metered_value">metered_value</a> x (Some w.state.meter) w.limiter) result (<a href="../../store/Growth/index.html#metered_value">metered_value</a> x&#x27; (Some m&#x27;) l&#x27;)
       → <a href="../../machine/Steps/index.html#RepliesWith">RepliesWith</a> rules (GrowTable k n init) w (<a href="../../machine/Effects/index.html#reply_of">reply_of</a> Number Table result)
       (<a href="../../machine/State/index.html#world">world</a> (<a href="../../laws/Places/index.html#with_meter">with_meter</a> (<a href="../../laws/Places/index.html#with_table_at">with_table_at</a> w.state k x&#x27;) m&#x27;) l&#x27;)
 
   -- bytes that are read of a memory by itself are those that the machine answers, and a read past its end is refused
   abbrev pub <b id="MemoriesReadAlike">MemoriesReadAlike</b> : Type 0
-  <a href="../../laws/Places/index.html#MemoriesReadAlike">MemoriesReadAlike</a> =
-      (w : <a href="../../machine/State/index.html#World">World</a> S) (k <a href="../../laws/Places/index.html#offset">offset</a> len : ℕ) (x : <a href="../../store/Memory/index.html#MemoryValue">MemoryValue</a>) → <a href="../../machine/State/index.html#live_at">live_at</a> w.state.memories k ≡ Some x
+  <a href="../../laws/Places/index.html#MemoriesReadAlike">MemoriesReadAlike</a> = (w : <a href="../../machine/State/index.html#World">World</a> S) (k <a href="../../laws/Places/index.html#offset">offset</a> len : ℕ) (x : <a href="../../store/Memory/index.html#MemoryValue">MemoryValue</a>) → <a href="../../machine/State/index.html#live_at">live_at</a> w.state.memories k ≡ Some x
       → MatchOption (<a href="../../types/Access/index.html#at">at</a> x.bytes <a href="../../laws/Places/index.html#offset">offset</a> len) (<a href="../../machine/Steps/index.html#RepliesWith">RepliesWith</a> rules (Read k <a href="../../laws/Places/index.html#offset">offset</a> len) w (Memory OutOfBoundsAccess) w)
       (λ bytes. <a href="../../machine/Steps/index.html#RepliesWith">RepliesWith</a> rules (Read k <a href="../../laws/Places/index.html#offset">offset</a> len) w (Bytes bytes) w)
 
@@ -5216,10 +5204,10 @@ use Rattle.wasmi_core.specs.declared.calls.Reply.TheVariants as reply
 
 -- the replies are those of two runs in a row: of the first calls, and of the others from where these end
 pub record <b id="IsRunInTwo">IsRunInTwo</b> {S : Type 0} (rules : <a href="../../meter/Limiter/index.html#Rules">Rules</a> S) (first rest : List Call) (u : <a href="../../machine/State/index.html#World">World</a> S) (replies : List Reply)
-    (<a href="../../laws/Runs/index.html#w">w</a> : <a href="../../machine/State/index.html#World">World</a> S) : Type 0 where
+    (w : <a href="../../machine/State/index.html#World">World</a> S) : Type 0 where
   pub <b id="between">between</b> : <a href="../../machine/State/index.html#World">World</a> S
   pub <b id="first_run">first_run</b> : <a href="../../machine/Steps/index.html#IsRunOf">IsRunOf</a> rules first u (take (length first) replies) <a href="../../laws/Runs/index.html#between">between</a>
-  pub <b id="rest_run">rest_run</b> : <a href="../../machine/Steps/index.html#IsRunOf">IsRunOf</a> rules rest <a href="../../laws/Runs/index.html#between">between</a> (drop (length first) replies) <a href="../../laws/Runs/index.html#w">w</a>
+  pub <b id="rest_run">rest_run</b> : <a href="../../machine/Steps/index.html#IsRunOf">IsRunOf</a> rules rest <a href="../../laws/Runs/index.html#between">between</a> (drop (length first) replies) w
 
 -- The reply is a refusal that is found before the limiter is asked and before anything is charged: a trap, an index
 -- that names nothing, an access past the end, another type, metering that is off, or no place for a new slot.
@@ -5242,46 +5230,41 @@ abbrev pub <b id="IsPlainRefusal">IsPlainRefusal</b> : Reply → Type 0
 module _ {S : Type 0} (rules : <a href="../../meter/Limiter/index.html#Rules">Rules</a> S) where
   -- a run of turns is, at each place, a run of those before it, and a run of the others from where these end
   abbrev pub <b id="RunsAreCut">RunsAreCut</b> : Type 0
-  <a href="../../laws/Runs/index.html#RunsAreCut">RunsAreCut</a> =
-      (u : <a href="../../machine/State/index.html#World">World</a> S) (turns turns&#x27; : List <a href="../../machine/State/index.html#Turn">Turn</a>) (<a href="../../laws/Runs/index.html#w">w</a> : <a href="../../machine/State/index.html#World">World</a> S) → <a href="../../machine/Steps/index.html#Run">Run</a> rules u (turns ++ turns&#x27;) <a href="../../laws/Runs/index.html#w">w</a>
-      → (v : <a href="../../machine/State/index.html#World">World</a> S) × <a href="../../machine/Steps/index.html#Run">Run</a> rules u turns v × <a href="../../machine/Steps/index.html#Run">Run</a> rules v turns&#x27; <a href="../../laws/Runs/index.html#w">w</a>
+  <a href="../../laws/Runs/index.html#RunsAreCut">RunsAreCut</a> = (u : <a href="../../machine/State/index.html#World">World</a> S) (turns turns&#x27; : List <a href="../../machine/State/index.html#Turn">Turn</a>) (w : <a href="../../machine/State/index.html#World">World</a> S) → <a href="../../machine/Steps/index.html#Run">Run</a> rules u (turns ++ turns&#x27;) w
+      → (v : <a href="../../machine/State/index.html#World">World</a> S) × <a href="../../machine/Steps/index.html#Run">Run</a> rules u turns v × <a href="../../machine/Steps/index.html#Run">Run</a> rules v turns&#x27; w
 
   -- a run of calls is, at each place, two runs in a row
   abbrev pub <b id="RunsOfCallsAreCut">RunsOfCallsAreCut</b> : Type 0
-  <a href="../../laws/Runs/index.html#RunsOfCallsAreCut">RunsOfCallsAreCut</a> =
-      (calls calls&#x27; : List Call) (u : <a href="../../machine/State/index.html#World">World</a> S) (replies : List Reply) (<a href="../../laws/Runs/index.html#w">w</a> : <a href="../../machine/State/index.html#World">World</a> S)
-      → <a href="../../machine/Steps/index.html#IsRunOf">IsRunOf</a> rules (calls ++ calls&#x27;) u replies <a href="../../laws/Runs/index.html#w">w</a> → <a href="../../laws/Runs/index.html#IsRunInTwo">IsRunInTwo</a> rules calls calls&#x27; u replies <a href="../../laws/Runs/index.html#w">w</a>
+  <a href="../../laws/Runs/index.html#RunsOfCallsAreCut">RunsOfCallsAreCut</a> = (calls calls&#x27; : List Call) (u : <a href="../../machine/State/index.html#World">World</a> S) (replies : List Reply) (w : <a href="../../machine/State/index.html#World">World</a> S)
+      → <a href="../../machine/Steps/index.html#IsRunOf">IsRunOf</a> rules (calls ++ calls&#x27;) u replies w → <a href="../../laws/Runs/index.html#IsRunInTwo">IsRunInTwo</a> rules calls calls&#x27; u replies w
 
   -- each size, of a memory in bytes or of a table in elements, stays at its index in a run and doesn&#x27;t shrink
   abbrev pub <b id="SizesNeverShrink">SizesNeverShrink</b> : Type 0
-  <a href="../../laws/Runs/index.html#SizesNeverShrink">SizesNeverShrink</a> =
-      (<a href="../../laws/Runs/index.html#w">w</a> : <a href="../../machine/State/index.html#World">World</a> S) (turns : List <a href="../../machine/State/index.html#Turn">Turn</a>) (w&#x27; : <a href="../../machine/State/index.html#World">World</a> S) → <a href="../../machine/Steps/index.html#Run">Run</a> rules <a href="../../laws/Runs/index.html#w">w</a> turns w&#x27;
+  <a href="../../laws/Runs/index.html#SizesNeverShrink">SizesNeverShrink</a> = (w : <a href="../../machine/State/index.html#World">World</a> S) (turns : List <a href="../../machine/State/index.html#Turn">Turn</a>) (w&#x27; : <a href="../../machine/State/index.html#World">World</a> S) → <a href="../../machine/Steps/index.html#Run">Run</a> rules w turns w&#x27;
       → (kind : Kind) (k n : ℕ) → slice_get (<a href="../../machine/State/index.html#sizes">sizes</a> w.state kind) k ≡ Some n
       → (n&#x27; : ℕ) × (slice_get (<a href="../../machine/State/index.html#sizes">sizes</a> w&#x27;.state kind) k ≡ Some n&#x27;) × (n ≤ n&#x27;)
 
   -- the totals of a machine don&#x27;t shrink in a run
   abbrev pub <b id="TotalsNeverShrink">TotalsNeverShrink</b> : Type 0
-  <a href="../../laws/Runs/index.html#TotalsNeverShrink">TotalsNeverShrink</a> =
-      (<a href="../../laws/Runs/index.html#w">w</a> : <a href="../../machine/State/index.html#World">World</a> S) (turns : List <a href="../../machine/State/index.html#Turn">Turn</a>) (w&#x27; : <a href="../../machine/State/index.html#World">World</a> S) → <a href="../../machine/Steps/index.html#Run">Run</a> rules <a href="../../laws/Runs/index.html#w">w</a> turns w&#x27;
+  <a href="../../laws/Runs/index.html#TotalsNeverShrink">TotalsNeverShrink</a> = (w : <a href="../../machine/State/index.html#World">World</a> S) (turns : List <a href="../../machine/State/index.html#Turn">Turn</a>) (w&#x27; : <a href="../../machine/State/index.html#World">World</a> S) → <a href="../../machine/Steps/index.html#Run">Run</a> rules w turns w&#x27;
       → (kind : Kind) → <a href="../../machine/State/index.html#total">total</a> w.state kind ≤ <a href="../../machine/State/index.html#total">total</a> w&#x27;.state kind
 
   -- a turn with a plain refusal leaves the machine, its meter and the limiter as they were
   abbrev pub <b id="PlainRefusalsChangeNothing">PlainRefusalsChangeNothing</b> : Type 0
   <a href="../../laws/Runs/index.html#PlainRefusalsChangeNothing">PlainRefusalsChangeNothing</a> =
-      (<a href="../../laws/Runs/index.html#w">w</a> : <a href="../../machine/State/index.html#World">World</a> S) (turn : <a href="../../machine/State/index.html#Turn">Turn</a>) (w&#x27; : <a href="../../machine/State/index.html#World">World</a> S) → <a href="../../machine/Steps/index.html#Step">Step</a> rules <a href="../../laws/Runs/index.html#w">w</a> turn w&#x27; → <a href="../../laws/Runs/index.html#IsPlainRefusal">IsPlainRefusal</a> turn.reply → w&#x27; ≡ <a href="../../laws/Runs/index.html#w">w</a>
+      (w : <a href="../../machine/State/index.html#World">World</a> S) (turn : <a href="../../machine/State/index.html#Turn">Turn</a>) (w&#x27; : <a href="../../machine/State/index.html#World">World</a> S) → <a href="../../machine/Steps/index.html#Step">Step</a> rules w turn w&#x27; → <a href="../../laws/Runs/index.html#IsPlainRefusal">IsPlainRefusal</a> turn.reply → w&#x27; ≡ w
 
   -- a refused turn of a call that makes nothing and lets nothing grow leaves the machine, its meter and the limiter as
   -- they were
   abbrev pub <b id="OtherRefusalsChangeNothing">OtherRefusalsChangeNothing</b> : Type 0
   <a href="../../laws/Runs/index.html#OtherRefusalsChangeNothing">OtherRefusalsChangeNothing</a> =
-      (<a href="../../laws/Runs/index.html#w">w</a> : <a href="../../machine/State/index.html#World">World</a> S) (turn : <a href="../../machine/State/index.html#Turn">Turn</a>) (w&#x27; : <a href="../../machine/State/index.html#World">World</a> S) → <a href="../../machine/Steps/index.html#Step">Step</a> rules <a href="../../laws/Runs/index.html#w">w</a> turn w&#x27; → <a href="../../machine/Exchange/index.html#place_of">place_of</a> turn.call ≡ <a href="../../machine/Exchange/index.html#Nowhere">Nowhere</a>
-      → <a href="../../machine/State/index.html#IsRefusal">IsRefusal</a> turn.reply → w&#x27; ≡ <a href="../../laws/Runs/index.html#w">w</a>
+      (w : <a href="../../machine/State/index.html#World">World</a> S) (turn : <a href="../../machine/State/index.html#Turn">Turn</a>) (w&#x27; : <a href="../../machine/State/index.html#World">World</a> S) → <a href="../../machine/Steps/index.html#Step">Step</a> rules w turn w&#x27; → <a href="../../machine/Exchange/index.html#place_of">place_of</a> turn.call ≡ <a href="../../machine/Exchange/index.html#Nowhere">Nowhere</a>
+      → <a href="../../machine/State/index.html#IsRefusal">IsRefusal</a> turn.reply → w&#x27; ≡ w
 
   -- a run in which each reply is a plain refusal leaves the machine, its meter and the limiter as they were
   abbrev pub <b id="PlainlyRefusedRunsChangeNothing">PlainlyRefusedRunsChangeNothing</b> : Type 0
-  <a href="../../laws/Runs/index.html#PlainlyRefusedRunsChangeNothing">PlainlyRefusedRunsChangeNothing</a> =
-      (<a href="../../laws/Runs/index.html#w">w</a> : <a href="../../machine/State/index.html#World">World</a> S) (turns : List <a href="../../machine/State/index.html#Turn">Turn</a>) (w&#x27; : <a href="../../machine/State/index.html#World">World</a> S) → <a href="../../machine/Steps/index.html#Run">Run</a> rules <a href="../../laws/Runs/index.html#w">w</a> turns w&#x27;
-      → All <a href="../../laws/Runs/index.html#IsPlainRefusal">IsPlainRefusal</a> (map Turn.reply turns) → w&#x27; ≡ <a href="../../laws/Runs/index.html#w">w</a>
+  <a href="../../laws/Runs/index.html#PlainlyRefusedRunsChangeNothing">PlainlyRefusedRunsChangeNothing</a> = (w : <a href="../../machine/State/index.html#World">World</a> S) (turns : List <a href="../../machine/State/index.html#Turn">Turn</a>) (w&#x27; : <a href="../../machine/State/index.html#World">World</a> S) → <a href="../../machine/Steps/index.html#Run">Run</a> rules w turns w&#x27;
+      → All <a href="../../laws/Runs/index.html#IsPlainRefusal">IsPlainRefusal</a> (map Turn.reply turns) → w&#x27; ≡ w
 
 -- a machine has no more of each kind than the caps of a quota
 abbrev pub <b id="IsWithinCapsOf">IsWithinCapsOf</b> : Quota → <a href="../../machine/State/index.html#State">State</a> → Type 0
@@ -5290,10 +5273,8 @@ abbrev pub <b id="IsWithinCapsOf">IsWithinCapsOf</b> : Quota → <a href="../../
 -- under a quota that holds what a machine has, and no more than its caps, the machine is within these caps after each
 -- turn of a run
 abbrev pub <b id="CapsHoldInRuns">CapsHoldInRuns</b> : Type 0
-<a href="../../laws/Runs/index.html#CapsHoldInRuns">CapsHoldInRuns</a> =
-    (s : <a href="../../machine/State/index.html#State">State</a>) (quota : Quota) → <a href="../../machine/State/index.html#HoldsTotals">HoldsTotals</a> (<a href="../../meter/Capped/index.html#holdings">holdings</a> quota) s → <a href="../../meter/Capped/index.html#IsWithinCaps">IsWithinCaps</a> quota
-    → (turns : List <a href="../../machine/State/index.html#Turn">Turn</a>) (w&#x27; : <a href="../../machine/State/index.html#World">World</a> (Option Quota))
-    → <a href="../../machine/Steps/index.html#Run">Run</a> (<a href="../../meter/Limiter/index.html#optional_rules">optional_rules</a> <a href="../../meter/Capped/index.html#quota_rules">quota_rules</a>) (<a href="../../machine/State/index.html#world">world</a> s (Some quota)) turns w&#x27;
+<a href="../../laws/Runs/index.html#CapsHoldInRuns">CapsHoldInRuns</a> = (s : <a href="../../machine/State/index.html#State">State</a>) (quota : Quota) → <a href="../../machine/State/index.html#HoldsTotals">HoldsTotals</a> (<a href="../../meter/Capped/index.html#holdings">holdings</a> quota) s → <a href="../../meter/Capped/index.html#IsWithinCaps">IsWithinCaps</a> quota
+    → (turns : List <a href="../../machine/State/index.html#Turn">Turn</a>) (w&#x27; : <a href="../../machine/State/index.html#World">World</a> (Option Quota)) → <a href="../../machine/Steps/index.html#Run">Run</a> (<a href="../../meter/Limiter/index.html#optional_rules">optional_rules</a> <a href="../../meter/Capped/index.html#quota_rules">quota_rules</a>) (<a href="../../machine/State/index.html#world">world</a> s (Some quota)) turns w&#x27;
     → <a href="../../machine/Steps/index.html#Sequence">Sequence</a> (λ v turn v&#x27;. <a href="../../machine/Steps/index.html#Step">Step</a> (<a href="../../meter/Limiter/index.html#optional_rules">optional_rules</a> <a href="../../meter/Capped/index.html#quota_rules">quota_rules</a>) v turn v&#x27; × <a href="../../laws/Runs/index.html#IsWithinCapsOf">IsWithinCapsOf</a> quota v&#x27;.state)
     (<a href="../../machine/State/index.html#world">world</a> s (Some quota)) turns w&#x27;
 
@@ -5303,8 +5284,7 @@ abbrev pub <b id="meter_with_more">meter_with_more</b> : ℕ → <a href="../../
 
 -- the world whose meter has so much more fuel left
 abbrev pub <b id="world_with_more">world_with_more</b> : {S : Type 0} → ℕ → <a href="../../machine/State/index.html#World">World</a> S → <a href="../../machine/State/index.html#World">World</a> S
-<a href="../../laws/Runs/index.html#world_with_more">world_with_more</a> more <a href="../../laws/Runs/index.html#w">w</a> =
-    record <b id="w">w</b> { state = record w.state { meter = <a href="../../laws/Runs/index.html#meter_with_more">meter_with_more</a> more w.state.meter } }
+<a href="../../laws/Runs/index.html#world_with_more">world_with_more</a> more w = record w { state = record w.state { meter = <a href="../../laws/Runs/index.html#meter_with_more">meter_with_more</a> more w.state.meter } }
 
 -- the call neither sets the fuel nor asks for it
 abbrev pub <b id="NamesNoFuel">NamesNoFuel</b> : Call → Type 0
@@ -5321,30 +5301,26 @@ abbrev pub <b id="HasFuel">HasFuel</b> : Reply → Type 0
 module _ {S : Type 0} (rules : <a href="../../meter/Limiter/index.html#Rules">Rules</a> S) where
   -- a run keeps the costs of the meter
   abbrev pub <b id="CostsAreKept">CostsAreKept</b> : Type 0
-  <a href="../../laws/Runs/index.html#CostsAreKept">CostsAreKept</a> =
-      (<a href="../../laws/Runs/index.html#w">w</a> : <a href="../../machine/State/index.html#World">World</a> S) (turns : List <a href="../../machine/State/index.html#Turn">Turn</a>) (w&#x27; : <a href="../../machine/State/index.html#World">World</a> S) → <a href="../../machine/Steps/index.html#Run">Run</a> rules <a href="../../laws/Runs/index.html#w">w</a> turns w&#x27;
+  <a href="../../laws/Runs/index.html#CostsAreKept">CostsAreKept</a> = (w : <a href="../../machine/State/index.html#World">World</a> S) (turns : List <a href="../../machine/State/index.html#Turn">Turn</a>) (w&#x27; : <a href="../../machine/State/index.html#World">World</a> S) → <a href="../../machine/Steps/index.html#Run">Run</a> rules w turns w&#x27;
       → w&#x27;.state.meter.costs ≡ w.state.meter.costs
 
   -- a meter that is on is on after a run, and one that is off is off
   abbrev pub <b id="SwitchIsKept">SwitchIsKept</b> : Type 0
-  <a href="../../laws/Runs/index.html#SwitchIsKept">SwitchIsKept</a> =
-      (<a href="../../laws/Runs/index.html#w">w</a> : <a href="../../machine/State/index.html#World">World</a> S) (turns : List <a href="../../machine/State/index.html#Turn">Turn</a>) (w&#x27; : <a href="../../machine/State/index.html#World">World</a> S) → <a href="../../machine/Steps/index.html#Run">Run</a> rules <a href="../../laws/Runs/index.html#w">w</a> turns w&#x27;
+  <a href="../../laws/Runs/index.html#SwitchIsKept">SwitchIsKept</a> = (w : <a href="../../machine/State/index.html#World">World</a> S) (turns : List <a href="../../machine/State/index.html#Turn">Turn</a>) (w&#x27; : <a href="../../machine/State/index.html#World">World</a> S) → <a href="../../machine/Steps/index.html#Run">Run</a> rules w turns w&#x27;
       → is_some w&#x27;.state.meter.left ≡ is_some w.state.meter.left
 
   -- a run of calls that don&#x27;t set the fuel leaves no more than there was
   abbrev pub <b id="FuelNeverRises">FuelNeverRises</b> : Type 0
-  <a href="../../laws/Runs/index.html#FuelNeverRises">FuelNeverRises</a> =
-      (<a href="../../laws/Runs/index.html#w">w</a> : <a href="../../machine/State/index.html#World">World</a> S) (turns : List <a href="../../machine/State/index.html#Turn">Turn</a>) (w&#x27; : <a href="../../machine/State/index.html#World">World</a> S) → <a href="../../machine/Steps/index.html#Run">Run</a> rules <a href="../../laws/Runs/index.html#w">w</a> turns w&#x27;
+  <a href="../../laws/Runs/index.html#FuelNeverRises">FuelNeverRises</a> = (w : <a href="../../machine/State/index.html#World">World</a> S) (turns : List <a href="../../machine/State/index.html#Turn">Turn</a>) (w&#x27; : <a href="../../machine/State/index.html#World">World</a> S) → <a href="../../machine/Steps/index.html#Run">Run</a> rules w turns w&#x27;
       → All <a href="../../machine/Account/index.html#SetsNoFuel">SetsNoFuel</a> (map Turn.call turns) → <a href="../../meter/Meter/index.html#amount_left">amount_left</a> w&#x27;.state.meter ≤ <a href="../../meter/Meter/index.html#amount_left">amount_left</a> w.state.meter
 
 -- if the limiter accepts each notice, a run of calls that neither set the fuel nor ask for it, in which no reply says
 -- that fuel was wanting, is the same run with any more fuel, all of which is left then
 abbrev pub <b id="MoreFuelChangesNothing">MoreFuelChangesNothing</b> : {L : Type 0} → <a href="../../meter/Limiter/index.html#Rules">Rules</a> L → Type 0
 <a href="../../laws/Runs/index.html#MoreFuelChangesNothing">MoreFuelChangesNothing</a> {L} rules =
-    <a href="../../machine/Determinism/index.html#AcceptsNotices">AcceptsNotices</a> rules → (more : ℕ) (<a href="../../laws/Runs/index.html#w">w</a> : <a href="../../machine/State/index.html#World">World</a> (Option L)) (turns : List <a href="../../machine/State/index.html#Turn">Turn</a>) (w&#x27; : <a href="../../machine/State/index.html#World">World</a> (Option L))
-    → All <a href="../../laws/Runs/index.html#NamesNoFuel">NamesNoFuel</a> (map Turn.call turns) → All <a href="../../laws/Runs/index.html#HasFuel">HasFuel</a> (map Turn.reply turns)
-    → <a href="../../machine/Steps/index.html#Run">Run</a> (<a href="../../meter/Limiter/index.html#optional_rules">optional_rules</a> rules) <a href="../../laws/Runs/index.html#w">w</a> turns w&#x27;
-    → <a href="../../machine/Steps/index.html#Run">Run</a> (<a href="../../meter/Limiter/index.html#optional_rules">optional_rules</a> rules) (<a href="../../laws/Runs/index.html#world_with_more">world_with_more</a> more <a href="../../laws/Runs/index.html#w">w</a>) turns (<a href="../../laws/Runs/index.html#world_with_more">world_with_more</a> more w&#x27;)
+    <a href="../../machine/Determinism/index.html#AcceptsNotices">AcceptsNotices</a> rules → (more : ℕ) (w : <a href="../../machine/State/index.html#World">World</a> (Option L)) (turns : List <a href="../../machine/State/index.html#Turn">Turn</a>) (w&#x27; : <a href="../../machine/State/index.html#World">World</a> (Option L))
+    → All <a href="../../laws/Runs/index.html#NamesNoFuel">NamesNoFuel</a> (map Turn.call turns) → All <a href="../../laws/Runs/index.html#HasFuel">HasFuel</a> (map Turn.reply turns) → <a href="../../machine/Steps/index.html#Run">Run</a> (<a href="../../meter/Limiter/index.html#optional_rules">optional_rules</a> rules) w turns w&#x27;
+    → <a href="../../machine/Steps/index.html#Run">Run</a> (<a href="../../meter/Limiter/index.html#optional_rules">optional_rules</a> rules) (<a href="../../laws/Runs/index.html#world_with_more">world_with_more</a> more w) turns (<a href="../../laws/Runs/index.html#world_with_more">world_with_more</a> more w&#x27;)
 </code></pre>
 "####]
     pub mod Runs {}
