@@ -1,5 +1,5 @@
 -- What each turn takes of the meter.
-use Rattle.std.proofs.Common.{Bool, List, None, Option, Result, Some, [], ap, arith, false, inl, inr, refl, subst, sym, true, ℕ, ◌+◌, ◌-◌, ◌∙◌, ◌∷◌, ◌≡◌, ◌≤◌}
+use Rattle.std.proofs.Common.{Bool, List, Option, Result, Some, [], ap, arith, false, inl, inr, refl, subst, sym, true, ℕ, ◌+◌, ◌-◌, ◌∙◌, ◌∷◌, ◌≡◌, ◌≤◌}
 use Rattle.std.proofs.lemmas.Bool.{and_parts}
 use Rattle.std.proofs.lemmas.Bool.Decides.{nat_tests}
 use Rattle.std.proofs.lemmas.Option.{same_Some}
@@ -113,10 +113,8 @@ module _ (write : TableValue → TableWrite) (x : TableValue) (m : Meter) (resul
       → covers (Some m) (write_due w (metered x (Some m))) ≡ payable
       → EndsBy w (metered x (Some m)) typed written payable (record { result = result; charge = charge; value = x' })
       → charge ≤ amount_left m
-  ends_paid false written payable enough ends = paid_free m charge ends.1
-  ends_paid true None payable enough ends = paid_free m charge ends.1
-  ends_paid true (Some elements) false enough ends = paid_free m charge ends.1
   ends_paid true (Some elements) true enough ends = paid_due m _ charge enough ends.1
+  ends_paid typed written payable enough ends = paid_free m charge ends.1
 
   -- a write over a part of a table takes its charge from the meter
   pub write_takes : (m' : Meter)

@@ -72,12 +72,8 @@ module _ {S : Type 0} {rules : Rules S} (once : IsDeterministic rules) where
             → Follows e told l outcome' l'' → (outcome ≡ outcome') × (l' ≡ l'')
         same_outcome (Unasked c) (Unasked c') l' l'' may f may' f' =
             (ap Unasked (same_Some c c' (sym may ∙ may')), f ∙ sym f')
-        same_outcome (Unasked c) (Denied a) l' l'' may f may' f' = absurd (none-some c (sym may'.0 ∙ may))
-        same_outcome (Unasked c) Met l' l'' may f may' f' = absurd (none-some c (sym may'.0 ∙ may))
-        same_outcome (Unasked c) (Failed d h) l' l'' may f may' f' = absurd (none-some c (sym may'.0 ∙ may))
-        same_outcome (Denied a) (Unasked c) l' l'' may f may' f' = absurd (none-some c (sym may.0 ∙ may'))
-        same_outcome Met (Unasked c) l' l'' may f may' f' = absurd (none-some c (sym may.0 ∙ may'))
-        same_outcome (Failed d h) (Unasked c) l' l'' may f may' f' = absurd (none-some c (sym may.0 ∙ may'))
+        same_outcome (Unasked c) outcome' l' l'' may f may' f' = absurd (none-some c (sym may'.0 ∙ may))
+        same_outcome outcome (Unasked c) l' l'' may f may' f' = absurd (none-some c (sym may.0 ∙ may'))
         same_outcome (Denied a) (Denied a') l' l'' may f may' f' =
             let s = once.asked l e.question a a' l' l'' f f' in (ap Denied s.0, s.1)
         same_outcome (Denied a) Met l' l'' may f may' f' = absurd (denied_met a l' l'' may.1 f f')

@@ -667,12 +667,10 @@ module _ (w : TableWrite) (x : TableValue) (m : Meter) (charge : ℕ) (x' : Tabl
   ends_charge : (typed : Bool) (written : Option (List ℕ)) (payable : Bool) (result : Result (Unit {0}) TableError)
       → EndsBy w (metered x (Some m)) typed written payable (record { result = result; charge = charge; value = x' })
       → charge ≡ writing_charge m elements (reply_of (λ _. replied.Done) replied.Table result)
-  ends_charge false written payable result ends = refused_charge _ result ends.0 ends.1
-  ends_charge true None payable result ends = refused_charge _ result ends.0 ends.1
-  ends_charge true (Some items) false result ends = refused_charge _ result ends.0 ends.1
   ends_charge true (Some items) true result ends =
       ends.1 ∙ ap (λ (p : Option ℕ). optional_due (Some m) (option_map table.element_price p)) pays
       ∙ sym (ap (λ r. writing_charge m elements (reply_of (λ _. replied.Done) replied.Table r)) ends.0)
+  ends_charge typed written payable result ends = refused_charge _ result ends.0 ends.1
 
 module _ (k : ℕ) (slots : List (Slot TableValue)) (m : Meter) (reply : Reply) (charge : ℕ)
     (slots' : List (Slot TableValue)) (m' : Meter) (elements : Option ℕ) where

@@ -59,43 +59,34 @@ module _ {V E : Type 0} (e : Request V E) (refuses : E → Type 0)
 
     -- an attempt may end as the eased request does
     ends : IsEasy → (outcome : AttemptOutcome E) → MayEnd e m outcome → MayEnd eased m outcome
-    ends easy (Unasked cause) may = may
-    ends easy (Denied answer) may = may
     ends easy Met may = (may.0, refl, may.2)
     ends easy (Failed cause notice_answer) may = (may.0, first_cause e.late cause (none_late easy may.0) may.1)
+    ends easy outcome may = may
 
     -- the eased request is charged as the attempt was
     charges : IsEasy → (outcome : AttemptOutcome E) → MayEnd e m outcome
         → outcome_charge e m outcome ≡ outcome_charge eased m outcome
-    charges easy (Unasked cause) may = refl
-    charges easy (Denied answer) may = refl
-    charges easy Met may = refl
     charges easy (Failed cause notice_answer) may =
         ap (λ late. if is_none late && covers m (optional_due m e.price) then optional_due m e.price else 0)
         (none_late easy may.0)
+    charges easy outcome may = refl
 
   -- the limiter sees the same of the eased request
   follows : {S : Type 0} (rules : Rules S) (l l' : S) (outcome : AttemptOutcome E) → Follows e rules l outcome l'
       → Follows eased rules l outcome l'
-  follows rules l l' (Unasked cause) h = h
-  follows rules l l' (Denied answer) h = h
   follows rules l l' Met h = h
-  follows rules l l' (Failed cause notice_answer) h = h
+  follows rules l l' outcome h = h
 
   -- what it leaves
   values : (x : V) (outcome : AttemptOutcome E) → own (value_after e x outcome) ≡ value_after eased (own x) outcome
-  values x (Unasked cause) = refl
-  values x (Denied answer) = refl
   values x Met = refl
-  values x (Failed cause notice_answer) = refl
+  values x outcome = refl
 
   -- what it answers
   answers : {T U : Type 0} (f : T → U) (made : T) (outcome : AttemptOutcome E)
       → result_map_both f (λ error. error) (answer_of e made outcome) ≡ answer_of eased (f made) outcome
-  answers f made (Unasked cause) = refl
-  answers f made (Denied answer) = refl
   answers f made Met = refl
-  answers f made (Failed cause notice_answer) = refl
+  answers f made outcome = refl
 
   -- an attempt is one of the eased request
   attempts : {S : Type 0} (rules : Rules S) (s s' : MeteredValue V S) (outcome : AttemptOutcome E) (charge : ℕ) → IsEasy
@@ -168,18 +159,15 @@ grows_owned rules pages s result charge s' fits (inr some) =
     answered_eased : (outcome : AttemptOutcome MemoryError)
         → answer_of (memory.growth_of s.value pages) (pages_of s.value) outcome ≡ answer_of
         (memory.growth_of (owned_memory s.value) pages) (pages_of s.value) outcome
-    answered_eased (Unasked cause) = refl
-    answered_eased (Denied answer) = refl
     answered_eased Met = refl
-    answered_eased (Failed cause notice_answer) = refl
+    answered_eased outcome = refl
 
 -- the live memory of an index
 owned_value : (slot : Option (Slot MemoryValue))
     → option_and_then live_value (option_map owned_slot slot) ≡ option_map owned_memory
     (option_and_then live_value slot)
-owned_value None = refl
 owned_value (Some (Live x)) = refl
-owned_value (Some (Gone last)) = refl
+owned_value slot = refl
 
 -- the live memory of an index, as one of its own
 owned_at : (slots : List (Slot MemoryValue)) (k : ℕ)

@@ -31,10 +31,8 @@ module _ (s : MeteredTable) (charge : ℕ) where
   ends_back : (w : TableWrite) (x' : TableValue) (typed : Bool) (written : Option (List ℕ)) (payable : Bool)
       (result : Result (Unit {0}) TableError) → IsRefusal (reply_of (λ _. replied.Done) replied.Table result)
       → EndsBy w s typed written payable (record { result = result; charge = charge; value = x' }) → x' ≡ s.value
-  ends_back w x' false written payable result refused ends = ends.2
-  ends_back w x' true None payable result refused ends = ends.2
-  ends_back w x' true (Some elements) false result refused ends = ends.2
   ends_back w x' true (Some elements) true result refused ends = absurd (rw ends.0 at refused)
+  ends_back w x' typed written payable result refused ends = ends.2
 
   -- a refused write leaves the table, whatever its ranges are
   write_back : (write : TableValue → TableWrite) (s' : MeteredTable) (result : Result (Unit {0}) TableError)
@@ -90,10 +88,8 @@ module _ (write : TableValue → TableWrite) (s : MeteredTable) (end end' : Writ
   ends_same : (typed : Bool) (written : Option (List ℕ)) (payable : Bool)
       → EndsBy (write s.value) s typed written payable end → EndsBy (write s.value) s typed written payable end'
       → (end.result ≡ end'.result) × (end.charge ≡ end'.charge) × (end.value ≡ end'.value)
-  ends_same false written payable a b = (a.0 ∙ sym b.0, a.1 ∙ sym b.1, a.2 ∙ sym b.2)
-  ends_same true None payable a b = (a.0 ∙ sym b.0, a.1 ∙ sym b.1, a.2 ∙ sym b.2)
-  ends_same true (Some elements) false a b = (a.0 ∙ sym b.0, a.1 ∙ sym b.1, a.2 ∙ sym b.2)
   ends_same true (Some elements) true a b = (a.0 ∙ sym b.0, a.1 ∙ sym b.1, a.2 ∙ sym b.2)
+  ends_same typed written payable a b = (a.0 ∙ sym b.0, a.1 ∙ sym b.1, a.2 ∙ sym b.2)
 
   -- two writes over a part are one
   table_write_same : (m' m'' : Option Meter) → WritesTableCharging write s end.result end.charge (metered end.value m')
@@ -168,10 +164,8 @@ module _ (write : TableValue → TableWrite) (s : MeteredTable) (result : Result
   ends_count : (typed : Bool) (written : Option (List ℕ)) (payable : Bool) → w.written ≡ written
       → EndsBy w s typed written payable (record { result = result; charge = charge; value = s'.value })
       → size_of s'.value ≡ size_of s.value
-  ends_count false written payable is ends = ap size_of ends.2
-  ends_count true None payable is ends = ap size_of ends.2
-  ends_count true (Some elements) false is ends = ap size_of ends.2
   ends_count true (Some elements) true is ends = ap size_of ends.2 ∙ keeps elements is
+  ends_count typed written payable is ends = ap size_of ends.2
 
   -- a write over a part keeps the number of elements, whatever its ranges are
   pub write_count : WritesTableCharging write s result charge s' → size_of s'.value ≡ size_of s.value
@@ -228,10 +222,8 @@ module _ (write : TableValue → TableWrite) (s : MeteredTable) (result : Result
   ends_typed : (typed : Bool) (written : Option (List ℕ)) (payable : Bool)
       → EndsBy (write s.value) s typed written payable (record { result = result; charge = charge; value = s'.value })
       → s'.value.ty ≡ s.value.ty
-  ends_typed false written payable ends = ap (λ (t : TableValue). t.ty) ends.2
-  ends_typed true None payable ends = ap (λ (t : TableValue). t.ty) ends.2
-  ends_typed true (Some elements) false ends = ap (λ (t : TableValue). t.ty) ends.2
   ends_typed true (Some elements) true ends = ap (λ (t : TableValue). t.ty) ends.2
+  ends_typed typed written payable ends = ap (λ (t : TableValue). t.ty) ends.2
 
   -- a write over a part keeps the type
   pub write_type : WritesTableCharging write s result charge s' → s'.value.ty ≡ s.value.ty

@@ -8,7 +8,7 @@ use Rattle.wasmi_meter.specs.declared.error.TableError.{TableError}
 use Rattle.wasmi_meter.specs.declared.error.TableError.TheVariants as taberr
 use Rattle.wasmi_meter.specs.Limiter.{Question, Answer, Failure, NoticeAnswer, MemoryFailure, TableFailure, Rules, AskedIf, NoticedIf, unlimited_rules, optional_rules}
 use Rattle.wasmi_meter.specs.Capped.{quota_rules}
-use Rattle.wasmi_meter.specs.Attempt.{Request, Unasked, Denied, Met, Failed, error_of_failure}
+use Rattle.wasmi_meter.specs.Attempt.{Request, Failed, error_of_failure}
 use Rattle.wasmi_store.specs.Memory as memory
 use Rattle.wasmi_store.specs.Table as table
 use Rattle.wasmi_core.specs.declared.calls.Call.{Call}
@@ -41,9 +41,6 @@ module _ {S : Type 0} (rules : Rules S) (IsAccepting : S → Type 0) (stays : St
   -- the replies to an attempt's errors tell whether the limiter is told of want of memory
   want_revealed : {V E : Type 0} (refusal : E → Reply) (e : Request V E)
       → ((c : E) → IsNotOutOfMemory (refusal c) → IsOtherFailure (e.notice c)) → Reveals telling refusal e
-  want_revealed refusal e nowant (Unasked c) l l' within shown f = f
-  want_revealed refusal e nowant (Denied answer) l l' within shown f = f
-  want_revealed refusal e nowant Met l l' within shown f = f
   want_revealed refusal e nowant (Failed c notice_answer) l l' within shown (permitted, asks, notices) =
       let still = stays.asked l e.question (Ok true) permitted within asks in
       let accepted = stays.noticed permitted (e.notice c) notice_answer l' still notices in (
@@ -53,6 +50,7 @@ module _ {S : Type 0} (rules : Rules S) (IsAccepting : S → Type 0) (stays : St
           nowant c (subst (λ h. IsNotOutOfMemory (refusal (error_of_failure e.refusal c h))) accepted.0 (shown _ refl)),
         ),
       )
+  want_revealed refusal e nowant outcome l l' within shown f = f
 
   -- an exchange leaves the limiter in these states
   exchange_stays : (exchange : Exchange) (l l' : S) → Passes rules l exchange l' → IsAccepting l → IsAccepting l'

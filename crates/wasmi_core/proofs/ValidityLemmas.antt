@@ -11,7 +11,7 @@ use Rattle.wasmi_core.specs.State.{MemoryPart, State, IsValid, IsValidCall, Turn
 use Rattle.wasmi_core.specs.TableEffects.{write_of}
 use Rattle.wasmi_store.specs.Growth.{metered}
 use Rattle.wasmi_core.specs.declared.calls.Call.{Call}
-use Rattle.wasmi_core.specs.declared.calls.Call.TheVariants.{NewLentMemory, NewMemory, NewTable}
+use Rattle.wasmi_core.specs.declared.calls.Call.TheVariants.{NewMemory}
 use Rattle.wasmi_core.specs.declared.calls.Reply.{Reply}
 use Rattle.wasmi_core.specs.declared.slots.Slot.{Slot}
 use Rattle.wasmi_meter.specs.Limiter.{Rules}
@@ -34,9 +34,7 @@ IsValidEffect effect = Unit {0}
 -- the type that an effect names is that which its call names
 names_valid : (s : State) (call : Call) → IsValidCall call → IsValidEffect (effect_of s call)
 names_valid s (NewMemory ty) valid = valid
-names_valid s (NewLentMemory ty) valid = valid
-names_valid s (NewTable ty init) valid = valid
-names_valid s call valid = tt
+names_valid s call valid = valid
 
 -- the state with other memories or tables, and another meter
 module _ (s : State) (valid : IsValid s) (meter : Meter) where

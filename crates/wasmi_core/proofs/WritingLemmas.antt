@@ -265,10 +265,8 @@ module _ (write : TableValue → TableWrite) (x : TableValue) (len : ℕ) (m : M
       (payable : Bool)
       → EndsBy w (metered x (Some m)) typed written payable (record { result = (Ok tt); charge = charge; value = x' })
       → ((left : ℕ) → m.left ≡ Some left → 0 < rate m → cut_product len 4 ≤ rate m * charge + (rate m - 1))
-  ends_bound paid x' false written payable ends = absurd cc
-  ends_bound paid x' true None payable ends = absurd cc
-  ends_bound paid x' true (Some elements) false ends = absurd cc
   ends_bound paid x' true (Some elements) true ends = len_bound paid ends.1
+  ends_bound paid x' typed written payable ends = absurd cc
 
   -- what it has written, by its result
   write_result : (w.paid ≡ Some len) ⊎ (len ≡ 0)
