@@ -381,19 +381,8 @@ module _ {S : Type 0} (rules : Rules S) (w : World S) (turn : Turn) (w' : World 
 
 -- a call that is local has such an effect
 local_effect : (s : State) (c : Call) → IsLocal c → IsLocalEffect (effect_of s c)
-local_effect s (call.SetFuel fuel) local = absurd local
 local_effect s call.GetFuel local = tt
-local_effect s (call.NewMemory ty) local = absurd local
-local_effect s (call.NewLentMemory ty) local = absurd local
-local_effect s (call.GrowMemory k pages) local = absurd local
-local_effect s (call.NewTable ty init) local = absurd local
-local_effect s (call.GrowTable k n init) local = absurd local
-local_effect s (call.InitTable k j dst src len) local = absurd local
-local_effect s (call.CopyTable k dst j src len) local = absurd local
-local_effect s (call.FillTable k dst value len) local = absurd local
-local_effect s (call.NewSegment ty items) local = absurd local
-local_effect s (call.NewGlobal value ty) local = absurd local
-local_effect s c local = tt
+local_effect s c local = local
 
 -- what its effect reads is what the call reads
 reads_in : (s t : State) (c : Call) → SameAll (read_locations c) s t → SameAll (read_in (effect_of s c)) s t

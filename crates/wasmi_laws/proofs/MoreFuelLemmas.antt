@@ -63,9 +63,7 @@ module _ (more : ℕ) where
   same_due : (left : Option ℕ) (costs : CustomFuelCosts) (price : Option (CustomFuelCosts → ℕ))
       → optional_due (Some (richer (meter_of left costs))) price ≡ optional_due (Some (meter_of left costs)) price
   same_due None costs None = refl
-  same_due None costs (Some price) = refl
-  same_due (Some n) costs None = refl
-  same_due (Some n) costs (Some price) = refl
+  same_due left costs price = refl
 
   -- what could be paid still can
   still_covers : (left : Option ℕ) (costs : CustomFuelCosts) (amount : ℕ)

@@ -41,14 +41,7 @@ use Rattle.wasmi_laws.specs.Runs.{IsPlainRefusal, OtherRefusalsChangeNothing, Pl
 plain_refusal : (reply : Reply) → IsPlainRefusal reply → IsRefusal reply
 plain_refusal (replied.Memory error) plain = tt
 plain_refusal (replied.Table error) plain = tt
-plain_refusal (replied.Fuel error) plain = tt
-plain_refusal (replied.Global error) plain = tt
-plain_refusal (replied.Segment error) plain = tt
-plain_refusal (replied.Trap code) plain = tt
-plain_refusal replied.NoSuch plain = tt
-plain_refusal replied.NoRegion plain = tt
-plain_refusal replied.NoRoom plain = tt
-plain_refusal reply plain = absurd plain
+plain_refusal reply plain = plain
 
 -- a reply is no plain refusal
 abbrev IsLoud : Reply → Type 0
