@@ -178,10 +178,8 @@ module _ (caps : Amounts) (index : ℕ) (pool' : PoolValue) where
       → PermittingRun index pool turns pool' → EndsAlone s (own_turns index turns)
   ends_alone pool s there [] ran = (s, ap (λ (p : PoolValue). slice_get p.machines index) ran ∙ there.found, refl)
   ends_alone pool s there (Added a ∷ turns) (next, adds, ran) =
-      ends_alone next s
-      (there_among pool s s next (pool.machines ++ a ∷ []) there adds.added
-      (kept_added pool.machines index s a there.found))
-      turns ran
+      ends_alone next s (there_among pool s s next (pool.machines ++ a ∷ []) there adds.added
+      (kept_added pool.machines index s a there.found)) turns ran
   ends_alone pool s there (Refused ∷ turns) (next, same, ran) =
       ends_alone next s (there_among pool s s next pool.machines there same there.found) turns ran
   ends_alone pool s there (Ran i calls replies ∷ turns) (next, runs, ran) =

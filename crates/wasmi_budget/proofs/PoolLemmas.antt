@@ -146,8 +146,7 @@ module _ (pool : PoolValue) (index : ℕ) where
     beside = record {
       caps = pool.caps;
       others = record {
-        bytes = total_of pool.machines Bytes - held.bytes;
-        elements = total_of pool.machines Elements - held.elements;
+        bytes = total_of pool.machines Bytes - held.bytes; elements = total_of pool.machines Elements - held.elements;
       };
       holdings = record { held = held; last = None };
     }
@@ -158,12 +157,10 @@ module _ (pool : PoolValue) (index : ℕ) where
         let bytes : total_of pool.machines Bytes - held.bytes ≡ total_of (remove pool.machines index) Bytes =
         let others = others_left Bytes in omega (arith, others) in
         let elements : total_of pool.machines Elements - held.elements
-        ≡ total_of (remove pool.machines index) Elements = let others =
-        others_left Elements in omega (arith, others) in
+        ≡ total_of (remove pool.machines index) Elements = let others = others_left Elements in omega (arith, others) in
         let same : Some beside ≡ Some (tenant_at pool index found.0) =
         λ i. Some (record {
-          caps = pool.caps;
-          others = record { bytes = bytes i; elements = elements i };
+          caps = pool.caps; others = record { bytes = bytes i; elements = elements i };
           holdings = record { held = found.2 i; last = None };
         }) in
         same ∙ ap (option_map (tenant_at pool index)) (sym found.1)
@@ -173,12 +170,11 @@ module _ (pool : PoolValue) (within : IsWithinCaps pool) (index : ℕ) (s : Stat
     (found : slice_get pool.machines index ≡ Some s) (s' : State) (tenant' : Tenant) where
   -- before its run the tenant is within the caps
   first_stays : StaysWithin (tenant_at pool index s) (tenant_at pool index s)
-  first_stays =
-      record {
-        caps = λ kind. refl;
-        others = λ kind. refl;
-        within = λ kind. rw (tenant_held_together pool index s found kind) (within kind);
-      }
+  first_stays = record {
+    caps = λ kind. refl;
+    others = λ kind. refl;
+    within = λ kind. rw (tenant_held_together pool index s found kind) (within kind);
+  }
 
   module _ (stays : StaysWithin (tenant_at pool index s) tenant') (held : HoldsTotals (holdings tenant') s') where
     -- with the other machine, all have what the tenant that holds what it has holds together with the others
@@ -229,10 +225,7 @@ module _ (pool now : PoolValue) (same : pool ≡ now) (index : ℕ) (tenant : Te
   read_given s read =
       let own : machine_given.0 ≡ s =
       sym (read ∙ get_or_from_slice_get pool.machines index machine_given.0 s machine_given.1) in
-      record {
-        found = machine_given.1 ∙ ap Some own;
-        tenant = machine_given.2 ∙ ap (tenant_at pool index) own;
-      }
+      record { found = machine_given.1 ∙ ap Some own; tenant = machine_given.2 ∙ ap (tenant_at pool index) own }
 
 -- a machine with its limiter, lent
 abbrev lent : World Tenant → World (Option Tenant)
@@ -258,11 +251,7 @@ module _ (pool : PoolValue) (index : ℕ) (w : World Tenant) (given : IsGiven po
     pub given_runs : (replies : List Reply) → IsRunOf (optional_rules tenant_rules) calls (lent w) replies (lent w')
         → RunsTenant pool index calls replies (record pool { machines = slice_set pool.machines index w'.state })
     given_runs replies ran = record {
-      machine = w.state;
-      found = given.found;
-      machine' = w'.state;
-      tenant' = w'.limiter;
-      ran = given_ran replies ran;
+      machine = w.state; found = given.found; machine' = w'.state; tenant' = w'.limiter; ran = given_ran replies ran;
       after = refl;
     }
 

@@ -52,8 +52,7 @@ own_turns index (Refused ∷ turns) = own_turns index turns
 -- after all calls the caps are the same, and all machines together are within them
 abbrev pub CapsHold : Type 0
 CapsHold = (pool : PoolValue) → IsWithinCaps pool → (turns : List PoolTurn) (pool' : PoolValue)
-    → PoolRun pool turns pool'
-    → (pool'.caps ≡ pool.caps) × IsWithinCaps pool'
+    → PoolRun pool turns pool' → (pool'.caps ≡ pool.caps) × IsWithinCaps pool'
 
 -- a run in which each question is permitted is one, with the same turns and the same machine, where the others hold
 -- nothing
@@ -76,6 +75,5 @@ RunsAsAlone = (pool : PoolValue) (index : ℕ) (s : State) → slice_get pool.ma
 abbrev pub RepliesPermit : Type 0
 RepliesPermit =
     (pool : PoolValue) (index : ℕ) (calls : List Call) (replies : List Reply) (pool' : PoolValue)
-    → All TellsNoDenial replies
-    → RunsTenant pool index calls replies pool'
+    → All TellsNoDenial replies → RunsTenant pool index calls replies pool'
     → RunsTenantBy (permitting (optional_rules tenant_rules)) pool index calls replies pool'

@@ -69,11 +69,8 @@ module _ (l l' : AtMost) where
   module _ (x x' : MemoryValue) (m m' : Option Meter) where
     abbrev Grown : ℕ → Result ℕ MemoryError → ℕ → Type 0
     Grown pages result charge = GrowsMemoryCharging (optional_rules at_most_rules) pages (record {
-      value = x;
-      meter = m;
-      limiter = Some l;
-    })
-        result charge (record { value = x'; meter = m'; limiter = Some l' })
+      value = x; meter = m; limiter = Some l;
+    }) result charge (record { value = x'; meter = m'; limiter = Some l' })
 
     -- so the limiter stays after a growth
     pub grown_stays : (pages : ℕ) (result : Result ℕ MemoryError) (charge : ℕ) → Grown pages result charge → l' ≡ l

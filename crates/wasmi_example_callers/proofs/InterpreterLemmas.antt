@@ -107,8 +107,7 @@ grown dst pages turns reply last size is are = (reply, rw is are)
 
 -- no other reply has one
 no_result : (reply : Reply) → ((size : ℕ) → reply ≡ Number size → ⊥)
-    → ((error : MemoryError) → reply ≡ Memory error → ⊥)
-    → grow_result reply ≡ None
+    → ((error : MemoryError) → reply ≡ Memory error → ⊥) → grow_result reply ≡ None
 no_result (Number size) number memory = absurd (number size refl)
 no_result (Memory error) number memory = absurd (memory error refl)
 no_result reply number memory = refl
@@ -126,8 +125,7 @@ pub reaches_more : {S : Type 0} (rules : Rules S) (program : List Instruction) (
     → Reaches rules program w (n + 1) at' (turns ++ more) v'
 reaches_more rules program w n at turns v path more at' v' steps =
     let next : n + 1 ≡ suc n = omega arith in
-    subst (λ k. Reaches rules program w k at' (turns ++ more) v') (sym next)
-    (at, turns, v, path, more, steps, refl)
+    subst (λ k. Reaches rules program w k at' (turns ++ more) v') (sym next) (at, turns, v, path, more, steps, refl)
 
 -- the call of an action doesn't set the fuel
 abbrev ActsWithoutFuel : Option Action → Type 0
@@ -142,8 +140,7 @@ of_one (Some x) f each = each x
 
 -- of two
 of_two : {A B : Type 0} (o : Option A) (p : Option B) (f : A → B → Action)
-    → ((x : A) (y : B) → ActsWithoutFuel (Some (f x y)))
-    → ActsWithoutFuel (option_and_then (λ x. option_map (f x) p) o)
+    → ((x : A) (y : B) → ActsWithoutFuel (Some (f x y))) → ActsWithoutFuel (option_and_then (λ x. option_map (f x) p) o)
 of_two None p f each = tt
 of_two (Some x) p f each = of_one p (f x) (each x)
 
@@ -158,12 +155,10 @@ acts_without_fuel (Constant dst number) s = tt
 acts_without_fuel (Copy dst src) s = of_one (slice_get s.registers src) (λ (x : RawVal). sets dst x) (λ x. tt)
 acts_without_fuel (Add dst a b) s =
     of_two (slice_get s.registers a) (slice_get s.registers b)
-    (λ (x y : RawVal). sets dst (raw_of (cast_unsigned w64 (iadd w64 (signed_in w64 x) (signed_in w64 y)))))
-    (λ x y. tt)
+    (λ (x y : RawVal). sets dst (raw_of (cast_unsigned w64 (iadd w64 (signed_in w64 x) (signed_in w64 y))))) (λ x y. tt)
 acts_without_fuel (Multiply dst a b) s =
     of_two (slice_get s.registers a) (slice_get s.registers b)
-    (λ (x y : RawVal). sets dst (raw_of (cast_unsigned w64 (imul w64 (signed_in w64 x) (signed_in w64 y)))))
-    (λ x y. tt)
+    (λ (x y : RawVal). sets dst (raw_of (cast_unsigned w64 (imul w64 (signed_in w64 x) (signed_in w64 y))))) (λ x y. tt)
 acts_without_fuel (AddBytes dst a b) s = tt
 acts_without_fuel (Load dst ptr offset) s =
     of_one (slice_get s.registers ptr) (λ (x : RawVal). Calls (VectorLoad V128Load64Zero dst 0 x.lo offset)) (λ x. tt)
@@ -181,8 +176,7 @@ acts_without_fuel (BranchIf condition target) s =
 acts_without_fuel (Return local) s = of_one (slice_get s.registers local) (λ (x : RawVal). Returns x) (λ x. tt)
 
 -- nor does that of a place
-place_without_fuel : (o : Option Instruction) (s : State)
-    → ActsWithoutFuel (option_and_then (λ i. action_of i s) o)
+place_without_fuel : (o : Option Instruction) (s : State) → ActsWithoutFuel (option_and_then (λ i. action_of i s) o)
 place_without_fuel None s = tt
 place_without_fuel (Some i) s = acts_without_fuel i s
 
@@ -199,8 +193,7 @@ growth_without_fuel : (o : Option ℕ) (dst pages : ℕ) (turns : List Turn) (re
 growth_without_fuel None dst pages turns reply last are =
     turns_without_fuel _ _ turns (All-cons SetsNoFuel (GrowMemory 0 pages) [] tt (All-nil SetsNoFuel)) are.0
 growth_without_fuel (Some size) dst pages turns reply last are =
-    turns_without_fuel _ _ turns
-    (All-cons SetsNoFuel (GrowMemory 0 pages) (SetRegister dst (raw_of size) ∷ []) tt
+    turns_without_fuel _ _ turns (All-cons SetsNoFuel (GrowMemory 0 pages) (SetRegister dst (raw_of size) ∷ []) tt
     (All-cons SetsNoFuel (SetRegister dst (raw_of size)) [] tt (All-nil SetsNoFuel))) are
 
 -- there are none
@@ -289,9 +282,7 @@ module _ {S : Type 0} (rules : Rules S) where
   taken_run : (w : World S) (o : Option ℕ) → w.state.meter.left ≡ o
       → (all : List Turn) × Run rules w all (next_world w) × IsWrittenAs all []
   taken_run w None off = (
-    [],
-    ap (λ s. world s w.limiter) (taken_off w.state off),
-    record { bytes = refl; number = refl; charged = refl },
+    [], ap (λ s. world s w.limiter) (taken_off w.state off), record { bytes = refl; number = refl; charged = refl },
   )
   taken_run w (Some left) on =
       let step : Step rules w (taking_turn left) (next_world w) = record {
@@ -299,8 +290,7 @@ module _ {S : Type 0} (rules : Rules S) where
         machine = fuel_taken w.state;
         effect = (
           sym (ap (λ (o : Option ℕ). if is_some o then Done else Fuel FuelMeteringDisabled) on),
-          ap (with_left w.state)
-              (ap (option_map (λ n. n - 1)) on ∙ sym (ap (option_map (λ n. left - 1)) on)),
+          ap (with_left w.state) (ap (option_map (λ n. n - 1)) on ∙ sym (ap (option_map (λ n. left - 1)) on)),
         );
         after = refl;
       } in (taking_turn left ∷ [], (next_world w, step, refl), record { bytes = refl; number = refl; charged = refl })
@@ -325,16 +315,13 @@ module _ {S : Type 0} (rules : Rules S) where
   action_needs action next w turns result w' true free is stops =
       stops_needs ending.OutOfFuel w turns result w' refl stops
   action_needs action next w turns result w' false free is (run, follows) = inr (
-    is,
-    run,
-    action_without_fuel action next turns result free follows,
+    is, run, action_without_fuel action next turns result free follows,
     action_instruction action next turns result follows,
   )
 
   -- so an instruction
   place_needs : (o : Option Action) (next : ℕ) (w : World S) (turns : List Turn) (result : Result ℕ Ending)
-      (w' : World S) → ActsWithoutFuel o
-      → MatchOption o (Stops ending.Undefined w turns result w')
+      (w' : World S) → ActsWithoutFuel o → MatchOption o (Stops ending.Undefined w turns result w')
       (λ action. MatchBool (is_out_of_fuel w.state.meter) (Stops ending.OutOfFuel w turns result w')
       (Run rules (next_world w) turns w' × CarriesOut action next turns result))
       → Needs w turns (instruction_of result) w'
@@ -350,15 +337,10 @@ module _ {S : Type 0} (rules : Rules S) (joins : RunsJoin rules) (spends : Charg
     all = [];
     run = same;
     written = record {
-      bytes = sym (ap bytes_written none);
-      number = sym (ap writing_turns none);
+      bytes = sym (ap bytes_written none); number = sym (ap writing_turns none);
       charged = sym (ap charges_for_writing none);
     };
-    spent = λ left on. (
-      left,
-      ap (λ (v : World S). v.state.meter.left) same ∙ on,
-      omega (arith, free, ap charges none),
-    );
+    spent = λ left on. (left, ap (λ (v : World S). v.state.meter.left) same ∙ on, omega (arith, free, ap charges none));
   }
   needs_taken w turns fuel w' (inr (fuelled, run, quiet, one)) =
       let before = taken_run rules w w.state.meter.left refl in
@@ -370,8 +352,7 @@ module _ {S : Type 0} (rules : Rules S) (joins : RunsJoin rules) (spends : Charg
         spent = λ left on.
             let tested : (left == 0) ≡ false =
             sym (ap (λ (o : Option ℕ). option_map_or (λ n. n == 0) o false) on) ∙ fuelled in
-            let rest =
-            spends (next_world rules w) (left - 1) (ap (option_map (λ n. n - 1)) on) turns w' run quiet in
+            let rest = spends (next_world rules w) (left - 1) (ap (option_map (λ n. n - 1)) on) turns w' run quiet in
             let some : 0 < left = grind (arith, nat_tests, tested) in
             (rest.0, rest.1, omega (arith, rest.2.charged, one, some));
       }
@@ -405,8 +386,7 @@ module _ {S : Type 0} (rules : Rules S) (joins : RunsJoin rules) (spends : Charg
     reached_taken w zero place turns v (start, none, same) = needs_taken w turns 0 v (inl (none, same, refl))
     reached_taken w (suc n) place turns v (last, before, u, path, more, steps, are) =
         let next : n + 1 ≡ suc n = omega arith in
-        subst (λ k. Taken rules w turns k v) next
-        (subst (λ ts. Taken rules w ts (n + 1) v) (sym are)
+        subst (λ k. Taken rules w turns k v) next (subst (λ ts. Taken rules w ts (n + 1) v) (sym are)
         (taken_more w before n u (reached_taken w n last before u path) more 1 v
         (step_taken last u more (Ok place) v steps)))
 
@@ -417,15 +397,12 @@ module _ {S : Type 0} (rules : Rules S) (joins : RunsJoin rules) (spends : Charg
       where
         by : (o : Option Ending) → MatchOption o ((turns ≡ before) × (w' ≡ v))
             (λ ending. (more : List Turn) × StepsAt rules program outcome.place v more (Err ending) w'
-            × (turns ≡ before ++ more))
-            → Taken rules w turns (outcome.executed + option_map_or last_instruction o 0) w'
+            × (turns ≡ before ++ more)) → Taken rules w turns (outcome.executed + option_map_or last_instruction o 0) w'
         by None (are, same) =
             let n = outcome.executed in
             let next : n ≡ n + 0 = omega arith in
-            subst (λ k. Taken rules w turns k w') next
-            (subst (λ ts. Taken rules w ts n w') (sym are)
-            (subst (λ u. Taken rules w before n u) (sym same)
-            (reached_taken w n outcome.place before v path)))
+            subst (λ k. Taken rules w turns k w') next (subst (λ ts. Taken rules w ts n w') (sym are)
+            (subst (λ u. Taken rules w before n u) (sym same) (reached_taken w n outcome.place before v path)))
         by (Some ending) (more, steps, are) =
             subst (λ ts. Taken rules w ts (outcome.executed + last_instruction ending) w') (sym are)
             (taken_more w before outcome.executed v (reached_taken w outcome.executed outcome.place before v path) more
@@ -463,8 +440,7 @@ module _ {S : Type 0} (rules : Rules S) (joins : RunsJoin rules) (spends : Charg
   execution = (
     turns,
     executes,
-    taken_spent rules bounds w turns outcome w'
-        (program_taken rules joins spends program w turns outcome w' executes),
+    taken_spent rules bounds w turns outcome w' (program_taken rules joins spends program w turns outcome w' executes),
   )
 
   -- what it did is a run

@@ -107,8 +107,7 @@ module _ {S : Type 0} (rules : Rules S) where
     -- the instruction of a place leads from one world to another by turns, for one fuel that is taken before them: the
     -- next place, or how the program ends. Without an instruction it ends, whatever fuel is left
     abbrev pub StepsAt : ℕ → World S → List Turn → Result ℕ Ending → World S → Type 0
-    StepsAt place w turns result w' = MatchOption (action_at program place w.state)
-        (Stops Undefined w turns result w')
+    StepsAt place w turns result w' = MatchOption (action_at program place w.state) (Stops Undefined w turns result w')
         (λ action. MatchBool (is_out_of_fuel w.state.meter) (Stops OutOfFuel w turns result w')
         (Run rules (world (fuel_taken w.state) w.limiter) turns w' × CarriesOut action (place + 1) turns result))
 
@@ -122,8 +121,7 @@ module _ {S : Type 0} (rules : Rules S) where
     -- of all these instructions
     abbrev pub ExecutesProgram : World S → List Turn → Outcome → World S → Type 0
     ExecutesProgram w turns outcome w' = (before : List Turn) × (v : World S)
-        × Reaches w outcome.executed outcome.place before v
-        × MatchOption outcome.ending ((turns ≡ before) × (w' ≡ v))
+        × Reaches w outcome.executed outcome.place before v × MatchOption outcome.ending ((turns ≡ before) × (w' ≡ v))
         (λ ending. (more : List Turn) × StepsAt outcome.place v more (Err ending) w' × (turns ≡ before ++ more))
 
   -- there is a run from one world to another

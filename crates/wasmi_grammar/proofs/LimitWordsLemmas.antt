@@ -39,9 +39,7 @@ pub limits_are : (minimum maximum width : List ℕ) (limits : Limits) → Writes
     → limits_named minimum maximum width ≡ Some limits
 unfolding limits_named
 limits_are minimum maximum width limits w = λ i. option_map (λ index. record {
-  index = index;
-  minimum = sym w.minimum_word.1 i;
-  maximum = limit_is maximum limits.maximum w.maximum_word i;
+  index = index; minimum = sym w.minimum_word.1 i; maximum = limit_is maximum limits.maximum w.maximum_word i;
 }) (named_is index.enum tt width_word refl width limits.index w.width_text i)
 
 -- words that write limits write what is equal to them
@@ -88,8 +86,7 @@ page_is log2 Wasm e = ap page_of_log2 (sym e)
 
 -- the memory type of these limits and this page size
 abbrev memory_of : Limits → PageSize → MemoryTypeValue
-memory_of limits page =
-    record { index = limits.index; page = page; minimum = limits.minimum; maximum = limits.maximum }
+memory_of limits page = record { index = limits.index; page = page; minimum = limits.minimum; maximum = limits.maximum }
 
 -- the memory type that four words name
 pub memory_named : List ℕ → List ℕ → List ℕ → List ℕ → Option MemoryTypeValue
@@ -144,10 +141,8 @@ table_named element minimum maximum width =
 
 -- four words that name a table type give that table type
 pub table_is : (element minimum maximum width : List ℕ) (ty : TableTypeValue)
-    → NamesTableType element minimum maximum width ty
-    → table_named element minimum maximum width ≡ Some ty
+    → NamesTableType element minimum maximum width ty → table_named element minimum maximum width ≡ Some ty
 unfolding table_named
-table_is element minimum maximum width ty w = λ i. option_and_then
-    (λ limits. option_map (table_of limits)
+table_is element minimum maximum width ty w = λ i. option_and_then (λ limits. option_map (table_of limits)
     (named_is reference_type.enum tt reference_word refl element ty.element w.element_text i))
     (limits_are minimum maximum width (table_limits ty) w.limits_words i)

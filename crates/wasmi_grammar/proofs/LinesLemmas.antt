@@ -89,8 +89,7 @@ joined calls from (span ∷ later) to (start, onward, rest) =
     let count = span.end - span.start in
     let here = take count (drop span.start calls) in
     let end : span.start + count ≡ span.end = omega (arith, start, onward) in
-    append_assoc here (calls_in (map (part_at calls) later)) (drop to calls)
-    ∙ ap (λ cs. here ++ cs)
+    append_assoc here (calls_in (map (part_at calls) later)) (drop to calls) ∙ ap (λ cs. here ++ cs)
     (joined calls span.end later to rest ∙ sym (drop-drop count span.start calls ∙ ap (λ n. drop n calls) end))
     ∙ take-append-drop count (drop span.start calls) ∙ ap (λ n. drop n calls) start
 
@@ -108,9 +107,7 @@ all_calls calls spans start tenant follow =
 
 -- one call more is the last part's
 pub one_call : (calls calls' : List Call) (call : Call) (spans : List Span) (start tenant : ℕ)
-    → AreCut spans start calls
-    → calls' ≡ calls ++ call ∷ []
-    → seen calls' spans start tenant
+    → AreCut spans start calls → calls' ≡ calls ++ call ∷ [] → seen calls' spans start tenant
     ≡ record (seen calls spans start tenant) { calls = drop start calls ++ call ∷ [] }
 one_call calls calls' call spans start tenant cut is =
     let before = kept calls (call ∷ []) 0 spans start cut.follow cut.within in
@@ -151,8 +148,7 @@ module _ (calls : List Call) (spans : List Span) (start tenant index : ℕ) wher
       (part_at calls span) (slice_get-map (part_at calls) spans index ∙ ap (option_map (part_at calls)) is)
 
   -- the last part
-  pub at_last : index ≡ length spans
-      → slice_get (parts_in (seen calls spans start tenant)) index
+  pub at_last : index ≡ length spans → slice_get (parts_in (seen calls spans start tenant)) index
       ≡ Some (record { tenant = tenant; calls = drop start calls })
   at_last is =
       ap (slice_get (parts_in (seen calls spans start tenant))) (is ∙ sym (length-map spans (part_at calls)))
@@ -199,8 +195,7 @@ lines_at lines n before here so_far (below, is) =
 
 -- a line that isn't taken after those before it is the first bad one
 pub stops_at : (text : List ℕ) (n : ℕ) (before : List (ℕ × List ℕ)) (here : ℕ × List ℕ) (script : Script)
-    → AreTaken (map (λ p. p.1) before) script → length before ≡ n
-    → before ≡ take n (enumerate_from 0 (lines_in text))
+    → AreTaken (map (λ p. p.1) before) script → length before ≡ n → before ≡ take n (enumerate_from 0 (lines_in text))
     → (n < length (enumerate_from 0 (lines_in text))) × (here ≡ get_or (enumerate_from 0 (lines_in text)) n here)
     → IsBadLine script here.1 → IsFirstBadLine text (here.0 + 1)
 stops_at text n before here script taken count so_far there bad =

@@ -113,18 +113,15 @@ module _ (words : LineWords) where
             (named store.enum tt store_name (word 0)),
       ) ∷ (
         codes "table",
-        option_and_then
-            (λ ty. option_map (λ init. Other (NewTable ty init)) (reference_named (word 4) (word 5)))
+        option_and_then (λ ty. option_map (λ init. Other (NewTable ty init)) (reference_named (word 4) (word 5)))
             (table_named (word 0) (word 1) (word 2) (word 3)),
       ) ∷ (
         codes "tgrow",
-        option_map (λ init. Other (GrowTable (number 0) (number 1) init))
-            (reference_named (word 2) (word 3)),
+        option_map (λ init. Other (GrowTable (number 0) (number 1) init)) (reference_named (word 2) (word 3)),
       ) ∷
       (codes "get", Some (Other (GetElement (number 0) (number 1)))) ∷ (
         codes "tset",
-        option_map (λ value. Other (SetElement (number 0) (number 1) value))
-            (reference_named (word 2) (word 3)),
+        option_map (λ value. Other (SetElement (number 0) (number 1) value)) (reference_named (word 2) (word 3)),
       ) ∷
       (codes "init", Some (Other (InitTable (number 0) (number 1) (number 2) (number 3) (number 4)))) ∷
       (codes "copy", Some (Other (CopyTable (number 0) (number 1) (number 2) (number 3) (number 4)))) ∷ (
@@ -138,8 +135,7 @@ module _ (words : LineWords) where
       ) ∷
       (codes "empty", Some (Other (DropItems (number 0)))) ∷ (
         codes "global",
-        option_and_then
-            (λ content. option_map
+        option_and_then (λ content. option_map
             (λ mutability. Other (NewGlobal (raw 2 3) (record { content = content; mutability = mutability })))
             (named mutability.enum tt mutability_word (word 1))) (named value_type.enum tt value_word (word 0)),
       ) ∷ (
@@ -158,15 +154,13 @@ module _ (words : LineWords) where
         codes "binary",
         option_map (λ op. Other (Binary op (number 1) (number 2) (number 3)))
             (named binary.enum tt binary_name (word 0)),
-      )
-      ∷ (
+      ) ∷ (
         codes "ternary",
         option_map (λ op. Other (Ternary op (number 1) (number 2) (number 3) (number 4)))
             (named ternary.enum tt ternary_name (word 0)),
       ) ∷ (
         codes "shift",
-        option_map (λ op. Other (Shift op (number 1) (number 2) (number 3)))
-            (named shift.enum tt shift_name (word 0)),
+        option_map (λ op. Other (Shift op (number 1) (number 2) (number 3))) (named shift.enum tt shift_name (word 0)),
       ) ∷
       (codes "test", option_map (λ op. Other (Test op (number 1))) (named test.enum tt test_name (word 0))) ∷ (
         codes "extract",
@@ -183,8 +177,7 @@ module _ (words : LineWords) where
             (named vector_load.enum tt vector_load_name (word 0)),
       ) ∷ (
         codes "vloadlane",
-        option_map
-            (λ op. Other (LoadLane op (number 1) (number 2) (number 4) (number 5) (number 6)))
+        option_map (λ op. Other (LoadLane op (number 1) (number 2) (number 4) (number 5) (number 6)))
             (lane_named load_lane.enum tt load_lane_name load_lane_op (word 0) (word 3)),
       ) ∷
       (codes "vstore", Some (Other (VectorStore (number 0) (number 1) (number 2) (number 3)))) ∷ (
@@ -214,12 +207,10 @@ module _ (words : LineWords) where
   call_is (Store op memory ptr offset value) w = λ i.
       option_map (λ op. Other (Store op (sym w.2.1 i) (sym w.3.1 i) (sym w.4.1 i) (sym (w.7 ∙ ap raw_of w.6.1) i)))
       (named_is store.enum tt store_name refl (word 0) op w.1 i)
-  call_is (NewTable ty init) w = λ i.
-      option_and_then
+  call_is (NewTable ty init) w = λ i. option_and_then
       (λ ty. option_map (λ init. Other (NewTable ty init)) (reference_is (word 4) (word 5) init w.2 i))
       (table_is (word 0) (word 1) (word 2) (word 3) ty w.1 i)
-  call_is (GrowTable table delta init) w = λ i.
-      option_map (λ init. Other (GrowTable (sym w.1.1 i) (sym w.2.1 i) init))
+  call_is (GrowTable table delta init) w = λ i. option_map (λ init. Other (GrowTable (sym w.1.1 i) (sym w.2.1 i) init))
       (reference_is (word 2) (word 3) init w.3 i)
   call_is (GetElement table index) w = λ i. Some (Other (GetElement (sym w.1.1 i) (sym w.2.1 i)))
   call_is (SetElement table index value) w = λ i.
@@ -253,31 +244,25 @@ module _ (words : LineWords) where
   call_is (SetRegister dst value) w = λ i.
       Some (Other (SetRegister (sym w.1.1 i) (record { lo = sym w.2.1 i; hi = sym w.3.1 i })))
   call_is (GetRegister a) w = λ i. Some (Other (GetRegister (sym w.1.1 i)))
-  call_is (Make op dst a) w = λ i.
-      option_map (λ op. Other (Make op (sym w.2.1 i) (sym w.3.1 i)))
+  call_is (Make op dst a) w = λ i. option_map (λ op. Other (Make op (sym w.2.1 i) (sym w.3.1 i)))
       (named_is make.enum tt make_name refl (word 0) op w.1 i)
-  call_is (Unary op dst a) w = λ i.
-      option_map (λ op. Other (Unary op (sym w.2.1 i) (sym w.3.1 i)))
+  call_is (Unary op dst a) w = λ i. option_map (λ op. Other (Unary op (sym w.2.1 i) (sym w.3.1 i)))
       (named_is unary.enum tt unary_name refl (word 0) op w.1 i)
-  call_is (Binary op dst a b) w = λ i.
-      option_map (λ op. Other (Binary op (sym w.2.1 i) (sym w.3.1 i) (sym w.4.1 i)))
+  call_is (Binary op dst a b) w = λ i. option_map (λ op. Other (Binary op (sym w.2.1 i) (sym w.3.1 i) (sym w.4.1 i)))
       (named_is binary.enum tt binary_name refl (word 0) op w.1 i)
   call_is (Ternary op dst a b c) w = λ i.
       option_map (λ op. Other (Ternary op (sym w.2.1 i) (sym w.3.1 i) (sym w.4.1 i) (sym w.5.1 i)))
       (named_is ternary.enum tt ternary_name refl (word 0) op w.1 i)
-  call_is (Shift op dst a amount) w = λ i.
-      option_map (λ op. Other (Shift op (sym w.2.1 i) (sym w.3.1 i) (sym w.4.1 i)))
+  call_is (Shift op dst a amount) w = λ i. option_map (λ op. Other (Shift op (sym w.2.1 i) (sym w.3.1 i) (sym w.4.1 i)))
       (named_is shift.enum tt shift_name refl (word 0) op w.1 i)
   call_is (Test op a) w =
       λ i. option_map (λ op. Other (Test op (sym w.2.1 i))) (named_is test.enum tt test_name refl (word 0) op w.1 i)
-  call_is (Extract op a) w = λ i.
-      option_map (λ op. Other (Extract op (sym w.2.1 i)))
+  call_is (Extract op a) w = λ i. option_map (λ op. Other (Extract op (sym w.2.1 i)))
       (lane_is extract.enum tt extract_name extract_op (word 0) (word 2) refl op w.1 i)
   call_is (Replace op dst a item) w = λ i.
       option_map (λ op. Other (Replace op (sym w.2.1 i) (sym w.3.1 i) (sym w.4.1 i)))
       (lane_is replace.enum tt replace_name replace_op (word 0) (word 3) refl op w.1 i)
-  call_is (Shuffle dst a b lanes) w = λ i.
-      Some (Other (Shuffle (sym w.0.1.1 i) (sym w.0.2.1 i) (sym w.0.3.1 i)
+  call_is (Shuffle dst a b lanes) w = λ i. Some (Other (Shuffle (sym w.0.1.1 i) (sym w.0.2.1 i) (sym w.0.3.1 i)
       (numbers_is 5 (drop 3 words) lanes w.1.written i)))
   call_is (VectorLoad op dst memory ptr offset) w = λ i.
       option_map (λ op. Other (VectorLoad op (sym w.2.1 i) (sym w.3.1 i) (sym w.4.1 i) (sym w.5.1 i)))
@@ -324,8 +309,7 @@ module _ (words : LineWords) where
   -- operands that write a meter line give it
   meter_is : (line : MeterLine) → WritesMeter words line → meter_named ≡ line
   meter_is Off w = λ i. cond (bytes_eq (w.1 i) (codes "off")) Off (On (number 1))
-  meter_is (On bytes) w =
-      (λ i. cond (bytes_eq (w.1 i) (codes "off")) Off (On (number 1))) ∙ (λ i. On (sym w.2.1 i))
+  meter_is (On bytes) w = (λ i. cond (bytes_eq (w.1 i) (codes "off")) Off (On (number 1))) ∙ (λ i. On (sym w.2.1 i))
 
   -- operands that write a region line give it
   region_is : (line : RegionLine) → WritesRegion words line → region_named ≡ line
@@ -371,12 +355,8 @@ pub record LinesMeaning : Type 0 where
 -- what a header and parts say
 abbrev pub meaning_of : Header → PartsValue → LinesMeaning
 meaning_of header parts = record {
-  meter = header.meter;
-  limiter = option_map limiter_meaning header.limiter;
-  region = header.region;
-  earlier = map part_meaning parts.earlier;
-  tenant = parts.tenant;
-  calls = map call_meaning parts.calls;
+  meter = header.meter; limiter = option_map limiter_meaning header.limiter; region = header.region;
+  earlier = map part_meaning parts.earlier; tenant = parts.tenant; calls = map call_meaning parts.calls;
 }
 
 -- what the lines of a script say
@@ -425,6 +405,5 @@ unfolding meaning_after
 added old words new (inl a) = ap lines_meaning a.1 ∙ ap (λ ws. meaning_after ws (lines_meaning old)) (sym a.0)
 added old words new (inr (line, names, adds)) =
     let said = lines_meaning old in
-    line_added old line new adds
-    ∙ ap (λ told. option_map_or (meaning_with said) told said)
+    line_added old line new adds ∙ ap (λ told. option_map_or (meaning_with said) told said)
     (sym (line_is (drop 1 words) (word_at words 0) line names))

@@ -18,8 +18,7 @@ use Rattle.wasmi_grammar.proofs.TextsLemmas.{retell}
 
 -- a line leads from scripts that say the same to scripts that say the same
 line_unique : (line : List ℕ) (old old' new new' : Script) → LinesHaveSameMeaning old old' → AcceptsLine old line new
-    → AcceptsLine old' line new'
-    → LinesHaveSameMeaning new new'
+    → AcceptsLine old' line new' → LinesHaveSameMeaning new new'
 line_unique line old old' new new' same taken taken' =
     let words = taken.1 in
     let retold : AddsWords old' words new' = retell taken'.1 words (taken'.2 ∙ sym taken.2) old' new' taken'.3 in
@@ -127,9 +126,7 @@ module _ (old old' : Script) (same : LinesHaveSameMeaning old old') where
   takes_too (Meter line) (Meter line') says new a = (
     record old' { header = record old'.header { meter = Some line' } },
     record {
-      before_commands = none_too a.before_commands;
-      first = ap (λ s. s.meter) (sym same) ∙ a.first;
-      header = refl;
+      before_commands = none_too a.before_commands; first = ap (λ s. s.meter) (sym same) ∙ a.first; header = refl;
       parts = refl;
     },
   )
@@ -170,15 +167,13 @@ module _ (old old' : Script) (same : LinesHaveSameMeaning old old') where
   takes_too line line' says new a = absurd cc
 
   -- words that add something to the one add something to the other
-  words_too : (words : LineWords) (new : Script) → AddsWords old words new
-      → (new' : Script) × AddsWords old' words new'
+  words_too : (words : LineWords) (new : Script) → AddsWords old words new → (new' : Script) × AddsWords old' words new'
   words_too words new (inl a) = (old', inl (a.0, refl))
   words_too words new (inr (line, names, adds)) =
       let after = takes_too line line refl new adds in (after.0, inr (line, names, after.1))
 
   -- a line that the one takes the other takes
-  line_too : (line : List ℕ) (new : Script) → AcceptsLine old line new
-      → (new' : Script) × AcceptsLine old' line new'
+  line_too : (line : List ℕ) (new : Script) → AcceptsLine old line new → (new' : Script) × AcceptsLine old' line new'
   line_too line new taken = let after = words_too taken.1 new taken.3 in (after.0, (taken.0, taken.1, taken.2, after.1))
 
 -- so a line that one of them can't take isn't taken by the other
@@ -199,8 +194,7 @@ no_words old words line some names refused new (inr (other, names', adds)) =
 
 -- lines with a bad one aren't taken
 not_taken : (before after : List (List ℕ)) (bad : List ℕ) (old old' script new : Script) → LinesHaveSameMeaning old old'
-    → AcceptsLines before old script
-    → IsBadLine script bad → ¬ (AcceptsLines (before ++ bad ∷ after) old' new)
+    → AcceptsLines before old script → IsBadLine script bad → ¬ (AcceptsLines (before ++ bad ∷ after) old' new)
 not_taken [] after bad old old' script new same is wrong (middle, taken, later) =
     refused script old' middle bad (ap lines_meaning is ∙ same) wrong taken
 not_taken (line ∷ before) after bad old old' script new same (m, t, l) wrong (m', t', l') =
@@ -221,8 +215,7 @@ StopsAfter lines old before =
 
 -- a bad line stands at one place
 one_place : (before before' lines : List (List ℕ)) (old old' : Script) → LinesHaveSameMeaning old old'
-    → StopsAfter lines old before
-    → StopsAfter lines old' before' → length before ≡ length before'
+    → StopsAfter lines old before → StopsAfter lines old' before' → length before ≡ length before'
 one_place [] [] lines old old' same s s' = refl
 one_place [] (line ∷ before') lines old old' same (bad, after, split, end, is, wrong)
     (bad', after', split', end', (m', t', l'), wrong') =

@@ -47,8 +47,7 @@ module _ (words words' : LineWords) (same : texts words ≡ texts words') where
   at k = ap (λ ts. slice_index_or ts k []) same
 
   -- a number that is written at a place of the one is written there in the other
-  number : {n : ℕ} {Fits : Type 0} (k : ℕ)
-      → IsDecimal (word_at words k) × (n ≡ decimal_value (word_at words k)) × Fits
+  number : {n : ℕ} {Fits : Type 0} (k : ℕ) → IsDecimal (word_at words k) × (n ≡ decimal_value (word_at words k)) × Fits
       → IsDecimal (word_at words' k) × (n ≡ decimal_value (word_at words' k)) × Fits
   number k w = (subst IsDecimal (at k) w.0, w.1 ∙ ap decimal_value (at k), w.2)
 
@@ -74,8 +73,7 @@ module _ (words words' : LineWords) (same : texts words ≡ texts words') where
     retell_each (WritesNumber 32) (drop 1 words) (drop 1 words') items.items (later 1) w.1,
   )
   retell_operands (Shuffle dst a b lanes) w = (
-    retell_first (Shuffle dst a b lanes) w.0,
-    retell_lanes (drop 3 words) (drop 3 words') lanes (later 3) w.1,
+    retell_first (Shuffle dst a b lanes) w.0, retell_lanes (drop 3 words) (drop 3 words') lanes (later 3) w.1,
   )
   retell_operands call w = retell_first call w
 

@@ -2,13 +2,14 @@
 use Rattle.std.specs.Prelude.{◌≡◌, ℕ, List, Option, ◌≤◌, length, codes, drop}
 use Rattle.wasmi_types.specs.declared.index_ty.IndexType.{IndexType}
 use Rattle.wasmi_operands.specs.LineWords.{WritesNumber, WritesLimit, LineWords, WritesEach, word_at}
-use Rattle.wasmi_operands.specs.Names.{width_word, reference_word, value_word, mutability_word, WritesReference, IsName, NamesExtract, NamesReplace, NamesLoadLane, NamesStoreLane, WritesLanes}
+use Rattle.wasmi_operands.specs.Names.{width_word, reference_word, value_word, mutability_word, WritesReference, IsName, NamesLane, WritesLanes}
 use Rattle.wasmi_store.specs.Memory.{MemoryTypeValue, page_log2}
 use Rattle.wasmi_types.specs.declared.value.RefType.{RefType}
 use Rattle.wasmi_store.specs.Table.{TableTypeValue}
 use Rattle.wasmi_raw.specs.RawVal.{raw_of}
 use Rattle.wasmi_ops.specs.ScalarOps.{load_name, store_name}
 use Rattle.wasmi_ops.specs.VectorOps.{make_name, unary_name, binary_name, ternary_name, shift_name, test_name, vector_load_name}
+use Rattle.wasmi_ops.specs.LaneOps.{extract_name, extract_op, replace_name, replace_op, load_lane_name, load_lane_op, store_lane_name, store_lane_op}
 use Rattle.wasmi_core.specs.declared.calls.Call.{Call}
 use Rattle.wasmi_store.specs.Memory as memory_type
 use Rattle.wasmi_store.specs.Table as table_type
@@ -161,22 +162,24 @@ OperandsWrite count word (call.Shift op dst a amount) = (count ≡ 4) × IsName 
     × WritesNumber 8 (word 1) dst × WritesNumber 8 (word 2) a × WritesNumber 32 (word 3) amount
 OperandsWrite count word (call.Test op a) = (count ≡ 2) × IsName test_name (word 0) op × WritesNumber 8 (word 1) a
 OperandsWrite count word (call.Extract op a) =
-    (count ≡ 3) × NamesExtract (word 0) (word 2) op × WritesNumber 8 (word 1) a
-OperandsWrite count word (call.Replace op dst a item) = (count ≡ 5) × NamesReplace (word 0) (word 3) op
+    (count ≡ 3) × NamesLane extract_name extract_op (word 0) (word 2) op × WritesNumber 8 (word 1) a
+OperandsWrite count word (call.Replace op dst a item) =
+    (count ≡ 5) × NamesLane replace_name replace_op (word 0) (word 3) op
     × WritesNumber 8 (word 1) dst × WritesNumber 8 (word 2) a × WritesNumber 8 (word 4) item
 OperandsWrite count word (call.Shuffle dst a b lanes) =
     (3 ≤ count) × WritesNumber 8 (word 0) dst × WritesNumber 8 (word 1) a × WritesNumber 8 (word 2) b
 OperandsWrite count word (call.VectorLoad op dst memory ptr offset) = (count ≡ 5) × IsName vector_load_name (word 0) op
     × WritesNumber 8 (word 1) dst × WritesNumber 64 (word 2) memory × WritesNumber 64 (word 3) ptr
     × WritesNumber 64 (word 4) offset
-OperandsWrite count word (call.LoadLane op dst a memory ptr offset) = (count ≡ 7) × NamesLoadLane (word 0) (word 3) op
-    × WritesNumber 8 (word 1) dst × WritesNumber 8 (word 2) a × WritesNumber 64 (word 4) memory
-    × WritesNumber 64 (word 5) ptr × WritesNumber 64 (word 6) offset
+OperandsWrite count word (call.LoadLane op dst a memory ptr offset) =
+    (count ≡ 7) × NamesLane load_lane_name load_lane_op (word 0) (word 3) op × WritesNumber 8 (word 1) dst
+    × WritesNumber 8 (word 2) a × WritesNumber 64 (word 4) memory × WritesNumber 64 (word 5) ptr
+    × WritesNumber 64 (word 6) offset
 OperandsWrite count word (call.VectorStore a memory ptr offset) = (count ≡ 4) × WritesNumber 8 (word 0) a
     × WritesNumber 64 (word 1) memory × WritesNumber 64 (word 2) ptr × WritesNumber 64 (word 3) offset
-OperandsWrite count word (call.StoreLane op a memory ptr offset) = (count ≡ 6) × NamesStoreLane (word 0) (word 2) op
-    × WritesNumber 8 (word 1) a × WritesNumber 64 (word 3) memory × WritesNumber 64 (word 4) ptr
-    × WritesNumber 64 (word 5) offset
+OperandsWrite count word (call.StoreLane op a memory ptr offset) =
+    (count ≡ 6) × NamesLane store_lane_name store_lane_op (word 0) (word 2) op × WritesNumber 8 (word 1) a
+    × WritesNumber 64 (word 3) memory × WritesNumber 64 (word 4) ptr × WritesNumber 64 (word 5) offset
 
 -- the words after the first write what the call is given: its list, if it has one, is what the last of them write
 abbrev pub WritesOperands : LineWords → Call → Type 0

@@ -1,5 +1,5 @@
 -- Lists of numbers and of types, words divided into lanes of unequal widths, and a byte made of tests.
-use Rattle.std.proofs.Common.{◌≡◌, ℕ, ℤ, ◌<◌, ◌^◌, Bool, true, false, if◌then◌else◌, refl, sym, ap, ap₂, ◌∙◌, arith, inl, inr, lit<, lit≤, List, ◌∷◌, [], ◌+◌, zero, suc, Some, slice_get, subst}
+use Rattle.std.proofs.Common.{◌≡◌, ℕ, ℤ, ◌<◌, ◌≤◌, ◌^◌, Bool, true, false, if◌then◌else◌, refl, sym, ap, ap₂, ◌∙◌, arith, inl, inr, lit<, lit≤, List, ◌∷◌, [], ◌+◌, zero, suc, Some, slice_get, subst}
 use Rattle.std.proofs.lemmas.List.Elements.{All-head, All-tail}
 use Rattle.std.proofs.lemmas.Nat.Bits.{bit_at_ones, same_from_bits_below}
 use Rattle.wasmi_types.specs.Numbers.{Width, signed, wrap}
@@ -62,11 +62,10 @@ module _ {X : Type 0} (Relates : X → X → Type 0) (own : (a : X) → Relates 
     (onward : (a b c : X) → Relates a b → Relates b c → Relates a c) (xs : List X) where
   -- an item is related to that of the same place
   related_to_own : (i j : ℕ) (a b : X) → i ≡ j → slice_get xs i ≡ Some a → slice_get xs j ≡ Some b → Relates a b
-  related_to_own i j a b is at at' =
-      subst (Relates a) (same_Some a b (sym at ∙ ap (slice_get xs) is ∙ at')) (own a)
+  related_to_own i j a b is at at' = subst (Relates a) (same_Some a b (sym at ∙ ap (slice_get xs) is ∙ at')) (own a)
 
   -- what is related to the next is related to all that follow
-  pub next_reaches : (n : ℕ) → RelatesNext Relates xs n → RelatesForward Relates xs n
+  next_reaches : (n : ℕ) → RelatesNext Relates xs n → RelatesForward Relates xs n
   next_reaches n next i zero a b before below at at' = related_to_own i zero a b (omega arith) at at'
   next_reaches n next i (suc j) a b before below at at' =
       elim (cases_lt i (suc j)) as (λ _. Relates a b) [
@@ -77,3 +76,9 @@ module _ {X : Type 0} (Relates : X → X → Type 0) (own : (a : X) → Relates 
             onward a last.0 b so_far (next j last.0 b (omega arith) last.1 (ap (slice_get xs) (sym is) ∙ at'))
         | inr same ↦ related_to_own i (suc j) a b (omega arith) at at'
       ]
+
+  -- where each of the first n items is related to the next, a chain is related exactly forward
+  pub chain_is_forward : (n i : ℕ) → n ≤ i → RelatesNext Relates xs i → IsTrue true ↔ RelatesForward Relates xs n
+  chain_is_forward n i ended next =
+      let forward = next_reaches n (λ k a b below at at'. next k a b (omega arith) at at') in
+      (λ yes. forward, λ given. refl)

@@ -63,8 +63,7 @@ module _ (quota quota' : Quota) where
   pub memory_grown_counts : (pages : ℕ) (x x' : MemoryValue) (m m' : Option Meter) (result : Result ℕ MemoryError)
       (charge : ℕ)
       → GrowsMemoryCharging (optional_rules quota_rules) pages (metered_value x m (Some quota)) result charge
-      (metered_value x' m' (Some quota'))
-      → Counts Bytes quota (length x.bytes) quota' (length x'.bytes)
+      (metered_value x' m' (Some quota')) → Counts Bytes quota (length x.bytes) quota' (length x'.bytes)
   memory_grown_counts pages x x' m m' result charge grows =
       let g : Growth _ _ = record { amount = pages; size = pages_of x; request = memory.growth_of x pages } in
       let full = length_grown x.bytes (pages * page_bytes x.ty.page) 0 in
@@ -75,8 +74,7 @@ module _ (quota quota' : Quota) where
     -- a table that grows
     pub table_grown_counts : (reference : ℕ)
         → GrowsTableRawCharging (optional_rules quota_rules) n reference (metered_value x m (Some quota)) result charge
-        (metered_value x' m' (Some quota'))
-        → Counts Elements quota (size_of x) quota' (size_of x')
+        (metered_value x' m' (Some quota')) → Counts Elements quota (size_of x) quota' (size_of x')
     table_grown_counts reference grows =
         let g : Growth _ _ = record { amount = n; size = size_of x; request = table.growth_of x n reference } in
         let full = length_grown x.elements n reference in
@@ -86,8 +84,7 @@ module _ (quota quota' : Quota) where
     -- a table that grows by a reference with a type
     pub typed_table_grown_counts : (init : _)
         → GrowsTableCharging (optional_rules quota_rules) n init (metered_value x m (Some quota)) result charge
-        (metered_value x' m' (Some quota'))
-        → Counts Elements quota (size_of x) quota' (size_of x')
+        (metered_value x' m' (Some quota')) → Counts Elements quota (size_of x) quota' (size_of x')
     typed_table_grown_counts init grows =
         on_test (same_type x.ty.element init.ty) _ _ grows (table_grown_counts init.raw) (λ refused.
         let value : x' ≡ x = ap (λ s. s.value) refused.2 in
@@ -235,13 +232,8 @@ nothing_made h on empty = record {
 
 -- what a memory and a table that were made one after the other leave of a quota
 pub both_made : (h : QuotaNumbers) (status size status' size' : ℕ)
-    → HoldsSums (record {
-      quota = h;
-      bytes = sizes_made [] status size;
-      elements = sizes_made [] status' size';
-    })
-    → status ≡ 0 → status' ≡ 0
-    → (h.held_bytes ≡ size) × (h.held_elements ≡ size') × IsWithinCaps (quota_of h)
+    → HoldsSums (record { quota = h; bytes = sizes_made [] status size; elements = sizes_made [] status' size' })
+    → status ≡ 0 → status' ≡ 0 → (h.held_bytes ≡ size) × (h.held_elements ≡ size') × IsWithinCaps (quota_of h)
 both_made h status size status' size' holds done done' =
     let one = rw done at holds.bytes in
     let other = rw done' at holds.elements in

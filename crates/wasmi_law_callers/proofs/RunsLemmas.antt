@@ -56,11 +56,9 @@ in_parts rules cut calls w w' replies ran first rest is =
     cut first rest w replies w' (subst (λ cs. IsRunOf rules cs w replies w') is ran)
 
 -- the parts of a world that is the same
-pub same_parts : {L : Type 0} (s s' : State) (l l' : L) → world s' (Some l') ≡ world s (Some l)
-    → (s' ≡ s) × (l' ≡ l)
+pub same_parts : {L : Type 0} (s s' : State) (l l' : L) → world s' (Some l') ≡ world s (Some l) → (s' ≡ s) × (l' ≡ l)
 same_parts {L} s s' l l' same = (
-  ap (λ (w : World (Option L)). w.state) same,
-  same_Some l' l (ap (λ (w : World (Option L)). w.limiter) same),
+  ap (λ (w : World (Option L)). w.state) same, same_Some l' l (ap (λ (w : World (Option L)). w.limiter) same),
 )
 
 -- a fact of whatever value
@@ -139,11 +137,9 @@ replies_have turns replies is has = all_have turns (subst (All IsNotOutOfMemory)
 
 -- a quota that held what a machine has does so after a run that was accepted or refused
 pub held_after : {R E : Type 0} (items : R → List Reply) → HoldsTotalsAlways quota_rules holdings → (s s' : State)
-    (quota quota' : Quota) (calls : List Call) (result : Result R E) → HoldsTotals (holdings quota) s
-    → IfOk result
+    (quota quota' : Quota) (calls : List Call) (result : Result R E) → HoldsTotals (holdings quota) s → IfOk result
     (λ replies. IsRunOf (optional_rules quota_rules) calls (world s (Some quota)) (items replies)
-    (world s' (Some quota')))
-    → OnErr result ((s' ≡ s) × (quota' ≡ quota)) → HoldsTotals (holdings quota') s'
+    (world s' (Some quota'))) → OnErr result ((s' ≡ s) × (quota' ≡ quota)) → HoldsTotals (holdings quota') s'
 held_after items always s s' quota quota' calls (Ok replies) held ran same =
     let after = always s quota held ran.0 (world s' (Some quota')) ran.3 in
     subst (λ q. HoldsTotals (holdings q) s') (sym (same_Some quota' after.0 after.1)) after.2
@@ -152,19 +148,15 @@ held_after items always s s' quota quota' calls (Err error) held ran same = rw (
 -- a machine whose quota was within its caps is within them after a run that was accepted or refused
 pub within_quota : {R E : Type 0} (items : R → List Reply) → QuotasStayWithin
     → (s s' : State) (quota quota' : Quota) (calls : List Call) (result : Result R E) → IsWithinCaps quota
-    → HoldsTotals (holdings quota') s'
-    → IfOk result
+    → HoldsTotals (holdings quota') s' → IfOk result
     (λ replies. IsRunOf (optional_rules quota_rules) calls (world s (Some quota)) (items replies)
-    (world s' (Some quota')))
-    → OnErr result ((s' ≡ s) × (quota' ≡ quota)) → IsWithinCapsOf quota s'
+    (world s' (Some quota'))) → OnErr result ((s' ≡ s) × (quota' ≡ quota)) → IsWithinCapsOf quota s'
 within_quota items stays s s' quota quota' calls (Ok replies) within held ran same =
     let after = stays s quota within ran.0 (world s' (Some quota')) ran.3 in
     let is : quota' ≡ after.0 = same_Some quota' after.0 after.1 in
-    held_within s' quota quota' held (subst IsWithinCaps (sym is) after.2)
-    (subst (SameCaps quota) (sym is) after.3)
+    held_within s' quota quota' held (subst IsWithinCaps (sym is) after.2) (subst (SameCaps quota) (sym is) after.3)
 within_quota items stays s s' quota quota' calls (Err error) within held ran same =
-    held_within s' quota quota' held (subst IsWithinCaps (sym same.1) within)
-    (λ kind. ap (λ q. cap_of q kind) same.1)
+    held_within s' quota quota' held (subst IsWithinCaps (sym same.1) within) (λ kind. ap (λ q. cap_of q kind) same.1)
 
 module _ {S : Type 0} (rules : Rules S) (w w' : World S) where
   -- a call that is another one
@@ -294,8 +286,7 @@ both_run alone join call call' machine held' held'' reply reply' one two =
 
 -- a call on a tenant leaves the machine of another index
 other_stays : (tenant other : ℕ) (call : Call) (reply : ReplyStruct) (pool pool' : PoolValue) → tenant ≢ other
-    → TenantReplies tenant call reply pool pool'
-    → slice_get pool'.machines other ≡ slice_get pool.machines other
+    → TenantReplies tenant call reply pool pool' → slice_get pool'.machines other ≡ slice_get pool.machines other
 unfolding TenantReplies
 other_stays tenant other call reply pool pool' apart (inl refused) =
     ap (λ (p : PoolValue). slice_get p.machines other) refused.1
@@ -315,8 +306,7 @@ numbered_stays (Some call) tenant other reply none pool pool' apart replied =
 
 -- a call on a tenant of a handle's pool leaves the machine of another index there
 pub beside : (numbers : CallStruct) (tenant other : ℕ) (held held' : Option PoolValue) (reply : ReplyStruct)
-    (pool : PoolValue)
-    → ActsOnHeld (only no_pool_status) held reply held' (TenantRepliesToStruct tenant numbers reply)
+    (pool : PoolValue) → ActsOnHeld (only no_pool_status) held reply held' (TenantRepliesToStruct tenant numbers reply)
     → held ≡ Some pool → tenant ≢ other → KeepsTenant other pool held'
 beside numbers tenant other held held' reply pool step there apart =
     let here = subst

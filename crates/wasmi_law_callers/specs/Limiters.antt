@@ -52,11 +52,10 @@ AnswersQuestion l q (Err error) l' = ⊥
 
 -- the rules of a recorder
 abbrev pub recorder_rules : Rules Recorder
-recorder_rules =
-    record {
-      asked = AnswersQuestion;
-      noticed = λ l failure notice_answer l'. KeepsFailure l (kind_of failure) notice_answer l';
-    }
+recorder_rules = record {
+  asked = AnswersQuestion;
+  noticed = λ l failure notice_answer l'. KeepsFailure l (kind_of failure) notice_answer l';
+}
 
 -- one size of a kind has become another: a new one, or one that was there
 abbrev pub OneGrows : ℕ → ℕ → List ℕ → List ℕ → Type 0

@@ -52,8 +52,7 @@ IsBilled rules calls w replies w' =
 -- written.
 abbrev pub IsBoundedBy : {S : Type 0} → Rules S → List Call → World S → List Reply → World S → Type 0
 IsBoundedBy rules calls w replies w' =
-    RunsBy rules (λ turns. (left : ℕ) → w.state.meter.left ≡ Some left
-    → 0 < w.state.meter.costs.bytes_copied_per_fuel
+    RunsBy rules (λ turns. (left : ℕ) → w.state.meter.left ≡ Some left → 0 < w.state.meter.costs.bytes_copied_per_fuel
     → IsBounded w.state.meter.costs.bytes_copied_per_fuel left turns) calls w replies w'
 
 -- a call that fits the regions of any machine
@@ -190,8 +189,7 @@ RunsBeside pool index calls replies =
     (world s' (Some (without_others tenant')))
 
 -- a machine replies to two calls with structs, which are those of the replies of one run of both
-abbrev pub RunsBoth
-    : Call → Call → MachineValue → ReplyStruct × ReplyStruct → Option MachineValue → Type 0
+abbrev pub RunsBoth : Call → Call → MachineValue → ReplyStruct × ReplyStruct → Option MachineValue → Type 0
 RunsBoth call call' machine replies held' = (reply : Reply) × (reply' : Reply) × (machine' : MachineValue)
     × MachineRuns (call ∷ call' ∷ []) machine (reply ∷ reply' ∷ []) machine'
     × (replies ≡ (reply_struct reply, reply_struct reply')) × (held' ≡ Some machine')

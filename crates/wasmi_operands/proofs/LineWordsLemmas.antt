@@ -15,10 +15,6 @@ use Rattle.std.specs.Str.Parse.{AllDigits}
 abbrev no_word : Bor (List ℕ)
 no_word = record { ref_ptr = (0, 0); now = [] }
 
--- how many words stand before the last one
-pub length_of_front : (words : LineWords) (n : ℕ) → length words ≡ n + 1 → length (take (length words - 1) words) ≡ n
-length_of_front words n is = omega (arith, length-take (length words - 1) words, is)
-
 -- what holds of a word's text holds of it in the front that has the word
 pub in_front : (P : List ℕ → Type 0) (words : LineWords) (n k : ℕ) → k < n → P (word_at words k)
     → P (word_at (take n words) k)
@@ -36,8 +32,7 @@ at_place P words n k same p =
 -- how many words stand after the first ones
 pub length_of_rest : (words : LineWords) (n k : ℕ) → length words ≡ n + k
     → length (take (length words - n) (drop n words)) ≡ k
-length_of_rest words n k is =
-    omega (arith, length-take (length words - n) (drop n words), length-drop n words, is)
+length_of_rest words n k is = omega (arith, length-take (length words - n) (drop n words), length-drop n words, is)
 
 -- what holds of a word's text holds of it among the words after the first ones
 pub in_rest : (P : List ℕ → Type 0) (words : LineWords) (n k : ℕ) → n + k < length words → P (word_at words (n + k))
@@ -80,8 +75,7 @@ module _ {A : Type 0} (Writes : List ℕ → A → Type 0) where
 
   -- what takes memory refuses words of which one is refused
   pub refused_list : {V : Type 0} (items : V → List A) (words : LineWords) (i : ℕ) (none : Bor (List ℕ))
-      (error : LineError)
-      → i < length words → Accepts {A = A} (Err error) (Writes (get_or words i none).now)
+      (error : LineError) → i < length words → Accepts {A = A} (Err error) (Writes (get_or words i none).now)
       → AcceptsWithMemory {A = V} (Err error) (λ list. WritesEach Writes words (items list))
   refused_list items words i none BadCommand below unfit = λ list. not_each words i none below unfit (items list)
   refused_list items words i none OutOfMemory below unfit = tt
@@ -120,10 +114,6 @@ limit_is word (Some n) w = elim (bytes_eq word (codes "none")) as
       | false ↦ λ e. ap (λ k. Some k) (sym w.1)
     ] refl
 
--- a limit is written by one word at most
-pub same_limit : (word : List ℕ) (a b : Option ℕ) → WritesLimit word a → WritesLimit word b → a ≡ b
-same_limit word a b v w = sym (limit_is word a v) ∙ limit_is word b w
-
 -- digits and the one behind them are digits
 digits_to : (word : List ℕ) (i : ℕ) → i < length word → AllDigits 10 (take i word)
     → digit_value (get_or word i 0) < 10 → AllDigits 10 (take (suc i) word)
@@ -153,8 +143,7 @@ refused_with OutOfMemory P Q part refused = refused
 
 -- what is refused by the error of a part of it
 pub refused_through : {A B : Type 0} {P : A → Type 0} {Q : B → Type 0} (error : LineError) (result : Result B LineError)
-    → result ≡ Err error
-    → ((b : B) → Q b → (a : A) × P a) → Accepts {A = A} (Err error) P → Accepts result Q
+    → result ≡ Err error → ((b : B) → Q b → (a : A) × P a) → Accepts {A = A} (Err error) P → Accepts result Q
 refused_through {P = P} {Q = Q} error result is part refused =
     subst (λ r. Accepts r Q) (sym is) (refused_with error P Q part refused)
 

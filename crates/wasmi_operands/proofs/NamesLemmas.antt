@@ -47,8 +47,7 @@ both false b e = absurd cc
 one_passes : (parts : List (List Field)) (bare : Bare parts) (test : Choice parts → Bool)
     → all_pass parts bare test ≡ true → (c : Choice parts) → test c ≡ true
 one_passes [] bare test all c = absurd c
-one_passes ([] ∷ parts) bare test all (inl x) =
-    (both (test (inl tt)) (all_pass parts bare (λ c. test (inr c))) all).0
+one_passes ([] ∷ parts) bare test all (inl x) = (both (test (inl tt)) (all_pass parts bare (λ c. test (inr c))) all).0
 one_passes ([] ∷ parts) bare test all (inr c) = one_passes parts bare (λ c. test (inr c))
     (both (test (inl tt)) (all_pass parts bare (λ c. test (inr c))) all).1 c
 one_passes ((field ∷ fields) ∷ parts) bare test all c = absurd bare
@@ -121,8 +120,7 @@ module _ (N : Record) (bare : Bare N.parts) (name_of : N.D → List ℕ) where
 
 -- the reference that two words write
 pub reference_named : List ℕ → List ℕ → Option TypedRawRef
-reference_named ty raw =
-    option_map (λ t. record { ty = t; raw = decimal_value raw }) (named enum tt reference_word ty)
+reference_named ty raw = option_map (λ t. record { ty = t; raw = decimal_value raw }) (named enum tt reference_word ty)
 
 -- two words that write a reference give that reference
 pub reference_is : (ty raw : List ℕ) (reference : TypedRawRef) → WritesReference ty raw reference

@@ -1,5 +1,7 @@
 -- What the lists of instructions' names tell, and the instructions on one lane by name and index.
-use Rattle.std.proofs.Common.{map, refl}
+use Rattle.std.proofs.Common.{◌≡◌, ℕ, List, map, refl, true}
+use denote.Enum.Bare.{Bare}
+use denote.Enum.Declared.{Record}
 use Rattle.wasmi_ops.specs.declared.scalar.access.TheConstants.{LOADS, STORES}
 use Rattle.wasmi_ops.specs.declared.scalar.unary.TheConstants.{SCALAR_UNARIES}
 use Rattle.wasmi_ops.specs.declared.scalar.binary.TheConstants.{SCALAR_BINARIES}
@@ -29,83 +31,45 @@ use Rattle.wasmi_ops.specs.contracts.vector.lane_kind.ReplaceKind as replacement
 use Rattle.wasmi_ops.specs.contracts.vector.access.VectorLoadOp as vector_load
 use Rattle.wasmi_ops.specs.contracts.vector.lane_kind.LoadLaneKind as lane_load
 use Rattle.wasmi_ops.specs.contracts.vector.lane_kind.StoreLaneKind as lane_store
-use Rattle.wasmi_operands.proofs.NamesLemmas.{TellsNames, tells_names, NamesOnLane, names_on, no_name, no_index}
+use Rattle.wasmi_operands.proofs.NamesLemmas.{TellsNames, entries_named, has_each, tells_names, NamesOnLane, names_on, no_name, no_index}
+
+-- a list of names that stand in memory tells what they mean
+abbrev pub Tells : {A : Type 0} → List (record { now : List ℕ } × A) → (A → List ℕ) → Type 0
+Tells list name_of = TellsNames (map (λ entry. (entry.0.now, entry.1)) list) name_of
+
+-- a list that has each op of an enum under its name tells what the names mean
+tells : (N : Record) (bare : Bare N.parts) (name_of : N.D → List ℕ) (list : List (record { now : List ℕ } × N.D))
+    → entries_named name_of (map (λ entry. (entry.0.now, entry.1)) list) ≡ true
+    → has_each N bare name_of (map (λ entry. (entry.0.now, entry.1)) list) ≡ true → Tells list name_of
+tells N bare name_of list = tells_names N bare name_of (map (λ entry. (entry.0.now, entry.1)) list)
 
 -- each list of names tells what they mean
-pub load_names : TellsNames (map (λ entry. (entry.0.now, entry.1)) LOADS) load_name
-load_names = tells_names load.enum tt load_name (map (λ entry. (entry.0.now, entry.1)) LOADS) refl refl
-
-pub store_names : TellsNames (map (λ entry. (entry.0.now, entry.1)) STORES) store_name
-store_names = tells_names store.enum tt store_name (map (λ entry. (entry.0.now, entry.1)) STORES) refl refl
-
-pub scalar_unary_names : TellsNames (map (λ entry. (entry.0.now, entry.1)) SCALAR_UNARIES) scalar_unary_name
-scalar_unary_names = tells_names scalar_unary.enum tt scalar_unary_name (map (λ entry. (entry.0.now, entry.1)) SCALAR_UNARIES) refl refl
-
-pub scalar_binary_names : TellsNames (map (λ entry. (entry.0.now, entry.1)) SCALAR_BINARIES) scalar_binary_name
-scalar_binary_names = tells_names scalar_binary.enum tt scalar_binary_name (map (λ entry. (entry.0.now, entry.1)) SCALAR_BINARIES) refl refl
-
-pub make_names : TellsNames (map (λ entry. (entry.0.now, entry.1)) MAKES) make_name
-make_names = tells_names make.enum tt make_name (map (λ entry. (entry.0.now, entry.1)) MAKES) refl refl
-
-pub unary_names : TellsNames (map (λ entry. (entry.0.now, entry.1)) UNARIES) unary_name
-unary_names = tells_names unary.enum tt unary_name (map (λ entry. (entry.0.now, entry.1)) UNARIES) refl refl
-
-pub binary_names : TellsNames (map (λ entry. (entry.0.now, entry.1)) BINARIES) binary_name
-binary_names = tells_names binary.enum tt binary_name (map (λ entry. (entry.0.now, entry.1)) BINARIES) refl refl
-
-pub ternary_names : TellsNames (map (λ entry. (entry.0.now, entry.1)) TERNARIES) ternary_name
-ternary_names = tells_names ternary.enum tt ternary_name (map (λ entry. (entry.0.now, entry.1)) TERNARIES) refl refl
-
-pub shift_names : TellsNames (map (λ entry. (entry.0.now, entry.1)) SHIFTS) shift_name
-shift_names = tells_names shift.enum tt shift_name (map (λ entry. (entry.0.now, entry.1)) SHIFTS) refl refl
-
-pub test_names : TellsNames (map (λ entry. (entry.0.now, entry.1)) TESTS) test_name
-test_names = tells_names test.enum tt test_name (map (λ entry. (entry.0.now, entry.1)) TESTS) refl refl
-
-pub extract_names : TellsNames (map (λ entry. (entry.0.now, entry.1)) EXTRACTIONS) extract_name
-extract_names = tells_names extraction.enum tt extract_name (map (λ entry. (entry.0.now, entry.1)) EXTRACTIONS) refl refl
-
-pub replace_names : TellsNames (map (λ entry. (entry.0.now, entry.1)) REPLACEMENTS) replace_name
-replace_names = tells_names replacement.enum tt replace_name (map (λ entry. (entry.0.now, entry.1)) REPLACEMENTS) refl refl
-
-pub vector_load_names : TellsNames (map (λ entry. (entry.0.now, entry.1)) VECTOR_LOADS) vector_load_name
-vector_load_names = tells_names vector_load.enum tt vector_load_name (map (λ entry. (entry.0.now, entry.1)) VECTOR_LOADS) refl refl
-
-pub load_lane_names : TellsNames (map (λ entry. (entry.0.now, entry.1)) LANE_LOADS) load_lane_name
-load_lane_names = tells_names lane_load.enum tt load_lane_name (map (λ entry. (entry.0.now, entry.1)) LANE_LOADS) refl refl
-
-pub store_lane_names : TellsNames (map (λ entry. (entry.0.now, entry.1)) LANE_STORES) store_lane_name
-store_lane_names = tells_names lane_store.enum tt store_lane_name (map (λ entry. (entry.0.now, entry.1)) LANE_STORES) refl refl
-
-pub ruleset op_names = (
-  load_names,
-  store_names,
-  scalar_unary_names,
-  scalar_binary_names,
-  make_names,
-  unary_names,
-  binary_names,
-  ternary_names,
-  shift_names,
-  test_names,
-  extract_names,
-  replace_names,
-  vector_load_names,
-  load_lane_names,
-  store_lane_names,
+pub op_names : Tells LOADS load_name × Tells STORES store_name × Tells SCALAR_UNARIES scalar_unary_name
+    × Tells SCALAR_BINARIES scalar_binary_name × Tells MAKES make_name × Tells UNARIES unary_name
+    × Tells BINARIES binary_name × Tells TERNARIES ternary_name × Tells SHIFTS shift_name × Tells TESTS test_name
+    × Tells EXTRACTIONS extract_name × Tells REPLACEMENTS replace_name × Tells VECTOR_LOADS vector_load_name
+    × Tells LANE_LOADS load_lane_name × Tells LANE_STORES store_lane_name
+op_names = (
+  tells load.enum tt load_name LOADS refl refl, tells store.enum tt store_name STORES refl refl,
+  tells scalar_unary.enum tt scalar_unary_name SCALAR_UNARIES refl refl,
+  tells scalar_binary.enum tt scalar_binary_name SCALAR_BINARIES refl refl,
+  tells make.enum tt make_name MAKES refl refl, tells unary.enum tt unary_name UNARIES refl refl,
+  tells binary.enum tt binary_name BINARIES refl refl, tells ternary.enum tt ternary_name TERNARIES refl refl,
+  tells shift.enum tt shift_name SHIFTS refl refl, tells test.enum tt test_name TESTS refl refl,
+  tells extraction.enum tt extract_name EXTRACTIONS refl refl,
+  tells replacement.enum tt replace_name REPLACEMENTS refl refl,
+  tells vector_load.enum tt vector_load_name VECTOR_LOADS refl refl,
+  tells lane_load.enum tt load_lane_name LANE_LOADS refl refl,
+  tells lane_store.enum tt store_lane_name LANE_STORES refl refl,
 )
 
 -- a name and an index that are read name the instruction on the lane
-pub extract_on : NamesOnLane extract_name extract_op
-extract_on = names_on extraction.enum tt extract_name extract_op refl
+pub on_lanes : NamesOnLane extract_name extract_op × NamesOnLane replace_name replace_op
+    × NamesOnLane load_lane_name load_lane_op × NamesOnLane store_lane_name store_lane_op
+on_lanes = (
+  names_on extraction.enum tt extract_name extract_op refl, names_on replacement.enum tt replace_name replace_op refl,
+  names_on lane_load.enum tt load_lane_name load_lane_op refl,
+  names_on lane_store.enum tt store_lane_name store_lane_op refl,
+)
 
-pub replace_on : NamesOnLane replace_name replace_op
-replace_on = names_on replacement.enum tt replace_name replace_op refl
-
-pub load_lane_on : NamesOnLane load_lane_name load_lane_op
-load_lane_on = names_on lane_load.enum tt load_lane_name load_lane_op refl
-
-pub store_lane_on : NamesOnLane store_lane_name store_lane_op
-store_lane_on = names_on lane_store.enum tt store_lane_name store_lane_op refl
-
-pub ruleset lane_ops = (no_name, no_index, extract_on, replace_on, load_lane_on, store_lane_on)
+pub ruleset lane_ops = (no_name, no_index, on_lanes)

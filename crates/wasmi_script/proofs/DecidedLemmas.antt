@@ -86,8 +86,7 @@ calls_same script script' same =
 -- and the same replies to them the same text
 reply_same : (call call' : Call) (reply : Reply) → kind_text call' ≡ kind_text call
     → reply_text call' reply ≡ reply_text call reply
-reply_same call call' (Made index) same =
-    ap (λ kind. (kind ++ (codes " " ++ decimal index)) ++ []) same
+reply_same call call' (Made index) same = ap (λ kind. (kind ++ (codes " " ++ decimal index)) ++ []) same
 reply_same call call' reply same = refl
 
 -- the same replies to calls that say the same have the same text
@@ -113,15 +112,9 @@ module _ {S : Type 0} (rules : Rules S) where
       {Acts : MeteredValue A S → Reply → ℕ → MeteredValue A S → Type 0} {bytes : Reply → ℕ}
       (w : World S) (turn : Turn) (w' : World S) (other : Call) → ActsMetered w turn w' old with_part Acts bytes
       → ActsMetered w (by_call turn other) w' old with_part Acts bytes
-  acts_again w turn w' other a =
-      record {
-        part = a.part;
-        meter = a.meter;
-        limiter = a.limiter;
-        effect = a.effect;
-        wrote = a.wrote;
-        after = a.after;
-      }
+  acts_again w turn w' other a = record {
+    part = a.part; meter = a.meter; limiter = a.limiter; effect = a.effect; wrote = a.wrote; after = a.after;
+  }
 
   -- a turn that takes an effect takes it by any other call too
   retold_effect : (w : World S) (turn : Turn) (w' : World S) (other : Call) (effect : Effect)
@@ -147,8 +140,7 @@ module _ {S : Type 0} (rules : Rules S) where
 
   -- a step by a call is one by another call that says the same
   retold_step : (w : World S) (turn : Turn) (w' : World S) (other : Call) → call_meaning other ≡ call_meaning turn.call
-      → Step rules w turn w'
-      → Step rules w (by_call turn other) w'
+      → Step rules w turn w' → Step rules w (by_call turn other) w'
   retold_step w turn w' other same step =
       let effect = same_effect w.state other turn.call
       (subst (λ said. HasMeaning said turn.call) (sym same) (says turn.call)) in
@@ -167,9 +159,7 @@ module _ {S : Type 0} (rules : Rules S) where
       let here : call_meaning call ≡ call_meaning turn.call = cc in
       let later : map call_meaning calls ≡ map call_meaning (map Turn.call turns) = cc in
       let rest = retold_run turns calls v w' later ran in (
-        by_call turn call ∷ rest.0,
-        ap (λ cs. call ∷ cs) rest.1,
-        ap (λ rs. turn.reply ∷ rs) rest.2,
+        by_call turn call ∷ rest.0, ap (λ cs. call ∷ cs) rest.1, ap (λ rs. turn.reply ∷ rs) rest.2,
         (v, retold_step w turn v call here step, rest.3),
       )
 
@@ -262,10 +252,7 @@ under_unique (Some (Quota asked)) start calls calls' replies replies' held held'
     (record { replies = replies'; after = _; has = has.1; ran = again }) in
     let limiters : Some after ≡ Some after' = ap (λ (w : World (Option quotas.Quota)). w.limiter) one.1 in
     let afters : after ≡ after' = cc in
-    record {
-      answers = one.0;
-      text = ap held_text (is ∙ ap (λ q. holding.Quota (holdings q).held) afters ∙ sym is');
-    }
+    record { answers = one.0; text = ap held_text (is ∙ ap (λ q. holding.Quota (holdings q).held) afters ∙ sym is') }
 under_unique (Some (Answers words)) start calls calls' replies replies' held held' none same replays has = absurd none
 under_unique (Some (Tenants asked)) start calls calls' replies replies' held held' none same replays has =
     absurd replays.0
@@ -298,13 +285,11 @@ module _ (once : IsDeterministic tenant_rules) where
       let again = subst (λ (s : State). IsRunOf (optional_rules tenant_rules) calls'
       (record { state = s; limiter = Some (tenant_at pool tenant s) })
       b.replies (record { state = ran'.machine'; limiter = Some ran'.tenant' })) machine ran'.ran in
-      let one = run_unique tenant_rules once (λ l failure notice_answer l' noticed. noticed.accepts)
-      calls calls' _ same
+      let one = run_unique tenant_rules once (λ l failure notice_answer l' noticed. noticed.accepts) calls calls' _ same
       (record { replies = a.replies; after = _; has = a.has; ran = ran.ran })
       (record { replies = b.replies; after = _; has = b.has; ran = again }) in (
         one.0,
-        ran.after ∙ (λ i. record pool { machines = slice_set pool.machines tenant (one.1 i).state })
-            ∙ sym ran'.after,
+        ran.after ∙ (λ i. record pool { machines = slice_set pool.machines tenant (one.1 i).state }) ∙ sym ran'.after,
       )
 
   -- two runs of parts that say the same have the same replies and leave the same pool
@@ -323,8 +308,7 @@ module _ (once : IsDeterministic tenant_rules) where
       let parted = all_parted IsNotOutOfMemory answered later (subst (All IsNotOutOfMemory) split has.0) in
       let parted' = all_parted IsNotOutOfMemory answered' later' (subst (All IsNotOutOfMemory) split' has.1) in
       let one = tenant_unique pool part.tenant part.calls part'.calls (ap PartMeaning.calls here)
-      (record { replies = answered; after = middle; has = parted.0; ran = ran })
-      (record {
+      (record { replies = answered; after = middle; has = parted.0; ran = ran }) (record {
         replies = answered';
         after = middle';
         has = parted'.0;

@@ -26,8 +26,7 @@ digits_short zero base upper n acc = omega arith
 digits_short (suc k) base upper n acc =
     let glyph = digit_glyph upper (n % base) in
     elim (n / base == 0) as
-    (λ b. length (if b then glyph ∷ acc else digits_onto k base upper (n / base) (glyph ∷ acc))
-    ≤ suc k + length acc) [
+    (λ b. length (if b then glyph ∷ acc else digits_onto k base upper (n / base) (glyph ∷ acc)) ≤ suc k + length acc) [
       | true ↦ omega arith
       | false ↦ omega (arith, digits_short k base upper (n / base) (glyph ∷ acc))
     ]
@@ -59,11 +58,7 @@ failed text n short = omega (arith, length-append (codes "error ") (text ++ deci
 one_number : (word : List ℕ) (n : ℕ) → length word ≤ 40 → length (word ++ (codes " " ++ decimal n)) ≤ 105
 one_number word n short =
     omega (
-      arith,
-      length-append word (codes " " ++ decimal n),
-      length-append (codes " ") (decimal n),
-      decimal_short n,
-      short,
+      arith, length-append word (codes " " ++ decimal n), length-append (codes " ") (decimal n), decimal_short n, short,
     )
 
 -- a word of at most 40 bytes with two numbers has at most 169
@@ -71,13 +66,9 @@ two_numbers : (word : List ℕ) (m n : ℕ) → length word ≤ 40
     → length (word ++ (decimal m ++ (codes " " ++ decimal n))) ≤ 169
 two_numbers word m n short =
     omega (
-      arith,
-      length-append word (decimal m ++ (codes " " ++ decimal n)),
-      length-append (decimal m) (codes " " ++ decimal n),
-      length-append (codes " ") (decimal n),
-      decimal_short m,
-      decimal_short n,
-      short,
+      arith, length-append word (decimal m ++ (codes " " ++ decimal n)),
+      length-append (decimal m) (codes " " ++ decimal n), length-append (codes " ") (decimal n), decimal_short m,
+      decimal_short n, short,
     )
 
 -- a word of at most 5 bytes with three numbers may be printed at once

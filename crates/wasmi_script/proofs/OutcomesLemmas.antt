@@ -33,8 +33,7 @@ abbrev one_text : ℕ × State → List ℕ
 one_text tenant = line (tenant_text tenant.0 tenant.1)
 
 -- the lines of some tenants, and then of others, whose numbers go on after theirs
-tenants_append : (machines others : List State)
-    → tenants_text (machines ++ others)
+tenants_append : (machines others : List State) → tenants_text (machines ++ others)
     ≡ tenants_text machines ++ flat_map one_text (enumerate_from (length machines) others)
 tenants_append machines others =
     ap (flat_map one_text) (enumerate_append 0 machines others)
@@ -66,15 +65,13 @@ pub record IsHeldAt (machines : List State) (index bytes elements : ℕ) : Type 
 
 -- the line of the tenant of an index comes after those of the tenants before it
 pub one_tenant : (machines : List State) (index bytes elements : ℕ) → IsHeldAt machines index bytes elements
-    → tenants_text (take (index + 1) machines)
-    ≡ tenants_text (take index machines) ++ line
+    → tenants_text (take (index + 1) machines) ≡ tenants_text (take index machines) ++ line
     (codes "held " ++ (decimal index ++ (codes " " ++ (decimal bytes ++ (codes " " ++ decimal elements)))))
 one_tenant machines index bytes elements held =
     at_place (slice_get machines index) refl held.bytes_held held.elements_held where
       at_place : (found : Option State) → slice_get machines index ≡ found
           → option_map (λ s. total s Bytes) found ≡ Some bytes
-          → option_map (λ s. total s Elements) found ≡ Some elements
-          → tenants_text (take (index + 1) machines)
+          → option_map (λ s. total s Elements) found ≡ Some elements → tenants_text (take (index + 1) machines)
           ≡ tenants_text (take index machines) ++ line
           (codes "held " ++ (decimal index ++ (codes " " ++ (decimal bytes ++ (codes " " ++ decimal elements)))))
       at_place None is b e = absurd cc
@@ -83,21 +80,18 @@ one_tenant machines index bytes elements held =
           let count : length (take index machines) ≡ index = length-take-le index machines (omega arith) in
           let is_b : total machine Bytes ≡ bytes = cc in
           let is_e : total machine Elements ≡ elements = cc in
-          ap tenants_text
-          (take_more machines index machine within
+          ap tenants_text (take_more machines index machine within
           ∙ ap (λ m. take index machines ++ m ∷ []) (get_or_from_slice_get machines index machine machine is))
           ∙ tenants_more (take index machines) machine
           ∙ ap (λ n. tenants_text (take index machines) ++ line (tenant_text n machine)) count
-          ∙ ap (λ n. tenants_text (take index machines) ++ line
-          (codes "held " ++
+          ∙ ap (λ n. tenants_text (take index machines) ++ line (codes "held " ++
           (decimal index ++ (codes " " ++ (decimal n ++ (codes " " ++ decimal (total machine Elements))))))) is_b
           ∙ ap (λ n. tenants_text (take index machines) ++ line
           (codes "held " ++ (decimal index ++ (codes " " ++ (decimal bytes ++ (codes " " ++ decimal n)))))) is_e
 
 -- the lines of all tenants are those up to a place, the line there and the later ones
 pub tenants_whole : (machines : List State) (index bytes elements : ℕ) → IsHeldAt machines index bytes elements
-    → tenants_text machines
-    ≡ tenants_text (take index machines) ++
+    → tenants_text machines ≡ tenants_text (take index machines) ++
     (line (codes "held " ++ (decimal index ++ (codes " " ++ (decimal bytes ++ (codes " " ++ decimal elements)))))
     ++ later_tenants machines (index + 1))
 tenants_whole machines index bytes elements held =
@@ -122,8 +116,7 @@ reply_more call reply bytes i within =
 
 -- the line of a reply is its head with the numbers up to a place, the one there, and the later ones with a line feed
 pub reply_at : (call : Call) (reply : Reply) (bytes : List ℕ) (i : ℕ) → bytes ≡ bytes_in reply → i < length bytes
-    → line (reply_text call reply)
-    ≡ reply_front call reply bytes i ++
+    → line (reply_text call reply) ≡ reply_front call reply bytes i ++
     (byte_text (get_or bytes i 0) ++ (bytes_text (drop (i + 1) bytes) ++ codes "\n"))
 reply_at call reply bytes i same within =
     let head = head_text call reply in

@@ -16,10 +16,6 @@ use Rattle.std.proofs.lemmas.Bool.{cases_lt}
 use Rattle.std.proofs.Math.Seq.{take-append-add}
 use borrow.Rule.Slice.PartMut.{put_mid}
 
--- no text
-passes_none : (known : Option (List ℕ)) (waiting : List ℕ) → AddsText known known waiting waiting []
-passes_none known waiting = ([], append-nil waiting, Appends-nil known)
-
 -- one text more
 passes_more : (a b c : Option (List ℕ)) (u v w s t : List ℕ) → AddsText a b u v s → AddsText b c v w t
     → AddsText a c u w (s ++ t)
@@ -66,8 +62,7 @@ front_flushed : (a b c : Option (List ℕ)) (u v s : List ℕ) → AddsText a b 
 front_flushed a b c u v s (front, split, sent) (front', rest, split', sent') = (
   front ++ front',
   rest,
-  split ∙ ap (λ l. front ++ l) split'
-      ∙ sym (append_assoc front front' rest),
+  split ∙ ap (λ l. front ++ l) split' ∙ sym (append_assoc front front' rest),
   Appends-trans a b c front front' sent sent',
 )
 
@@ -96,8 +91,7 @@ err_weaker (Err e) weaker p = weaker p
 
 -- a text in two parts
 passes_then : (a b c : Option (List ℕ)) (u v w s t text : List ℕ) → text ≡ s ++ t → AddsText a b u v s
-    → AddsText b c v w t
-    → AddsText a c u w text
+    → AddsText b c v w t → AddsText a c u w text
 passes_then a b c u v w s t text is first second =
     subst (AddsText a c u w) (sym is) (passes_more a b c u v w s t first second)
 
@@ -116,19 +110,13 @@ front_then a b c u v s t rest text is first sent =
 
 -- the same of a printer, by the bytes that its writer is known to have
 module _ {W : Type 0} (contents : W → Option (List ℕ)) where
-  -- no text
-  pub prints_none : (p : Printer W) → Prints contents p p []
-  prints_none p = record { writer = refl; passed = passes_none (contents p.writer.now) p.chunk.bytes }
-
   -- a text in two parts
   pub prints_then : (p q r : Printer W) (s t text : List ℕ) → text ≡ s ++ t → Prints contents p q s
       → Prints contents q r t → Prints contents p r text
-  prints_then p q r s t text is first second =
-      record {
-        writer = second.writer
-            ∙ first.writer;
-        passed = passes_then _ _ _ _ _ _ s t text is first.passed second.passed;
-      }
+  prints_then p q r s t text is first second = record {
+    writer = second.writer ∙ first.writer;
+    passed = passes_then _ _ _ _ _ _ s t text is first.passed second.passed;
+  }
 
   -- the front of a text whose first part is printed in part
   pub prints_first : (p q : Printer W) (s rest text : List ℕ) → text ≡ s ++ rest → PrintsFront contents p q s
@@ -139,12 +127,10 @@ module _ {W : Type 0} (contents : W → Option (List ℕ)) where
   -- the front of a text whose first part is printed, and a later one in part
   pub prints_front : (p q r : Printer W) (s t rest text : List ℕ) → text ≡ s ++ (t ++ rest) → Prints contents p q s
       → PrintsFront contents q r t → PrintsFront contents p r text
-  prints_front p q r s t rest text is first sent =
-      record {
-        writer = sent.writer
-            ∙ first.writer;
-        sent = front_then _ _ _ _ _ s t rest text is first.passed sent.sent;
-      }
+  prints_front p q r s t rest text is first sent = record {
+    writer = sent.writer ∙ first.writer;
+    sent = front_then _ _ _ _ _ s t rest text is first.passed sent.sent;
+  }
 
   -- the front of a text whose first part is printed, and its last one in part
   prints_last : (p q r : Printer W) (s t text : List ℕ) → text ≡ s ++ t → Prints contents p q s
@@ -176,17 +162,15 @@ module _ {W : Type 0} (contents : W → Option (List ℕ)) where
   -- a text waits beside what waited
   waits : (p q : Printer W) (text : List ℕ) → q.writer ≡ p.writer → q.chunk.bytes ≡ p.chunk.bytes ++ text
       → Prints contents p q text
-  waits p q text same is =
-      record {
-        writer = ap (λ w. w.ghost_name) same;
-        passed = subst (λ w. AddsText (contents p.writer.now) (contents w.now) p.chunk.bytes q.chunk.bytes text)
-            (sym same) (passes_waits _ _ _ text is);
-      }
+  waits p q text same is = record {
+    writer = ap (λ w. w.ghost_name) same;
+    passed = subst (λ w. AddsText (contents p.writer.now) (contents w.now) p.chunk.bytes q.chunk.bytes text)
+        (sym same) (passes_waits _ _ _ text is);
+  }
 
   -- a text that there is room for, as it is or as it is written
   pub printed : {E : Type 0} (r : Result (Unit {0}) E) (output written : Option (List ℕ)) (p q s : Printer W)
-      (text : List ℕ → List ℕ)
-      → ((bytes : List ℕ) → output ≡ Some bytes → written ≡ Some (text bytes))
+      (text : List ℕ → List ℕ) → ((bytes : List ℕ) → output ≡ Some bytes → written ≡ Some (text bytes))
       → Prints contents p q [] → s.writer ≡ q.writer → OnOk r (WritesText Takes q.chunk written s.chunk)
       → OnOk r (IfSome output (λ bytes. Prints contents p s (text bytes)))
   printed (Ok x) None written p q s text as_written room same writes = tt
@@ -207,8 +191,7 @@ module _ {W : Type 0} (contents : W → Option (List ℕ)) where
 
   -- a text for which there is room, but that can't be made
   pub no_text : {E : Type 0} (r : Result (Unit {0}) E) (output : Option (List ℕ)) (p q s : Printer W)
-      (text : List ℕ → List ℕ)
-      → Prints contents p q [] → s.writer ≡ q.writer
+      (text : List ℕ → List ℕ) → Prints contents p q [] → s.writer ≡ q.writer
       → OnErr r (IfSome output (λ bytes. PrintsFront contents p s (text bytes)))
   no_text (Ok x) output p q s text room same = tt
   no_text (Err e) None p q s text room same = tt
@@ -262,15 +245,13 @@ module _ {W A B : Type 0} (contents : W → Option (List ℕ)) (text : B → Lis
       let i = length yielded in
       let later = flat_map text (drop (i + 1) all) in
       prints_front contents p q r (yielded_text yielded) (text (v x)) later (flat_map text all)
-      (texts_at text all i (v x) within
-      ∙ ap (λ t. t ++ (text (get_or all i (v x)) ++ later))
+      (texts_at text all i (v x) within ∙ ap (λ t. t ++ (text (get_or all i (v x)) ++ later))
       (ap (flat_map text) (sym before) ∙ flat_map-map text v yielded)
       ∙ ap (λ y. yielded_text yielded ++ (text y ++ later)) (sym here))
 
   -- all are printed
   pub yields_all : (p q : Printer W) (yielded : List A) → map v yielded ≡ all
-      → Prints contents p q (yielded_text yielded)
-      → Prints contents p q (flat_map text all)
+      → Prints contents p q (yielded_text yielded) → Prints contents p q (flat_map text all)
   yields_all p q yielded whole =
       subst (Prints contents p q) (sym (flat_map-map text v yielded) ∙ ap (flat_map text) whole)
 
@@ -280,10 +261,6 @@ pub adds_then : (s t a b c : List ℕ) (i j k : ℕ) → AddsToFront s a i b j �
 adds_then s t a b c i j k first second before start had =
     subst (λ text. HasFront text start c k) (append_assoc before s t)
     (second (before ++ s) start (first before start had))
-
--- no text more
-pub adds_none : (a : List ℕ) (i : ℕ) → AddsToFront [] a i a i
-adds_none a i before start had = subst (λ text. HasFront text start a i) (sym (append-nil before)) had
 
 -- bytes at whose front a text stands have their length still
 front_length : (text start bytes : List ℕ) → FillsFront text start bytes → length bytes ≡ length start

@@ -32,11 +32,6 @@ starts header machine seen region made same filled =
     made ∙ (λ i. record (new_state (meter_of header))
     { spare = (ap (option_map (λ bytes. bytes.items)) same ∙ filled) i })
 
--- such a machine has nothing
-pub starts_empty : (header : Header) (machine : State) → machine ≡ start_of header → HoldsTotals nothing_held machine
-starts_empty header machine start =
-    subst (HoldsTotals nothing_held) (sym start) (record { bytes = refl; elements = refl })
-
 -- a run from a machine that is the one to start with, and whose limiter is none
 pub run_of_none : (calls : List Call) (s start : State) (l : Option NoLimits) (replies : List Reply)
     (w' : World (Option NoLimits)) → s ≡ start → l ≡ None
@@ -102,8 +97,7 @@ quiet_next (answer ∷ answers) all = All-head IsQuiet answer answers all
 pub quiet_lists : QuietListsAcceptNotices
 quiet_lists = record {
   asked = λ list question answer list' quiet takes. subst NeverComplains (sym takes.taken) (record {
-    ahead = All-drop IsQuiet 1 list.ahead quiet.ahead;
-    last = quiet_next list.ahead quiet.ahead;
+    ahead = All-drop IsQuiet 1 list.ahead quiet.ahead; last = quiet_next list.ahead quiet.ahead;
   });
   noticed = λ list failure notice_answer list' quiet accepts.
       (accepts.0 ∙ quiet.last, subst NeverComplains (sym accepts.1) quiet);

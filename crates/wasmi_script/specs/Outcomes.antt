@@ -98,8 +98,7 @@ PrintsOutcome old new outcome status =
 
 -- an outcome of some bytes, which are those of a reader where it tells them
 abbrev pub IsOutcomeOfReader : Option (List ℕ) → ReplayOutcome → Type 0
-IsOutcomeOfReader given outcome =
-    (bytes : List ℕ) × IfSome given (λ told. told ≡ bytes) × IsOutcomeOf bytes outcome
+IsOutcomeOfReader given outcome = (bytes : List ℕ) × IfSome given (λ told. told ≡ bytes) × IsOutcomeOf bytes outcome
 
 -- the bytes of a reader have an outcome, and a writer has got it
 pub record Replays (given old new : Option (List ℕ)) (status : Status) : Type 0 where

@@ -6,9 +6,8 @@ mod command {
         //! Commands that load from a memory or store to it.
 
         use crate::proved::machine::{Call, RawVal};
-        use crate::proved::operands::LineError;
         use crate::proved::operands::names::lane::{load_lane_op, store_lane_op};
-        use crate::proved::operands::operand::{self, Operand};
+        use crate::proved::operands::{LineError, number, operand};
 
         /// `load NAME K PTR OFFSET`.
         ///
@@ -89,8 +88,8 @@ mod command {
             let (memory, ptr, offset) = operand::three(place)?;
             Ok(Call::LoadLane {
                 op: load_lane_op(name, lane)?,
-                dst: Operand::from_word(dst)?,
-                a: Operand::from_word(a)?,
+                dst: number(dst)?,
+                a: number(a)?,
                 memory,
                 ptr,
                 offset,
@@ -134,7 +133,7 @@ mod command {
             let (memory, ptr, offset) = operand::three(place)?;
             Ok(Call::StoreLane {
                 op: store_lane_op(name, lane)?,
-                a: Operand::from_word(a)?,
+                a: number(a)?,
                 memory,
                 ptr,
                 offset,
@@ -700,9 +699,8 @@ mod command {
 
         use crate::proved::machine::Call;
         use crate::proved::machine::simd::ImmLaneIdx32;
-        use crate::proved::operands::LineError;
         use crate::proved::operands::names::lane::{extract_op, index, replace_op};
-        use crate::proved::operands::operand::{self, Operand};
+        use crate::proved::operands::{LineError, number, operand};
         use crate::rattle::ArrayExt;
 
         /// `make NAME D A`.
@@ -811,7 +809,7 @@ mod command {
             };
             Ok(Call::Extract {
                 op: extract_op(name, lane)?,
-                a: Operand::from_word(a)?,
+                a: number(a)?,
             })
         }
 
@@ -831,9 +829,9 @@ mod command {
             };
             Ok(Call::Replace {
                 op: replace_op(name, lane)?,
-                dst: Operand::from_word(dst)?,
-                a: Operand::from_word(a)?,
-                item: Operand::from_word(item)?,
+                dst: number(dst)?,
+                a: number(a)?,
+                item: number(item)?,
             })
         }
 
@@ -852,9 +850,9 @@ mod command {
                 return Err(LineError::BadCommand);
             };
             Ok(Call::Shuffle {
-                dst: Operand::from_word(dst)?,
-                a: Operand::from_word(a)?,
-                b: Operand::from_word(b)?,
+                dst: number(dst)?,
+                a: number(a)?,
+                b: number(b)?,
                 lanes: lanes_of(lanes)?,
             })
         }

@@ -143,10 +143,10 @@ pub mod names {
         /// # Contract
         ///
         /// ```text
-        /// ensures: Accepts result (NamesExtract name.now lane.now)
+        /// ensures: Accepts result (NamesLane ops.extract_name ops.extract_op name.now lane.now)
         /// ```
         ///
-        /// Definitions: [`Accepts`](crate::specs::operands::LineWords#Accepts), [`NamesExtract`](crate::specs::operands::Names#NamesExtract).
+        /// Definitions: [`Accepts`](crate::specs::operands::LineWords#Accepts), [`NamesLane`](crate::specs::operands::Names#NamesLane), [`extract_name`](crate::specs::ops::LaneOps#extract_name), [`extract_op`](crate::specs::ops::LaneOps#extract_op).
         #[inline]
         pub fn extract_op(name: &str, lane: &str) -> Result<ExtractOp, LineError> {
             let kind = ExtractKind::from_word(name)?;
@@ -159,10 +159,10 @@ pub mod names {
         /// # Contract
         ///
         /// ```text
-        /// ensures: Accepts result (NamesReplace name.now lane.now)
+        /// ensures: Accepts result (NamesLane ops.replace_name ops.replace_op name.now lane.now)
         /// ```
         ///
-        /// Definitions: [`Accepts`](crate::specs::operands::LineWords#Accepts), [`NamesReplace`](crate::specs::operands::Names#NamesReplace).
+        /// Definitions: [`Accepts`](crate::specs::operands::LineWords#Accepts), [`NamesLane`](crate::specs::operands::Names#NamesLane), [`replace_name`](crate::specs::ops::LaneOps#replace_name), [`replace_op`](crate::specs::ops::LaneOps#replace_op).
         #[inline]
         pub fn replace_op(name: &str, lane: &str) -> Result<ReplaceOp, LineError> {
             let kind = ReplaceKind::from_word(name)?;
@@ -175,10 +175,10 @@ pub mod names {
         /// # Contract
         ///
         /// ```text
-        /// ensures: Accepts result (NamesLoadLane name.now lane.now)
+        /// ensures: Accepts result (NamesLane ops.load_lane_name ops.load_lane_op name.now lane.now)
         /// ```
         ///
-        /// Definitions: [`Accepts`](crate::specs::operands::LineWords#Accepts), [`NamesLoadLane`](crate::specs::operands::Names#NamesLoadLane).
+        /// Definitions: [`Accepts`](crate::specs::operands::LineWords#Accepts), [`NamesLane`](crate::specs::operands::Names#NamesLane), [`load_lane_name`](crate::specs::ops::LaneOps#load_lane_name), [`load_lane_op`](crate::specs::ops::LaneOps#load_lane_op).
         #[inline]
         pub fn load_lane_op(name: &str, lane: &str) -> Result<LoadLaneOp, LineError> {
             let kind = LoadLaneKind::from_word(name)?;
@@ -191,10 +191,10 @@ pub mod names {
         /// # Contract
         ///
         /// ```text
-        /// ensures: Accepts result (NamesStoreLane name.now lane.now)
+        /// ensures: Accepts result (NamesLane ops.store_lane_name ops.store_lane_op name.now lane.now)
         /// ```
         ///
-        /// Definitions: [`Accepts`](crate::specs::operands::LineWords#Accepts), [`NamesStoreLane`](crate::specs::operands::Names#NamesStoreLane).
+        /// Definitions: [`Accepts`](crate::specs::operands::LineWords#Accepts), [`NamesLane`](crate::specs::operands::Names#NamesLane), [`store_lane_name`](crate::specs::ops::LaneOps#store_lane_name), [`store_lane_op`](crate::specs::ops::LaneOps#store_lane_op).
         #[inline]
         pub fn store_lane_op(name: &str, lane: &str) -> Result<StoreLaneOp, LineError> {
             let kind = StoreLaneKind::from_word(name)?;

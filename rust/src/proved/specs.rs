@@ -5382,8 +5382,7 @@ abbrev pub <b id="own_turns">own_turns</b> : ℕ → List <a href="../../budget/
 -- after all calls the caps are the same, and all machines together are within them
 abbrev pub <b id="CapsHold">CapsHold</b> : Type 0
 <a href="../../budget/Laws/index.html#CapsHold">CapsHold</a> = (pool : <a href="../../budget/Pool/index.html#PoolValue">PoolValue</a>) → <a href="../../budget/Pool/index.html#IsWithinCaps">IsWithinCaps</a> pool → (turns : List <a href="../../budget/Laws/index.html#PoolTurn">PoolTurn</a>) (pool&#x27; : <a href="../../budget/Pool/index.html#PoolValue">PoolValue</a>)
-    → <a href="../../budget/Laws/index.html#PoolRun">PoolRun</a> pool turns pool&#x27;
-    → (pool&#x27;.caps ≡ pool.caps) × <a href="../../budget/Pool/index.html#IsWithinCaps">IsWithinCaps</a> pool&#x27;
+    → <a href="../../budget/Laws/index.html#PoolRun">PoolRun</a> pool turns pool&#x27; → (pool&#x27;.caps ≡ pool.caps) × <a href="../../budget/Pool/index.html#IsWithinCaps">IsWithinCaps</a> pool&#x27;
 
 -- a run in which each question is permitted is one, with the same turns and the same machine, where the others hold
 -- nothing
@@ -5406,8 +5405,7 @@ abbrev pub <b id="RunsAsAlone">RunsAsAlone</b> : Type 0
 abbrev pub <b id="RepliesPermit">RepliesPermit</b> : Type 0
 <a href="../../budget/Laws/index.html#RepliesPermit">RepliesPermit</a> =
     (pool : <a href="../../budget/Pool/index.html#PoolValue">PoolValue</a>) (index : ℕ) (calls : List Call) (replies : List Reply) (pool&#x27; : <a href="../../budget/Pool/index.html#PoolValue">PoolValue</a>)
-    → All <a href="../../machine/Determinism/index.html#TellsNoDenial">TellsNoDenial</a> replies
-    → <a href="../../budget/Pool/index.html#RunsTenant">RunsTenant</a> pool index calls replies pool&#x27;
+    → All <a href="../../machine/Determinism/index.html#TellsNoDenial">TellsNoDenial</a> replies → <a href="../../budget/Pool/index.html#RunsTenant">RunsTenant</a> pool index calls replies pool&#x27;
     → <a href="../../budget/Pool/index.html#RunsTenantBy">RunsTenantBy</a> (<a href="../../machine/Determinism/index.html#permitting">permitting</a> (<a href="../../meter/Limiter/index.html#optional_rules">optional_rules</a> <a href="../../budget/Pool/index.html#tenant_rules">tenant_rules</a>)) pool index calls replies pool&#x27;
 </code></pre>
 "####]
@@ -5730,11 +5728,6 @@ use Rattle.wasmi_typed.specs.declared.typed_ref.TypedRawRef.{TypedRawRef}
 use Rattle.wasmi_operands.specs.LineWords.{<a href="../../operands/LineWords/index.html#WritesNumber">WritesNumber</a>, <a href="../../operands/LineWords/index.html#LineWords">LineWords</a>, <a href="../../operands/LineWords/index.html#WritesEach">WritesEach</a>}
 use Rattle.wasmi_meter.specs.declared.answer_list.LimiterAnswer.{LimiterAnswer}
 use Rattle.wasmi_meter.specs.declared.answer_list.LimiterAnswer.TheVariants.{Permit, Deny, Error, Complain}
-use Rattle.wasmi_ops.specs.LaneOps.{<a href="../../ops/LaneOps/index.html#extract_name">extract_name</a>, <a href="../../ops/LaneOps/index.html#extract_op">extract_op</a>, <a href="../../ops/LaneOps/index.html#replace_name">replace_name</a>, <a href="../../ops/LaneOps/index.html#replace_op">replace_op</a>, <a href="../../ops/LaneOps/index.html#load_lane_name">load_lane_name</a>, <a href="../../ops/LaneOps/index.html#load_lane_op">load_lane_op</a>, <a href="../../ops/LaneOps/index.html#store_lane_name">store_lane_name</a>, <a href="../../ops/LaneOps/index.html#store_lane_op">store_lane_op</a>}
-use Rattle.wasmi_ops.specs.declared.vector.lane.ExtractOp.{ExtractOp}
-use Rattle.wasmi_ops.specs.declared.vector.lane.ReplaceOp.{ReplaceOp}
-use Rattle.wasmi_ops.specs.declared.vector.access.LoadLaneOp.{LoadLaneOp}
-use Rattle.wasmi_ops.specs.declared.vector.access.StoreLaneOp.{StoreLaneOp}
 use Rattle.wasmi_types.specs.declared.index_ty.IndexType.TheVariants as index
 
 -- an entry of a list: a name, and what it names
@@ -5795,26 +5788,9 @@ abbrev pub <b id="WritesAnswer">WritesAnswer</b> : List ℕ → LimiterAnswer �
 <a href="../../operands/Names/index.html#WritesAnswer">WritesAnswer</a> word answer = word ≡ <a href="../../operands/Names/index.html#answer_text">answer_text</a> answer
 
 -- two words are a name and an index, and the instruction is the one of this name on the lane of this index
-unfoldable pub <b id="NamesLane">NamesLane</b> : {Kind Op : Type 0} → (Kind → List ℕ) → (Kind → ℕ → Option Op) → List ℕ → List ℕ → Op
-    → Type 0
+unfoldable pub <b id="NamesLane">NamesLane</b> : {Kind Op : Type 0} → (Kind → List ℕ) → (Kind → ℕ → Option Op) → List ℕ → List ℕ → Op → Type 0
 <a href="../../operands/Names/index.html#NamesLane">NamesLane</a> {Kind} name_of op_on name lane op =
     (kind : Kind) × (index : ℕ) × <a href="../../operands/Names/index.html#IsName">IsName</a> name_of name kind × <a href="../../operands/LineWords/index.html#WritesNumber">WritesNumber</a> 8 lane index × (op_on kind index ≡ Some op)
-
--- two words name the extraction of a lane
-abbrev pub <b id="NamesExtract">NamesExtract</b> : List ℕ → List ℕ → ExtractOp → Type 0
-<a href="../../operands/Names/index.html#NamesExtract">NamesExtract</a> = <a href="../../operands/Names/index.html#NamesLane">NamesLane</a> <a href="../../ops/LaneOps/index.html#extract_name">extract_name</a> <a href="../../ops/LaneOps/index.html#extract_op">extract_op</a>
-
--- two words name the replacement of a lane
-abbrev pub <b id="NamesReplace">NamesReplace</b> : List ℕ → List ℕ → ReplaceOp → Type 0
-<a href="../../operands/Names/index.html#NamesReplace">NamesReplace</a> = <a href="../../operands/Names/index.html#NamesLane">NamesLane</a> <a href="../../ops/LaneOps/index.html#replace_name">replace_name</a> <a href="../../ops/LaneOps/index.html#replace_op">replace_op</a>
-
--- two words name the load of a lane
-abbrev pub <b id="NamesLoadLane">NamesLoadLane</b> : List ℕ → List ℕ → LoadLaneOp → Type 0
-<a href="../../operands/Names/index.html#NamesLoadLane">NamesLoadLane</a> = <a href="../../operands/Names/index.html#NamesLane">NamesLane</a> <a href="../../ops/LaneOps/index.html#load_lane_name">load_lane_name</a> <a href="../../ops/LaneOps/index.html#load_lane_op">load_lane_op</a>
-
--- two words name the store of a lane
-abbrev pub <b id="NamesStoreLane">NamesStoreLane</b> : List ℕ → List ℕ → StoreLaneOp → Type 0
-<a href="../../operands/Names/index.html#NamesStoreLane">NamesStoreLane</a> = <a href="../../operands/Names/index.html#NamesLane">NamesLane</a> <a href="../../ops/LaneOps/index.html#store_lane_name">store_lane_name</a> <a href="../../ops/LaneOps/index.html#store_lane_op">store_lane_op</a>
 
 -- sixteen words write the lanes of a shuffle, of which there are 32 to choose from
 pub record <b id="WritesLanes">WritesLanes</b> (words : <a href="../../operands/LineWords/index.html#LineWords">LineWords</a>) (lanes : List ℕ) : Type 0 where
@@ -5831,13 +5807,14 @@ pub mod grammar {
 <pre><code>use Rattle.std.specs.Prelude.{◌≡◌, ℕ, List, Option, ◌≤◌, length, codes, drop}
 use Rattle.wasmi_types.specs.declared.index_ty.IndexType.{IndexType}
 use Rattle.wasmi_operands.specs.LineWords.{<a href="../../operands/LineWords/index.html#WritesNumber">WritesNumber</a>, <a href="../../operands/LineWords/index.html#WritesLimit">WritesLimit</a>, <a href="../../operands/LineWords/index.html#LineWords">LineWords</a>, <a href="../../operands/LineWords/index.html#WritesEach">WritesEach</a>, <a href="../../operands/LineWords/index.html#word_at">word_at</a>}
-use Rattle.wasmi_operands.specs.Names.{<a href="../../operands/Names/index.html#width_word">width_word</a>, <a href="../../operands/Names/index.html#reference_word">reference_word</a>, <a href="../../operands/Names/index.html#value_word">value_word</a>, <a href="../../operands/Names/index.html#mutability_word">mutability_word</a>, <a href="../../operands/Names/index.html#WritesReference">WritesReference</a>, <a href="../../operands/Names/index.html#IsName">IsName</a>, <a href="../../operands/Names/index.html#NamesExtract">NamesExtract</a>, <a href="../../operands/Names/index.html#NamesReplace">NamesReplace</a>, <a href="../../operands/Names/index.html#NamesLoadLane">NamesLoadLane</a>, <a href="../../operands/Names/index.html#NamesStoreLane">NamesStoreLane</a>, <a href="../../operands/Names/index.html#WritesLanes">WritesLanes</a>}
+use Rattle.wasmi_operands.specs.Names.{<a href="../../operands/Names/index.html#width_word">width_word</a>, <a href="../../operands/Names/index.html#reference_word">reference_word</a>, <a href="../../operands/Names/index.html#value_word">value_word</a>, <a href="../../operands/Names/index.html#mutability_word">mutability_word</a>, <a href="../../operands/Names/index.html#WritesReference">WritesReference</a>, <a href="../../operands/Names/index.html#IsName">IsName</a>, <a href="../../operands/Names/index.html#NamesLane">NamesLane</a>, <a href="../../operands/Names/index.html#WritesLanes">WritesLanes</a>}
 use Rattle.wasmi_store.specs.Memory.{<a href="../../store/Memory/index.html#MemoryTypeValue">MemoryTypeValue</a>, <a href="../../store/Memory/index.html#page_log2">page_log2</a>}
 use Rattle.wasmi_types.specs.declared.value.RefType.{RefType}
 use Rattle.wasmi_store.specs.Table.{<a href="../../store/Table/index.html#TableTypeValue">TableTypeValue</a>}
 use Rattle.wasmi_raw.specs.RawVal.{<a href="../../raw/RawVal/index.html#raw_of">raw_of</a>}
 use Rattle.wasmi_ops.specs.ScalarOps.{<a href="../../ops/ScalarOps/index.html#load_name">load_name</a>, <a href="../../ops/ScalarOps/index.html#store_name">store_name</a>}
 use Rattle.wasmi_ops.specs.VectorOps.{<a href="../../ops/VectorOps/index.html#make_name">make_name</a>, <a href="../../ops/VectorOps/index.html#unary_name">unary_name</a>, <a href="../../ops/VectorOps/index.html#binary_name">binary_name</a>, <a href="../../ops/VectorOps/index.html#ternary_name">ternary_name</a>, <a href="../../ops/VectorOps/index.html#shift_name">shift_name</a>, <a href="../../ops/VectorOps/index.html#test_name">test_name</a>, <a href="../../ops/VectorOps/index.html#vector_load_name">vector_load_name</a>}
+use Rattle.wasmi_ops.specs.LaneOps.{<a href="../../ops/LaneOps/index.html#extract_name">extract_name</a>, <a href="../../ops/LaneOps/index.html#extract_op">extract_op</a>, <a href="../../ops/LaneOps/index.html#replace_name">replace_name</a>, <a href="../../ops/LaneOps/index.html#replace_op">replace_op</a>, <a href="../../ops/LaneOps/index.html#load_lane_name">load_lane_name</a>, <a href="../../ops/LaneOps/index.html#load_lane_op">load_lane_op</a>, <a href="../../ops/LaneOps/index.html#store_lane_name">store_lane_name</a>, <a href="../../ops/LaneOps/index.html#store_lane_op">store_lane_op</a>}
 use Rattle.wasmi_core.specs.declared.calls.Call.{Call}
 use Rattle.wasmi_store.specs.Memory as memory_type
 use Rattle.wasmi_store.specs.Table as table_type
@@ -5990,22 +5967,24 @@ abbrev pub <b id="OperandsWrite">OperandsWrite</b> : ℕ → (ℕ → List ℕ) 
     × <a href="../../operands/LineWords/index.html#WritesNumber">WritesNumber</a> 8 (word 1) dst × <a href="../../operands/LineWords/index.html#WritesNumber">WritesNumber</a> 8 (word 2) a × <a href="../../operands/LineWords/index.html#WritesNumber">WritesNumber</a> 32 (word 3) amount
 <a href="../../grammar/Commands/index.html#OperandsWrite">OperandsWrite</a> count word (call.Test op a) = (count ≡ 2) × <a href="../../operands/Names/index.html#IsName">IsName</a> <a href="../../ops/VectorOps/index.html#test_name">test_name</a> (word 0) op × <a href="../../operands/LineWords/index.html#WritesNumber">WritesNumber</a> 8 (word 1) a
 <a href="../../grammar/Commands/index.html#OperandsWrite">OperandsWrite</a> count word (call.Extract op a) =
-    (count ≡ 3) × <a href="../../operands/Names/index.html#NamesExtract">NamesExtract</a> (word 0) (word 2) op × <a href="../../operands/LineWords/index.html#WritesNumber">WritesNumber</a> 8 (word 1) a
-<a href="../../grammar/Commands/index.html#OperandsWrite">OperandsWrite</a> count word (call.Replace op dst a item) = (count ≡ 5) × <a href="../../operands/Names/index.html#NamesReplace">NamesReplace</a> (word 0) (word 3) op
+    (count ≡ 3) × <a href="../../operands/Names/index.html#NamesLane">NamesLane</a> <a href="../../ops/LaneOps/index.html#extract_name">extract_name</a> <a href="../../ops/LaneOps/index.html#extract_op">extract_op</a> (word 0) (word 2) op × <a href="../../operands/LineWords/index.html#WritesNumber">WritesNumber</a> 8 (word 1) a
+<a href="../../grammar/Commands/index.html#OperandsWrite">OperandsWrite</a> count word (call.Replace op dst a item) =
+    (count ≡ 5) × <a href="../../operands/Names/index.html#NamesLane">NamesLane</a> <a href="../../ops/LaneOps/index.html#replace_name">replace_name</a> <a href="../../ops/LaneOps/index.html#replace_op">replace_op</a> (word 0) (word 3) op
     × <a href="../../operands/LineWords/index.html#WritesNumber">WritesNumber</a> 8 (word 1) dst × <a href="../../operands/LineWords/index.html#WritesNumber">WritesNumber</a> 8 (word 2) a × <a href="../../operands/LineWords/index.html#WritesNumber">WritesNumber</a> 8 (word 4) item
 <a href="../../grammar/Commands/index.html#OperandsWrite">OperandsWrite</a> count word (call.Shuffle dst a b lanes) =
     (3 ≤ count) × <a href="../../operands/LineWords/index.html#WritesNumber">WritesNumber</a> 8 (word 0) dst × <a href="../../operands/LineWords/index.html#WritesNumber">WritesNumber</a> 8 (word 1) a × <a href="../../operands/LineWords/index.html#WritesNumber">WritesNumber</a> 8 (word 2) b
 <a href="../../grammar/Commands/index.html#OperandsWrite">OperandsWrite</a> count word (call.VectorLoad op dst memory ptr offset) = (count ≡ 5) × <a href="../../operands/Names/index.html#IsName">IsName</a> <a href="../../ops/VectorOps/index.html#vector_load_name">vector_load_name</a> (word 0) op
     × <a href="../../operands/LineWords/index.html#WritesNumber">WritesNumber</a> 8 (word 1) dst × <a href="../../operands/LineWords/index.html#WritesNumber">WritesNumber</a> 64 (word 2) memory × <a href="../../operands/LineWords/index.html#WritesNumber">WritesNumber</a> 64 (word 3) ptr
     × <a href="../../operands/LineWords/index.html#WritesNumber">WritesNumber</a> 64 (word 4) offset
-<a href="../../grammar/Commands/index.html#OperandsWrite">OperandsWrite</a> count word (call.LoadLane op dst a memory ptr offset) = (count ≡ 7) × <a href="../../operands/Names/index.html#NamesLoadLane">NamesLoadLane</a> (word 0) (word 3) op
-    × <a href="../../operands/LineWords/index.html#WritesNumber">WritesNumber</a> 8 (word 1) dst × <a href="../../operands/LineWords/index.html#WritesNumber">WritesNumber</a> 8 (word 2) a × <a href="../../operands/LineWords/index.html#WritesNumber">WritesNumber</a> 64 (word 4) memory
-    × <a href="../../operands/LineWords/index.html#WritesNumber">WritesNumber</a> 64 (word 5) ptr × <a href="../../operands/LineWords/index.html#WritesNumber">WritesNumber</a> 64 (word 6) offset
+<a href="../../grammar/Commands/index.html#OperandsWrite">OperandsWrite</a> count word (call.LoadLane op dst a memory ptr offset) =
+    (count ≡ 7) × <a href="../../operands/Names/index.html#NamesLane">NamesLane</a> <a href="../../ops/LaneOps/index.html#load_lane_name">load_lane_name</a> <a href="../../ops/LaneOps/index.html#load_lane_op">load_lane_op</a> (word 0) (word 3) op × <a href="../../operands/LineWords/index.html#WritesNumber">WritesNumber</a> 8 (word 1) dst
+    × <a href="../../operands/LineWords/index.html#WritesNumber">WritesNumber</a> 8 (word 2) a × <a href="../../operands/LineWords/index.html#WritesNumber">WritesNumber</a> 64 (word 4) memory × <a href="../../operands/LineWords/index.html#WritesNumber">WritesNumber</a> 64 (word 5) ptr
+    × <a href="../../operands/LineWords/index.html#WritesNumber">WritesNumber</a> 64 (word 6) offset
 <a href="../../grammar/Commands/index.html#OperandsWrite">OperandsWrite</a> count word (call.VectorStore a memory ptr offset) = (count ≡ 4) × <a href="../../operands/LineWords/index.html#WritesNumber">WritesNumber</a> 8 (word 0) a
     × <a href="../../operands/LineWords/index.html#WritesNumber">WritesNumber</a> 64 (word 1) memory × <a href="../../operands/LineWords/index.html#WritesNumber">WritesNumber</a> 64 (word 2) ptr × <a href="../../operands/LineWords/index.html#WritesNumber">WritesNumber</a> 64 (word 3) offset
-<a href="../../grammar/Commands/index.html#OperandsWrite">OperandsWrite</a> count word (call.StoreLane op a memory ptr offset) = (count ≡ 6) × <a href="../../operands/Names/index.html#NamesStoreLane">NamesStoreLane</a> (word 0) (word 2) op
-    × <a href="../../operands/LineWords/index.html#WritesNumber">WritesNumber</a> 8 (word 1) a × <a href="../../operands/LineWords/index.html#WritesNumber">WritesNumber</a> 64 (word 3) memory × <a href="../../operands/LineWords/index.html#WritesNumber">WritesNumber</a> 64 (word 4) ptr
-    × <a href="../../operands/LineWords/index.html#WritesNumber">WritesNumber</a> 64 (word 5) offset
+<a href="../../grammar/Commands/index.html#OperandsWrite">OperandsWrite</a> count word (call.StoreLane op a memory ptr offset) =
+    (count ≡ 6) × <a href="../../operands/Names/index.html#NamesLane">NamesLane</a> <a href="../../ops/LaneOps/index.html#store_lane_name">store_lane_name</a> <a href="../../ops/LaneOps/index.html#store_lane_op">store_lane_op</a> (word 0) (word 2) op × <a href="../../operands/LineWords/index.html#WritesNumber">WritesNumber</a> 8 (word 1) a
+    × <a href="../../operands/LineWords/index.html#WritesNumber">WritesNumber</a> 64 (word 3) memory × <a href="../../operands/LineWords/index.html#WritesNumber">WritesNumber</a> 64 (word 4) ptr × <a href="../../operands/LineWords/index.html#WritesNumber">WritesNumber</a> 64 (word 5) offset
 
 -- the words after the first write what the call is given: its list, if it has one, is what the last of them write
 abbrev pub <b id="WritesOperands">WritesOperands</b> : <a href="../../operands/LineWords/index.html#LineWords">LineWords</a> → Call → Type 0
@@ -6300,10 +6279,8 @@ pub record <b id="ScriptMeaning">ScriptMeaning</b> : Type 0 where
 -- what a script says
 abbrev pub <b id="script_meaning">script_meaning</b> : Script → <a href="../../grammar/Meanings/index.html#ScriptMeaning">ScriptMeaning</a>
 <a href="../../grammar/Meanings/index.html#script_meaning">script_meaning</a> script = record {
-  <a href="../../grammar/Meanings/index.html#meter">meter</a> = script.header.<a href="../../grammar/Meanings/index.html#meter">meter</a>;
-  <a href="../../grammar/Meanings/index.html#limiter">limiter</a> = option_map <a href="../../grammar/Meanings/index.html#limiter_meaning">limiter_meaning</a> script.header.<a href="../../grammar/Meanings/index.html#limiter">limiter</a>;
-  <a href="../../grammar/Meanings/index.html#region">region</a> = script.header.<a href="../../grammar/Meanings/index.html#region">region</a>;
-  <a href="../../grammar/Meanings/index.html#parts">parts</a> = map <a href="../../grammar/Meanings/index.html#part_meaning">part_meaning</a> (<a href="../../grammar/Parts/index.html#parts_in">parts_in</a> script.parts);
+  <a href="../../grammar/Meanings/index.html#meter">meter</a> = script.header.<a href="../../grammar/Meanings/index.html#meter">meter</a>; <a href="../../grammar/Meanings/index.html#limiter">limiter</a> = option_map <a href="../../grammar/Meanings/index.html#limiter_meaning">limiter_meaning</a> script.header.<a href="../../grammar/Meanings/index.html#limiter">limiter</a>;
+  <a href="../../grammar/Meanings/index.html#region">region</a> = script.header.<a href="../../grammar/Meanings/index.html#region">region</a>; <a href="../../grammar/Meanings/index.html#parts">parts</a> = map <a href="../../grammar/Meanings/index.html#part_meaning">part_meaning</a> (<a href="../../grammar/Parts/index.html#parts_in">parts_in</a> script.parts);
 }
 
 -- two scripts say the same
@@ -6533,8 +6510,7 @@ abbrev pub <b id="PrintsOutcome">PrintsOutcome</b> : Option (List ℕ) → Optio
 
 -- an outcome of some bytes, which are those of a reader where it tells them
 abbrev pub <b id="IsOutcomeOfReader">IsOutcomeOfReader</b> : Option (List ℕ) → <a href="../../script/Outcomes/index.html#ReplayOutcome">ReplayOutcome</a> → Type 0
-<a href="../../script/Outcomes/index.html#IsOutcomeOfReader">IsOutcomeOfReader</a> given <a href="../../script/Outcomes/index.html#outcome">outcome</a> =
-    (bytes : List ℕ) × IfSome given (λ told. told ≡ bytes) × <a href="../../script/Outcomes/index.html#IsOutcomeOf">IsOutcomeOf</a> bytes <a href="../../script/Outcomes/index.html#outcome">outcome</a>
+<a href="../../script/Outcomes/index.html#IsOutcomeOfReader">IsOutcomeOfReader</a> given <a href="../../script/Outcomes/index.html#outcome">outcome</a> = (bytes : List ℕ) × IfSome given (λ told. told ≡ bytes) × <a href="../../script/Outcomes/index.html#IsOutcomeOf">IsOutcomeOf</a> bytes <a href="../../script/Outcomes/index.html#outcome">outcome</a>
 
 -- the bytes of a reader have an outcome, and a writer has got it
 pub record <b id="Replays">Replays</b> (given old new : Option (List ℕ)) (status : Status) : Type 0 where

@@ -6,9 +6,8 @@ ghost use Rattle.wasmi_operands.specs.LineWords.{Accepts};
 ghost use Rattle.wasmi_grammar.specs.Commands.{NamesAfter};
 
 use wasmi_core::{Call, RawVal};
-use wasmi_operands::LineError;
 use wasmi_operands::names::lane::{load_lane_op, store_lane_op};
-use wasmi_operands::operand::{self, Operand};
+use wasmi_operands::{LineError, number, operand};
 
 /// `load NAME K PTR OFFSET`.
 pub fn load(operands: &[&str]) -> Result<Call, LineError>
@@ -61,8 +60,8 @@ pub fn load_lane(operands: &[&str]) -> Result<Call, LineError>
     let (memory, ptr, offset) = operand::three(place)?;
     Ok(Call::LoadLane {
         op: load_lane_op(name, lane)?,
-        dst: Operand::from_word(dst)?,
-        a: Operand::from_word(a)?,
+        dst: number(dst)?,
+        a: number(a)?,
         memory,
         ptr,
         offset,
@@ -92,7 +91,7 @@ pub fn store_lane(operands: &[&str]) -> Result<Call, LineError>
     let (memory, ptr, offset) = operand::three(place)?;
     Ok(Call::StoreLane {
         op: store_lane_op(name, lane)?,
-        a: Operand::from_word(a)?,
+        a: number(a)?,
         memory,
         ptr,
         offset,

@@ -8,11 +8,11 @@ ghost use Rattle.wasmi_operands.specs.Names.{WritesLanes};
 
 use wasmi_core::Call;
 use wasmi_core::simd::ImmLaneIdx32;
-use wasmi_operands::LineError;
 use wasmi_operands::names::lane::{extract_op, index, replace_op};
-use wasmi_operands::operand::{self, Operand};
+use wasmi_operands::{LineError, number, operand};
 
 /// `make NAME D A`.
+#[tactic(auto, using(crate::proofs::CommandsLemmas::refused_form))]
 pub fn make(operands: &[&str]) -> Result<Call, LineError>
     ensures { Accepts result (NamesAfter (codes "make") operands.now) }
 {
@@ -29,6 +29,7 @@ pub fn unary(operands: &[&str]) -> Result<Call, LineError>
 }
 
 /// `binary NAME D A B`.
+#[tactic(auto, using(crate::proofs::CommandsLemmas::refused_form))]
 pub fn binary(operands: &[&str]) -> Result<Call, LineError>
     ensures { Accepts result (NamesAfter (codes "binary") operands.now) }
 {
@@ -37,6 +38,7 @@ pub fn binary(operands: &[&str]) -> Result<Call, LineError>
 }
 
 /// `ternary NAME D A B C`.
+#[tactic(auto, using(crate::proofs::CommandsLemmas::refused_form))]
 pub fn ternary(operands: &[&str]) -> Result<Call, LineError>
     ensures { Accepts result (NamesAfter (codes "ternary") operands.now) }
 {
@@ -70,7 +72,7 @@ pub fn extract(operands: &[&str]) -> Result<Call, LineError>
     };
     Ok(Call::Extract {
         op: extract_op(name, lane)?,
-        a: Operand::from_word(a)?,
+        a: number(a)?,
     })
 }
 
@@ -83,9 +85,9 @@ pub fn replace(operands: &[&str]) -> Result<Call, LineError>
     };
     Ok(Call::Replace {
         op: replace_op(name, lane)?,
-        dst: Operand::from_word(dst)?,
-        a: Operand::from_word(a)?,
-        item: Operand::from_word(item)?,
+        dst: number(dst)?,
+        a: number(a)?,
+        item: number(item)?,
     })
 }
 
@@ -97,9 +99,9 @@ pub fn shuffle(operands: &[&str]) -> Result<Call, LineError>
         return Err(LineError::BadCommand);
     };
     Ok(Call::Shuffle {
-        dst: Operand::from_word(dst)?,
-        a: Operand::from_word(a)?,
-        b: Operand::from_word(b)?,
+        dst: number(dst)?,
+        a: number(a)?,
+        b: number(b)?,
         lanes: lanes_of(lanes)?,
     })
 }

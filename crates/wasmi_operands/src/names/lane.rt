@@ -3,7 +3,8 @@
 
 ghost use Rattle.std.specs.Prelude.{◌<◌, ◌^◌, IfErr, IfOk, Err, Ok, ◌≡◌};
 ghost use Rattle.wasmi_operands.specs.LineWords.{Accepts, IsDecimal, decimal_value};
-ghost use Rattle.wasmi_operands.specs.Names.{NamesExtract, NamesReplace, NamesLoadLane, NamesStoreLane};
+ghost use Rattle.wasmi_operands.specs.Names.{NamesLane};
+ghost use Rattle.wasmi_ops.specs.LaneOps as ops;
 
 use crate::decimal::number;
 use crate::error::LineError;
@@ -15,7 +16,7 @@ use wasmi_ops::{
 
 /// The extraction of a name and a lane.
 pub fn extract_op(name: &str, lane: &str) -> Result<ExtractOp, LineError>
-    ensures { Accepts result (NamesExtract name.now lane.now) }
+    ensures { Accepts result (NamesLane ops.extract_name ops.extract_op name.now lane.now) }
 {
     let kind = ExtractKind::from_word(name)?;
     let index = u8::from_word(lane)?;
@@ -24,7 +25,7 @@ pub fn extract_op(name: &str, lane: &str) -> Result<ExtractOp, LineError>
 
 /// The replacement of a name and a lane.
 pub fn replace_op(name: &str, lane: &str) -> Result<ReplaceOp, LineError>
-    ensures { Accepts result (NamesReplace name.now lane.now) }
+    ensures { Accepts result (NamesLane ops.replace_name ops.replace_op name.now lane.now) }
 {
     let kind = ReplaceKind::from_word(name)?;
     let index = u8::from_word(lane)?;
@@ -33,7 +34,7 @@ pub fn replace_op(name: &str, lane: &str) -> Result<ReplaceOp, LineError>
 
 /// The load of a lane, of a name and a lane.
 pub fn load_lane_op(name: &str, lane: &str) -> Result<LoadLaneOp, LineError>
-    ensures { Accepts result (NamesLoadLane name.now lane.now) }
+    ensures { Accepts result (NamesLane ops.load_lane_name ops.load_lane_op name.now lane.now) }
 {
     let kind = LoadLaneKind::from_word(name)?;
     let index = u8::from_word(lane)?;
@@ -42,7 +43,7 @@ pub fn load_lane_op(name: &str, lane: &str) -> Result<LoadLaneOp, LineError>
 
 /// The store of a lane, of a name and a lane.
 pub fn store_lane_op(name: &str, lane: &str) -> Result<StoreLaneOp, LineError>
-    ensures { Accepts result (NamesStoreLane name.now lane.now) }
+    ensures { Accepts result (NamesLane ops.store_lane_name ops.store_lane_op name.now lane.now) }
 {
     let kind = StoreLaneKind::from_word(name)?;
     let index = u8::from_word(lane)?;

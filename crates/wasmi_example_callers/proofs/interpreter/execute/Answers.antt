@@ -10,16 +10,10 @@ returns-in-Err-clause-executed g c =
     execution (optional_rules g.L.ResourceLimiter.rules) c.runs_join.ensures.turns c.charges_are_spent.ensures
     c.fuel_bounds_writing.ensures c.args.program.now (world c.args.machine.now (Some c.args.limiter.now))
     (c.loop-executed.invariant.0 ++ c.in-Err.ensures.0)
-    (record {
-      ending = Some c.in-Err.ending;
-      place = c.loop-executed.place;
-      executed = c.loop-executed.executed;
-    })
+    (record { ending = Some c.in-Err.ending; place = c.loop-executed.place; executed = c.loop-executed.executed })
     (world c.step.new.machine (Some c.step.new.limiter)) (
-      c.loop-executed.invariant.0,
-      world c.loop-executed.machine (Some c.loop-executed.limiter),
-      c.loop-executed.invariant.1,
-      (c.in-Err.ensures.0, c.in-Err.ensures.1, refl),
+      c.loop-executed.invariant.0, world c.loop-executed.machine (Some c.loop-executed.limiter),
+      c.loop-executed.invariant.1, (c.in-Err.ensures.0, c.in-Err.ensures.1, refl),
     )
 
 pub returns-in-Err-clause-run : goal.returns-in-Err-clause-run
@@ -27,11 +21,7 @@ unfolding returns-in-Err-clause-executed
 returns-in-Err-clause-run g c =
     execution_run (optional_rules g.L.ResourceLimiter.rules) c.runs_join.ensures.turns c.charges_are_spent.ensures
     c.fuel_bounds_writing.ensures c.args.program.now (world c.args.machine.now (Some c.args.limiter.now)) _
-    (record {
-      ending = Some c.in-Err.ending;
-      place = c.loop-executed.place;
-      executed = c.loop-executed.executed;
-    })
+    (record { ending = Some c.in-Err.ending; place = c.loop-executed.place; executed = c.loop-executed.executed })
     _ (returns-in-Err-clause-executed g c).1
 
 pub returns-clause-executed : goal.returns-clause-executed
@@ -54,8 +44,7 @@ unfolding returns-clause-executed
 returns-clause-run g c =
     execution_run (optional_rules g.L.ResourceLimiter.rules) c.runs_join.ensures.turns c.charges_are_spent.ensures
     c.fuel_bounds_writing.ensures c.args.program.now (world c.args.machine.now (Some c.args.limiter.now)) _
-    (record { ending = None; place = c.loop-executed.place; executed = c.args.steps }) _
-    (returns-clause-executed g c).1
+    (record { ending = None; place = c.loop-executed.place; executed = c.args.steps }) _ (returns-clause-executed g c).1
 
 pub loop-executed-preserved : goal.loop-executed-preserved
 loop-executed-preserved g c = (

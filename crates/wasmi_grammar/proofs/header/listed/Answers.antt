@@ -20,5 +20,4 @@ pub returns-in_err-list_of : goal.returns-in_err-list_of
 returns-in_err-list_of c =
     let same : c.from_residual.result ≡ Err c.in_err-list_of.field-0.0 = search rules in
     subst (λ result. AcceptsWithMemory result (NamesLimiterAfter (codes "answers") c.args.operands.now)) (sym same)
-    (refused_with_memory c.in_err-list_of.field-0.0 _ _
-    (answers_of_line c.args.operands.now) c.in_err-list_of.ensures)
+    (refused_with_memory c.in_err-list_of.field-0.0 _ _ (answers_of_line c.args.operands.now) c.in_err-list_of.ensures)

@@ -8,6 +8,5 @@ pub returns-in_err-region_line-in-region : goal.returns-in_err-region_line-in-re
 returns-in_err-region_line-in-region c =
     let result = c.from_residual-in_err-region_line-in-region.result in
     let says = NamesLine c.args.name.now c.args.operands.now in
-    with_memory result says
-    (refused_through c.in_err-region_line-in-region.field-0.0 result (search rules)
+    with_memory result says (refused_through c.in_err-region_line-in-region.field-0.0 result (search rules)
     (region_only c.args.name.now c.args.operands.now c.in-region.is) c.in_err-region_line-in-region.ensures)

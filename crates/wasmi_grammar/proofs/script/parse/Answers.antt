@@ -116,6 +116,5 @@ returns-in-Err-BadCommand-clause-refused c =
     (lines_yielded c.args.bytes.now c.into_iter-index-iterator.ensures.into_iter_gives
     c.enumerate-index-items.ensures.source c.enumerate-index-items.ensures.count split.rest split.done split.closure
     (λ x b q k. search (rules, tests))) c.loop-index.yielded_by c.in-Some.is c.next.ensures.steps
-    c.loop-index.invariant.1
-    (λ new takes. c.in-Err-BadCommand.ensures.refused c.in-Err-BadCommand.field-0-is new
+    c.loop-index.invariant.1 (λ new takes. c.in-Err-BadCommand.ensures.refused c.in-Err-BadCommand.field-0-is new
     (retell takes.1 words (takes.2 ∙ sym same) c.loop-index.script new takes.3))

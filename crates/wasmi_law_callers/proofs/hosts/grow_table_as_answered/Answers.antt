@@ -14,7 +14,6 @@ returns g c =
     (table_in c.args.ty c.args.region.now c.args.table.now.size) _ (Some (meter_of c.args.meter.now))
     (Some (meter_of new.meter)) c.args.answers.now new.limiter in
     record {
-      grown = λ l allows.
-          under of_table (by_elements c.args.delta c.args.reference) c.args.ty growth l.before
+      grown = λ l allows. under of_table (by_elements c.args.delta c.args.reference) c.args.ty growth l.before
           (limiter_after new.limiter l) (law l growth.result growth.grows.0 growth.grows.1 allows);
     }

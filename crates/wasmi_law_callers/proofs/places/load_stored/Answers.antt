@@ -18,7 +18,6 @@ returns g c =
     let w = world c.step_lending-loaded.new.self (Some c.step_lending-loaded.new.limiter) in
     (c.stores_are_read_back.ensures.read it t u v w ran.0 c.step_lending-loaded.result
     (answers_as rules t u c.args.store.now (store_call it) c.step_lending-stored.result Done stores done
-    c.step_lending-stored.ensures.step) ran.3
-    (subst (All (LeavesAlone (MemoryAt it.memory))) (sym ran.1) leave)
+    c.step_lending-stored.ensures.step) ran.3 (subst (All (LeavesAlone (MemoryAt it.memory))) (sym ran.1) leave)
     (answers_call rules v w c.args.load.now (load_call it) c.step_lending-loaded.result loads
     c.step_lending-loaded.ensures.step)).0

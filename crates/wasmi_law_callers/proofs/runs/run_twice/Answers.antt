@@ -32,6 +32,5 @@ returns-clause-turns c = λ has.
       first.0,
       first.3,
       subst (λ turns. Run (optional_rules quota_rules) (world c.args.machine.now (Some c.args.quota.now)) turns
-          (world c.run_lending-2.new.machine (Some c.run_lending-2.new.limiter)))
-          (sym one.0) second.3,
+          (world c.run_lending-2.new.machine (Some c.run_lending-2.new.limiter))) (sym one.0) second.3,
     )

@@ -9,8 +9,7 @@ returns-clause-loaded c =
     let value : ℕ = c.args.value in
     let whole : value % 2 ^ 32 % 2 ^ 32 ≡ value = omega (arith, c.ranges.value.fits) in
     let loaded_again : c.load_at.result ≡ Ok value =
-    c.load_at.ensures.value
-    ∙ c.stored_number_is_loaded.ensures.natural 4
+    c.load_at.ensures.value ∙ c.stored_number_is_loaded.ensures.natural 4
     (value % 2 ^ 32) c.args.address c.args.memory.now c.store_at.new.memory (λ n. n) c.in_ok-store_at.ensures
     ∙ ap Ok whole in
     let P : Result ℕ TrapCode → Type 0 =
@@ -19,6 +18,5 @@ returns-clause-loaded c =
 
 pub returns-clause-outside : goal.returns-clause-outside
 returns-clause-outside c =
-    if_ok_always c.load_at.result
-    (c.stored_number_is_loaded.ensures.outside 4
+    if_ok_always c.load_at.result (c.stored_number_is_loaded.ensures.outside 4
     (c.args.value % 2 ^ 32) c.args.address c.args.memory.now c.store_at.new.memory c.in_ok-store_at.ensures)

@@ -25,10 +25,7 @@ returns-in_default-clause-value c h =
     none (
       digit,
       omega (
-        arith,
-        digits_value_more 10 word i inside,
-        c.loop-digit.invariant.1,
-        h.1,
+        arith, digits_value_more 10 word i inside, c.loop-digit.invariant.1, h.1,
         digits_value-take-le 10 word (i + 1) (omega arith),
       ),
     )
@@ -53,7 +50,6 @@ returns-clause-value c =
     let ended = subst (λ bytes. length bytes ≤ i) c.as_bytes-digit-items.ensures.value c.loop-digit-test.false in
     let whole = take_all i word ended in
     let digits = subst (AllDigits 10) whole c.loop-digit.invariant.0 in
-    let value : c.loop-digit.number ≡ digits_value 10 word =
-    c.loop-digit.invariant.1 ∙ ap (digits_value 10) whole in
+    let value : c.loop-digit.number ≡ digits_value 10 word = c.loop-digit.invariant.1 ∙ ap (digits_value 10) whole in
     let some : 0 < length word = search (rules, tests, c.is_empty.ensures, c.if-is_empty.false) in
     (((some, digits), omega (arith, value, c.loop-digit.invariant.2)), value)

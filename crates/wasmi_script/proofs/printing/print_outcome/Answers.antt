@@ -1,4 +1,7 @@
-use Rattle.std.proofs.Common.{◌++◌, sym}
+use Rattle.std.proofs.Common.{◌≡◌, ◌++◌, List, sym}
+use Rattle.wasmi_core.specs.declared.calls.Call.{Call}
+use Rattle.wasmi_core.specs.declared.calls.Reply.{Reply}
+use Rattle.wasmi_script.specs.declared.running.Held.{Held}
 use Rattle.wasmi_script.specs.Outcomes.{held_text, replies_text}
 use Rattle.wasmi_script.proofs.LengthLemmas.{error_short}
 use Rattle.wasmi_script.proofs.PrintingLemmas.{always_err, ok_last, err_last, prints_first}
@@ -7,27 +10,21 @@ use Rattle.wasmi_script.proofs.printing.print_outcome.Goals as goal
 pub print_line-requires : goal.print_line-requires
 print_line-requires g c = record { short = error_short c.in-Err.error }
 
+-- the lines of equal replies to equal calls, and of what is held
+same_lines : (calls calls' : List Call) (replies replies' : List Reply) (held : Held) → calls' ≡ calls
+    → replies' ≡ replies
+    → replies_text calls replies ++ held_text held ≡ replies_text calls' replies' ++ held_text held
+same_lines calls calls' replies replies' held is are = λ i. replies_text (sym is i) (sym are i) ++ held_text held
+
 pub returns-in_err-print_replies-in-Ok-clause-front : goal.returns-in_err-print_replies-in-Ok-clause-front
 returns-in_err-print_replies-in-Ok-clause-front g c =
-    rw c.in-Ok.is
-    (always_err c.from_residual.result
-    (prints_first g.W.Write.contents _ _ _ _ _
-    (λ i. replies_text (sym c.calls-calls.ensures i) (sym c.deref.ensures.value i)
-    ++ held_text c.in-Ok.replayed.ran.held)
-    c.in_err-print_replies-in-Ok.ensures.front))
+    rw c.in-Ok.is (always_err c.from_residual.result (prints_first g.W.Write.contents _ _ _ _ _
+    (same_lines _ _ _ _ _ c.calls-calls.ensures c.deref.ensures.value) c.in_err-print_replies-in-Ok.ensures.front))
 
-pub returns-in_ok-print_replies-in-Ok-clause-ok : goal.returns-in_ok-print_replies-in-Ok-clause-ok
-returns-in_ok-print_replies-in-Ok-clause-ok g c =
-    rw c.in-Ok.is
-    (ok_last g.W.Write.contents c.print_held.result _ _ _ _ _ _
-    (λ i. replies_text (sym c.calls-calls.ensures i) (sym c.deref.ensures.value i)
-    ++ held_text c.in-Ok.replayed.ran.held)
-    c.in_ok-print_replies-in-Ok.ensures.ok c.print_held.ensures.ok)
-
-pub returns-in_ok-print_replies-in-Ok-clause-front : goal.returns-in_ok-print_replies-in-Ok-clause-front
-returns-in_ok-print_replies-in-Ok-clause-front g c =
-    rw c.in-Ok.is
-    (err_last g.W.Write.contents c.print_held.result _ _ _ _ _ _
-    (λ i. replies_text (sym c.calls-calls.ensures i) (sym c.deref.ensures.value i)
-    ++ held_text c.in-Ok.replayed.ran.held)
-    c.in_ok-print_replies-in-Ok.ensures.ok c.print_held.ensures.front)
+pub returns-in_ok-print_replies-in-Ok : goal.returns-in_ok-print_replies-in-Ok
+returns-in_ok-print_replies-in-Ok g c =
+    let same = same_lines _ _ _ _ c.in-Ok.replayed.ran.held c.calls-calls.ensures c.deref.ensures.value in
+    let printed = c.in_ok-print_replies-in-Ok.ensures.ok in rw c.in-Ok.is (record {
+      ok = ok_last g.W.Write.contents c.print_held.result _ _ _ _ _ _ same printed c.print_held.ensures.ok;
+      front = err_last g.W.Write.contents c.print_held.result _ _ _ _ _ _ same printed c.print_held.ensures.front;
+    })

@@ -18,8 +18,7 @@ returns-in_err-print-clause-front g c =
 
 pub returns-in_err-print-2-clause-front : goal.returns-in_err-print-2-clause-front
 returns-in_err-print-2-clause-front g c =
-    always_err c.from_residual-in_err-print-2.result
-    (prints_front g.W.Write.contents _ _ _ _ _ _ _
+    always_err c.from_residual-in_err-print-2.result (prints_front g.W.Write.contents _ _ _ _ _ _ _
     (reply_at c.args.call.now c.args.reply.now c.bytes_of-byte-items.result.now c.loop-byte.byte-index
     c.bytes_of-byte-items.ensures c.loop-byte-test.true) c.loop-byte.invariant c.in_err-print-2.ensures.front)
 
@@ -30,17 +29,13 @@ loop-byte-preserved g c =
     (reply_more c.args.call.now c.args.reply.now bytes c.loop-byte.byte-index c.loop-byte-test.true)
     c.loop-byte.invariant c.in_ok-print-2.ensures.ok
 
-pub returns-clause-ok : goal.returns-clause-ok
-returns-clause-ok g c =
-    ok_last g.W.Write.contents c.print-2.result _ _ _ _ _ _
-    (reply_whole c.args.call.now c.args.reply.now _ _ c.bytes_of-byte-items.ensures c.loop-byte-test.false)
-    c.loop-byte.invariant c.print-2.ensures.ok
-
-pub returns-clause-front : goal.returns-clause-front
-returns-clause-front g c =
-    err_last g.W.Write.contents c.print-2.result _ _ _ _ _ _
-    (reply_whole c.args.call.now c.args.reply.now _ _ c.bytes_of-byte-items.ensures c.loop-byte-test.false)
-    c.loop-byte.invariant c.print-2.ensures.front
+pub returns : goal.returns
+returns g c =
+    let whole = reply_whole c.args.call.now c.args.reply.now _ _ c.bytes_of-byte-items.ensures c.loop-byte-test.false in
+    let before = c.loop-byte.invariant in record {
+      ok = ok_last g.W.Write.contents c.print-2.result _ _ _ _ _ _ whole before c.print-2.ensures.ok;
+      front = err_last g.W.Write.contents c.print-2.result _ _ _ _ _ _ whole before c.print-2.ensures.front;
+    }
 
 pub print-requires-in-loop-byte : goal.print-requires-in-loop-byte
 print-requires-in-loop-byte g c = record { short = byte_short _ }

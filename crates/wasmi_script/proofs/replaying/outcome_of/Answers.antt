@@ -1,4 +1,4 @@
-use Rattle.std.proofs.Common.{◌≡◌, ◌≤◌, Err, IfSome, length, arith, rules, sym, ap, subst}
+use Rattle.std.proofs.Common.{◌≡◌, ◌≤◌, ℕ, Err, IfSome, List, Option, length, arith, rules, sym, ap, subst}
 use Rattle.wasmi_grammar.specs.declared.error.ParseError.TheVariants.{OutOfMemory}
 use Rattle.wasmi_script.specs.declared.error.ReplayError.TheVariants.{Parse}
 use Rattle.wasmi_script.specs.Outcomes.{IsReadError, script_limit, IsOutcomeOfReader}
@@ -14,21 +14,23 @@ returns-in_err-bytes g c =
     c.in_err-bytes.ensures.refused in
     record { outcome = subst (IsOutcomeOfReader given) (sym same) (unread given _ refused) }
 
+-- bytes that are read whole are those that are left of a reader
+read_whole : {X : Type 0} (x y : X) (left : X → Option (List ℕ)) (items bytes : List ℕ) → x ≡ y → bytes ≡ items
+    → IfSome (left x) (λ told. items ≡ told) → IfSome (left y) (λ told. bytes ≡ told)
+read_whole x y left items bytes same is whole = subst (λ bs. IfSome (left y) (λ told. bs ≡ told)) (sym is)
+    (subst (λ r. IfSome (left r) (λ told. items ≡ told)) same whole)
+
 pub returns-in_err-script : goal.returns-in_err-script
 returns-in_err-script g c =
     let given = g.R.Read.remaining c.args.reader.now in
-    let bytes = c.as_slice.result.now in
     let same : c.from_residual-in_err-script.result ≡ Err (Parse c.in_err-script.field-0.0) = search rules in
-    let whole : IfSome given (λ told. c.in_ok-bytes.bytes.items ≡ told) =
-    subst (λ r. IfSome (g.R.Read.remaining r.now) (λ told. c.in_ok-bytes.bytes.items ≡ told)) c.new.ensures.reader
-    c.in_ok-bytes.ensures.whole in
-    let known : IfSome given (λ told. bytes ≡ told) =
-    subst (λ bs. IfSome given (λ told. bs ≡ told)) (sym c.as_slice.ensures.value) whole in
-    let short : length bytes ≤ script_limit =
+    let known = read_whole _ c.args.reader (λ r. g.R.Read.remaining r.now) _ c.as_slice.result.now c.new.ensures.reader
+    c.as_slice.ensures.value c.in_ok-bytes.ensures.whole in
+    let short : length c.as_slice.result.now ≤ script_limit =
     omega (arith, c.in_ok-bytes.ensures.bounded, ap length c.as_slice.ensures.value, c.in_ok-bytes.bytes.ok.0) in
     record {
       outcome = subst (IsOutcomeOfReader given) (sym same)
-          (unparsed given bytes c.in_err-script.field-0.0 known short c.in_err-script.ensures.refused);
+          (unparsed given _ c.in_err-script.field-0.0 known short c.in_err-script.ensures.refused);
     }
 
 pub returns-in_err-ran : goal.returns-in_err-ran
@@ -41,13 +43,8 @@ pub returns : goal.returns
 returns g c =
     let given = g.R.Read.remaining c.args.reader.now in
     let bytes = c.as_slice.result.now in
-    let whole : IfSome given (λ told. c.in_ok-bytes.bytes.items ≡ told) =
-    subst (λ r. IfSome (g.R.Read.remaining r.now) (λ told. c.in_ok-bytes.bytes.items ≡ told)) c.new.ensures.reader
-    c.in_ok-bytes.ensures.whole in
-    let known : IfSome given (λ told. bytes ≡ told) =
-    subst (λ bs. IfSome given (λ told. bs ≡ told)) (sym c.as_slice.ensures.value) whole in
+    let known = read_whole _ c.args.reader (λ r. g.R.Read.remaining r.now) _ bytes c.new.ensures.reader
+    c.as_slice.ensures.value c.in_ok-bytes.ensures.whole in
     let short : length bytes ≤ script_limit =
     omega (arith, c.in_ok-bytes.ensures.bounded, ap length c.as_slice.ensures.value, c.in_ok-bytes.bytes.ok.0) in
-    record {
-      outcome = (bytes, told_by given bytes known, (short, c.in_ok-script.ensures.script, c.in_ok-ran.ensures));
-    }
+    record { outcome = (bytes, told_by given bytes known, (short, c.in_ok-script.ensures.script, c.in_ok-ran.ensures)) }

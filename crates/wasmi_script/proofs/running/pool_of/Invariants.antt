@@ -5,7 +5,4 @@ use Rattle.wasmi_script.proofs.running.pool_of.Given as goal
 
 abbrev pub invariant-loop-index : goal.invariant-loop-index
 invariant-loop-index l =
-    l.pool ≡ record {
-      caps = l.fn.line.caps;
-      machines = replicate l._index (new_state (meter_of l.header));
-    }
+    l.pool ≡ record { caps = l.fn.line.caps; machines = replicate l._index (new_state (meter_of l.header)) }

@@ -17,8 +17,7 @@ pub invariant_of-self-2 : goal.invariant_of-self-2
 invariant_of-self-2 c =
     kept_added _ _ c.args.machine c.self.invariant
     (has_nothing _ _ _ c.total_bytes.ensures c.if-total_bytes-gt0.false c.total_elements.ensures
-    c.if-total_elements-gt0.false)
-    c.push_reserved.new.self.items
+    c.if-total_elements-gt0.false) c.push_reserved.new.self.items
     (c.push_reserved.ensures.items ∙ ap (λ (machines : List State). machines ++ c.empty.result ∷ [])
     c.try_reserve.ensures.items ∙ ap (λ s. c.self.inside.machines.items ++ s ∷ []) c.empty.ensures.value)
 

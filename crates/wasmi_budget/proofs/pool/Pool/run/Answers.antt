@@ -42,8 +42,7 @@ pub returns-clause-ran : goal.returns-clause-ran
 returns-clause-ran c =
     let given = read_given _ c.args.self.now c.self.view_is c.args.index c.in-Some.tenant
     (sym c.tenant.ensures ∙ c.in-Some.is) c.index_mut-machine.result.now c.index_mut-machine.ensures.value in
-    rw (← c.self.view_is)
-    (given_runs _ c.args.index _ given (world c.run.new.self c.run.new.tenant)
+    rw (← c.self.view_is) (given_runs _ c.args.index _ given (world c.run.new.self c.run.new.tenant)
     c.args.calls.now c.in_ok-replies.replies.items c.in_ok-replies.ensures.run)
 
 pub returns-clause-no_tenant : goal.returns-clause-no_tenant

@@ -37,12 +37,10 @@ returns c =
     let words = c.in-Some.words.now in
     let same = c.in-Some.ensures.cases.same in
     let taken : IfOk result (WritesEach (WritesNumber 5) words) =
-    IfOk-weaker _ _ _
-    (λ lanes all. each_said (WritesNumber 5) _
+    IfOk-weaker _ _ _ (λ lanes all. each_said (WritesNumber 5) _
     (λ word number says. let is : WritesNumber 5 word.now number = search rules in is) words lanes all.whole)
     c.try_map.ensures.ok in
     let refused : IfErr result (λ error. (error ≡ BadCommand) × WriteNoLanes words) =
-    IfErr-weaker _ _ _
-    (λ error bad. refused_at words bad.0 error bad.1 (search rules) (λ lane fits. search rules))
+    IfErr-weaker _ _ _ (λ error bad. refused_at words bad.0 error bad.1 (search rules) (λ lane fits. search rules))
     c.try_map.ensures.err in
     subst (λ ws. Accepts result (WritesLanes ws)) same (accepted words result (search rules) taken refused)
