@@ -1,5 +1,5 @@
 //! Commands of memories, and those that drop a memory or a table.
-#![tactic(auto, using(std::proofs::lemmas::Grind::common_steps))]
+#![tactic(auto, using(crate::proofs::CommandsLemmas::refused_form))]
 
 ghost use Rattle.std.specs.Prelude.{codes};
 ghost use Rattle.wasmi_operands.specs.LineWords.{Accepts, AcceptsWithMemory};
@@ -31,7 +31,6 @@ pub fn new_lent_memory(operands: &[&str]) -> Result<Call, LineError>
 }
 
 /// `grow K PAGES`.
-#[tactic(auto, using(crate::proofs::CommandsLemmas::refused_form))]
 pub fn grow(operands: &[&str]) -> Result<Call, LineError>
     ensures { Accepts result (NamesAfter (codes "grow") operands.now) }
 {

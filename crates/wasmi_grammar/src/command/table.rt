@@ -1,5 +1,5 @@
 //! Commands of tables and element segments.
-#![tactic(auto, using(std::proofs::lemmas::Grind::common_steps))]
+#![tactic(auto, using(crate::proofs::CommandsLemmas::refused_form))]
 
 ghost use Rattle.std.specs.Prelude.{◌≡◌, ◌<◌, ◌^◌, codes, IfErr};
 ghost use Rattle.std.specs.Result.{OkIff};
@@ -37,7 +37,6 @@ pub fn grow(operands: &[&str]) -> Result<Call, LineError>
 }
 
 /// `get K I`.
-#[tactic(auto, using(crate::proofs::CommandsLemmas::refused_form))]
 pub fn get(operands: &[&str]) -> Result<Call, LineError>
     ensures { Accepts result (NamesAfter (codes "get") operands.now) }
 {

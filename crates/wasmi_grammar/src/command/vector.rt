@@ -1,5 +1,5 @@
 //! Commands of vector instructions whose operands are registers and indices of lanes.
-#![tactic(auto, using(std::proofs::lemmas::Grind::common_steps))]
+#![tactic(auto, using(crate::proofs::CommandsLemmas::refused_form))]
 
 ghost use Rattle.std.specs.Prelude.{codes};
 ghost use Rattle.wasmi_operands.specs.LineWords.{Accepts};
@@ -12,7 +12,6 @@ use wasmi_operands::names::lane::{extract_op, index, replace_op};
 use wasmi_operands::{LineError, number, operand};
 
 /// `make NAME D A`.
-#[tactic(auto, using(crate::proofs::CommandsLemmas::refused_form))]
 pub fn make(operands: &[&str]) -> Result<Call, LineError>
     ensures { Accepts result (NamesAfter (codes "make") operands.now) }
 {
@@ -29,7 +28,6 @@ pub fn unary(operands: &[&str]) -> Result<Call, LineError>
 }
 
 /// `binary NAME D A B`.
-#[tactic(auto, using(crate::proofs::CommandsLemmas::refused_form))]
 pub fn binary(operands: &[&str]) -> Result<Call, LineError>
     ensures { Accepts result (NamesAfter (codes "binary") operands.now) }
 {
@@ -38,7 +36,6 @@ pub fn binary(operands: &[&str]) -> Result<Call, LineError>
 }
 
 /// `ternary NAME D A B C`.
-#[tactic(auto, using(crate::proofs::CommandsLemmas::refused_form))]
 pub fn ternary(operands: &[&str]) -> Result<Call, LineError>
     ensures { Accepts result (NamesAfter (codes "ternary") operands.now) }
 {
@@ -55,7 +52,6 @@ pub fn shift(operands: &[&str]) -> Result<Call, LineError>
 }
 
 /// `test NAME A`.
-#[tactic(auto, using(crate::proofs::CommandsLemmas::refused_form))]
 pub fn test(operands: &[&str]) -> Result<Call, LineError>
     ensures { Accepts result (NamesAfter (codes "test") operands.now) }
 {
