@@ -146,7 +146,8 @@ module _ (pool : PoolValue) (index : ℕ) where
     beside = record {
       caps = pool.caps;
       others = record {
-        bytes = total_of pool.machines Bytes - held.bytes; elements = total_of pool.machines Elements - held.elements;
+        bytes = total_of pool.machines Bytes - held.bytes;
+        elements = total_of pool.machines Elements - held.elements;
       };
       holdings = record { held = held; last = None };
     }
@@ -160,7 +161,8 @@ module _ (pool : PoolValue) (index : ℕ) where
         ≡ total_of (remove pool.machines index) Elements = let others = others_left Elements in omega (arith, others) in
         let same : Some beside ≡ Some (tenant_at pool index found.0) =
         λ i. Some (record {
-          caps = pool.caps; others = record { bytes = bytes i; elements = elements i };
+          caps = pool.caps;
+          others = record { bytes = bytes i; elements = elements i };
           holdings = record { held = found.2 i; last = None };
         }) in
         same ∙ ap (option_map (tenant_at pool index)) (sym found.1)
@@ -251,7 +253,11 @@ module _ (pool : PoolValue) (index : ℕ) (w : World Tenant) (given : IsGiven po
     pub given_runs : (replies : List Reply) → IsRunOf (optional_rules tenant_rules) calls (lent w) replies (lent w')
         → RunsTenant pool index calls replies (record pool { machines = slice_set pool.machines index w'.state })
     given_runs replies ran = record {
-      machine = w.state; found = given.found; machine' = w'.state; tenant' = w'.limiter; ran = given_ran replies ran;
+      machine = w.state;
+      found = given.found;
+      machine' = w'.state;
+      tenant' = w'.limiter;
+      ran = given_ran replies ran;
       after = refl;
     }
 

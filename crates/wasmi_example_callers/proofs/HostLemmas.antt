@@ -69,7 +69,9 @@ module _ (l l' : AtMost) where
   module _ (x x' : MemoryValue) (m m' : Option Meter) where
     abbrev Grown : ℕ → Result ℕ MemoryError → ℕ → Type 0
     Grown pages result charge = GrowsMemoryCharging (optional_rules at_most_rules) pages (record {
-      value = x; meter = m; limiter = Some l;
+      value = x;
+      meter = m;
+      limiter = Some l;
     }) result charge (record { value = x'; meter = m'; limiter = Some l' })
 
     -- so the limiter stays after a growth

@@ -282,7 +282,9 @@ module _ {S : Type 0} (rules : Rules S) where
   taken_run : (w : World S) (o : Option ℕ) → w.state.meter.left ≡ o
       → (all : List Turn) × Run rules w all (next_world w) × IsWrittenAs all []
   taken_run w None off = (
-    [], ap (λ s. world s w.limiter) (taken_off w.state off), record { bytes = refl; number = refl; charged = refl },
+    [],
+    ap (λ s. world s w.limiter) (taken_off w.state off),
+    record { bytes = refl; number = refl; charged = refl },
   )
   taken_run w (Some left) on =
       let step : Step rules w (taking_turn left) (next_world w) = record {
@@ -315,7 +317,9 @@ module _ {S : Type 0} (rules : Rules S) where
   action_needs action next w turns result w' true free is stops =
       stops_needs ending.OutOfFuel w turns result w' refl stops
   action_needs action next w turns result w' false free is (run, follows) = inr (
-    is, run, action_without_fuel action next turns result free follows,
+    is,
+    run,
+    action_without_fuel action next turns result free follows,
     action_instruction action next turns result follows,
   )
 
@@ -337,7 +341,8 @@ module _ {S : Type 0} (rules : Rules S) (joins : RunsJoin rules) (spends : Charg
     all = [];
     run = same;
     written = record {
-      bytes = sym (ap bytes_written none); number = sym (ap writing_turns none);
+      bytes = sym (ap bytes_written none);
+      number = sym (ap writing_turns none);
       charged = sym (ap charges_for_writing none);
     };
     spent = λ left on. (left, ap (λ (v : World S). v.state.meter.left) same ∙ on, omega (arith, free, ap charges none));

@@ -148,7 +148,8 @@ place_in_rest : (words : LineWords) (n : ℕ) (place : ℕ × ℕ × ℕ)
     × WritesNumber 64 (word_at words (n + 1)) place.1 × WritesNumber 64 (word_at words (n + 2)) place.2
     → WritesPlace (take (length words - n) (drop n words)) place
 place_in_rest words n place w = (
-  length_of_rest words n 3 w.0, in_rest (λ text. WritesNumber 64 text place.0) words n 0 (omega (arith, w.0)) w.1,
+  length_of_rest words n 3 w.0,
+  in_rest (λ text. WritesNumber 64 text place.0) words n 0 (omega (arith, w.0)) w.1,
   in_rest (λ text. WritesNumber 64 text place.1) words n 1 (omega (arith, w.0)) w.2,
   in_rest (λ text. WritesNumber 64 text place.2) words n 2 (omega (arith, w.0)) w.3,
 )

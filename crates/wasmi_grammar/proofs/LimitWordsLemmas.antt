@@ -39,7 +39,9 @@ pub limits_are : (minimum maximum width : List ℕ) (limits : Limits) → Writes
     → limits_named minimum maximum width ≡ Some limits
 unfolding limits_named
 limits_are minimum maximum width limits w = λ i. option_map (λ index. record {
-  index = index; minimum = sym w.minimum_word.1 i; maximum = limit_is maximum limits.maximum w.maximum_word i;
+  index = index;
+  minimum = sym w.minimum_word.1 i;
+  maximum = limit_is maximum limits.maximum w.maximum_word i;
 }) (named_is index.enum tt width_word refl width limits.index w.width_text i)
 
 -- words that write limits write what is equal to them

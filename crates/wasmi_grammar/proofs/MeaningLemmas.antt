@@ -355,8 +355,12 @@ pub record LinesMeaning : Type 0 where
 -- what a header and parts say
 abbrev pub meaning_of : Header → PartsValue → LinesMeaning
 meaning_of header parts = record {
-  meter = header.meter; limiter = option_map limiter_meaning header.limiter; region = header.region;
-  earlier = map part_meaning parts.earlier; tenant = parts.tenant; calls = map call_meaning parts.calls;
+  meter = header.meter;
+  limiter = option_map limiter_meaning header.limiter;
+  region = header.region;
+  earlier = map part_meaning parts.earlier;
+  tenant = parts.tenant;
+  calls = map call_meaning parts.calls;
 }
 
 -- what the lines of a script say

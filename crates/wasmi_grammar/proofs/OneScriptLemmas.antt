@@ -126,7 +126,9 @@ module _ (old old' : Script) (same : LinesHaveSameMeaning old old') where
   takes_too (Meter line) (Meter line') says new a = (
     record old' { header = record old'.header { meter = Some line' } },
     record {
-      before_commands = none_too a.before_commands; first = ap (λ s. s.meter) (sym same) ∙ a.first; header = refl;
+      before_commands = none_too a.before_commands;
+      first = ap (λ s. s.meter) (sym same) ∙ a.first;
+      header = refl;
       parts = refl;
     },
   )

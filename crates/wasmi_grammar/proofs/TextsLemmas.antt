@@ -73,7 +73,8 @@ module _ (words words' : LineWords) (same : texts words ≡ texts words') where
     retell_each (WritesNumber 32) (drop 1 words) (drop 1 words') items.items (later 1) w.1,
   )
   retell_operands (Shuffle dst a b lanes) w = (
-    retell_first (Shuffle dst a b lanes) w.0, retell_lanes (drop 3 words) (drop 3 words') lanes (later 3) w.1,
+    retell_first (Shuffle dst a b lanes) w.0,
+    retell_lanes (drop 3 words) (drop 3 words') lanes (later 3) w.1,
   )
   retell_operands call w = retell_first call w
 

@@ -54,8 +54,10 @@ pub record ScriptMeaning : Type 0 where
 -- what a script says
 abbrev pub script_meaning : Script → ScriptMeaning
 script_meaning script = record {
-  meter = script.header.meter; limiter = option_map limiter_meaning script.header.limiter;
-  region = script.header.region; parts = map part_meaning (parts_in script.parts);
+  meter = script.header.meter;
+  limiter = option_map limiter_meaning script.header.limiter;
+  region = script.header.region;
+  parts = map part_meaning (parts_in script.parts);
 }
 
 -- two scripts say the same

@@ -58,7 +58,8 @@ in_parts rules cut calls w w' replies ran first rest is =
 -- the parts of a world that is the same
 pub same_parts : {L : Type 0} (s s' : State) (l l' : L) → world s' (Some l') ≡ world s (Some l) → (s' ≡ s) × (l' ≡ l)
 same_parts {L} s s' l l' same = (
-  ap (λ (w : World (Option L)). w.state) same, same_Some l' l (ap (λ (w : World (Option L)). w.limiter) same),
+  ap (λ (w : World (Option L)). w.state) same,
+  same_Some l' l (ap (λ (w : World (Option L)). w.limiter) same),
 )
 
 -- a fact of whatever value

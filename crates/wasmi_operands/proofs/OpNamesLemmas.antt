@@ -50,12 +50,16 @@ pub op_names : Tells LOADS load_name × Tells STORES store_name × Tells SCALAR_
     × Tells EXTRACTIONS extract_name × Tells REPLACEMENTS replace_name × Tells VECTOR_LOADS vector_load_name
     × Tells LANE_LOADS load_lane_name × Tells LANE_STORES store_lane_name
 op_names = (
-  tells load.enum tt load_name LOADS refl refl, tells store.enum tt store_name STORES refl refl,
+  tells load.enum tt load_name LOADS refl refl,
+  tells store.enum tt store_name STORES refl refl,
   tells scalar_unary.enum tt scalar_unary_name SCALAR_UNARIES refl refl,
   tells scalar_binary.enum tt scalar_binary_name SCALAR_BINARIES refl refl,
-  tells make.enum tt make_name MAKES refl refl, tells unary.enum tt unary_name UNARIES refl refl,
-  tells binary.enum tt binary_name BINARIES refl refl, tells ternary.enum tt ternary_name TERNARIES refl refl,
-  tells shift.enum tt shift_name SHIFTS refl refl, tells test.enum tt test_name TESTS refl refl,
+  tells make.enum tt make_name MAKES refl refl,
+  tells unary.enum tt unary_name UNARIES refl refl,
+  tells binary.enum tt binary_name BINARIES refl refl,
+  tells ternary.enum tt ternary_name TERNARIES refl refl,
+  tells shift.enum tt shift_name SHIFTS refl refl,
+  tells test.enum tt test_name TESTS refl refl,
   tells extraction.enum tt extract_name EXTRACTIONS refl refl,
   tells replacement.enum tt replace_name REPLACEMENTS refl refl,
   tells vector_load.enum tt vector_load_name VECTOR_LOADS refl refl,
@@ -67,7 +71,8 @@ op_names = (
 pub on_lanes : NamesOnLane extract_name extract_op × NamesOnLane replace_name replace_op
     × NamesOnLane load_lane_name load_lane_op × NamesOnLane store_lane_name store_lane_op
 on_lanes = (
-  names_on extraction.enum tt extract_name extract_op refl, names_on replacement.enum tt replace_name replace_op refl,
+  names_on extraction.enum tt extract_name extract_op refl,
+  names_on replacement.enum tt replace_name replace_op refl,
   names_on lane_load.enum tt load_lane_name load_lane_op refl,
   names_on lane_store.enum tt store_lane_name store_lane_op refl,
 )

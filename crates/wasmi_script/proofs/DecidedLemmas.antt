@@ -113,7 +113,12 @@ module _ {S : Type 0} (rules : Rules S) where
       (w : World S) (turn : Turn) (w' : World S) (other : Call) → ActsMetered w turn w' old with_part Acts bytes
       → ActsMetered w (by_call turn other) w' old with_part Acts bytes
   acts_again w turn w' other a = record {
-    part = a.part; meter = a.meter; limiter = a.limiter; effect = a.effect; wrote = a.wrote; after = a.after;
+    part = a.part;
+    meter = a.meter;
+    limiter = a.limiter;
+    effect = a.effect;
+    wrote = a.wrote;
+    after = a.after;
   }
 
   -- a turn that takes an effect takes it by any other call too
@@ -159,7 +164,9 @@ module _ {S : Type 0} (rules : Rules S) where
       let here : call_meaning call ≡ call_meaning turn.call = cc in
       let later : map call_meaning calls ≡ map call_meaning (map Turn.call turns) = cc in
       let rest = retold_run turns calls v w' later ran in (
-        by_call turn call ∷ rest.0, ap (λ cs. call ∷ cs) rest.1, ap (λ rs. turn.reply ∷ rs) rest.2,
+        by_call turn call ∷ rest.0,
+        ap (λ cs. call ∷ cs) rest.1,
+        ap (λ rs. turn.reply ∷ rs) rest.2,
         (v, retold_step w turn v call here step, rest.3),
       )
 

@@ -58,7 +58,11 @@ failed text n short = omega (arith, length-append (codes "error ") (text ++ deci
 one_number : (word : List ℕ) (n : ℕ) → length word ≤ 40 → length (word ++ (codes " " ++ decimal n)) ≤ 105
 one_number word n short =
     omega (
-      arith, length-append word (codes " " ++ decimal n), length-append (codes " ") (decimal n), decimal_short n, short,
+      arith,
+      length-append word (codes " " ++ decimal n),
+      length-append (codes " ") (decimal n),
+      decimal_short n,
+      short,
     )
 
 -- a word of at most 40 bytes with two numbers has at most 169
@@ -66,9 +70,13 @@ two_numbers : (word : List ℕ) (m n : ℕ) → length word ≤ 40
     → length (word ++ (decimal m ++ (codes " " ++ decimal n))) ≤ 169
 two_numbers word m n short =
     omega (
-      arith, length-append word (decimal m ++ (codes " " ++ decimal n)),
-      length-append (decimal m) (codes " " ++ decimal n), length-append (codes " ") (decimal n), decimal_short m,
-      decimal_short n, short,
+      arith,
+      length-append word (decimal m ++ (codes " " ++ decimal n)),
+      length-append (decimal m) (codes " " ++ decimal n),
+      length-append (codes " ") (decimal n),
+      decimal_short m,
+      decimal_short n,
+      short,
     )
 
 -- a word of at most 5 bytes with three numbers may be printed at once

@@ -97,7 +97,8 @@ quiet_next (answer ∷ answers) all = All-head IsQuiet answer answers all
 pub quiet_lists : QuietListsAcceptNotices
 quiet_lists = record {
   asked = λ list question answer list' quiet takes. subst NeverComplains (sym takes.taken) (record {
-    ahead = All-drop IsQuiet 1 list.ahead quiet.ahead; last = quiet_next list.ahead quiet.ahead;
+    ahead = All-drop IsQuiet 1 list.ahead quiet.ahead;
+    last = quiet_next list.ahead quiet.ahead;
   });
   noticed = λ list failure notice_answer list' quiet accepts.
       (accepts.0 ∙ quiet.last, subst NeverComplains (sym accepts.1) quiet);

@@ -10,11 +10,13 @@ pub use wasmi_grammar::laws::{
 };
 
 /// A limiter that answers from a list is deterministic.
+#[tactic(auto, using(crate::proofs::ScriptRunsLemmas::answers_unique))]
 pub fn answers_leave_no_choice()
     ensures { IsDeterministic answer_list_rules }
 {}
 
 /// A limiter whose list has no `Complain` accepts each notice, and stays such a limiter.
+#[tactic(auto, using(crate::proofs::ScriptRunsLemmas::quiet_lists))]
 pub fn quiet_lists_accept_notices()
     ensures { QuietListsAcceptNotices }
 {}
@@ -28,6 +30,7 @@ pub fn quiet_lists_decide_replies()
 /// If no memory is refused and the reader doesn't fail, the bytes of the reader decide what is
 /// printed and how the replay ends: two outcomes of them have the same text and the same status. A
 /// word `complain` is left out: the answer to a notice hides whether memory was refused.
+#[tactic(auto, using(crate::proofs::DecidedLemmas::outcomes_unique))]
 pub fn outcomes_are_one()
     ensures { OutcomesAreOne }
 {

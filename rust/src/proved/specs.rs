@@ -6279,8 +6279,10 @@ pub record <b id="ScriptMeaning">ScriptMeaning</b> : Type 0 where
 -- what a script says
 abbrev pub <b id="script_meaning">script_meaning</b> : Script → <a href="../../grammar/Meanings/index.html#ScriptMeaning">ScriptMeaning</a>
 <a href="../../grammar/Meanings/index.html#script_meaning">script_meaning</a> script = record {
-  <a href="../../grammar/Meanings/index.html#meter">meter</a> = script.header.<a href="../../grammar/Meanings/index.html#meter">meter</a>; <a href="../../grammar/Meanings/index.html#limiter">limiter</a> = option_map <a href="../../grammar/Meanings/index.html#limiter_meaning">limiter_meaning</a> script.header.<a href="../../grammar/Meanings/index.html#limiter">limiter</a>;
-  <a href="../../grammar/Meanings/index.html#region">region</a> = script.header.<a href="../../grammar/Meanings/index.html#region">region</a>; <a href="../../grammar/Meanings/index.html#parts">parts</a> = map <a href="../../grammar/Meanings/index.html#part_meaning">part_meaning</a> (<a href="../../grammar/Parts/index.html#parts_in">parts_in</a> script.parts);
+  <a href="../../grammar/Meanings/index.html#meter">meter</a> = script.header.<a href="../../grammar/Meanings/index.html#meter">meter</a>;
+  <a href="../../grammar/Meanings/index.html#limiter">limiter</a> = option_map <a href="../../grammar/Meanings/index.html#limiter_meaning">limiter_meaning</a> script.header.<a href="../../grammar/Meanings/index.html#limiter">limiter</a>;
+  <a href="../../grammar/Meanings/index.html#region">region</a> = script.header.<a href="../../grammar/Meanings/index.html#region">region</a>;
+  <a href="../../grammar/Meanings/index.html#parts">parts</a> = map <a href="../../grammar/Meanings/index.html#part_meaning">part_meaning</a> (<a href="../../grammar/Parts/index.html#parts_in">parts_in</a> script.parts);
 }
 
 -- two scripts say the same

@@ -12,8 +12,10 @@ returns-in-Err-clause-executed g c =
     (c.loop-executed.invariant.0 ++ c.in-Err.ensures.0)
     (record { ending = Some c.in-Err.ending; place = c.loop-executed.place; executed = c.loop-executed.executed })
     (world c.step.new.machine (Some c.step.new.limiter)) (
-      c.loop-executed.invariant.0, world c.loop-executed.machine (Some c.loop-executed.limiter),
-      c.loop-executed.invariant.1, (c.in-Err.ensures.0, c.in-Err.ensures.1, refl),
+      c.loop-executed.invariant.0,
+      world c.loop-executed.machine (Some c.loop-executed.limiter),
+      c.loop-executed.invariant.1,
+      (c.in-Err.ensures.0, c.in-Err.ensures.1, refl),
     )
 
 pub returns-in-Err-clause-run : goal.returns-in-Err-clause-run

@@ -10,10 +10,13 @@ returns c =
     let table = c.make-of_table in
     let begun : UnderQuota = record { quota = c.args.quota.now; bytes = []; elements = [] } in
     let one : UnderQuota = record {
-      quota = memory.new.quota; bytes = sizes_made [] memory.result memory.new.memory.size; elements = [];
+      quota = memory.new.quota;
+      bytes = sizes_made [] memory.result memory.new.memory.size;
+      elements = [];
     } in
     let both : UnderQuota = record {
-      quota = table.new.quota; bytes = sizes_made [] memory.result memory.new.memory.size;
+      quota = table.new.quota;
+      bytes = sizes_made [] memory.result memory.new.memory.size;
       elements = sizes_made [] table.result table.new.table.size;
     } in
     let held = c.one_quota_holds_all.ensures begun (one ∷ both ∷ [])

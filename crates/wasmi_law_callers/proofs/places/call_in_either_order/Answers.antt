@@ -11,10 +11,16 @@ returns-clause-independent g c =
     let first = c.step_lending-reply.ensures.step in
     let second = c.step_lending-other_reply.ensures.step in
     let turn : Turn = record {
-      call = c.args.first.now; reply = c.step_lending-reply.result; charge = first.0; written = first.1;
+      call = c.args.first.now;
+      reply = c.step_lending-reply.result;
+      charge = first.0;
+      written = first.1;
     } in
     let other : Turn = record {
-      call = c.args.second.now; reply = c.step_lending-other_reply.result; charge = second.0; written = second.1;
+      call = c.args.second.now;
+      reply = c.step_lending-other_reply.result;
+      charge = second.0;
+      written = second.1;
     } in (
       other ∷ turn ∷ [],
       refl,
@@ -34,10 +40,16 @@ returns-clause-stores g c =
     let second = answers_call rules u v c.args.second.now (store_call that) c.step_lending-other_reply.result is_that
     c.step_lending-other_reply.ensures.step in
     let turn : Turn = record {
-      call = store_call it; reply = c.step_lending-reply.result; charge = first.0; written = first.1;
+      call = store_call it;
+      reply = c.step_lending-reply.result;
+      charge = first.0;
+      written = first.1;
     } in
     let other : Turn = record {
-      call = store_call that; reply = c.step_lending-other_reply.result; charge = second.0; written = second.1;
+      call = store_call that;
+      reply = c.step_lending-other_reply.result;
+      charge = second.0;
+      written = second.1;
     } in (
       other ∷ turn ∷ [],
       refl,

@@ -15,7 +15,9 @@ returns-clause-meter g c =
     let step = c.step_lending.ensures.step in
     λ refused. (
       record {
-        call = c.args.call.now; reply = c.step_lending.result; charge = c.step_lending.ensures.step.0;
+        call = c.args.call.now;
+        reply = c.step_lending.result;
+        charge = c.step_lending.ensures.step.0;
         written = c.step_lending.ensures.step.1;
       },
       record { calls_of = refl; replies_of = refl },

@@ -15,7 +15,9 @@ returns-clause-caps c = λ held within kind.
 
 pub returns-clause-turns : goal.returns-clause-turns
 returns-clause-turns c = λ held within. if_ok_too c.run_lending.result c.run_lending.ensures.run (λ replies ran. (
-  ran.0, record { calls_of = ran.1; replies_of = ran.2 }, c.caps_hold_in_runs.ensures _ _ held within ran.0 _ ran.3,
+  ran.0,
+  record { calls_of = ran.1; replies_of = ran.2 },
+  c.caps_hold_in_runs.ensures _ _ held within ran.0 _ ran.3,
 ))
 
 pub returns-clause-enough : goal.returns-clause-enough

@@ -25,7 +25,10 @@ returns-in_default-clause-value c h =
     none (
       digit,
       omega (
-        arith, digits_value_more 10 word i inside, c.loop-digit.invariant.1, h.1,
+        arith,
+        digits_value_more 10 word i inside,
+        c.loop-digit.invariant.1,
+        h.1,
         digits_value-take-le 10 word (i + 1) (omega arith),
       ),
     )

@@ -24,8 +24,8 @@ pub returns-in_err-script : goal.returns-in_err-script
 returns-in_err-script g c =
     let given = g.R.Read.remaining c.args.reader.now in
     let same : c.from_residual-in_err-script.result ≡ Err (Parse c.in_err-script.field-0.0) = search rules in
-    let known = read_whole _ c.args.reader (λ r. g.R.Read.remaining r.now) _ c.as_slice.result.now c.new.ensures.reader
-    c.as_slice.ensures.value c.in_ok-bytes.ensures.whole in
+    let known = read_whole c.new.result.reader _ (λ r. g.R.Read.remaining r.now) _ c.as_slice.result.now
+    c.new.ensures.reader c.as_slice.ensures.value c.in_ok-bytes.ensures.whole in
     let short : length c.as_slice.result.now ≤ script_limit =
     omega (arith, c.in_ok-bytes.ensures.bounded, ap length c.as_slice.ensures.value, c.in_ok-bytes.bytes.ok.0) in
     record {
@@ -43,8 +43,8 @@ pub returns : goal.returns
 returns g c =
     let given = g.R.Read.remaining c.args.reader.now in
     let bytes = c.as_slice.result.now in
-    let known = read_whole _ c.args.reader (λ r. g.R.Read.remaining r.now) _ bytes c.new.ensures.reader
-    c.as_slice.ensures.value c.in_ok-bytes.ensures.whole in
+    let known = read_whole c.new.result.reader _ (λ r. g.R.Read.remaining r.now) _ bytes
+    c.new.ensures.reader c.as_slice.ensures.value c.in_ok-bytes.ensures.whole in
     let short : length bytes ≤ script_limit =
     omega (arith, c.in_ok-bytes.ensures.bounded, ap length c.as_slice.ensures.value, c.in_ok-bytes.bytes.ok.0) in
     record { outcome = (bytes, told_by given bytes known, (short, c.in_ok-script.ensures.script, c.in_ok-ran.ensures)) }

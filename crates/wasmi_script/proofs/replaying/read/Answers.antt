@@ -24,7 +24,12 @@ too_many (Some xs) None c so_far buffer n taken turn fits more = absurd taken
 too_many (Some xs) (Some ys) None so_far buffer n taken turn fits more = absurd turn
 too_many (Some xs) (Some ys) (Some zs) so_far buffer n taken turn fits more =
     omega (
-      arith, more, ap length taken, length-append so_far ys, ap length turn, length-append (take n buffer) zs,
+      arith,
+      more,
+      ap length taken,
+      length-append so_far ys,
+      ap length turn,
+      length-append (take n buffer) zs,
       length-take-le n buffer fits,
     )
 

@@ -51,7 +51,11 @@ returns-else-index-len-2 c =
     let inside = c.self.inside in
     let past : length inside.earlier.items < c.args.index =
     omega (
-      arith, c.if-index-len.false, c.if-index-len-2.false, c.len.ensures, c.len-else-index-len.ensures,
+      arith,
+      c.if-index-len.false,
+      c.if-index-len-2.false,
+      c.len.ensures,
+      c.len-else-index-len.ensures,
       inside.earlier.ok.0,
     ) in
     sym (at_none inside.calls.items inside.earlier.items inside.start inside.tenant c.args.index past)
