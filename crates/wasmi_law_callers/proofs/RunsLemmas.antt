@@ -35,6 +35,10 @@ use Rattle.wasmi_c.specs.Status.{no_call_status, no_machine_status, no_pool_stat
 use Rattle.wasmi_c.specs.declared.machine.call_struct.CallStruct.{CallStruct}
 use Rattle.wasmi_c.specs.declared.machine.reply_struct.ReplyStruct.{ReplyStruct}
 
+-- the turn of a call with its reply, what was charged and how many bytes were written
+abbrev pub turn_with : Call → Reply → ℕ → ℕ → Turn
+turn_with call reply charge written = record { call = call; reply = reply; charge = charge; written = written }
+
 -- from a fact of a value to another
 pub if_ok_too : {T E : Type 0} {P Q : T → Type 0} (r : Result T E) → IfOk r P → ((x : T) → P x → Q x) → IfOk r Q
 if_ok_too (Ok x) h too = too x h
@@ -56,8 +60,8 @@ in_parts rules cut calls w w' replies ran first rest is =
     cut first rest w replies w' (subst (λ cs. IsRunOf rules cs w replies w') is ran)
 
 -- the parts of a world that is the same
-pub same_parts : {L : Type 0} (s s' : State) (l l' : L) → world s' (Some l') ≡ world s (Some l) → (s' ≡ s) × (l' ≡ l)
-same_parts {L} s s' l l' same = (
+pub same_parts : {L : Type 0} {s s' : State} {l l' : L} → world s' (Some l') ≡ world s (Some l) → (s' ≡ s) × (l' ≡ l)
+same_parts {L} {s} {s'} {l} {l'} same = (
   ap (λ (w : World (Option L)). w.state) same,
   same_Some l' l (ap (λ (w : World (Option L)). w.limiter) same),
 )

@@ -1,8 +1,8 @@
 use Rattle.std.proofs.Common.{Some, [], refl, ◌∷◌}
 use Rattle.wasmi_meter.specs.Limiter.{optional_rules}
-use Rattle.wasmi_core.specs.State.{Turn, world}
+use Rattle.wasmi_core.specs.State.{world}
 use Rattle.wasmi_laws.specs.Places.{store_call}
-use Rattle.wasmi_law_callers.proofs.RunsLemmas.{answers_call, stores_apart}
+use Rattle.wasmi_law_callers.proofs.RunsLemmas.{answers_call, stores_apart, turn_with}
 use Rattle.wasmi_law_callers.proofs.places.call_in_either_order.Goals as goal
 
 pub returns-clause-independent : goal.returns-clause-independent
@@ -10,18 +10,8 @@ returns-clause-independent g c =
     λ local other_local apart.
     let first = c.step_lending-reply.ensures.step in
     let second = c.step_lending-other_reply.ensures.step in
-    let turn : Turn = record {
-      call = c.args.first.now;
-      reply = c.step_lending-reply.result;
-      charge = first.0;
-      written = first.1;
-    } in
-    let other : Turn = record {
-      call = c.args.second.now;
-      reply = c.step_lending-other_reply.result;
-      charge = second.0;
-      written = second.1;
-    } in (
+    let turn = turn_with c.args.first.now c.step_lending-reply.result first.0 first.1 in
+    let other = turn_with c.args.second.now c.step_lending-other_reply.result second.0 second.1 in (
       other ∷ turn ∷ [],
       refl,
       refl,
@@ -39,18 +29,8 @@ returns-clause-stores g c =
     c.step_lending-reply.ensures.step in
     let second = answers_call rules u v c.args.second.now (store_call that) c.step_lending-other_reply.result is_that
     c.step_lending-other_reply.ensures.step in
-    let turn : Turn = record {
-      call = store_call it;
-      reply = c.step_lending-reply.result;
-      charge = first.0;
-      written = first.1;
-    } in
-    let other : Turn = record {
-      call = store_call that;
-      reply = c.step_lending-other_reply.result;
-      charge = second.0;
-      written = second.1;
-    } in (
+    let turn = turn_with (store_call it) c.step_lending-reply.result first.0 first.1 in
+    let other = turn_with (store_call that) c.step_lending-other_reply.result second.0 second.1 in (
       other ∷ turn ∷ [],
       refl,
       refl,

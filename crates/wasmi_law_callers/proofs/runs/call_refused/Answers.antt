@@ -1,5 +1,5 @@
 use Rattle.std.proofs.Common.{refl}
-use Rattle.wasmi_law_callers.proofs.RunsLemmas.{same_parts}
+use Rattle.wasmi_law_callers.proofs.RunsLemmas.{same_parts, turn_with}
 use Rattle.wasmi_law_callers.proofs.runs.call_refused.Goals as goal
 
 pub returns-clause-contents : goal.returns-clause-contents
@@ -14,12 +14,7 @@ pub returns-clause-meter : goal.returns-clause-meter
 returns-clause-meter g c =
     let step = c.step_lending.ensures.step in
     λ refused. (
-      record {
-        call = c.args.call.now;
-        reply = c.step_lending.result;
-        charge = c.step_lending.ensures.step.0;
-        written = c.step_lending.ensures.step.1;
-      },
+      turn_with c.args.call.now c.step_lending.result step.0 step.1,
       record { calls_of = refl; replies_of = refl },
       step.2,
       (c.refusals_keep_contents.ensures.turn _ _ _ step.2 refused).meter,
@@ -27,15 +22,13 @@ returns-clause-meter g c =
 
 pub returns-clause-machine : goal.returns-clause-machine
 returns-clause-machine g c =
-    λ plain. (same_parts _ _ _ _
-    (c.plain_refusals_change_nothing.ensures.turn _ _ _ c.step_lending.ensures.step.2 plain)).0
+    λ plain. (same_parts (c.plain_refusals_change_nothing.ensures.turn _ _ _ c.step_lending.ensures.step.2 plain)).0
 
 pub returns-clause-limiter : goal.returns-clause-limiter
 returns-clause-limiter g c =
-    λ plain. (same_parts _ _ _ _
-    (c.plain_refusals_change_nothing.ensures.turn _ _ _ c.step_lending.ensures.step.2 plain)).1
+    λ plain. (same_parts (c.plain_refusals_change_nothing.ensures.turn _ _ _ c.step_lending.ensures.step.2 plain)).1
 
 pub returns-clause-others : goal.returns-clause-others
 returns-clause-others g c =
-    λ nowhere refused. same_parts _ _ _ _
+    λ nowhere refused. same_parts
     (c.plain_refusals_change_nothing.ensures.others _ _ _ c.step_lending.ensures.step.2 nowhere refused)

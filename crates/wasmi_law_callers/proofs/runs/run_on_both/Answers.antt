@@ -3,8 +3,7 @@ use Rattle.wasmi_law_callers.proofs.runs.run_on_both.Goals as goal
 
 pub returns : goal.returns
 returns c = record {
-  same =
-      λ has.
+  same = λ has.
       let second = rw c.requires.pools at c.in_ok-second.ensures.ran in
       pools_same c.replies_are_one.ensures c.tenants_leave_no_choice.ensures c.tenants_accept_notices.ensures
       c.args.pool.now c.run.new.self c.run-2.new.self c.args.index c.args.calls.now

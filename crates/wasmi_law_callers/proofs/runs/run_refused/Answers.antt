@@ -17,5 +17,5 @@ returns-clause-all g c =
 
 pub returns-clause-plain : goal.returns-clause-plain
 returns-clause-plain g c =
-    if_ok_too c.run_lending.result c.run_lending.ensures.run (λ replies ran plain. same_parts _ _ _ _
+    if_ok_too c.run_lending.result c.run_lending.ensures.run (λ replies ran plain. same_parts
     (c.plain_refusals_change_nothing.ensures.run _ ran.0 _ ran.3 (subst (All IsPlainRefusal) (sym ran.2) plain)))
