@@ -1,48 +1,12 @@
 -- What words write one after the other, the digits of a word, and what is accepted, in other words.
-use Rattle.std.proofs.Common.{ℕ, zero, suc, ◌≡◌, ◌==◌, ◌<◌, ◌+◌, ◌-◌, ◌∙◌, ◌∷◌, ◌++◌, All, Err, List, [], add-one, drop, drop-cons, false, filter, get_or, length, map, nat_lt, take, take-append-drop, refl, sym, ap, subst, arith, rules, tests, Option, Some, None, true, bytes_eq, codes, cond, Result, Ok, OnErr, IfErr}
+use Rattle.std.proofs.Common.{ℕ, zero, suc, ◌≡◌, ◌<◌, ◌+◌, ◌∷◌, ◌++◌, Err, List, [], add-one, false, get_or, length, map, take, refl, sym, ap, subst, arith, rules, tests, Option, Some, None, true, bytes_eq, codes, cond, Result, Ok, OnErr, IfErr}
 use Rattle.std.specs.Borrow.{Bor}
-use Rattle.std.specs.List.{AllZip, slice_split}
-use Rattle.std.proofs.Math.ListN.{get_or-map}
-use Rattle.std.proofs.lemmas.List.{get_or-take, get_or-drop, length-take, length-drop, take_all}
-use Rattle.std.proofs.lemmas.List.Splits.{slice_split_at, slice_split_none}
+use Rattle.std.specs.List.{AllZip}
 use Rattle.wasmi_operands.specs.declared.error.LineError.{LineError}
 use Rattle.wasmi_operands.specs.declared.error.LineError.TheVariants.{BadCommand, OutOfMemory}
-use Rattle.wasmi_operands.specs.LineWords.{Accepts, AcceptsWithMemory, LineWords, WritesEach, word_at, words_in, IsDecimal, decimal_value, WritesLimit}
+use Rattle.wasmi_operands.specs.LineWords.{Accepts, AcceptsWithMemory, LineWords, WritesEach, IsDecimal, decimal_value, WritesLimit}
 use Rattle.std.specs.Char.{digit_value}
 use Rattle.std.specs.Str.Parse.{AllDigits}
-
--- a word without a text
-abbrev no_word : Bor (List ℕ)
-no_word = record { ref_ptr = (0, 0); now = [] }
-
--- what holds of a word's text holds of it in the front that has the word
-pub in_front : (P : List ℕ → Type 0) (words : LineWords) (n k : ℕ) → k < n → P (word_at words k)
-    → P (word_at (take n words) k)
-in_front P words n k less p =
-    subst P (sym (get_or-map (λ word. word.now) (take n words) k no_word
-    ∙ ap (λ word. word.now) (get_or-take n words k no_word less)
-    ∙ sym (get_or-map (λ word. word.now) words k no_word))) p
-
--- what holds of a word's text holds of the word
-pub at_place : (P : List ℕ → Type 0) (words : LineWords) (n k : ℕ) → n ≡ k → P (word_at words k)
-    → P (get_or words n no_word).now
-at_place P words n k same p =
-    subst (λ i. P (get_or words i no_word).now) (sym same) (subst P (get_or-map (λ word. word.now) words k no_word) p)
-
--- how many words stand after the first ones
-pub length_of_rest : (words : LineWords) (n k : ℕ) → length words ≡ n + k
-    → length (take (length words - n) (drop n words)) ≡ k
-length_of_rest words n k is = omega (arith, length-take (length words - n) (drop n words), length-drop n words, is)
-
--- what holds of a word's text holds of it among the words after the first ones
-pub in_rest : (P : List ℕ → Type 0) (words : LineWords) (n k : ℕ) → n + k < length words → P (word_at words (n + k))
-    → P (word_at (take (length words - n) (drop n words)) k)
-in_rest P words n k less p =
-    in_front P (drop n words) (length words - n) k (omega (arith, less)) (subst P (
-    get_or-map (λ word. word.now) words (n + k) no_word
-    ∙ ap (λ word. word.now) (sym (get_or-drop n words k no_word))
-    ∙ sym (get_or-map (λ word. word.now) (drop n words) k no_word)
-    ) p)
 
 module _ {A : Type 0} (Writes : List ℕ → A → Type 0) where
   -- one word more, and what it writes
