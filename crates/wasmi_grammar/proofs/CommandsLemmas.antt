@@ -1,5 +1,5 @@
 -- What the operands of a command write, by the word that it begins with.
-use Rattle.std.proofs.Common.{ℕ, ◌≡◌, ◌+◌, ◌-◌, List, [], ◌∷◌, Result, Err, bytes_eq, cond, codes, drop, get_or, length, take, refl, subst, arith}
+use Rattle.std.proofs.Common.{ℕ, ◌≡◌, List, [], ◌∷◌, Result, Err, bytes_eq, cond, codes, subst}
 use Rattle.wasmi_types.specs.declared.value.RefType.{RefType}
 use Rattle.wasmi_types.specs.declared.value.ValType.{ValType}
 use Rattle.wasmi_typed.specs.declared.global.Mutability.{Mutability}
@@ -20,9 +20,9 @@ use Rattle.wasmi_ops.specs.declared.vector.unary.UnaryOp.{UnaryOp}
 use Rattle.wasmi_core.specs.declared.calls.Call.{Call}
 use Rattle.wasmi_core.specs.declared.calls.Call.TheVariants as call
 use Rattle.wasmi_operands.specs.declared.error.LineError.{LineError}
-use Rattle.wasmi_operands.specs.LineWords.{Accepts, LineWords, WritesNumber, word_at}
+use Rattle.wasmi_operands.specs.LineWords.{Accepts, LineWords}
 use Rattle.wasmi_grammar.specs.Commands.{command_word, WritesOperands, NamesAfter}
-use Rattle.wasmi_operands.proofs.LineWordsLemmas.{at_place, in_rest, length_of_rest, refused_through, refused_with}
+use Rattle.wasmi_operands.proofs.LineWordsLemmas.{refused_through}
 
 -- what parsers make a call of: the values that the operands write, and the call of these
 abbrev Form : Type 1
@@ -124,45 +124,3 @@ refused_form word words error result is =
     refused_through error result is
     (λ call names. subst (λ name. (a : (form_in forms name).0) × WritesOperands words ((form_in forms name).1 a))
     names.0 (form words call names.1))
-
--- a command is refused since the word at a place writes no number of so many bits
-pub refused_number : (bits k : ℕ) (word : List ℕ) (words : LineWords) (error : LineError)
-    (result : Result Call LineError) → result ≡ Err error
-    → Accepts {A = ℕ} (Err error) (WritesNumber bits (get_or words k (record { ref_ptr = (0, 0); now = [] })).now)
-    → ((a : (form_in forms word).0) → WritesOperands words ((form_in forms word).1 a)
-    → (n : ℕ) × WritesNumber bits (word_at words k) n) → Accepts result (NamesAfter word words)
-refused_number bits k word words error result is refused part =
-    refused_form word words error result is (refused_with error
-    (WritesNumber bits (get_or words k (record { ref_ptr = (0, 0); now = [] })).now)
-    (λ a. WritesOperands words ((form_in forms word).1 a))
-    (λ a w. let n = part a w in (n.0, at_place (λ text. WritesNumber bits text n.0) words k k refl n.1)) refused)
-
--- three words write three numbers of 64 bits
-abbrev WritesPlace : LineWords → ℕ × ℕ × ℕ → Type 0
-WritesPlace words place = (length words ≡ 3) × WritesNumber 64 (word_at words 0) place.0
-    × WritesNumber 64 (word_at words 1) place.1 × WritesNumber 64 (word_at words 2) place.2
-
--- the last three of n + 3 words write the numbers that these words write from the n-th on
-place_in_rest : (words : LineWords) (n : ℕ) (place : ℕ × ℕ × ℕ)
-    → (length words ≡ n + 3) × WritesNumber 64 (word_at words (n + 0)) place.0
-    × WritesNumber 64 (word_at words (n + 1)) place.1 × WritesNumber 64 (word_at words (n + 2)) place.2
-    → WritesPlace (take (length words - n) (drop n words)) place
-place_in_rest words n place w = (
-  length_of_rest words n 3 w.0,
-  in_rest (λ text. WritesNumber 64 text place.0) words n 0 (omega (arith, w.0)) w.1,
-  in_rest (λ text. WritesNumber 64 text place.1) words n 1 (omega (arith, w.0)) w.2,
-  in_rest (λ text. WritesNumber 64 text place.2) words n 2 (omega (arith, w.0)) w.3,
-)
-
--- a command is refused since its last three words write no three numbers of 64 bits
-pub refused_place : (n : ℕ) (word : List ℕ) (words : LineWords) (error : LineError) (result : Result Call LineError)
-    → result ≡ Err error
-    → Accepts {A = ℕ × ℕ × ℕ} (Err error) (WritesPlace (take (length words - n) (drop n words)))
-    → ((a : (form_in forms word).0) → WritesOperands words ((form_in forms word).1 a) → (place : ℕ × ℕ × ℕ)
-    × ((length words ≡ n + 3) × WritesNumber 64 (word_at words (n + 0)) place.0
-    × WritesNumber 64 (word_at words (n + 1)) place.1 × WritesNumber 64 (word_at words (n + 2)) place.2))
-    → Accepts result (NamesAfter word words)
-refused_place n word words error result is refused part =
-    refused_form word words error result is (refused_with error (WritesPlace (take (length words - n) (drop n words)))
-    (λ a. WritesOperands words ((form_in forms word).1 a))
-    (λ a w. let place = part a w in (place.0, place_in_rest words n place.0 place.1)) refused)

@@ -45,6 +45,9 @@ use Rattle.wasmi_operands.proofs.NamesLemmas.{named, named_is, reference_named, 
 use Rattle.wasmi_operands.proofs.LineWordsLemmas.{each_named}
 use Rattle.wasmi_grammar.proofs.LimitWordsLemmas.{memory_named, memory_is, table_named, table_is}
 use Rattle.wasmi_grammar.proofs.HeadersLemmas.{answers_named, answers_is}
+use Rattle.wasmi_typed.specs.declared.typed_ref.TypedRawRef.{TypedRawRef}
+use denote.Enum.Bare.{Bare}
+use denote.Enum.Declared.{Record}
 
 -- what a list has beside a word, or something else
 abbrev found_or : {A : Type 0} → List (List ℕ × A) → List ℕ → A → A
@@ -95,6 +98,20 @@ module _ (words : LineWords) where
   drops_named =
       (codes "memory", Some (Other (DropMemory (number 1)))) ∷ (codes "table", Some (Other (DropTable (number 1)))) ∷ []
 
+  -- the call of the op that the first word names
+  abbrev by_name : (N : Record) → Bare N.parts → (N.D → List ℕ) → (N.D → Call) → Option CallMeaning
+  by_name N bare name_of call = option_map (λ op. Other (call op)) (named N bare name_of (word 0))
+
+  -- the call of the op that the first word names on the lane of the k-th word
+  abbrev by_lane : (N : Record) → Bare N.parts → (N.D → List ℕ) → {Op : Type 0} → (N.D → ℕ → Option Op) → ℕ
+      → (Op → Call) → Option CallMeaning
+  by_lane N bare name_of op_on k call =
+      option_map (λ op. Other (call op)) (lane_named N bare name_of op_on (word 0) (word k))
+
+  -- the call with the reference that the third word and the fourth one write
+  abbrev by_reference : (TypedRawRef → Call) → Option CallMeaning
+  by_reference call = option_map (λ reference. Other (call reference)) (reference_named (word 2) (word 3))
+
   -- the call that operands write, by the word before them
   abbrev calls_named : List (List ℕ × Option CallMeaning)
   calls_named =
@@ -104,31 +121,21 @@ module _ (words : LineWords) where
       (codes "lent", option_map (λ ty. Other (NewLentMemory ty)) (memory_named (word 0) (word 1) (word 2) (word 3))) ∷
       (codes "grow", Some (Other (GrowMemory (number 0) (number 1)))) ∷
       (codes "read", Some (Other (Read (number 0) (number 1) (number 2)))) ∷
-      (codes "write", Some (WriteMeaning (number 0) (number 1) (numbers_in (drop 2 words)))) ∷ (
-        codes "load",
-        option_map (λ op. Other (Load op (number 1) (number 2) (number 3))) (named load.enum tt load_name (word 0)),
-      ) ∷ (
+      (codes "write", Some (WriteMeaning (number 0) (number 1) (numbers_in (drop 2 words)))) ∷
+      (codes "load", by_name load.enum tt load_name (λ op. Load op (number 1) (number 2) (number 3))) ∷ (
         codes "store",
-        option_map (λ op. Other (Store op (number 1) (number 2) (number 3) (raw_of (number 4))))
-            (named store.enum tt store_name (word 0)),
+        by_name store.enum tt store_name (λ op. Store op (number 1) (number 2) (number 3) (raw_of (number 4))),
       ) ∷ (
         codes "table",
         option_and_then (λ ty. option_map (λ init. Other (NewTable ty init)) (reference_named (word 4) (word 5)))
             (table_named (word 0) (word 1) (word 2) (word 3)),
-      ) ∷ (
-        codes "tgrow",
-        option_map (λ init. Other (GrowTable (number 0) (number 1) init)) (reference_named (word 2) (word 3)),
       ) ∷
-      (codes "get", Some (Other (GetElement (number 0) (number 1)))) ∷ (
-        codes "tset",
-        option_map (λ value. Other (SetElement (number 0) (number 1) value)) (reference_named (word 2) (word 3)),
-      ) ∷
+      (codes "tgrow", by_reference (λ init. GrowTable (number 0) (number 1) init)) ∷
+      (codes "get", Some (Other (GetElement (number 0) (number 1)))) ∷
+      (codes "tset", by_reference (λ value. SetElement (number 0) (number 1) value)) ∷
       (codes "init", Some (Other (InitTable (number 0) (number 1) (number 2) (number 3) (number 4)))) ∷
-      (codes "copy", Some (Other (CopyTable (number 0) (number 1) (number 2) (number 3) (number 4)))) ∷ (
-        codes "fill",
-        option_map (λ value. Other (FillTable (number 0) (number 1) value (number 4)))
-            (reference_named (word 2) (word 3)),
-      ) ∷ (
+      (codes "copy", Some (Other (CopyTable (number 0) (number 1) (number 2) (number 3) (number 4)))) ∷
+      (codes "fill", by_reference (λ value. FillTable (number 0) (number 1) value (number 4))) ∷ (
         codes "segment",
         option_map (λ ty. SegmentMeaning ty (numbers_in (drop 1 words)))
             (named reference_type.enum tt reference_word (word 0)),
@@ -146,44 +153,30 @@ module _ (words : LineWords) where
       (codes "gget", Some (Other (GetGlobal (number 0)))) ∷
       (codes "set", Some (Other (SetRegister (number 0) (raw 1 2)))) ∷
       (codes "show", Some (Other (GetRegister (number 0)))) ∷
-      (codes "make", option_map (λ op. Other (Make op (number 1) (number 2))) (named make.enum tt make_name (word 0)))
-      ∷ (
-        codes "unary",
-        option_map (λ op. Other (Unary op (number 1) (number 2))) (named unary.enum tt unary_name (word 0)),
-      ) ∷ (
-        codes "binary",
-        option_map (λ op. Other (Binary op (number 1) (number 2) (number 3)))
-            (named binary.enum tt binary_name (word 0)),
-      ) ∷ (
+      (codes "make", by_name make.enum tt make_name (λ op. Make op (number 1) (number 2))) ∷
+      (codes "unary", by_name unary.enum tt unary_name (λ op. Unary op (number 1) (number 2))) ∷
+      (codes "binary", by_name binary.enum tt binary_name (λ op. Binary op (number 1) (number 2) (number 3))) ∷ (
         codes "ternary",
-        option_map (λ op. Other (Ternary op (number 1) (number 2) (number 3) (number 4)))
-            (named ternary.enum tt ternary_name (word 0)),
-      ) ∷ (
-        codes "shift",
-        option_map (λ op. Other (Shift op (number 1) (number 2) (number 3))) (named shift.enum tt shift_name (word 0)),
+        by_name ternary.enum tt ternary_name (λ op. Ternary op (number 1) (number 2) (number 3) (number 4)),
       ) ∷
-      (codes "test", option_map (λ op. Other (Test op (number 1))) (named test.enum tt test_name (word 0))) ∷ (
-        codes "extract",
-        option_map (λ op. Other (Extract op (number 1)))
-            (lane_named extract.enum tt extract_name extract_op (word 0) (word 2)),
-      ) ∷ (
+      (codes "shift", by_name shift.enum tt shift_name (λ op. Shift op (number 1) (number 2) (number 3))) ∷
+      (codes "test", by_name test.enum tt test_name (λ op. Test op (number 1))) ∷
+      (codes "extract", by_lane extract.enum tt extract_name extract_op 2 (λ op. Extract op (number 1))) ∷ (
         codes "replace",
-        option_map (λ op. Other (Replace op (number 1) (number 2) (number 4)))
-            (lane_named replace.enum tt replace_name replace_op (word 0) (word 3)),
+        by_lane replace.enum tt replace_name replace_op 3 (λ op. Replace op (number 1) (number 2) (number 4)),
       ) ∷
       (codes "shuffle", Some (Other (Shuffle (number 0) (number 1) (number 2) (numbers_in (drop 3 words))))) ∷ (
         codes "vload",
-        option_map (λ op. Other (VectorLoad op (number 1) (number 2) (number 3) (number 4)))
-            (named vector_load.enum tt vector_load_name (word 0)),
+        by_name vector_load.enum tt vector_load_name (λ op. VectorLoad op (number 1) (number 2) (number 3) (number 4)),
       ) ∷ (
         codes "vloadlane",
-        option_map (λ op. Other (LoadLane op (number 1) (number 2) (number 4) (number 5) (number 6)))
-            (lane_named load_lane.enum tt load_lane_name load_lane_op (word 0) (word 3)),
+        by_lane load_lane.enum tt load_lane_name load_lane_op 3
+            (λ op. LoadLane op (number 1) (number 2) (number 4) (number 5) (number 6)),
       ) ∷
       (codes "vstore", Some (Other (VectorStore (number 0) (number 1) (number 2) (number 3)))) ∷ (
         codes "vstorelane",
-        option_map (λ op. Other (StoreLane op (number 1) (number 3) (number 4) (number 5)))
-            (lane_named store_lane.enum tt store_lane_name store_lane_op (word 0) (word 2)),
+        by_lane store_lane.enum tt store_lane_name store_lane_op 2
+            (λ op. StoreLane op (number 1) (number 3) (number 4) (number 5)),
       ) ∷
       (codes "drop", beside drops_named (word 0)) ∷
       []

@@ -5,7 +5,7 @@ ghost use Rattle.wasmi_grammar.specs.Headers.{WritesMeter, NamesLimiterAfter, Wr
 
 use std::alloc::Global;
 use wasmi_meter::{Amounts, LimiterAnswer};
-use wasmi_operands::operand::{self, list_of};
+use wasmi_operands::operand::list_of;
 use wasmi_operands::{LineError, number};
 
 /// The most tenants that a script may have.
@@ -88,7 +88,10 @@ pub(crate) fn meter_line(operands: &[&str]) -> Result<MeterLine, LineError>
 pub(crate) fn region_line(operands: &[&str]) -> Result<RegionLine, LineError>
     ensures { Accepts result (WritesRegion operands.now) }
 {
-    let (len, byte) = operand::two(operands)?;
+    let [len, byte] = operands else {
+        return Err(LineError::BadCommand);
+    };
+    let (len, byte) = (number(len)?, number(byte)?);
     Ok(RegionLine { len, byte })
 }
 
@@ -96,7 +99,10 @@ pub(crate) fn region_line(operands: &[&str]) -> Result<RegionLine, LineError>
 pub(crate) fn quota(operands: &[&str]) -> Result<LimiterLine, LineError>
     ensures { Accepts result (NamesLimiterAfter (codes "quota") operands.now) }
 {
-    let (bytes, elements) = operand::two(operands)?;
+    let [bytes, elements] = operands else {
+        return Err(LineError::BadCommand);
+    };
+    let (bytes, elements) = (number(bytes)?, number(elements)?);
     Ok(LimiterLine::Quota(Amounts { bytes, elements }))
 }
 
@@ -104,7 +110,10 @@ pub(crate) fn quota(operands: &[&str]) -> Result<LimiterLine, LineError>
 pub(crate) fn tenants(operands: &[&str]) -> Result<LimiterLine, LineError>
     ensures { Accepts result (NamesLimiterAfter (codes "tenants") operands.now) }
 {
-    let (count, bytes, elements) = operand::three(operands)?;
+    let [count, bytes, elements] = operands else {
+        return Err(LineError::BadCommand);
+    };
+    let (count, bytes, elements) = (number(count)?, number(bytes)?, number(elements)?);
     if !(1..=MOST_TENANTS).contains(&count) {
         return Err(LineError::BadCommand);
     }

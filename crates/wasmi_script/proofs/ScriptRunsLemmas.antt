@@ -5,11 +5,11 @@ use Rattle.wasmi_meter.specs.declared.limiter.NoLimits.{NoLimits}
 use Rattle.wasmi_meter.specs.Limiter.{optional_rules, unlimited_rules}
 use Rattle.wasmi_core.specs.declared.calls.Call.{Call}
 use Rattle.wasmi_core.specs.declared.calls.Reply.{Reply}
-use Rattle.wasmi_core.specs.State.{State, new_state, HoldsTotals, World, world}
+use Rattle.wasmi_core.specs.State.{State, new_state, World, world}
 use Rattle.wasmi_core.specs.Steps.{IsRunOf}
 use Rattle.wasmi_grammar.specs.declared.header.Header.{Header}
 use Rattle.wasmi_grammar.specs.Headers.{meter_of, region_bytes, start_of}
-use Rattle.wasmi_script.specs.ScriptRuns.{nothing_held, AnswersParts}
+use Rattle.wasmi_script.specs.ScriptRuns.{AnswersParts}
 use Rattle.std.specs.List.{slice_get}
 use Rattle.std.proofs.lemmas.List.{take_more}
 use Rattle.std.proofs.lemmas.Option.{slice_get_within, get_or_from_slice_get}

@@ -82,17 +82,16 @@ mod command {
         /// Definitions: [`Accepts`](crate::specs::operands::LineWords#Accepts), [`NamesAfter`](crate::specs::grammar::Commands#NamesAfter).
         #[inline]
         pub fn load_lane(operands: &[&str]) -> Result<Call, LineError> {
-            let [name, dst, a, lane, place @ ..] = operands else {
+            let [name, dst, a, lane, memory, ptr, offset] = operands else {
                 return Err(LineError::BadCommand);
             };
-            let (memory, ptr, offset) = operand::three(place)?;
             Ok(Call::LoadLane {
                 op: load_lane_op(name, lane)?,
                 dst: number(dst)?,
                 a: number(a)?,
-                memory,
-                ptr,
-                offset,
+                memory: number(memory)?,
+                ptr: number(ptr)?,
+                offset: number(offset)?,
             })
         }
 
@@ -127,16 +126,15 @@ mod command {
         /// Definitions: [`Accepts`](crate::specs::operands::LineWords#Accepts), [`NamesAfter`](crate::specs::grammar::Commands#NamesAfter).
         #[inline]
         pub fn store_lane(operands: &[&str]) -> Result<Call, LineError> {
-            let [name, a, lane, place @ ..] = operands else {
+            let [name, a, lane, memory, ptr, offset] = operands else {
                 return Err(LineError::BadCommand);
             };
-            let (memory, ptr, offset) = operand::three(place)?;
             Ok(Call::StoreLane {
                 op: store_lane_op(name, lane)?,
                 a: number(a)?,
-                memory,
-                ptr,
-                offset,
+                memory: number(memory)?,
+                ptr: number(ptr)?,
+                offset: number(offset)?,
             })
         }
     }
@@ -313,7 +311,7 @@ mod command {
     pub mod table {
         //! Commands of tables and element segments.
 
-        use crate::proved::machine::{Call, IndexType, RefType, TableType, TypedRawRef};
+        use crate::proved::machine::{Call, IndexType, RefType, TableType};
         use crate::proved::operands::operand::{self, list_of};
         use crate::proved::operands::{
             LineError, index_ty, number, number_or_none, ref_type, reference,
@@ -350,11 +348,13 @@ mod command {
         /// Definitions: [`Accepts`](crate::specs::operands::LineWords#Accepts), [`NamesAfter`](crate::specs::grammar::Commands#NamesAfter).
         #[inline]
         pub fn grow(operands: &[&str]) -> Result<Call, LineError> {
-            let (table, delta, ty, raw) = operand::four(operands)?;
+            let [table, delta, ty, raw] = operands else {
+                return Err(LineError::BadCommand);
+            };
             Ok(Call::GrowTable {
-                table,
-                delta,
-                init: TypedRawRef::new(raw, ty),
+                table: number(table)?,
+                delta: number(delta)?,
+                init: reference(ty, raw)?,
             })
         }
 
@@ -384,11 +384,13 @@ mod command {
         /// Definitions: [`Accepts`](crate::specs::operands::LineWords#Accepts), [`NamesAfter`](crate::specs::grammar::Commands#NamesAfter).
         #[inline]
         pub fn set(operands: &[&str]) -> Result<Call, LineError> {
-            let (table, index, ty, raw) = operand::four(operands)?;
+            let [table, index, ty, raw] = operands else {
+                return Err(LineError::BadCommand);
+            };
             Ok(Call::SetElement {
-                table,
-                index,
-                value: TypedRawRef::new(raw, ty),
+                table: number(table)?,
+                index: number(index)?,
+                value: reference(ty, raw)?,
             })
         }
 
@@ -445,12 +447,14 @@ mod command {
         /// Definitions: [`Accepts`](crate::specs::operands::LineWords#Accepts), [`NamesAfter`](crate::specs::grammar::Commands#NamesAfter).
         #[inline]
         pub fn fill(operands: &[&str]) -> Result<Call, LineError> {
-            let (table, dst, ty, raw, len) = operand::five(operands)?;
+            let [table, dst, ty, raw, len] = operands else {
+                return Err(LineError::BadCommand);
+            };
             Ok(Call::FillTable {
-                table,
-                dst,
-                value: TypedRawRef::new(raw, ty),
-                len,
+                table: number(table)?,
+                dst: number(dst)?,
+                value: reference(ty, raw)?,
+                len: number(len)?,
             })
         }
 
@@ -908,7 +912,7 @@ mod header {
     //! The header lines of a script.
 
     use crate::proved::meter::{Amounts, LimiterAnswer};
-    use crate::proved::operands::operand::{self, list_of};
+    use crate::proved::operands::operand::list_of;
     use crate::proved::operands::{LineError, number};
     use crate::rattle::Vec;
 
@@ -1012,7 +1016,10 @@ mod header {
     /// Definitions: [`Accepts`](crate::specs::operands::LineWords#Accepts), [`WritesRegion`](crate::specs::grammar::Headers#WritesRegion).
     #[inline]
     pub(crate) fn region_line(operands: &[&str]) -> Result<RegionLine, LineError> {
-        let (len, byte) = operand::two(operands)?;
+        let [len, byte] = operands else {
+            return Err(LineError::BadCommand);
+        };
+        let (len, byte) = (number(len)?, number(byte)?);
         Ok(RegionLine { len, byte })
     }
 
@@ -1027,7 +1034,10 @@ mod header {
     /// Definitions: [`Accepts`](crate::specs::operands::LineWords#Accepts), [`NamesLimiterAfter`](crate::specs::grammar::Headers#NamesLimiterAfter).
     #[inline]
     pub(crate) fn quota(operands: &[&str]) -> Result<LimiterLine, LineError> {
-        let (bytes, elements) = operand::two(operands)?;
+        let [bytes, elements] = operands else {
+            return Err(LineError::BadCommand);
+        };
+        let (bytes, elements) = (number(bytes)?, number(elements)?);
         Ok(LimiterLine::Quota(Amounts { bytes, elements }))
     }
 
@@ -1042,7 +1052,10 @@ mod header {
     /// Definitions: [`Accepts`](crate::specs::operands::LineWords#Accepts), [`NamesLimiterAfter`](crate::specs::grammar::Headers#NamesLimiterAfter).
     #[inline]
     pub(crate) fn tenants(operands: &[&str]) -> Result<LimiterLine, LineError> {
-        let (count, bytes, elements) = operand::three(operands)?;
+        let [count, bytes, elements] = operands else {
+            return Err(LineError::BadCommand);
+        };
+        let (count, bytes, elements) = (number(count)?, number(bytes)?, number(elements)?);
         if !(1..=MOST_TENANTS).contains(&count) {
             return Err(LineError::BadCommand);
         }

@@ -54,17 +54,16 @@ pub fn vector_load(operands: &[&str]) -> Result<Call, LineError>
 pub fn load_lane(operands: &[&str]) -> Result<Call, LineError>
     ensures { Accepts result (NamesAfter (codes "vloadlane") operands.now) }
 {
-    let [name, dst, a, lane, place @ ..] = operands else {
+    let [name, dst, a, lane, memory, ptr, offset] = operands else {
         return Err(LineError::BadCommand);
     };
-    let (memory, ptr, offset) = operand::three(place)?;
     Ok(Call::LoadLane {
         op: load_lane_op(name, lane)?,
         dst: number(dst)?,
         a: number(a)?,
-        memory,
-        ptr,
-        offset,
+        memory: number(memory)?,
+        ptr: number(ptr)?,
+        offset: number(offset)?,
     })
 }
 
@@ -85,15 +84,14 @@ pub fn vector_store(operands: &[&str]) -> Result<Call, LineError>
 pub fn store_lane(operands: &[&str]) -> Result<Call, LineError>
     ensures { Accepts result (NamesAfter (codes "vstorelane") operands.now) }
 {
-    let [name, a, lane, place @ ..] = operands else {
+    let [name, a, lane, memory, ptr, offset] = operands else {
         return Err(LineError::BadCommand);
     };
-    let (memory, ptr, offset) = operand::three(place)?;
     Ok(Call::StoreLane {
         op: store_lane_op(name, lane)?,
         a: number(a)?,
-        memory,
-        ptr,
-        offset,
+        memory: number(memory)?,
+        ptr: number(ptr)?,
+        offset: number(offset)?,
     })
 }

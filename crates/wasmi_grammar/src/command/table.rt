@@ -7,7 +7,7 @@ ghost use Rattle.wasmi_operands.specs.LineWords.{Accepts, AcceptsWithMemory};
 ghost use Rattle.wasmi_grammar.specs.Commands.{NamesAfter, HasLimits, NamesTableType};
 
 use std::alloc::Global;
-use wasmi_core::{Call, IndexType, RefType, TableType, TypedRawRef};
+use wasmi_core::{Call, IndexType, RefType, TableType};
 use wasmi_operands::operand::{self, list_of};
 use wasmi_operands::{LineError, index_ty, number, number_or_none, ref_type, reference};
 
@@ -28,11 +28,13 @@ pub fn new_table(operands: &[&str]) -> Result<Call, LineError>
 pub fn grow(operands: &[&str]) -> Result<Call, LineError>
     ensures { Accepts result (NamesAfter (codes "tgrow") operands.now) }
 {
-    let (table, delta, ty, raw) = operand::four(operands)?;
+    let [table, delta, ty, raw] = operands else {
+        return Err(LineError::BadCommand);
+    };
     Ok(Call::GrowTable {
-        table,
-        delta,
-        init: TypedRawRef::new(raw, ty),
+        table: number(table)?,
+        delta: number(delta)?,
+        init: reference(ty, raw)?,
     })
 }
 
@@ -48,11 +50,13 @@ pub fn get(operands: &[&str]) -> Result<Call, LineError>
 pub fn set(operands: &[&str]) -> Result<Call, LineError>
     ensures { Accepts result (NamesAfter (codes "tset") operands.now) }
 {
-    let (table, index, ty, raw) = operand::four(operands)?;
+    let [table, index, ty, raw] = operands else {
+        return Err(LineError::BadCommand);
+    };
     Ok(Call::SetElement {
-        table,
-        index,
-        value: TypedRawRef::new(raw, ty),
+        table: number(table)?,
+        index: number(index)?,
+        value: reference(ty, raw)?,
     })
 }
 
@@ -88,12 +92,14 @@ pub fn copy(operands: &[&str]) -> Result<Call, LineError>
 pub fn fill(operands: &[&str]) -> Result<Call, LineError>
     ensures { Accepts result (NamesAfter (codes "fill") operands.now) }
 {
-    let (table, dst, ty, raw, len) = operand::five(operands)?;
+    let [table, dst, ty, raw, len] = operands else {
+        return Err(LineError::BadCommand);
+    };
     Ok(Call::FillTable {
-        table,
-        dst,
-        value: TypedRawRef::new(raw, ty),
-        len,
+        table: number(table)?,
+        dst: number(dst)?,
+        value: reference(ty, raw)?,
+        len: number(len)?,
     })
 }
 

@@ -1,9 +1,0 @@
-use Rattle.std.proofs.Common.{codes, rules}
-use Rattle.wasmi_operands.proofs.LineWordsLemmas.{refused_with}
-use Rattle.wasmi_grammar.proofs.CommandsLemmas.{refused_form}
-use Rattle.wasmi_grammar.proofs.command.table.fill.Goals as goal
-
-pub returns-in_err-table : goal.returns-in_err-table
-returns-in_err-table c =
-    refused_form (codes "fill") c.args.operands.now c.in_err-table.field-0.0 c.from_residual.result (search rules)
-    (refused_with c.in_err-table.field-0.0 _ _ (λ a w. (a, (w.0, w.1, w.2, w.3.0, w.3.1, w.4))) c.in_err-table.ensures)
