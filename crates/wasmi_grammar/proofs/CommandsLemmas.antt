@@ -1,17 +1,12 @@
 -- What the operands of a command write, by the word that it begins with.
 use Rattle.std.proofs.Common.{ℕ, ◌≡◌, List, [], ◌∷◌, Result, Err, bytes_eq, cond, codes, subst}
-use Rattle.wasmi_types.specs.declared.value.RefType.{RefType}
 use Rattle.wasmi_types.specs.declared.value.ValType.{ValType}
 use Rattle.wasmi_typed.specs.declared.global.Mutability.{Mutability}
 use Rattle.wasmi_raw.specs.declared.raw.RawVal.{RawVal}
 use Rattle.wasmi_ops.specs.declared.scalar.access.LoadOp.{LoadOp}
 use Rattle.wasmi_ops.specs.declared.scalar.access.StoreOp.{StoreOp}
-use Rattle.wasmi_ops.specs.declared.vector.access.LoadLaneOp.{LoadLaneOp}
-use Rattle.wasmi_ops.specs.declared.vector.access.StoreLaneOp.{StoreLaneOp}
 use Rattle.wasmi_ops.specs.declared.vector.access.VectorLoadOp.{VectorLoadOp}
 use Rattle.wasmi_ops.specs.declared.vector.binary.BinaryOp.{BinaryOp}
-use Rattle.wasmi_ops.specs.declared.vector.lane.ExtractOp.{ExtractOp}
-use Rattle.wasmi_ops.specs.declared.vector.lane.ReplaceOp.{ReplaceOp}
 use Rattle.wasmi_ops.specs.declared.vector.make.MakeOp.{MakeOp}
 use Rattle.wasmi_ops.specs.declared.vector.shift.ShiftOp.{ShiftOp}
 use Rattle.wasmi_ops.specs.declared.vector.ternary.TernaryOp.{TernaryOp}
@@ -40,14 +35,9 @@ forms =
     (codes "read", (ℕ × ℕ × ℕ, λ a. call.Read a.0 a.1 a.2)) ∷
     (codes "load", (LoadOp × ℕ × ℕ × ℕ, λ a. call.Load a.0 a.1 a.2 a.3)) ∷
     (codes "store", (StoreOp × ℕ × ℕ × ℕ × RawVal, λ a. call.Store a.0 a.1 a.2 a.3 a.4)) ∷
-    (codes "tgrow", (ℕ × ℕ × RefType × ℕ, λ a. call.GrowTable a.0 a.1 (record { ty = a.2; raw = a.3 }))) ∷
     (codes "get", (ℕ × ℕ, λ a. call.GetElement a.0 a.1)) ∷
-    (codes "tset", (ℕ × ℕ × RefType × ℕ, λ a. call.SetElement a.0 a.1 (record { ty = a.2; raw = a.3 }))) ∷
     (codes "init", (ℕ × ℕ × ℕ × ℕ × ℕ, λ a. call.InitTable a.0 a.1 a.2 a.3 a.4)) ∷
     (codes "copy", (ℕ × ℕ × ℕ × ℕ × ℕ, λ a. call.CopyTable a.0 a.1 a.2 a.3 a.4)) ∷ (
-      codes "fill",
-      (ℕ × ℕ × RefType × ℕ × ℕ, λ a. call.FillTable a.0 a.1 (record { ty = a.2; raw = a.3 }) a.4),
-    ) ∷ (
       codes "global",
       (
         ValType × Mutability × ℕ × ℕ,
@@ -64,56 +54,32 @@ forms =
     (codes "ternary", (TernaryOp × ℕ × ℕ × ℕ × ℕ, λ a. call.Ternary a.0 a.1 a.2 a.3 a.4)) ∷
     (codes "shift", (ShiftOp × ℕ × ℕ × ℕ, λ a. call.Shift a.0 a.1 a.2 a.3)) ∷
     (codes "test", (TestOp × ℕ, λ a. call.Test a.0 a.1)) ∷
-    (codes "extract", (ExtractOp × ℕ, λ a. call.Extract a.0 a.1)) ∷
-    (codes "replace", (ReplaceOp × ℕ × ℕ × ℕ, λ a. call.Replace a.0 a.1 a.2 a.3)) ∷
-    (codes "shuffle", (ℕ × ℕ × ℕ × List ℕ, λ a. call.Shuffle a.0 a.1 a.2 a.3)) ∷
     (codes "vload", (VectorLoadOp × ℕ × ℕ × ℕ × ℕ, λ a. call.VectorLoad a.0 a.1 a.2 a.3 a.4)) ∷
-    (codes "vloadlane", (LoadLaneOp × ℕ × ℕ × ℕ × ℕ × ℕ, λ a. call.LoadLane a.0 a.1 a.2 a.3 a.4 a.5)) ∷
     (codes "vstore", (ℕ × ℕ × ℕ × ℕ, λ a. call.VectorStore a.0 a.1 a.2 a.3)) ∷
-    (codes "vstorelane", (StoreLaneOp × ℕ × ℕ × ℕ × ℕ, λ a. call.StoreLane a.0 a.1 a.2 a.3 a.4)) ∷
     []
 
 -- a call whose operands are written is of the form of its word
 form : (words : LineWords) (call : Call) → WritesOperands words call
     → (a : (form_in forms (command_word call)).0) × WritesOperands words ((form_in forms (command_word call)).1 a)
-form words (call.SetFuel fuel) w = (call.SetFuel fuel, w)
-form words call.GetFuel w = (call.GetFuel, w)
-form words (call.NewMemory ty) w = (call.NewMemory ty, w)
-form words (call.NewLentMemory ty) w = (call.NewLentMemory ty, w)
 form words (call.GrowMemory memory pages) w = ((memory, pages), w)
-form words (call.DropMemory memory) w = (call.DropMemory memory, w)
 form words (call.Read memory offset len) w = ((memory, offset, len), w)
-form words (call.Write memory offset bytes) w = (call.Write memory offset bytes, w)
 form words (call.Load op memory ptr offset) w = ((op, memory, ptr, offset), w)
 form words (call.Store op memory ptr offset value) w = ((op, memory, ptr, offset, value), w)
-form words (call.NewTable ty init) w = (call.NewTable ty init, w)
-form words (call.GrowTable table delta init) w = ((table, delta, init.ty, init.raw), w)
-form words (call.DropTable table) w = (call.DropTable table, w)
 form words (call.GetElement table index) w = ((table, index), w)
-form words (call.SetElement table index value) w = ((table, index, value.ty, value.raw), w)
 form words (call.InitTable table segment dst src len) w = ((table, segment, dst, src, len), w)
 form words (call.CopyTable dst_table dst src_table src len) w = ((dst_table, dst, src_table, src, len), w)
-form words (call.FillTable table dst value len) w = ((table, dst, value.ty, value.raw, len), w)
-form words (call.NewSegment ty items) w = (call.NewSegment ty items, w)
-form words (call.DropItems segment) w = (call.DropItems segment, w)
 form words (call.NewGlobal value ty) w = ((ty.content, ty.mutability, value.lo, value.hi), w)
 form words (call.SetGlobal global value) w = ((global, value.ty, value.raw.lo, value.raw.hi), w)
-form words (call.GetGlobal global) w = (call.GetGlobal global, w)
 form words (call.SetRegister dst value) w = ((dst, value.lo, value.hi), w)
-form words (call.GetRegister a) w = (call.GetRegister a, w)
 form words (call.Make op dst a) w = ((op, dst, a), w)
 form words (call.Unary op dst a) w = ((op, dst, a), w)
 form words (call.Binary op dst a b) w = ((op, dst, a, b), w)
 form words (call.Ternary op dst a b c) w = ((op, dst, a, b, c), w)
 form words (call.Shift op dst a amount) w = ((op, dst, a, amount), w)
 form words (call.Test op a) w = ((op, a), w)
-form words (call.Extract op a) w = ((op, a), w)
-form words (call.Replace op dst a item) w = ((op, dst, a, item), w)
-form words (call.Shuffle dst a b lanes) w = ((dst, a, b, lanes), w)
 form words (call.VectorLoad op dst memory ptr offset) w = ((op, dst, memory, ptr, offset), w)
-form words (call.LoadLane op dst a memory ptr offset) w = ((op, dst, a, memory, ptr, offset), w)
 form words (call.VectorStore a memory ptr offset) w = ((a, memory, ptr, offset), w)
-form words (call.StoreLane op a memory ptr offset) w = ((op, a, memory, ptr, offset), w)
+form words call w = (call, w)
 
 -- a command is refused since the values of its form are
 pub refused_form : (word : List ℕ) (words : LineWords) (error : LineError) (result : Result Call LineError)
