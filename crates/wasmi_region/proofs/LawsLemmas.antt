@@ -16,10 +16,6 @@ on_first : {A A' : Type 0} (B : Type 0) (test : Bool) → (A → A') → MatchBo
 on_first B true leads h = leads h
 on_first B false leads h = h
 
--- no cause is there and not there
-no_some : {E : Type 0} (cause : E) (o : Option E) → o ≡ None → o ≡ Some cause → ⊥
-no_some cause o none some = cc
-
 -- nothing stands against a request but its limiter
 record IsFree {V E : Type 0} (e : Request V E) (m : Option Meter) : Type 0 where
   pub early : e.early ≡ None
@@ -32,13 +28,13 @@ module _ {V E S T : Type 0} (rules : Rules S) (e : Request V E) (m : Option Mete
   -- it doesn't fail after the permission
   no_failure : (late : Option E) (cause : E) → late ≡ None → IsFirstCause e m late cause → ⊥
   no_failure None cause none first = free.room cause (rw free.paid at first)
-  no_failure (Some late) cause none first = no_some late (Some late) none refl
+  no_failure (Some late) cause none first = cc
 
   -- so it is met, or denied
   met_or_denied : (outcome : AttemptOutcome E) → MayEnd e m outcome → Follows e rules l outcome l'
       → (result : Result T E) → result ≡ answer_of e value outcome
       → (result ≡ Ok value) ⊎ IsDenied rules e.question l l'
-  met_or_denied (Unasked cause) may follows result answered = absurd (no_some cause e.early free.early may)
+  met_or_denied (Unasked cause) may follows result answered = let none = free.early in absurd cc
   met_or_denied (Denied answer) may follows result answered = inr (answer, may.1, follows)
   met_or_denied Met may follows result answered = inl answered
   met_or_denied (Failed cause notice_answer) may follows result answered =
@@ -50,12 +46,9 @@ module _ {S : Type 0} (rules : Rules S) where
   table_creations_succeed ty room reference l result l' place makes =
       met_or_denied rules (creation_in ty room) None
       (record {
-        early = no_cause _ _ (same_as_itself ty.element);
-        late = refl;
-        paid = refl;
+        early = no_cause _ _ (same_as_itself ty.element); late = refl; paid = refl;
         room = λ cause refuses. omega (arith, place, refuses.1);
-      })
-      _ l l' makes.0 makes.1.may_end makes.1.follows result makes.2
+      }) _ l l' makes.0 makes.1.may_end makes.1.follows result makes.2
 
   -- a growth on a region of at least the new size
   pub table_growths_succeed : TableGrowthsSucceed rules
@@ -65,12 +58,9 @@ module _ {S : Type 0} (rules : Rules S) where
         | inr some ↦
             met_or_denied rules (growth_in room s.value n reference) s.meter
             (record {
-              early = no_cause _ _ can.indexable;
-              late = no_cause _ _ can.within;
-              paid = can.paid;
+              early = no_cause _ _ can.indexable; late = no_cause _ _ can.within; paid = can.paid;
               room = λ cause refuses. omega (arith, can.place, refuses.1);
-            })
-            _ s.limiter s'.limiter some.outcome some.attempt.may_end some.attempt.follows result some.answered
+            }) _ s.limiter s'.limiter some.outcome some.attempt.may_end some.attempt.follows result some.answered
       ]
 
 -- a request that is refused for fewer causes
@@ -95,12 +85,9 @@ module _ {V E S : Type 0} (rules : Rules S) (e : Request V E) (refuses : E → T
   -- an attempt of it is one of the wider request
   attempt_wider : (s : MeteredValue V S) (outcome : AttemptOutcome E) (charge : ℕ) (s' : MeteredValue V S)
       → Attempt rules narrow s outcome charge s' → Attempt rules e s outcome charge s'
-  attempt_wider s outcome charge s' attempt = record {
-    may_end = may_end s.meter outcome attempt.may_end;
-    follows = attempt.follows;
-    charged = attempt.charged;
-    meter = attempt.meter;
-    value = attempt.value;
+  attempt_wider s outcome charge s' a = record {
+    may_end = may_end s.meter outcome a.may_end; follows = a.follows; charged = a.charged;
+    meter = a.meter; value = a.value;
   }
 
 module _ {S : Type 0} (rules : Rules S) where
@@ -117,18 +104,10 @@ module _ {S : Type 0} (rules : Rules S) where
   growths_are_tables room n reference s result s' grows = (
     grows.0,
     elim grows.1 [
-      | inl none ↦ inl (record {
-        none = none.none;
-        answered = none.answered;
-        uncharged = none.uncharged;
-        same = none.same;
-      })
-      | inr some ↦ inr (record {
-        some = some.some;
-        outcome = some.outcome;
-        attempt = attempt_wider rules (growth_of s.value n reference) _ (λ cause is. is.0) s some.outcome grows.0 s'
-            some.attempt;
-        answered = some.answered;
+      | inl g ↦ inl (record { none = g.none; answered = g.answered; uncharged = g.uncharged; same = g.same })
+      | inr g ↦ inr (record {
+        some = g.some; outcome = g.outcome; answered = g.answered;
+        attempt = attempt_wider rules (growth_of s.value n reference) _ (λ cause is. is.0) s _ _ s' g.attempt;
       })
     ],
   )

@@ -39,22 +39,6 @@ pub record RegionGrowth (S : Type 0) : Type 1 where
   pub reference : ℕ
   pub some : delta ≡ 0 → ⊥
 
--- the growth of these
-abbrev pub growth_at : {S : Type 0} → Rules S → TableTypeValue → (region : List ℕ) (size : ℕ) → size ≤ length region
-    → Meter → S → (delta : ℕ) → ℕ → (delta ≡ 0 → ⊥) → RegionGrowth S
-growth_at limits ty region size within meter limiter delta reference some = record {
-  limits = limits;
-  ty = ty;
-  region = region;
-  size = size;
-  within = within;
-  meter = meter;
-  limiter = limiter;
-  delta = delta;
-  reference = reference;
-  some = some;
-}
-
 module _ {S : Type 0} (t : RegionGrowth S) where
   abbrev x : TableValue
   x = table_in t.ty t.region t.size
@@ -68,12 +52,8 @@ module _ {S : Type 0} (t : RegionGrowth S) where
 
   abbrev pub attempt : GrowthAttempt TableValue TableError S
   attempt = record {
-    rules = t.limits;
-    growth = region_growth (length t.region) t.delta t.reference x;
-    some = t.some;
-    value = x;
-    meter = t.meter;
-    limiter = t.limiter;
+    rules = t.limits; growth = region_growth (length t.region) t.delta t.reference x; some = t.some; value = x;
+    meter = t.meter; limiter = t.limiter;
   }
 
   abbrev question : ℕ → Option ℕ → Question
@@ -103,12 +83,8 @@ module _ {S : Type 0} (t : RegionGrowth S) where
   pub permits : {desired : ℕ} {maximum : Option ℕ} {answer : Answer} {p : S}
       → (is_indexable t.ty (t.size + t.delta) ≡ true) × (desired ≡ t.size + t.delta) → maximum ≡ t.ty.maximum
       → answer ≡ Ok true → t.limits.asked t.limiter (question desired maximum) answer p → Permits desired p
-  permits found most says asks = record {
-    maximum = _;
-    asked = asked_in found most;
-    asks = rw says at asks;
-    desired_is = rw sized at found.1;
-  }
+  permits found most says asks =
+      record { maximum = _; asked = asked_in found most; asks = rw says at asks; desired_is = rw sized at found.1 }
 
   -- a growth that is permitted, by what was tested after the permission
   module _ {desired : ℕ} {p : S} (is : Permits desired p) where
@@ -155,14 +131,7 @@ module _ {S : Type 0} (t : RegionGrowth S) where
 
       -- the front has as many as the table that has grown
       long : length front ≡ desired
-      long =
-          let more : length (replicate {A = ℕ} (desired - t.size) t.reference) ≡ desired - t.size =
-          length-replicate (desired - t.size) t.reference in
-          let both : length front
-          ≡ length (take t.size t.region) + length (replicate {A = ℕ} (desired - t.size) t.reference) =
-          length-append (take t.size t.region) (replicate (desired - t.size) t.reference) in
-          let s = sized in
-          omega arith
+      long = let s = sized in simp (length-append, length-replicate, ← s) (omega arith)
 
       -- the region is that front and what lay past it
       split : region' ≡ front ++ drop desired t.region

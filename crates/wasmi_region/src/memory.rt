@@ -68,6 +68,7 @@ pub fn make<L: ResourceLimiter>(
 /// nothing and asks no limiter.
 ///
 /// The errors are those of [`wasmi_store::LinearMemory::grow`] on a lent region.
+#[tactic(auto, using(std::proofs::lemmas::Bool::Decides::nat_tests))]
 pub fn grow<L: ResourceLimiter>(
     ty: MemoryType,
     size: &mut usize,

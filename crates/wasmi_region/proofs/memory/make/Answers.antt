@@ -13,5 +13,5 @@ returns-in_err-size-clause-made g c =
 
 pub returns-then-region-size-clause-made : goal.returns-then-region-size-clause-made
 returns-then-region-size-clause-made g c =
-    makes_short (optional_rules g.L.ResourceLimiter.rules) (Lent c.args.region.now) c.args.ty _ _ c.in_ok-size.size
+    makes_short (optional_rules g.L.ResourceLimiter.rules) (Lent c.args.region.now) c.args.ty _ _ _
     c.in_ok-size.ensures.permitted (grind (arith, nat_tests)) _ _ c.tell.ensures.told

@@ -9,15 +9,15 @@ use Rattle.wasmi_region.proofs.table.grow.Goals.{Else-delta-eq0}
 
 -- the growth by 1 or more, with what it begins with
 abbrev begun : (g : given.Over) → goal.Else-delta-eq0 g → table.RegionGrowth (Option g.row.L.Denot)
-begun g c =
-    table.growth_at (optional_rules g.L.ResourceLimiter.rules) c.args.ty c.args.region.now c.args.size.now
-    c.requires.within c.args.fuel.now (lent_limiter c.args.limiter.now) c.args.delta c.args.reference
-    c.if-delta-eq0.false
+begun g c = record {
+  limits = optional_rules g.L.ResourceLimiter.rules; ty = c.args.ty; region = c.args.region.now; size = c.args.size.now;
+  within = c.requires.within; meter = c.args.fuel.now; limiter = lent_limiter c.args.limiter.now; delta = c.args.delta;
+  reference = c.args.reference; some = c.if-delta-eq0.false;
+}
 
 pub returns-in_default-clause-grown : goal.returns-in_default-clause-grown
 returns-in_default-clause-grown g c =
-    let t = begun g (goal.at.returns-in_default-clause-grown g c).Else-delta-eq0 in
-    table.grows_unasked t c.in_default.ensures
+    table.grows_unasked (begun g (goal.at.returns-in_default-clause-grown g c).Else-delta-eq0) c.in_default.ensures
 
 pub returns-in_err-permission-clause-grown : goal.returns-in_err-permission-clause-grown
 returns-in_err-permission-clause-grown g c =
@@ -30,32 +30,27 @@ returns-in_err-permission-clause-grown g c =
 
 pub returns-then-not-allows_size-clause-grown : goal.returns-then-not-allows_size-clause-grown
 returns-then-not-allows_size-clause-grown g c =
-    let t = begun g (goal.at.returns-then-not-allows_size-clause-grown g c).Else-delta-eq0 in
-    let is = table.permits t c.in-Some.ensures c.maximum_size.ensures c.in_ok-permission.ensures
-    c.table_growing-answer.ensures.asked in
-    table.grows_above t is (sym c.if-not-allows_size.ensures) _ _ c.tell.ensures.told
+    let is = table.permits (begun g (goal.at.returns-then-not-allows_size-clause-grown g c).Else-delta-eq0)
+    c.in-Some.ensures c.maximum_size.ensures c.in_ok-permission.ensures c.table_growing-answer.ensures.asked in
+    table.grows_above _ is (sym c.if-not-allows_size.ensures) _ _ c.tell.ensures.told
 
 pub returns-in-Err-clause-grown : goal.returns-in-Err-clause-grown
 returns-in-Err-clause-grown g c =
-    let t = begun g (goal.at.returns-in-Err-clause-grown g c).Else-delta-eq0 in
-    let is = table.permits t c.in-Some.ensures c.maximum_size.ensures c.in_ok-permission.ensures
-    c.table_growing-answer.ensures.asked in
-    table.grows_unpaid t is (sym c.if-not-allows_size.ensures) c.charge.new.fuel _ c.in-Err.ensures _ _
-    c.tell-in-Err.ensures.told
+    let is = table.permits (begun g (goal.at.returns-in-Err-clause-grown g c).Else-delta-eq0) c.in-Some.ensures
+    c.maximum_size.ensures c.in_ok-permission.ensures c.table_growing-answer.ensures.asked in
+    table.grows_unpaid _ is (sym c.if-not-allows_size.ensures) _ _ c.in-Err.ensures _ _ c.tell-in-Err.ensures.told
 
 pub returns-then-region-desired-clause-grown : goal.returns-then-region-desired-clause-grown
 returns-then-region-desired-clause-grown g c =
-    let t = begun g (goal.at.returns-then-region-desired-clause-grown g c).Else-delta-eq0 in
-    let is = table.permits t c.in-Some.ensures c.maximum_size.ensures c.in_ok-permission.ensures
-    c.table_growing-answer.ensures.asked in
-    table.grows_short t is (sym c.if-not-allows_size.ensures) c.charge.new.fuel c.in_default-charge.ensures
-    c.if-region-desired.true _ _
-    c.tell-then-region-desired.ensures.told
+    let is = table.permits (begun g (goal.at.returns-then-region-desired-clause-grown g c).Else-delta-eq0)
+    c.in-Some.ensures c.maximum_size.ensures c.in_ok-permission.ensures c.table_growing-answer.ensures.asked in
+    table.grows_short _ is (sym c.if-not-allows_size.ensures) _ c.in_default-charge.ensures
+    c.if-region-desired.true _ _ c.tell-then-region-desired.ensures.told
 
 pub returns-clause-grown : goal.returns-clause-grown
 returns-clause-grown g c =
     let t = begun g (goal.at.returns-clause-grown g c).Else-delta-eq0 in
     let is = table.permits t c.in-Some.ensures c.maximum_size.ensures c.in_ok-permission.ensures
     c.table_growing-answer.ensures.asked in
-    table.grows_met t is (sym c.if-not-allows_size.ensures) c.charge.new.fuel c.in_default-charge.ensures _
+    table.grows_met t is (sym c.if-not-allows_size.ensures) _ c.in_default-charge.ensures _
     (table.grown t _ c.in-Some.ensures.1 _ c.fill_range.ensures.filled)
