@@ -1,42 +1,39 @@
 -- Growths of and writes to what lies with C: what they take of its meter, and under which limiter they are.
-use Rattle.std.proofs.Common.{◌≡◌, Bool, true, false, ℕ, ◌-◌, Option, Some, None, Result, refl, ap, inl, inr, arith, Ok, Err, List, take, ◌∙◌}
-use Rattle.std.specs.Prelude.{MatchBool, nat_eq, if◌then◌else◌}
+use Rattle.std.proofs.Common.{◌≡◌, Bool, true, false, ℕ, ◌-◌, Option, Some, None, Result, refl, ap, inl, inr, Ok, List, take, ◌∙◌}
+use Rattle.std.specs.Prelude.{OnErr, nat_eq, if◌then◌else◌}
 use Rattle.std.specs.Option.{option_map, unwrap_or}
-use Rattle.wasmi_meter.specs.declared.fuel.CustomFuelCosts.{CustomFuelCosts}
 use Rattle.wasmi_meter.specs.Limiter.{Rules, Question, Answer, Failure, NoticeAnswer, optional_rules, AskedIf, NoticedIf}
 use Rattle.wasmi_meter.specs.Meter.{Meter, meter_after}
-use Rattle.wasmi_store.specs.Growth.{Growth, Grows, metered_value, metered, BulkWrites, bytes_due}
+use Rattle.wasmi_store.specs.Growth.{Growth, Grows, MeteredBytes, metered_value, metered, BulkWrites, bytes_due}
+use Rattle.wasmi_store.proofs.GrowthLemmas.{on_test}
 use Rattle.wasmi_c.specs.Numbers.{meter_of, with_left, KeepsMeter, MeteredRegion, SameRest, limiter_of, quota_numbers_rules, Embedded, embedded}
 use Rattle.wasmi_c.specs.declared.fuel.MeterNumbers.{MeterNumbers}
+use Rattle.wasmi_c.specs.declared.range.Range.{Range}
 use Rattle.wasmi_meter.specs.declared.error.MemoryError.{MemoryError}
-use Rattle.wasmi_meter.specs.declared.error.MemoryError.TheVariants.{OutOfFuel}
-use Rattle.wasmi_meter.specs.Attempt.{covers, Request, AttemptOutcome, Unasked, Denied, Met, Failed, Follows}
+use Rattle.wasmi_meter.proofs.AttemptLemmas.{meter_after_nothing}
+use Rattle.wasmi_meter.specs.Attempt.{MeteredValue, Attempt, covers, Request, AttemptOutcome, Unasked, Denied, Met, Failed, Follows}
 use Rattle.wasmi_c.specs.MemoryCalls.{WritesBytesAs, of_memory}
-use Rattle.wasmi_c.specs.Placement.{status_of, written_number, Placement, GrowsAs, Limited, limiter_after, Allows, SettlesGrowth, SettlesCreation}
+use Rattle.wasmi_c.specs.Placement.{status_of, grown_number, written_number, Placement, GrowsAs, Limited, limiter_after, Allows, SettlesGrowth, SettlesCreation}
 use Rattle.wasmi_meter.specs.declared.quota.Quota.{Quota}
 use Rattle.wasmi_meter.specs.Capped.{quota_rules}
 use Rattle.wasmi_c.specs.declared.quota.QuotaNumbers.{QuotaNumbers}
 use Rattle.wasmi_c.specs.Host.{fresh, host_rules}
 use Rattle.wasmi_c.specs.declared.host.HostAnswers.{HostAnswers}
 
--- a meter of which nothing is taken
-pub none_taken : (left : Option ℕ) (costs : CustomFuelCosts)
-    → (let m : Meter = record { left = left; costs = costs } in meter_after m 0 ≡ m)
-none_taken None costs = refl
-none_taken (Some n) costs = ap (λ (k : ℕ). (let m : Meter = record { left = Some k; costs = costs } in m)) (omega arith)
-
 -- a growth takes its charge from the meter
-pub meter_charged : {V E S : Type 0} (rules : Rules S) (g : Growth V E) (x x' : V) (m m' : Meter) (l l' : S)
-    (result : Result ℕ E) (charge : ℕ)
-    → Grows rules g (metered_value x (Some m) l) result charge (metered_value x' (Some m') l')
-    → m' ≡ meter_after m charge
-meter_charged rules g x x' m m' l l' result charge grows =
-    elim grows [
-      | inl none ↦
-          let same : Some m' ≡ Some m = ap (λ s. s.meter) none.same in
-          rw none.uncharged (let kept = none_taken m.left m.costs in cc)
-      | inr some ↦ let taken = some.attempt.meter in cc
-    ]
+growth_charged : {V E S : Type 0} (rules : Rules S) (g : Growth V E) (s s' : MeteredValue V S) (result : Result ℕ E)
+    (charge : ℕ) → Grows rules g s result charge s' → s'.meter ≡ option_map (λ m. meter_after m charge) s.meter
+growth_charged rules g s s' result charge (inl none) = rw (none.same, none.uncharged) (meter_after_nothing s.meter)
+growth_charged rules g s s' result charge (inr some) = some.attempt.meter
+
+-- a write takes some amount from the meter
+write_charged : (written : Option (List ℕ)) (count : ℕ) (s s' : MeteredBytes) (result : Result (Unit {0}) MemoryError)
+    → BulkWrites written count s result s' → (charge : ℕ) × (s'.meter ≡ option_map (λ m. meter_after m charge) s.meter)
+write_charged None count s s' result writes = (0, rw writes.1 (meter_after_nothing s.meter))
+write_charged (Some bytes) count s s' result writes =
+    on_test (covers s.meter (bytes_due s.meter count)) _ _ writes
+    (λ w. (bytes_due s.meter count, ap (λ (s : MeteredBytes). s.meter) w.1))
+    (λ w. (0, rw w.1 (meter_after_nothing s.meter)))
 
 -- what is kept of a number that is there or not
 kept_number : (off : Bool) (n charge : ℕ)
@@ -47,75 +44,34 @@ kept_number : (off : Bool) (n charge : ℕ)
 kept_number true n charge = refl
 kept_number false n charge = refl
 
--- numbers keep what is left of its meter
-pub kept : (h : MeterNumbers) (m' : Meter) (charge : ℕ) → m' ≡ meter_after (meter_of h) charge
-    → meter_of (with_left h m'.left) ≡ m'
-kept h m' charge after =
+-- numbers that keep what is left of their meter stand for the meter that is left, and keep all else
+kept : (h h' : MeterNumbers) (m' : Meter) (charge : ℕ) → h' ≡ with_left h m'.left
+    → Some m' ≡ Some (meter_after (meter_of h) charge) → (meter_of h' ≡ m') × KeepsMeter h h'
+kept h h' m' charge left taken =
+    let after : m' ≡ meter_after (meter_of h) charge = cc in
+    let same : meter_of (with_left h m'.left) ≡ m' =
     rw after
     (ap (λ (left : Option ℕ). (let m : Meter = record { left = left; costs = (meter_of h).costs } in m))
-    (kept_number (nat_eq h.is_on 0) h.left charge))
-
--- and all else, and all of it if the meter is off
-pub keeps : (h : MeterNumbers) (m' : Meter) (charge : ℕ) → m' ≡ meter_after (meter_of h) charge
-    → KeepsMeter h (with_left h m'.left)
-keeps h m' charge after = record {
-  others = refl;
-  off = λ is_off. (let none : m'.left ≡ None = rw (after, is_off) refl in ap (with_left h) none);
-}
-
--- what numbers keep of a meter of which a growth takes its charge
-pub kept_growth : {V E S : Type 0} (rules : Rules S) (g : Growth V E) (x x' : V) (h h' : MeterNumbers) (m' : Meter)
-    (l l' : S) (result : Result ℕ E) → h' ≡ with_left h m'.left
-    → (charge : ℕ) × Grows rules g (metered_value x (Some (meter_of h)) l) result charge (metered_value x' (Some m') l')
-    → ((charge : ℕ)
-    × Grows rules g (metered_value x (Some (meter_of h)) l) result charge (metered_value x' (Some (meter_of h')) l'))
-    × KeepsMeter h h'
-kept_growth rules g x x' h h' m' l l' result left grows =
-    let charged = meter_charged rules g x x' (meter_of h) m' l l' result grows.0 grows.1 in (
-      (grows.0, rw (left, kept h m' grows.0 charged) grows.1),
-      rw left (keeps h m' grows.0 charged),
-    )
-
--- nothing is taken of a meter that stays
-stays : (m m' : Meter) → Some m' ≡ Some m → (charge : ℕ) × (m' ≡ meter_after m charge)
-stays m m' same = (0, let kept = none_taken m.left m.costs in cc)
-
--- a write takes some amount
-bulk_charged : (written : Option (List ℕ)) (count : ℕ) (bytes bytes' : List ℕ) (m m' : Meter)
-    (result : Result (Unit {0}) MemoryError)
-    → BulkWrites written count (metered bytes (Some m)) result (metered bytes' (Some m'))
-    → (charge : ℕ) × (m' ≡ meter_after m charge)
-bulk_charged None count bytes bytes' m m' result writes = stays m m' (ap (λ s. s.meter) writes.1)
-bulk_charged (Some written) count bytes bytes' m m' result writes = by_test (covers (Some m) amount) writes
-  where
-    amount : ℕ
-    amount = bytes_due (Some m) count
-
-    by_test : (test : Bool)
-        → MatchBool test
-        ((result ≡ Ok tt) × (metered bytes' (Some m') ≡ metered written (Some (meter_after m amount))))
-        ((result ≡ Err (OutOfFuel amount)) × (metered bytes' (Some m') ≡ metered bytes (Some m)))
-        → (charge : ℕ) × (m' ≡ meter_after m charge)
-    by_test true w =
-        (amount, let taken : Some m' ≡ Some (meter_after m amount) = ap (λ s. s.meter) w.1 in cc)
-    by_test false w = stays m m' (ap (λ s. s.meter) w.1)
+    (kept_number (nat_eq h.is_on 0) h.left charge)) in
+    let off = λ (is_off : h.is_on ≡ 0). (let none : m'.left ≡ None = rw (after, is_off) refl in ap (with_left h) none) in
+    rw left (same, record { others = refl; off = off })
 
 -- a write over bytes at the front of a region is one of what lies with C
-pub written_with : (written : List ℕ → Option (List ℕ)) (count size : ℕ) (s s' : MeteredRegion) (m' : Meter)
-    (result : Result (Unit {0}) MemoryError) (status : ℕ) → s'.meter ≡ with_left s.meter m'.left
-    → BulkWrites (written (take size s.region)) count (metered (take size s.region) (Some (meter_of s.meter))) result
-    (metered (take size s'.region) (Some m'))
+pub written_with : (written : Range → List ℕ → Option (List ℕ)) (range : Range) (size : ℕ) (s s' : MeteredRegion)
+    (m' : Meter) (result : Result (Unit {0}) MemoryError) (status : ℕ) → s'.meter ≡ with_left s.meter m'.left
+    → BulkWrites (written range (take size s.region)) range.count
+    (metered (take size s.region) (Some (meter_of s.meter))) result (metered (take size s'.region) (Some m'))
     → SameRest size s.region s'.region
     → (status ≡ status_of of_memory result) × (s'.number ≡ written_number of_memory result s.number)
-    → WritesBytesAs written count size s status s'
-written_with written count size s s' m' result status left writes rest tells =
-    let charged = bulk_charged (written (take size s.region)) count (take size s.region) (take size s'.region)
-    (meter_of s.meter) m' result writes in
+    → WritesBytesAs written range size s status s'
+written_with written range size s s' m' result status left writes rest tells =
+    let charged = write_charged (written range (take size s.region)) range.count _ _ result writes in
+    let keeps = kept s.meter s'.meter m' charged.0 left charged.1 in
     record {
       result = result;
-      writes = rw (left, kept s.meter m' charged.0 charged.1) writes;
+      writes = rw keeps.0 writes;
       rest = rest;
-      kept = rw left (keeps s.meter m' charged.0 charged.1);
+      kept = keeps.1;
       status_is = tells.0;
       number_is = tells.1;
     }
@@ -155,29 +111,31 @@ follows e l l' Met asked = asks l e.question (Ok true) l' asked
 follows e l l' (Failed cause answer) (p, asked, noticed) =
     (seen p, asks l e.question (Ok true) p asked, notices p (e.notice cause) answer l' noticed)
 
--- and a growth under such numbers is one under their quota
-pub growth_as_quota : {V E : Type 0} (g : Growth V E) (x x' : V) (m m' : Option Meter) (h h' : QuotaNumbers)
-    (result : Result ℕ E) (charge : ℕ)
-    → Grows (optional_rules quota_numbers_rules) g (metered_value x m (Some h)) result charge
-    (metered_value x' m' (Some h'))
-    → Grows (optional_rules quota_rules) g (metered_value x m (limiter_of h)) result charge
-    (metered_value x' m' (limiter_of h'))
-growth_as_quota g x x' m m' h h' result charge (inl none) = inl (record {
+-- an attempt under a limiter is one under another that sees the same end
+attempt_by : {V E S R : Type 0} {rules : Rules S} {rules' : Rules R} {e : Request V E} {s s' : MeteredValue V S}
+    {outcome : AttemptOutcome E} {charge : ℕ} (r r' : R) → Attempt rules e s outcome charge s'
+    → Follows e rules' r outcome r'
+    → Attempt rules' e (metered_value s.value s.meter r) outcome charge (metered_value s'.value s'.meter r')
+attempt_by r r' a follows =
+    record { may_end = a.may_end; follows = follows; charged = a.charged; meter = a.meter; value = a.value }
+
+-- a growth under a limiter is one under another that stays where it stays, and sees the same end of each attempt
+growth_by : {V E S R : Type 0} {rules : Rules S} {rules' : Rules R} (g : Growth V E) {s s' : MeteredValue V S}
+    {result : Result ℕ E} {charge : ℕ} (r r' : R) → (s'.limiter ≡ s.limiter → r' ≡ r)
+    → ((outcome : AttemptOutcome E) → Follows g.request rules s.limiter outcome s'.limiter
+    → Follows g.request rules' r outcome r')
+    → Grows rules g s result charge s'
+    → Grows rules' g (metered_value s.value s.meter r) result charge (metered_value s'.value s'.meter r')
+growth_by g r r' stays follows (inl none) = inl (record {
   none = none.none;
   answered = none.answered;
   uncharged = none.uncharged;
-  same = ap (λ s. metered_value s.value s.meter (seen s.limiter)) none.same;
+  same = rw (none.same, stays (ap (λ s. s.limiter) none.same)) refl;
 })
-growth_as_quota g x x' m m' h h' result charge (inr some) = inr (record {
+growth_by g r r' stays follows (inr some) = inr (record {
   some = some.some;
   outcome = some.outcome;
-  attempt = record {
-    may_end = some.attempt.may_end;
-    follows = follows g.request (Some h) (Some h') some.outcome some.attempt.follows;
-    charged = some.attempt.charged;
-    meter = some.attempt.meter;
-    value = some.attempt.value;
-  };
+  attempt = attempt_by r r' some.attempt (follows some.outcome some.attempt.follows);
   answered = some.answered;
 })
 
@@ -200,9 +158,9 @@ module _ {H T V E : Type 0} (p : Placement H T V E) (growth : List ℕ → V →
       (embedded s'.numbers s'.region s'.meter l' s'.number)
   under g l l' grows = record {
     result = g.result;
-    grows = (g.grows.0, grows);
     state = g.state;
     numbers = g.numbers;
+    grows = (g.grows.0, grows);
     meter = g.meter;
     rest = g.rest;
     refused = g.refused;
@@ -210,14 +168,40 @@ module _ {H T V E : Type 0} (p : Placement H T V E) (growth : List ℕ → V →
     number_is = g.number_is;
   }
 
-  -- so is one under the numbers of a quota, which may be off
+  -- a growth under the numbers of a quota, which may be off, is one under the quota
   pub by_quota : {h h' : H} {region region' : List ℕ} {m m' : MeterNumbers} {n n' status : ℕ} (q q' : QuotaNumbers)
       → GrowsAs p quota_numbers_rules growth ty (embedded h region m (Some q) n) status
       (embedded h' region' m' (Some q') n')
       → GrowsAs p quota_rules growth ty (embedded h region m (limiter_of q) n) status
       (embedded h' region' m' (limiter_of q') n')
-  by_quota q q' g =
-      under g (limiter_of q) (limiter_of q') (growth_as_quota _ _ _ _ _ q q' g.result g.grows.0 g.grows.1)
+  by_quota {h = h} {region = region} q q' g =
+      let grown = growth region (p.value ty region (p.size h)) in
+      under g (limiter_of q) (limiter_of q')
+      (growth_by grown (limiter_of q) (limiter_of q') (ap seen) (follows grown.request (Some q) (Some q')) g.grows.1)
+
+  -- a growth of the library on a region under a lent limiter, with what is left of its meter, is one of what lies with C
+  pub grown_with : {S : Type 0} {rules : Rules S} {s s' : Embedded H S} {status : ℕ} {result : Result ℕ E} {m' : Meter}
+      (l l' : Option S) → l ≡ s.limiter → l' ≡ s'.limiter → s'.meter ≡ with_left s.meter m'.left
+      → (charge : ℕ) × Grows (optional_rules rules) (growth s.region (value_in s))
+      (metered_value (value_in s) (Some (meter_of s.meter)) l) result charge (metered_value (value_in s') (Some m') l')
+      → p.IsAt s'.numbers s'.region ty → s'.numbers ≡ p.resized s.numbers (p.size s'.numbers)
+      → SameRest (p.size s'.numbers) s.region s'.region → OnErr result (s'.region ≡ s.region)
+      → (status ≡ status_of p result) × (s'.number ≡ grown_number p result s.number)
+      → GrowsAs p rules growth ty s status s'
+  grown_with {s = s} {s' = s'} l l' before after left grows at numbers rest refused tells =
+      let charged = growth_charged _ (growth s.region (value_in s)) _ _ _ grows.0 grows.1 in
+      let keeps = kept s.meter s'.meter _ grows.0 left charged in
+      record {
+        result = _;
+        state = at;
+        numbers = numbers;
+        grows = (grows.0, rw (← before, ← after, keeps.0) grows.1);
+        meter = keeps.1;
+        rest = rest;
+        refused = refused;
+        status_is = tells.0;
+        number_is = tells.1;
+      }
 
 -- where the answers are as they began, nobody was asked or told
 untouched : {S : Type 0} (a a' : HostAnswers) (l : Limited S) → a' ≡ fresh a → limiter_after a' l ≡ l.before
@@ -268,43 +252,14 @@ module _ {V E S : Type 0} (rules : Rules S) (e : Request V E) (a a' : HostAnswer
 pub settled_growth : {V E S : Type 0} (rules : Rules S) (g : Growth V E) (x : V)
     → SettlesGrowth rules g x
 settled_growth rules g x x' m m' a a' l result charge grows allows =
-    elim grows [
-      | inl none ↦
-          let value : x' ≡ x = ap (λ s. s.value) none.same in
-          let meter : m' ≡ m = ap (λ s. s.meter) none.same in
-          let answers : Some a' ≡ Some (fresh a) = ap (λ s. s.limiter) none.same in
-          let e : a' ≡ fresh a = cc in
-          inl (record {
-            none = none.none;
-            answered = none.answered;
-            uncharged = none.uncharged;
-            same = rw (value, meter, untouched a a' l e) refl;
-          })
-      | inr some ↦ inr (record {
-        some = some.some;
-        outcome = some.outcome;
-        attempt = record {
-          may_end = some.attempt.may_end;
-          follows = by_outcome rules g.request a a' l allows some.outcome some.attempt.follows;
-          charged = some.attempt.charged;
-          meter = some.attempt.meter;
-          value = some.attempt.value;
-        };
-        answered = some.answered;
-      })
-    ]
+    growth_by g l.before (limiter_after a' l) (λ same. untouched a a' l (let e : a' ≡ fresh a = cc in e))
+    (by_outcome rules g.request a a' l allows) grows
 
 -- and a creation
 pub settled_creation : {T E S : Type 0} (rules : Rules S) (e : Request (Unit {0}) E) (made : T)
     → SettlesCreation rules e made
 settled_creation rules e made a a' l result makes allows = (
   makes.0,
-  record {
-    may_end = makes.1.may_end;
-    follows = by_outcome rules e a a' l allows makes.0 makes.1.follows;
-    charged = makes.1.charged;
-    meter = makes.1.meter;
-    value = makes.1.value;
-  },
+  attempt_by l.before (limiter_after a' l) makes.1 (by_outcome rules e a a' l allows makes.0 makes.1.follows),
   makes.2,
 )

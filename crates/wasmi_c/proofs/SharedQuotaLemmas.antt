@@ -15,9 +15,9 @@ use Rattle.wasmi_meter.specs.declared.limiter.Kind.TheVariants.{Bytes, Elements}
 use Rattle.wasmi_meter.specs.declared.holdings.Holdings.{Holdings}
 use Rattle.wasmi_meter.specs.declared.quota.Quota.{Quota}
 use Rattle.wasmi_meter.specs.Attempt.{Request, AttemptOutcome, Unasked, Denied, Met, Failed, MayEnd, Follows, answer_of, value_after}
-use Rattle.wasmi_meter.specs.Capped.{Asked, Noticed, HoldsTheSame, Reserves, amount_held, with_more, without_last, IsWithinCaps, holdings, capped_quota, quota_rules}
+use Rattle.wasmi_meter.specs.Capped.{Asked, HoldsTheSame, Reserves, amount_held, with_more, without_last, IsWithinCaps, holdings, capped_quota, quota_rules}
 use Rattle.wasmi_meter.specs.CappedProofs.{asked_reserves}
-use Rattle.wasmi_meter.specs.Limiter.{Question, Answer, NoticeAnswer, IsDenial, kind_of, optional_rules}
+use Rattle.wasmi_meter.specs.Limiter.{Question, Answer, IsDenial, kind_of, optional_rules}
 use Rattle.wasmi_meter.specs.Meter.{Meter}
 use Rattle.wasmi_meter.proofs.CappedLemmas.{asked_is_within, noticed_is_within, quota_keeps}
 use Rattle.wasmi_store.specs.Buffer.{Lent}
@@ -29,10 +29,10 @@ use Rattle.wasmi_region.specs.Table as table
 use Rattle.wasmi_region.specs.Table.{MakesTableIn, creation_in}
 use Rattle.wasmi_c.specs.Numbers.{Embedded, KeepsQuota, Placed, limiter_of, quota_of, table_type_of}
 use Rattle.wasmi_c.specs.MemoryCalls.{by_pages, of_memory}
-use Rattle.wasmi_c.specs.Placement.{GrowsBy, LeavesAs, MakesAs, Placement, status_of}
+use Rattle.wasmi_c.specs.Placement.{GrowsBy, LeavesAs, Placement, status_of}
 use Rattle.wasmi_c.specs.TableCalls.{by_elements, of_table}
 use Rattle.wasmi_c.specs.SharedQuota.{UnderQuota, HoldsSums, MakesMemoryUnder, GrowsMemoryUnder, MakesTableUnder, GrowsTableUnder, CallsUnder, OneQuotaHoldsAll, sizes_made}
-use Rattle.wasmi_c.specs.Status.{invalid_state_status, memory_status, table_status}
+use Rattle.wasmi_c.specs.Status.{memory_status, table_status}
 use Rattle.wasmi_c.specs.declared.memory.numbers.MemoryNumbers.{MemoryNumbers}
 use Rattle.wasmi_c.specs.declared.quota.QuotaNumbers.{QuotaNumbers}
 use Rattle.wasmi_c.specs.declared.table.numbers.TableNumbers.{TableNumbers}
@@ -51,10 +51,8 @@ pub record Counts (kind : Kind) (size size' : ℕ) (quota quota' : Quota) : Type
 -- after n more of a kind, n more of it is held
 held_more : (kind : Kind) (n : ℕ) (h h' : Holdings) → h' ≡ with_more h kind n
     → (amount_held h' kind ≡ amount_held h kind + n) × (amount_held h' (other kind) ≡ amount_held h (other kind))
-held_more Bytes n h h' more =
-    (ap (λ (k : Holdings). k.held.bytes) more, ap (λ (k : Holdings). k.held.elements) more)
-held_more Elements n h h' more =
-    (ap (λ (k : Holdings). k.held.elements) more, ap (λ (k : Holdings). k.held.bytes) more)
+held_more Bytes n h h' more = rw more (refl, refl)
+held_more Elements n h h' more = rw more (refl, refl)
 
 -- where as much is held of each kind, as much is held of one
 held_same : (kind : Kind) (h h' : Holdings) → HoldsTheSame h h'
@@ -65,14 +63,8 @@ held_same Elements h h' same = (same.elements, same.bytes)
 -- after n more of a kind that were taken back, as much is held
 taken_back : (kind : Kind) (n : ℕ) (h p h' : Holdings) → p ≡ with_more h kind n → h' ≡ without_last kind p
     → (amount_held h' kind ≡ amount_held h kind) × (amount_held h' (other kind) ≡ amount_held h (other kind))
-taken_back Bytes n h p h' more back =
-    let after = back ∙ ap (without_last Bytes) more in
-    let less : h'.held.bytes ≡ (h.held.bytes + n) - n = ap (λ (k : Holdings). k.held.bytes) after in
-    (omega arith, ap (λ (k : Holdings). k.held.elements) after)
-taken_back Elements n h p h' more back =
-    let after = back ∙ ap (without_last Elements) more in
-    let less : h'.held.elements ≡ (h.held.elements + n) - n = ap (λ (k : Holdings). k.held.elements) after in
-    (omega arith, ap (λ (k : Holdings). k.held.bytes) after)
+taken_back Bytes n h p h' more back = rw (back, more) (omega arith, refl)
+taken_back Elements n h p h' more back = rw (back, more) (omega arith, refl)
 
 -- a denial keeps what is held
 denied_same : (q : Question) (answer : Answer) (h h' : Holdings) → IsDenial answer → Reserves q answer h h'
@@ -105,11 +97,32 @@ module _ {V E : Type 0} (e : Request V E) where
   added (Failed cause notice_answer) = 0
 
   module _ (tells : TellsOfKind e) (quota quota' : Quota) where
-    -- a permission that is followed by a notice
-    failure_counts : (cause : E) (notice_answer : NoticeAnswer) (p : Quota)
-        → Asked capped_quota quota e.question (Ok true) p
-        → Noticed capped_quota p (e.notice cause) notice_answer quota' → Counts kind 0 0 quota quota'
-    failure_counts cause notice_answer p asked noticed =
+    -- an answer to the question after which so much more is held
+    answer_counts : (answer : Answer) → Asked capped_quota quota e.question answer quota' → (n : ℕ)
+        → (amount_held (holdings quota') kind ≡ amount_held (holdings quota) kind + n)
+        × (amount_held (holdings quota') (other kind) ≡ amount_held (holdings quota) (other kind))
+        → Counts kind 0 n quota quota'
+    answer_counts answer asked n held = record {
+      held = omega (arith, held.0);
+      others = held.1;
+      within = λ caps. asked_is_within capped_quota quota_keeps quota quota' caps e.question answer asked;
+    }
+
+    -- an attempt, however it ends
+    attempt_counts : (m : Option Meter) (outcome : AttemptOutcome E) → MayEnd e m outcome
+        → Follows e (optional_rules quota_rules) (Some quota) outcome (Some quota')
+        → Counts kind 0 (added outcome) quota quota'
+    attempt_counts m (Unasked cause) may follows = nothing_counts kind 0 quota quota' (cc)
+    attempt_counts m (Denied answer) may asked =
+        let reserves = asked_reserves capped_quota quota quota' e.question answer asked in
+        let same = held_same kind (holdings quota) (holdings quota')
+        (denied_same e.question answer (holdings quota) (holdings quota') may.1 reserves) in
+        answer_counts answer asked 0 (omega (arith, same.0), same.1)
+    attempt_counts m Met may asked =
+        answer_counts (Ok true) asked asked_for (held_more kind asked_for (holdings quota) (holdings quota')
+        (asked_reserves capped_quota quota quota' e.question (Ok true) asked))
+    attempt_counts m (Failed cause notice_answer) may (None, asked, noticed) = elim asked [ ]
+    attempt_counts m (Failed cause notice_answer) may (Some p, asked, noticed) =
         let more = asked_reserves capped_quota quota p e.question (Ok true) asked in
         let back = rw (tells cause) at noticed.gives_back in
         let same = taken_back kind asked_for (holdings quota) (holdings p) (holdings quota') more back in
@@ -120,34 +133,6 @@ module _ {V E : Type 0} (e : Request V E) where
               let permitted = asked_is_within capped_quota quota_keeps quota p caps e.question (Ok true) asked in
               noticed_is_within capped_quota quota_keeps p quota' permitted (e.notice cause) notice_answer noticed;
         }
-
-    -- an attempt, however it ends
-    attempt_counts : (m : Option Meter) (outcome : AttemptOutcome E) → MayEnd e m outcome
-        → Follows e (optional_rules quota_rules) (Some quota) outcome (Some quota')
-        → Counts kind 0 (added outcome) quota quota'
-    attempt_counts m (Unasked cause) may follows =
-        let same : quota' ≡ quota = cc in
-        nothing_counts kind 0 quota quota' same
-    attempt_counts m (Denied answer) may follows =
-        let reserves = asked_reserves capped_quota quota quota' e.question answer follows in
-        let denied = denied_same e.question answer (holdings quota) (holdings quota') may.1 reserves in
-        let same = held_same kind (holdings quota) (holdings quota') denied in
-        record {
-          held = omega (arith, same.0);
-          others = same.1;
-          within = λ caps. asked_is_within capped_quota quota_keeps quota quota' caps e.question answer follows;
-        }
-    attempt_counts m Met may follows =
-        let reserves = asked_reserves capped_quota quota quota' e.question (Ok true) follows in
-        let more = held_more kind asked_for (holdings quota) (holdings quota') reserves in
-        record {
-          held = omega (arith, more.0);
-          others = more.1;
-          within = λ caps. asked_is_within capped_quota quota_keeps quota quota' caps e.question (Ok true) follows;
-        }
-    attempt_counts m (Failed cause notice_answer) may (Some p, asked, noticed) =
-        failure_counts cause notice_answer p asked noticed
-    attempt_counts m (Failed cause notice_answer) may (None, asked, noticed) = elim asked [ ]
 
 -- what is made counts as what was asked for, and a refusal as nothing
 module _ {T E : Type 0} (e : Request (Unit {0}) E) (made : T) (size : Result T E → ℕ)
@@ -188,8 +173,7 @@ module _ {V E : Type 0} (g : Growth V E) (size : V → ℕ) (x : V) (counted : I
   growth_counts m m' quota quota' x' result charge (inl none) =
       let value : x' ≡ x = ap (λ s. s.value) none.same in
       let limiter : Some quota' ≡ Some quota = ap (λ s. s.limiter) none.same in
-      let same : quota' ≡ quota = cc in
-      rw value (nothing_counts (kind g.request) (size x) quota quota' same)
+      rw value (nothing_counts (kind g.request) (size x) quota quota' (cc))
   growth_counts m m' quota quota' x' result charge (inr some) =
       let counts = attempt_counts g.request counted.tells quota quota' m some.outcome some.attempt.may_end
       some.attempt.follows in
@@ -259,13 +243,20 @@ table_summed ty p p' (Err e) status sizes is left = rw (is, refused_table_status
 
 -- ---- calls
 
--- a number that isn't 0
-not_zero : (n : ℕ) → (n ≡ 0 → ⊥) → nat_eq n 0 ≡ false
-not_zero n some = grind (arith, nat_tests, some)
-
 -- a quota that is on is a limiter
 limiter_on : (h : QuotaNumbers) → (h.is_on ≡ 0 → ⊥) → limiter_of h ≡ Some (quota_of h)
-limiter_on h on = rw (not_zero h.is_on on) refl
+limiter_on h on = let some : nat_eq h.is_on 0 ≡ false = grind (arith, nat_tests, on) in rw some refl
+
+-- what follows from each of the two facts of a value that may be absent
+on_value : {A C : Type 0} (o : Option A) (P : Type 0) (Q : A → Type 0) → MatchOption o P Q → (P → C)
+    → ((x : A) → Q x → C) → C
+on_value None P Q h none some = none h
+on_value (Some x) P Q h none some = some x h
+
+-- the sizes of one kind
+abbrev sizes_of : UnderQuota → Kind → List ℕ
+sizes_of u Bytes = u.bytes
+sizes_of u Elements = u.elements
 
 module _ (u u' : UnderQuota) (holds : HoldsSums u) (keeps : KeepsQuota u.quota u'.quota) where
   abbrev q : Quota
@@ -284,65 +275,56 @@ module _ (u u' : UnderQuota) (holds : HoldsSums u) (keeps : KeepsQuota u.quota u
       let some : Some q' ≡ Some q = sym (limiter_on u'.quota on) ∙ same ∙ limiter_on u.quota holds.on in
       cc
 
-  -- as the sum of the bytes, so what is held
-  summed_bytes : (size size' : ℕ) → Counts Bytes size size' q q' → sum u'.bytes + size ≡ sum u.bytes + size'
-      → u'.elements ≡ u.elements → HoldsSums u'
-  summed_bytes size size' counts sums same = record {
+  -- as the sum of the sizes of a kind, so what is held of it
+  summed : (k : Kind) (size size' : ℕ) → Counts k size size' q q'
+      → sum (sizes_of u' k) + size ≡ sum (sizes_of u k) + size' → sizes_of u' (other k) ≡ sizes_of u (other k)
+      → HoldsSums u'
+  summed Bytes size size' counts sums same = record {
     on = on;
     bytes = omega (arith, counts.held, holds.bytes, sums);
     elements = counts.others ∙ holds.elements ∙ ap sum (sym same);
     within = counts.within holds.within;
   }
-
-  -- as the sum of the elements, so what is held
-  summed_elements : (size size' : ℕ) → Counts Elements size size' q q'
-      → sum u'.elements + size ≡ sum u.elements + size' → u'.bytes ≡ u.bytes → HoldsSums u'
-  summed_elements size size' counts sums same = record {
+  summed Elements size size' counts sums same = record {
     on = on;
     bytes = counts.others ∙ holds.bytes ∙ ap sum (sym same);
     elements = omega (arith, counts.held, holds.elements, sums);
     within = counts.within holds.within;
   }
 
+  -- as long as the limiter is the same and so are the sizes, the sums are held
+  summed_same : (k : Kind) → limiter_of u'.quota ≡ limiter_of u.quota → sizes_of u' k ≡ sizes_of u k
+      → sizes_of u' (other k) ≡ sizes_of u (other k) → HoldsSums u'
+  summed_same k limiter sizes same =
+      summed k 0 0 (nothing_counts k 0 q q' (same_quota limiter)) (ap (λ (xs : List ℕ). sum xs + 0) sizes) same
+
   -- a memory is made
   memory_made : MakesMemoryUnder u u' → HoldsSums u'
   memory_made c =
       elim c.makes [
-        | inl refused ↦
-            let sums : sum u'.bytes + 0 ≡ sum u.bytes + 0 = rw (c.bytes, refused.1) refl in
-            summed_bytes 0 0 (nothing_counts Bytes 0 q q' (same_quota refused.3)) sums c.elements
+        | inl refused ↦ summed_same Bytes refused.3 (rw (c.bytes, refused.1) refl) c.elements
         | inr made ↦
-            let room = Lent c.before.region in
             let makes = rw (limiter_on u.quota holds.on, limiter_on u'.quota on) at made.2.makes in
-            let counts = creation_counts (creation_of room made.0) (new_memory room made.0) bytes_made
-            (length_made (minimum_bytes made.0) 0) (λ cause. refl) (λ cause. refl) q q' _ makes in
+            let counts = creation_counts (creation_of (Lent c.before.region) made.0)
+            (new_memory (Lent c.before.region) made.0) bytes_made (length_made (minimum_bytes made.0) 0) (λ cause. refl)
+            (λ cause. refl) q q' _ makes in
             let sized = ap sum c.bytes
             ∙ memory_summed made.0 c.before c.after made.2.result c.status u.bytes made.2.status_is made.2.left in
-            summed_bytes 0 _ counts (omega (arith, sized)) c.elements
+            summed Bytes 0 _ counts (omega (arith, sized)) c.elements
       ]
 
   -- a table is made
   table_made : MakesTableUnder u u' → HoldsSums u'
-  table_made c = by_type (table_type_of c.before.numbers) c.makes
-    where
-      by_type : (type : Option TableTypeValue)
-          → MatchOption type
-          ((c.status ≡ invalid_state_status) × (c.after ≡ c.before) × (limiter_of u'.quota ≡ limiter_of u.quota))
-          (λ ty. MakesAs of_table
-          (λ made. MakesTableIn (optional_rules quota_rules) ty (length c.before.region) c.reference (limiter_of u.quota)
-          made (limiter_of u'.quota)) ty c.before c.status c.after)
-          → HoldsSums u'
-      by_type None refused =
-          let sums : sum u'.elements + 0 ≡ sum u.elements + 0 = rw (c.elements, refused.0) refl in
-          summed_elements 0 0 (nothing_counts Elements 0 q q' (same_quota refused.2)) sums c.bytes
-      by_type (Some ty) made =
-          let room = length c.before.region in
-          let makes = rw (limiter_on u.quota holds.on, limiter_on u'.quota on) at made.makes in
-          let counts = creation_counts (creation_in ty room) (new_table ty c.reference) elements_made
-          (length_made ty.minimum c.reference) (λ cause. refl) (λ cause. refl) q q' _ makes in
-          let sized = ap sum c.elements
-          ∙ table_summed ty c.before c.after made.result c.status u.elements made.status_is made.left in
-          summed_elements 0 _ counts (omega (arith, sized)) c.bytes
+  table_made c =
+      on_value (table_type_of c.before.numbers) _ _ c.makes
+      (λ refused. summed_same Elements refused.2 (rw (c.elements, refused.0) refl) c.bytes)
+      (λ ty made.
+      let makes = rw (limiter_on u.quota holds.on, limiter_on u'.quota on) at made.makes in
+      let counts = creation_counts (creation_in ty (length c.before.region)) (new_table ty c.reference)
+      elements_made (length_made ty.minimum c.reference) (λ cause. refl) (λ cause. refl) q q' _ makes in
+      let sized = ap sum c.elements
+      ∙ table_summed ty c.before c.after made.result c.status u.elements made.status_is made.left in
+      summed Elements 0 _ counts (omega (arith, sized)) c.bytes)
 
   -- a growth by a call counts as the difference of the sizes, or as nothing where it isn't made
   module _ {H T V E : Type 0} (p : Placement H T V E) (growth : List ℕ → V → Growth V E) (count : V → ℕ) (k : Kind)
@@ -350,8 +332,8 @@ module _ (u u' : UnderQuota) (holds : HoldsSums u) (keeps : KeepsQuota u.quota u
       → count (p.value ty region (p.size h)) ≡ p.size h)
       (counted : (region : List ℕ) (x : V) → IsCounted (growth region x) count x)
       (of_kind : (region : List ℕ) (x : V) → kind (growth region x).request ≡ k) where
-    grown_counts : (s : Embedded H Quota) (status : ℕ) (s' : Embedded H Quota) → GrowsBy p quota_rules growth s status s'
-        → s.limiter ≡ limiter_of u.quota → s'.limiter ≡ limiter_of u'.quota
+    grown_counts : (s : Embedded H Quota) (status : ℕ) (s' : Embedded H Quota)
+        → GrowsBy p quota_rules growth s status s' → s.limiter ≡ limiter_of u.quota → s'.limiter ≡ limiter_of u'.quota
         → Counts k (p.size s.numbers) (p.size s'.numbers) q q'
     grown_counts s status s' (inl refused) asked left =
         let limiter : limiter_of u'.quota ≡ limiter_of u.quota = sym left ∙ ap (λ s. s.limiter) refused.2 ∙ asked in
@@ -375,7 +357,7 @@ module _ (u u' : UnderQuota) (holds : HoldsSums u) (keeps : KeepsQuota u.quota u
         tells = λ cause. refl;
       })
       (λ region x. refl) c.before c.status c.after c.grows c.asked c.left in
-      summed_bytes _ _ counts (rw c.bytes (sum_set u.bytes c.index _ _ c.there)) c.elements
+      summed Bytes _ _ counts (rw c.bytes (sum_set u.bytes c.index _ _ c.there)) c.elements
 
   -- a table grows
   table_grown : GrowsTableUnder u u' → HoldsSums u'
@@ -384,7 +366,7 @@ module _ (u u' : UnderQuota) (holds : HoldsSums u) (keeps : KeepsQuota u.quota u
       (λ h region ty at. length-take-le h.size region at.within)
       (λ region x. record { full = length_grown x.elements c.delta c.reference; tells = λ cause. refl })
       (λ region x. refl) c.before c.status c.after c.grows c.asked c.left in
-      summed_elements _ _ counts (rw c.elements (sum_set u.elements c.index _ _ c.there)) c.bytes
+      summed Elements _ _ counts (rw c.elements (sum_set u.elements c.index _ _ c.there)) c.bytes
 
 -- so after each call
 after_call : (u u' : UnderQuota) → HoldsSums u → CallsUnder u u' → HoldsSums u'

@@ -7,12 +7,12 @@ use Rattle.wasmi_meter.specs.declared.quota.Quota.{Quota}
 use Rattle.wasmi_meter.specs.Limiter.{optional_rules}
 use Rattle.wasmi_meter.specs.Capped.{quota_rules}
 use Rattle.wasmi_store.specs.Buffer.{Lent}
-use Rattle.wasmi_store.specs.Growth.{copied, BulkWrites, Growth, metered}
+use Rattle.wasmi_store.specs.Growth.{filled, copied, BulkWrites, Growth, metered}
 use Rattle.wasmi_store.specs.Memory.{MemoryValue, MakesMemory, growth_of, pages_of, MemoryTypeValue, IsValid, named_type, page_bytes, in_bounds}
 use Rattle.wasmi_region.specs.Memory.{memory_in, made_in}
 use Rattle.wasmi_c.specs.Host.{memory_growth}
-use Rattle.wasmi_c.specs.Numbers.{settings_of, IsState, MeteredRegion, Placed}
-use Rattle.wasmi_c.specs.Placement.{Placement, AsksAs, IsNone, ByType, MakesAs, WritesAs}
+use Rattle.wasmi_c.specs.Numbers.{settings_of, IsState, MeteredRegion, Placed, placed}
+use Rattle.wasmi_c.specs.Placement.{Placement, AsksAs, ByType, ByTypes, MakesAs, WritesAs}
 use Rattle.wasmi_c.specs.Status.{done_status, memory_growth_status, memory_access_status, invalid_state_status, memory_status}
 use Rattle.wasmi_c.specs.declared.host.Question.{Question}
 use Rattle.wasmi_c.specs.declared.memory.numbers.MemoryNumbers.{MemoryNumbers}
@@ -22,6 +22,10 @@ use Rattle.wasmi_c.specs.declared.range.Range.{Range}
 abbrev pub memory_fuel_needed : MemoryError → ℕ → ℕ
 memory_fuel_needed (error.OutOfFuel required) before = required
 memory_fuel_needed other before = before
+
+-- numbers have no valid type
+abbrev pub IsNoType : MemoryNumbers → Type 0
+IsNoType h = (ty : MemoryTypeValue) → named_type (settings_of h) ≡ Some ty → IsValid ty → ⊥
 
 -- a memory's numbers stand for a memory
 abbrev pub of_memory : Placement MemoryNumbers MemoryTypeValue MemoryValue MemoryError
@@ -34,14 +38,6 @@ of_memory = record {
   status = memory_status;
   fuel_needed = memory_fuel_needed;
 }
-
--- numbers have no valid type
-abbrev pub IsNoType : MemoryNumbers → Type 0
-IsNoType h = (ty : MemoryTypeValue) → named_type (settings_of h) ≡ Some ty → IsValid ty → ⊥
-
--- numbers stand for no memory on a region
-abbrev pub IsNoState : MemoryNumbers → List ℕ → Type 0
-IsNoState h region = IsNone of_memory h region
 
 -- a growth by so many pages
 abbrev pub by_pages : ℕ → List ℕ → MemoryValue → Growth MemoryValue MemoryError
@@ -90,23 +86,28 @@ WritesEmbedded a offset source status region' =
     ByType of_memory a.numbers a.region status (region' ≡ a.region) (λ ty.
     OverwritesAs a.numbers.size a.region offset source status region')
 
--- bytes of a memory are written over, as of a memory of the library
-abbrev pub WritesBytesAs : (List ℕ → Option (List ℕ)) → ℕ → ℕ → MeteredRegion → ℕ → MeteredRegion → Type 0
-WritesBytesAs written count = WritesAs of_memory (λ bytes m result bytes' m'.
-    BulkWrites (written bytes) count (metered bytes (Some m)) result (metered bytes' (Some m')))
+-- bytes of which those of a range are filled with a value
+abbrev pub filled_range : ℕ → Range → List ℕ → Option (List ℕ)
+filled_range value range bytes = filled bytes range.to value range.count
 
--- bytes of a memory are written over by a call
-abbrev pub WritesBytesEmbedded : (List ℕ → Option (List ℕ)) → ℕ → MemoryNumbers → MeteredRegion → ℕ → MeteredRegion
-    → Type 0
-WritesBytesEmbedded written count h s status s' =
-    ByType of_memory h s.region status (s' ≡ s) (λ ty. WritesBytesAs written count h.size s status s')
+-- bytes to which a range of others is copied
+abbrev pub copied_range : List ℕ → Range → List ℕ → Option (List ℕ)
+copied_range source range bytes = copied bytes range.to source range.from range.count
 
--- a copy from another memory by a call: where either numbers stand for no memory, nothing is written
+-- a range of bytes of a memory is written over, as of a memory of the library
+abbrev pub WritesBytesAs : (Range → List ℕ → Option (List ℕ)) → Range → ℕ → MeteredRegion → ℕ → MeteredRegion → Type 0
+WritesBytesAs written range = WritesAs of_memory (λ bytes m result bytes' m'.
+    BulkWrites (written range bytes) range.count (metered bytes (Some m)) result (metered bytes' (Some m')))
+
+-- a range of bytes of a memory is written over by a call
+abbrev pub WritesBytesEmbedded : (Range → List ℕ → Option (List ℕ)) → Range → MemoryNumbers → MeteredRegion → ℕ
+    → MeteredRegion → Type 0
+WritesBytesEmbedded written range h s status s' =
+    ByType of_memory h s.region status (s' ≡ s) (λ ty. WritesBytesAs written range h.size s status s')
+
+-- a copy from another memory by a call
 abbrev pub CopiesBytesEmbedded : Placed MemoryNumbers → Range → MemoryNumbers → MeteredRegion → ℕ → MeteredRegion
     → Type 0
 CopiesBytesEmbedded source range h s status s' =
-    ((IsNoState h s.region ⊎ IsNoState source.numbers source.region) × (status ≡ invalid_state_status) × (s' ≡ s))
-    ⊎ ((ty source_ty : MemoryTypeValue) × IsState h s.region ty × IsState source.numbers source.region source_ty
-    × WritesBytesAs
-    (λ bytes. copied bytes range.to (take source.numbers.size source.region) range.from range.count)
-    range.count h.size s status s')
+    ByTypes of_memory source (placed h s.region) status (s' ≡ s) (λ ty source_ty.
+    WritesBytesAs (copied_range (take source.numbers.size source.region)) range h.size s status s')

@@ -46,6 +46,10 @@ pub record Placed (H : Type 0) : Type 0 where
   pub numbers : H
   pub region : List ℕ
 
+-- numbers with their region
+abbrev pub placed : {H : Type 0} → H → List ℕ → Placed H
+placed numbers region = record { numbers = numbers; region = region }
+
 -- ---- meters
 
 -- the meter of numbers
@@ -123,6 +127,10 @@ pub record MeteredRegion : Type 0 where
   pub region : List ℕ
   pub meter : MeterNumbers
   pub number : ℕ
+
+-- a region, a meter and a number, as what a write takes
+abbrev pub metered_region : List ℕ → MeterNumbers → ℕ → MeteredRegion
+metered_region region meter number = record { region = region; meter = meter; number = number }
 
 -- a region whose first bytes or elements are others, and the rest the same
 abbrev pub SameRest : ℕ → List ℕ → List ℕ → Type 0

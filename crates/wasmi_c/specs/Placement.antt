@@ -45,6 +45,14 @@ module _ {H T V E : Type 0} (p : Placement H T V E) where
   ByType h region status Same Acts =
       (IsNone h region × (status ≡ invalid_state_status) × Same) ⊎ ((ty : T) × p.IsAt h region ty × Acts ty)
 
+  -- a copy from other numbers by a call acts by the types of both; where either stand for nothing, the status says so,
+  -- and all is the same
+  abbrev pub ByTypes : Placed H → Placed H → ℕ → Type 0 → (T → T → Type 0) → Type 0
+  ByTypes source a status Same Acts =
+      ((IsNone a.numbers a.region ⊎ IsNone source.numbers source.region) × (status ≡ invalid_state_status) × Same)
+      ⊎ ((ty source_ty : T) × p.IsAt a.numbers a.region ty × p.IsAt source.numbers source.region source_ty
+      × Acts ty source_ty)
+
   -- the status of a result
   abbrev pub status_of : {R : Type 0} → Result R E → ℕ
   status_of (Ok _) = done_status

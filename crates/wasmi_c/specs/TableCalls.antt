@@ -1,5 +1,5 @@
 -- What the calls on a table do to what lies with C.
-use Rattle.std.specs.Prelude.{◌≡◌, ◌+◌, ◌⊎◌, ℕ, List, take, length, MatchOption, Option, Some, Result, slice_get}
+use Rattle.std.specs.Prelude.{◌≡◌, ◌+◌, ℕ, List, take, length, MatchOption, Option, Some, Result, slice_get}
 use Rattle.wasmi_meter.specs.declared.error.TableError.{TableError}
 use Rattle.wasmi_meter.specs.declared.error.TableError.TheVariants as error
 use Rattle.wasmi_meter.specs.declared.quota.Quota.{Quota}
@@ -8,8 +8,8 @@ use Rattle.wasmi_meter.specs.Capped.{quota_rules}
 use Rattle.wasmi_store.specs.Growth.{Growth, metered}
 use Rattle.wasmi_store.specs.Table.{TableValue, TableWrite, SetsTableRaw, WritesTable, growth_of, size_of, copy_of, table_of, TableTypeValue, is_indexable}
 use Rattle.wasmi_region.specs.Table.{table_in, made_in, region_growth, MakesTableIn}
-use Rattle.wasmi_c.specs.Numbers.{MeteredRegion, Placed, SameRest, table_type_of, IsTable}
-use Rattle.wasmi_c.specs.Placement.{Placement, AsksAs, IsNone, ByType, status_of, MakesAs, WritesAs}
+use Rattle.wasmi_c.specs.Numbers.{MeteredRegion, Placed, placed, SameRest, table_type_of, IsTable}
+use Rattle.wasmi_c.specs.Placement.{Placement, AsksAs, ByType, ByTypes, status_of, MakesAs, WritesAs}
 use Rattle.wasmi_c.specs.Status.{done_status, no_element_status, table_growth_status, invalid_state_status, table_status}
 use Rattle.wasmi_c.specs.declared.host.Question.{Question}
 use Rattle.wasmi_c.specs.declared.table.numbers.TableNumbers.{TableNumbers}
@@ -31,10 +31,6 @@ of_table = record {
   status = table_status;
   fuel_needed = table_fuel_needed;
 }
-
--- numbers stand for no table on a region
-abbrev pub IsNoTable : TableNumbers → List ℕ → Type 0
-IsNoTable h region = IsNone of_table h region
 
 -- a growth by so many elements of one reference
 abbrev pub by_elements : ℕ → ℕ → List ℕ → TableValue → Growth TableValue TableError
@@ -79,12 +75,10 @@ abbrev pub WritesTableEmbedded : (TableTypeValue → TableValue → TableWrite) 
 WritesTableEmbedded write h s status s' =
     ByType of_table h s.region status (s' ≡ s) (λ ty. WritesTableAs (write ty) ty h.size s status s')
 
--- a copy from another table by a call: where either numbers stand for no table, nothing is written
+-- a copy from another table by a call
 abbrev pub CopiesEmbedded : Placed TableNumbers → Range → TableNumbers → MeteredRegion → ℕ → MeteredRegion → Type 0
 CopiesEmbedded source range h s status s' =
-    ((IsNoTable h s.region ⊎ IsNoTable source.numbers source.region) × (status ≡ invalid_state_status) × (s' ≡ s))
-    ⊎ ((ty source_ty : TableTypeValue) × IsTable h s.region ty × IsTable source.numbers source.region source_ty
-    × WritesTableAs
+    ByTypes of_table source (placed h s.region) status (s' ≡ s) (λ ty source_ty. WritesTableAs
     (copy_of range.to range.from range.count (table_in source_ty source.region source.numbers.size))
     ty h.size s status s')
 

@@ -94,16 +94,11 @@ impl QuotaNumbers {
 impl LimiterByKind for QuotaNumbers {
     ghost kind_rules = { quota_numbers_rules };
 
-    fn growing(
-        &mut self,
-        kind: Kind,
-        current: usize,
-        desired: usize,
-    ) -> Result<bool, LimiterError> {
+    fn growing(&mut self, kind: Kind, size: usize, desired: usize) -> Result<bool, LimiterError> {
         let Some(mut quota) = self.quota() else {
             return Ok(true);
         };
-        let answer = quota.growing(kind, current, desired);
+        let answer = quota.growing(kind, size, desired);
         self.store(&quota);
         answer
     }

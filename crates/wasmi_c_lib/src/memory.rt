@@ -1,11 +1,10 @@
 //! Memories in regions of the caller's, and fuel meters.
 ghost use Rattle.std.specs.Prelude.{◌≡◌, ◌+◌, ◌/◌, false, Some};
-ghost use Rattle.wasmi_c.specs.MemoryCalls.{AsksEmbedded, CopiesBytesEmbedded, CountsEmbedded, IsNoState, IsNoType, MakesEmbedded, ReadsEmbedded, WritesBytesEmbedded, WritesEmbedded, by_pages, of_memory};
-ghost use Rattle.wasmi_c.specs.Placement.{GrowsBy, SettlesBy};
-ghost use Rattle.wasmi_c.specs.Numbers.{limiter_of, KeepsQuota, embedded, IsState, meter_of};
+ghost use Rattle.wasmi_c.specs.MemoryCalls.{AsksEmbedded, CopiesBytesEmbedded, CountsEmbedded, IsNoType, MakesEmbedded, ReadsEmbedded, WritesBytesEmbedded, WritesEmbedded, by_pages, copied_range, filled_range, of_memory};
+ghost use Rattle.wasmi_c.specs.Placement.{GrowsBy, IsNone, SettlesBy};
+ghost use Rattle.wasmi_c.specs.Numbers.{limiter_of, KeepsQuota, embedded, IsState, metered_region, meter_of, placed};
 ghost use Rattle.wasmi_meter.specs.Capped.{quota_rules};
 ghost use Rattle.wasmi_store.specs.Memory.{MemoryTypeValue, in_bounds, page_bytes};
-ghost use Rattle.wasmi_store.specs.Growth.{filled, copied};
 ghost use Rattle.wasmi_c.specs.FuelCalls.{SetsFuel, TellsFuel, PaysFuel};
 ghost use Rattle.wasmi_meter.specs.Meter.{copy_cost};
 
@@ -19,9 +18,8 @@ pub extern "C" fn wasmi_memory_new(
     region: &mut [u8],
     quota: &mut QuotaNumbers,
 ) -> u8
-    ensures made { MakesEmbedded (record { numbers = memory.old; region = region.old })
-        (limiter_of quota.old) result (record { numbers = memory.new; region = region.new })
-        (limiter_of quota.new) }
+    ensures made { MakesEmbedded (placed memory.old region.old) (limiter_of quota.old) result
+        (placed memory.new region.new) (limiter_of quota.new) }
     ensures quota { KeepsQuota quota.old quota.new }
     ensures invalid { IsNoType memory.old → quota.new ≡ quota.old }
 {
@@ -42,7 +40,7 @@ pub extern "C" fn wasmi_memory_grow(
         (embedded memory.old region.old meter.old (limiter_of quota.old) number.old) result
         (embedded memory.new region.new meter.new (limiter_of quota.new) number.new) }
     ensures quota { KeepsQuota quota.old quota.new }
-    ensures invalid { IsNoState memory.old region.old → quota.new ≡ quota.old }
+    ensures invalid { IsNone of_memory memory.old region.old → quota.new ≡ quota.old }
     ensures unasked { (ty : MemoryTypeValue) → IsState memory.old region.old ty
         → in_bounds ty (memory.old.size / page_bytes ty.page + pages) ≡ false
         → quota.new ≡ quota.old }
@@ -96,8 +94,7 @@ pub extern "C" fn wasmi_memory_read(
     offset: usize,
     bytes: &mut [u8],
 ) -> u8
-    ensures { ReadsEmbedded (record { numbers = memory.now; region = region.now }) offset bytes.old
-        result bytes.new }
+    ensures { ReadsEmbedded (placed memory.now region.now) offset bytes.old result bytes.new }
 {
     bytes::read(memory, region, offset, bytes)
 }
@@ -110,8 +107,7 @@ pub extern "C" fn wasmi_memory_write(
     offset: usize,
     bytes: &[u8],
 ) -> u8
-    ensures { WritesEmbedded (record { numbers = memory.now; region = region.old }) offset bytes.now
-        result region.new }
+    ensures { WritesEmbedded (placed memory.now region.old) offset bytes.now result region.new }
 {
     bytes::write(memory, region, offset, bytes)
 }
@@ -126,10 +122,9 @@ pub extern "C" fn wasmi_memory_fill(
     meter: &mut MeterNumbers,
     number: &mut u64,
 ) -> u8
-    ensures { WritesBytesEmbedded (λ bytes. filled bytes range.now.to value range.now.count)
-        range.now.count memory.now
-        (record { region = region.old; meter = meter.old; number = number.old }) result
-        (record { region = region.new; meter = meter.new; number = number.new }) }
+    ensures { WritesBytesEmbedded (filled_range value) range.now memory.now
+        (metered_region region.old meter.old number.old) result
+        (metered_region region.new meter.new number.new) }
 {
     bulk::fill(memory, region, range, value, meter, number)
 }
@@ -143,11 +138,9 @@ pub extern "C" fn wasmi_memory_copy_within(
     meter: &mut MeterNumbers,
     number: &mut u64,
 ) -> u8
-    ensures { WritesBytesEmbedded
-        (λ bytes. copied bytes range.now.to bytes range.now.from range.now.count)
-        range.now.count memory.now
-        (record { region = region.old; meter = meter.old; number = number.old }) result
-        (record { region = region.new; meter = meter.new; number = number.new }) }
+    ensures { WritesBytesEmbedded (λ r bytes. copied_range bytes r bytes) range.now memory.now
+        (metered_region region.old meter.old number.old) result
+        (metered_region region.new meter.new number.new) }
 {
     bulk::copy_within(memory, region, range, meter, number)
 }
@@ -163,10 +156,9 @@ pub extern "C" fn wasmi_memory_copy(
     meter: &mut MeterNumbers,
     number: &mut u64,
 ) -> u8
-    ensures { CopiesBytesEmbedded (record { numbers = source.now; region = source_region.now })
-        range.now memory.now
-        (record { region = region.old; meter = meter.old; number = number.old }) result
-        (record { region = region.new; meter = meter.new; number = number.new }) }
+    ensures { CopiesBytesEmbedded (placed source.now source_region.now) range.now memory.now
+        (metered_region region.old meter.old number.old) result
+        (metered_region region.new meter.new number.new) }
 {
     bulk::copy(memory, region, source, source_region, range, meter, number)
 }
@@ -181,11 +173,9 @@ pub extern "C" fn wasmi_memory_init(
     meter: &mut MeterNumbers,
     number: &mut u64,
 ) -> u8
-    ensures { WritesBytesEmbedded
-        (λ front. copied front range.now.to bytes.now range.now.from range.now.count)
-        range.now.count memory.now
-        (record { region = region.old; meter = meter.old; number = number.old }) result
-        (record { region = region.new; meter = meter.new; number = number.new }) }
+    ensures { WritesBytesEmbedded (copied_range bytes.now) range.now memory.now
+        (metered_region region.old meter.old number.old) result
+        (metered_region region.new meter.new number.new) }
 {
     bulk::init(memory, region, bytes, range, meter, number)
 }

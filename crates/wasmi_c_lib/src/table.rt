@@ -1,8 +1,8 @@
 //! Tables in regions of the caller's.
 ghost use Rattle.std.specs.Prelude.{◌≡◌, None, ◌+◌, false, Some};
-ghost use Rattle.wasmi_c.specs.Numbers.{limiter_of, table_type_of, KeepsQuota, embedded, IsTable};
-ghost use Rattle.wasmi_c.specs.TableCalls.{AsksTableEmbedded, CopiesEmbedded, CountsElements, GetsElement, IsNoTable, MakesTableEmbedded, SetsElement, WritesTableEmbedded, by_elements, of_table};
-ghost use Rattle.wasmi_c.specs.Placement.{GrowsBy, SettlesBy};
+ghost use Rattle.wasmi_c.specs.Numbers.{limiter_of, table_type_of, KeepsQuota, embedded, IsTable, metered_region, placed};
+ghost use Rattle.wasmi_c.specs.TableCalls.{AsksTableEmbedded, CopiesEmbedded, CountsElements, GetsElement, MakesTableEmbedded, SetsElement, WritesTableEmbedded, by_elements, of_table};
+ghost use Rattle.wasmi_c.specs.Placement.{GrowsBy, IsNone, SettlesBy};
 ghost use Rattle.wasmi_meter.specs.Capped.{quota_rules};
 ghost use Rattle.wasmi_store.specs.Table.{TableTypeValue, is_indexable, raw_filling_of, copy_of, initialization_of};
 ghost use Rattle.wasmi_region.specs.Table.{table_in, items_of};
@@ -18,9 +18,8 @@ pub extern "C" fn wasmi_table_new(
     reference: u32,
     quota: &mut QuotaNumbers,
 ) -> u8
-    ensures made { MakesTableEmbedded reference
-        (record { numbers = table.old; region = region.old }) (limiter_of quota.old) result
-        (record { numbers = table.new; region = region.new }) (limiter_of quota.new) }
+    ensures made { MakesTableEmbedded reference (placed table.old region.old) (limiter_of quota.old)
+        result (placed table.new region.new) (limiter_of quota.new) }
     ensures quota { KeepsQuota quota.old quota.new }
     ensures invalid { table_type_of table.old ≡ None → quota.new ≡ quota.old }
 {
@@ -42,7 +41,7 @@ pub extern "C" fn wasmi_table_grow(
         (embedded table.old region.old meter.old (limiter_of quota.old) number.old) result
         (embedded table.new region.new meter.new (limiter_of quota.new) number.new) }
     ensures quota { KeepsQuota quota.old quota.new }
-    ensures invalid { IsNoTable table.old region.old → quota.new ≡ quota.old }
+    ensures invalid { IsNone of_table table.old region.old → quota.new ≡ quota.old }
     ensures unasked { (ty : TableTypeValue) → IsTable table.old region.old ty
         → is_indexable ty (table.old.size + delta) ≡ false → quota.new ≡ quota.old }
 {
@@ -96,8 +95,7 @@ pub extern "C" fn wasmi_table_get(
     index: u64,
     reference: &mut u32,
 ) -> u8
-    ensures { GetsElement (record { numbers = table.now; region = region.now }) index reference.old
-        result reference.new }
+    ensures { GetsElement (placed table.now region.now) index reference.old result reference.new }
 {
     elements::get(table, region, index, reference)
 }
@@ -110,8 +108,7 @@ pub extern "C" fn wasmi_table_set(
     index: u64,
     reference: u32,
 ) -> u8
-    ensures { SetsElement (record { numbers = table.now; region = region.old }) index reference
-        result region.new }
+    ensures { SetsElement (placed table.now region.old) index reference result region.new }
 {
     elements::set(table, region, index, reference)
 }
@@ -127,8 +124,8 @@ pub extern "C" fn wasmi_table_fill(
     number: &mut u64,
 ) -> u8
     ensures { WritesTableEmbedded (λ ty. raw_filling_of range.now.to reference range.now.count)
-        table.now (record { region = region.old; meter = meter.old; number = number.old }) result
-        (record { region = region.new; meter = meter.new; number = number.new }) }
+        table.now (metered_region region.old meter.old number.old) result
+        (metered_region region.new meter.new number.new) }
 {
     ranges::fill(table, region, range, reference, meter, number)
 }
@@ -144,8 +141,8 @@ pub extern "C" fn wasmi_table_copy(
 ) -> u8
     ensures { WritesTableEmbedded (λ ty. copy_of range.now.to range.now.from range.now.count
         (table_in ty region.old table.now.size))
-        table.now (record { region = region.old; meter = meter.old; number = number.old }) result
-        (record { region = region.new; meter = meter.new; number = number.new }) }
+        table.now (metered_region region.old meter.old number.old) result
+        (metered_region region.new meter.new number.new) }
 {
     ranges::copy_within(table, region, range, meter, number)
 }
@@ -161,9 +158,9 @@ pub extern "C" fn wasmi_table_copy_from(
     meter: &mut MeterNumbers,
     number: &mut u64,
 ) -> u8
-    ensures { CopiesEmbedded (record { numbers = source.now; region = source_region.now }) range.now
-        table.now (record { region = region.old; meter = meter.old; number = number.old }) result
-        (record { region = region.new; meter = meter.new; number = number.new }) }
+    ensures { CopiesEmbedded (placed source.now source_region.now) range.now table.now
+        (metered_region region.old meter.old number.old) result
+        (metered_region region.new meter.new number.new) }
 {
     ranges::copy(table, region, source, source_region, range, meter, number)
 }
@@ -180,8 +177,8 @@ pub extern "C" fn wasmi_table_init(
 ) -> u8
     ensures { WritesTableEmbedded (λ ty. initialization_of range.now.to range.now.from
         range.now.count (items_of ty items.now))
-        table.now (record { region = region.old; meter = meter.old; number = number.old }) result
-        (record { region = region.new; meter = meter.new; number = number.new }) }
+        table.now (metered_region region.old meter.old number.old) result
+        (metered_region region.new meter.new number.new) }
 {
     ranges::init(table, region, items, range, meter, number)
 }

@@ -46,7 +46,9 @@ module _ {S : Type 0} (rules : Rules S) where
   table_creations_succeed ty room reference l result l' place makes =
       met_or_denied rules (creation_in ty room) None
       (record {
-        early = no_cause _ _ (same_as_itself ty.element); late = refl; paid = refl;
+        early = no_cause _ _ (same_as_itself ty.element);
+        late = refl;
+        paid = refl;
         room = λ cause refuses. omega (arith, place, refuses.1);
       }) _ l l' makes.0 makes.1.may_end makes.1.follows result makes.2
 
@@ -58,7 +60,9 @@ module _ {S : Type 0} (rules : Rules S) where
         | inr some ↦
             met_or_denied rules (growth_in room s.value n reference) s.meter
             (record {
-              early = no_cause _ _ can.indexable; late = no_cause _ _ can.within; paid = can.paid;
+              early = no_cause _ _ can.indexable;
+              late = no_cause _ _ can.within;
+              paid = can.paid;
               room = λ cause refuses. omega (arith, can.place, refuses.1);
             }) _ s.limiter s'.limiter some.outcome some.attempt.may_end some.attempt.follows result some.answered
       ]
@@ -75,20 +79,19 @@ module _ {V E S : Type 0} (rules : Rules S) (e : Request V E) (refuses : E → T
   cause_is m (Some late) cause first = first
   cause_is m None cause first = on_first _ (covers m (optional_due m e.price)) (wider cause) first
 
-  -- so may it end
-  may_end : (m : Option Meter) (outcome : AttemptOutcome E) → MayEnd narrow m outcome → MayEnd e m outcome
-  may_end m (Unasked cause) may = may
-  may_end m (Denied answer) may = may
-  may_end m Met may = may
-  may_end m (Failed cause notice_answer) may = (may.0, cause_is m e.late cause may.1)
+  -- an end of it is one of the wider request
+  ends : (m : Option Meter) (outcome : AttemptOutcome E) → MayEnd narrow m outcome → MayEnd e m outcome
+  ends m (Unasked cause) may = may
+  ends m (Denied answer) may = may
+  ends m Met may = may
+  ends m (Failed cause notice_answer) may = (may.0, cause_is m e.late cause may.1)
 
   -- an attempt of it is one of the wider request
   attempt_wider : (s : MeteredValue V S) (outcome : AttemptOutcome E) (charge : ℕ) (s' : MeteredValue V S)
       → Attempt rules narrow s outcome charge s' → Attempt rules e s outcome charge s'
-  attempt_wider s outcome charge s' a = record {
-    may_end = may_end s.meter outcome a.may_end; follows = a.follows; charged = a.charged;
-    meter = a.meter; value = a.value;
-  }
+  attempt_wider s outcome charge s' a =
+      let may_end = ends s.meter outcome a.may_end in
+      record { may_end = may_end; follows = a.follows; charged = a.charged; meter = a.meter; value = a.value }
 
 module _ {S : Type 0} (rules : Rules S) where
   -- tables on regions are made as others
@@ -105,10 +108,9 @@ module _ {S : Type 0} (rules : Rules S) where
     grows.0,
     elim grows.1 [
       | inl g ↦ inl (record { none = g.none; answered = g.answered; uncharged = g.uncharged; same = g.same })
-      | inr g ↦ inr (record {
-        some = g.some; outcome = g.outcome; answered = g.answered;
-        attempt = attempt_wider rules (growth_of s.value n reference) _ (λ cause is. is.0) s _ _ s' g.attempt;
-      })
+      | inr g ↦
+          let a = attempt_wider rules (growth_of s.value n reference) _ (λ cause is. is.0) s _ _ s' g.attempt in
+          inr (record { some = g.some; outcome = g.outcome; attempt = a; answered = g.answered })
     ],
   )
 

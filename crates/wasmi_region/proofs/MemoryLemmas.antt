@@ -13,11 +13,11 @@ module _ (ty : MemoryTypeValue) (region : List ℕ) (size : ℕ) (within : size 
   abbrev x : MemoryValue
   x = memory_in ty region size
 
-  -- it has so many bytes
+  -- the memory has so many bytes
   pub sized : length x.bytes ≡ size
   sized = length-take-le size region within
 
-  -- and so many pages
+  -- the memory has so many pages
   pub paged : pages_of x ≡ size / page_bytes ty.page
   paged = ap (λ (n : ℕ). n / page_bytes ty.page) sized
 
@@ -29,7 +29,7 @@ module _ (ty : MemoryTypeValue) (region : List ℕ) (size : ℕ) (within : size 
   -- a growth within the bounds, to a new size
   module _ {new_size : ℕ} (found : (in_bounds ty (size / page_bytes ty.page + pages) ≡ true)
       × (new_size ≡ size + pages * page_bytes ty.page)) where
-    -- it asks for its sizes
+    -- the growth asks for its sizes
     pub asked_in : {maximum : Option ℕ} → maximum ≡ maximum_bytes ty
         → IsAsked (growth_of x pages) (size_question size new_size maximum)
     asked_in cut = growth_asked x pages (bounds true found.0, rw sized found.1) (sym sized) cut

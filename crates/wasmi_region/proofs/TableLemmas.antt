@@ -52,8 +52,12 @@ module _ {S : Type 0} (t : RegionGrowth S) where
 
   abbrev pub attempt : GrowthAttempt TableValue TableError S
   attempt = record {
-    rules = t.limits; growth = region_growth (length t.region) t.delta t.reference x; some = t.some; value = x;
-    meter = t.meter; limiter = t.limiter;
+    rules = t.limits;
+    growth = region_growth (length t.region) t.delta t.reference x;
+    some = t.some;
+    value = x;
+    meter = t.meter;
+    limiter = t.limiter;
   }
 
   abbrev question : ℕ → Option ℕ → Question

@@ -1,8 +1,8 @@
 //! A range of a memory is written over. `number` is set to the fuel that is needed where less is
 //! left.
 ghost use Rattle.std.specs.Prelude.{◌≡◌};
-ghost use Rattle.wasmi_store.specs.Growth.{copied, filled};
-ghost use Rattle.wasmi_c.specs.MemoryCalls.{CopiesBytesEmbedded, WritesBytesEmbedded, of_memory};
+ghost use Rattle.wasmi_c.specs.MemoryCalls.{CopiesBytesEmbedded, WritesBytesEmbedded, copied_range, filled_range, of_memory};
+ghost use Rattle.wasmi_c.specs.Numbers.{metered_region, placed};
 ghost use Rattle.wasmi_c.specs.Placement.{status_of, written_number};
 
 use crate::fuel::MeterNumbers;
@@ -32,10 +32,9 @@ pub fn fill(
     meter: &mut MeterNumbers,
     number: &mut u64,
 ) -> u8
-    ensures { WritesBytesEmbedded (λ bytes. filled bytes range.now.to value range.now.count)
-        range.now.count memory.now
-        (record { region = region.old; meter = meter.old; number = number.old }) result
-        (record { region = region.new; meter = meter.new; number = number.new }) }
+    ensures { WritesBytesEmbedded (filled_range value) range.now memory.now
+        (metered_region region.old meter.old number.old) result
+        (metered_region region.new meter.new number.new) }
 {
     let Some(_ty) = memory.type_if_valid(region) else {
         return INVALID_STATE;
@@ -55,11 +54,9 @@ pub fn copy_within(
     meter: &mut MeterNumbers,
     number: &mut u64,
 ) -> u8
-    ensures { WritesBytesEmbedded
-        (λ bytes. copied bytes range.now.to bytes range.now.from range.now.count)
-        range.now.count memory.now
-        (record { region = region.old; meter = meter.old; number = number.old }) result
-        (record { region = region.new; meter = meter.new; number = number.new }) }
+    ensures { WritesBytesEmbedded (λ r bytes. copied_range bytes r bytes) range.now memory.now
+        (metered_region region.old meter.old number.old) result
+        (metered_region region.new meter.new number.new) }
 {
     let Some(_ty) = memory.type_if_valid(region) else {
         return INVALID_STATE;
@@ -81,23 +78,15 @@ pub fn copy(
     meter: &mut MeterNumbers,
     number: &mut u64,
 ) -> u8
-    ensures { CopiesBytesEmbedded (record { numbers = source.now; region = source_region.now })
-        range.now memory.now
-        (record { region = region.old; meter = meter.old; number = number.old }) result
-        (record { region = region.new; meter = meter.new; number = number.new }) }
+    ensures { CopiesBytesEmbedded (placed source.now source_region.now) range.now memory.now
+        (metered_region region.old meter.old number.old) result
+        (metered_region region.new meter.new number.new) }
 {
-    let Some(_ty) = memory.type_if_valid(region) else {
-        return INVALID_STATE;
-    };
     let Some(_source_ty) = source.type_if_valid(source_region) else {
         return INVALID_STATE;
     };
-    let mut fuel = meter.fuel();
     let bytes = &source_region[..source.size];
-    let (to, from, count) = (range.to, range.from, range.count);
-    let written = region_memory::copy(region, memory.size, bytes, to, from, count, &mut fuel);
-    meter.store_left(&fuel);
-    leave_write(written, number)
+    init(memory, region, bytes, range, meter, number)
 }
 
 /// Copies bytes, such as a data segment's, over those of a memory.
@@ -109,11 +98,9 @@ pub fn init(
     meter: &mut MeterNumbers,
     number: &mut u64,
 ) -> u8
-    ensures { WritesBytesEmbedded
-        (λ front. copied front range.now.to bytes.now range.now.from range.now.count)
-        range.now.count memory.now
-        (record { region = region.old; meter = meter.old; number = number.old }) result
-        (record { region = region.new; meter = meter.new; number = number.new }) }
+    ensures { WritesBytesEmbedded (copied_range bytes.now) range.now memory.now
+        (metered_region region.old meter.old number.old) result
+        (metered_region region.new meter.new number.new) }
 {
     let Some(_ty) = memory.type_if_valid(region) else {
         return INVALID_STATE;

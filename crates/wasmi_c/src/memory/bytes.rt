@@ -1,6 +1,7 @@
 //! A memory is measured, read and written.
 ghost use Rattle.std.specs.Prelude.{◌≡◌};
 ghost use Rattle.wasmi_c.specs.MemoryCalls.{CountsEmbedded, ReadsEmbedded, WritesEmbedded};
+ghost use Rattle.wasmi_c.specs.Numbers.{placed};
 
 use crate::memory::numbers::MemoryNumbers;
 use crate::status::{DONE, INVALID_STATE, MEMORY_ACCESS};
@@ -19,8 +20,7 @@ pub fn size(memory: &MemoryNumbers, region: &[u8], pages: &mut u64) -> u8
 
 /// Copies bytes of a memory from an offset on, as many as the caller's.
 pub fn read(memory: &MemoryNumbers, region: &[u8], offset: usize, bytes: &mut [u8]) -> u8
-    ensures { ReadsEmbedded (record { numbers = memory.now; region = region.now }) offset bytes.old
-        result bytes.new }
+    ensures { ReadsEmbedded (placed memory.now region.now) offset bytes.old result bytes.new }
 {
     let Some(_ty) = memory.type_if_valid(region) else {
         return INVALID_STATE;
@@ -33,8 +33,7 @@ pub fn read(memory: &MemoryNumbers, region: &[u8], offset: usize, bytes: &mut [u
 
 /// Writes bytes over those of a memory from an offset on.
 pub fn write(memory: &MemoryNumbers, region: &mut [u8], offset: usize, bytes: &[u8]) -> u8
-    ensures { WritesEmbedded (record { numbers = memory.now; region = region.old }) offset bytes.now
-        result region.new }
+    ensures { WritesEmbedded (placed memory.now region.old) offset bytes.now result region.new }
 {
     let Some(_ty) = memory.type_if_valid(region) else {
         return INVALID_STATE;

@@ -5,7 +5,7 @@ ghost use Rattle.wasmi_store.specs.Buffer.{Lent};
 ghost use Rattle.wasmi_store.specs.Memory.{IsSized, MakesMemory};
 ghost use Rattle.wasmi_region.specs.Memory.{made_in};
 ghost use Rattle.wasmi_c.specs.MemoryCalls.{IsNoType, MakesEmbedded};
-ghost use Rattle.wasmi_c.specs.Numbers.{limiter_of, KeepsQuota};
+ghost use Rattle.wasmi_c.specs.Numbers.{limiter_of, placed, KeepsQuota};
 
 use crate::memory::numbers::MemoryNumbers;
 use crate::quota::QuotaNumbers;
@@ -28,18 +28,15 @@ pub fn make_under<L: ResourceLimiter>(
 {
     let mut lent = ResourceLimiterRef::from(limiter);
     let made = region_memory::make(ty, region, &mut lent);
-    let Some(_limiter) = lent.into_resource_limiter() else {
-        unreachable!()
-    };
+    let _limiter = lent.into_limiter();
     made
 }
 
 /// Makes a memory of zeros at the front of a region, at the minimum of the numbers' type, and sets
 /// their size. It takes no fuel, and leaves the bytes past the minimum alone.
 pub fn make(memory: &mut MemoryNumbers, region: &mut [u8], quota: &mut QuotaNumbers) -> u8
-    ensures made { MakesEmbedded (record { numbers = memory.old; region = region.old })
-        (limiter_of quota.old) result (record { numbers = memory.new; region = region.new })
-        (limiter_of quota.new) }
+    ensures made { MakesEmbedded (placed memory.old region.old) (limiter_of quota.old) result
+        (placed memory.new region.new) (limiter_of quota.new) }
     ensures quota { KeepsQuota quota.old quota.new }
     ensures invalid { IsNoType memory.old → quota.new ≡ quota.old }
 {

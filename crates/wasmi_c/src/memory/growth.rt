@@ -4,8 +4,8 @@ ghost use Rattle.wasmi_meter.specs.Capped.{quota_rules};
 ghost use Rattle.wasmi_store.specs.Memory.{MemoryTypeValue, in_bounds, page_bytes};
 ghost use Rattle.wasmi_region.specs.Memory.{memory_in};
 ghost use Rattle.wasmi_c.specs.Host.{is_about, memory_growth};
-ghost use Rattle.wasmi_c.specs.MemoryCalls.{AsksEmbedded, IsNoState, by_pages, of_memory};
-ghost use Rattle.wasmi_c.specs.Placement.{GrowsAs, GrowsBy, SettlesBy, grown_number, status_of};
+ghost use Rattle.wasmi_c.specs.MemoryCalls.{AsksEmbedded, by_pages, of_memory};
+ghost use Rattle.wasmi_c.specs.Placement.{GrowsAs, GrowsBy, IsNone, SettlesBy, grown_number, status_of};
 ghost use Rattle.wasmi_c.specs.Numbers.{embedded, limiter_of, IsState, KeepsQuota};
 
 use crate::fuel::MeterNumbers;
@@ -50,9 +50,7 @@ pub fn grow_under<L: ResourceLimiter>(
     let mut size = memory.size;
     let mut lent = ResourceLimiterRef::from(limiter);
     let grown = region_memory::grow(ty, &mut size, region, pages, &mut fuel, &mut lent);
-    let Some(_limiter) = lent.into_resource_limiter() else {
-        unreachable!()
-    };
+    let _limiter = lent.into_limiter();
     memory.size = size;
     meter.store_left(&fuel);
     leave_growth(grown, number)
@@ -72,7 +70,7 @@ pub fn grow(
         (embedded memory.old region.old meter.old (limiter_of quota.old) number.old) result
         (embedded memory.new region.new meter.new (limiter_of quota.new) number.new) }
     ensures quota { KeepsQuota quota.old quota.new }
-    ensures invalid { IsNoState memory.old region.old → quota.new ≡ quota.old }
+    ensures invalid { IsNone of_memory memory.old region.old → quota.new ≡ quota.old }
     ensures unasked { (ty : MemoryTypeValue) → IsState memory.old region.old ty
         → in_bounds ty (memory.old.size / page_bytes ty.page + pages) ≡ false
         → quota.new ≡ quota.old }

@@ -3,7 +3,7 @@ ghost use Rattle.std.specs.Prelude.{◌≡◌, ◌≤◌, None, Some, OnErr, IfO
 ghost use Rattle.wasmi_meter.specs.Limiter.{optional_rules};
 ghost use Rattle.wasmi_region.specs.Table.{made_in, MakesTableIn};
 ghost use Rattle.wasmi_store.specs.Table.{IsSized};
-ghost use Rattle.wasmi_c.specs.Numbers.{limiter_of, table_type_of, KeepsQuota, SameRest};
+ghost use Rattle.wasmi_c.specs.Numbers.{limiter_of, placed, table_type_of, KeepsQuota, SameRest};
 ghost use Rattle.wasmi_c.specs.TableCalls.{MakesTableEmbedded};
 
 use crate::quota::QuotaNumbers;
@@ -29,9 +29,7 @@ pub fn make_under<L: ResourceLimiter>(
 {
     let mut lent = ResourceLimiterRef::from(limiter);
     let made = region_table::make(ty, region, reference, &mut lent);
-    let Some(_limiter) = lent.into_resource_limiter() else {
-        unreachable!()
-    };
+    let _limiter = lent.into_limiter();
     made
 }
 
@@ -44,9 +42,8 @@ pub fn make(
     reference: u32,
     quota: &mut QuotaNumbers,
 ) -> u8
-    ensures made { MakesTableEmbedded reference
-        (record { numbers = table.old; region = region.old }) (limiter_of quota.old) result
-        (record { numbers = table.new; region = region.new }) (limiter_of quota.new) }
+    ensures made { MakesTableEmbedded reference (placed table.old region.old) (limiter_of quota.old)
+        result (placed table.new region.new) (limiter_of quota.new) }
     ensures quota { KeepsQuota quota.old quota.new }
     ensures invalid { table_type_of table.old ≡ None → quota.new ≡ quota.old }
 {

@@ -1,5 +1,6 @@
 //! The elements of a table are counted, read and set.
 ghost use Rattle.std.specs.Prelude.{◌≡◌};
+ghost use Rattle.wasmi_c.specs.Numbers.{placed};
 ghost use Rattle.wasmi_c.specs.TableCalls.{CountsElements, GetsElement, SetsElement};
 
 use crate::status::{DONE, INVALID_STATE, NO_ELEMENT, table_status};
@@ -19,8 +20,7 @@ pub fn size(table: &TableNumbers, region: &[u32], size: &mut u64) -> u8
 
 /// The element at an index.
 pub fn get(table: &TableNumbers, region: &[u32], index: u64, reference: &mut u32) -> u8
-    ensures { GetsElement (record { numbers = table.now; region = region.now }) index reference.old
-        result reference.new }
+    ensures { GetsElement (placed table.now region.now) index reference.old result reference.new }
 {
     let Some(_ty) = table.type_if_valid(region) else {
         return INVALID_STATE;
@@ -35,8 +35,7 @@ pub fn get(table: &TableNumbers, region: &[u32], index: u64, reference: &mut u32
 
 /// Sets the element at an index.
 pub fn set(table: &TableNumbers, region: &mut [u32], index: u64, reference: u32) -> u8
-    ensures { SetsElement (record { numbers = table.now; region = region.old }) index reference
-        result region.new }
+    ensures { SetsElement (placed table.now region.old) index reference result region.new }
 {
     let Some(ty) = table.type_if_valid(region) else {
         return INVALID_STATE;

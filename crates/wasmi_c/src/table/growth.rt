@@ -4,9 +4,9 @@ ghost use Rattle.wasmi_meter.specs.Capped.{quota_rules};
 ghost use Rattle.wasmi_store.specs.Table.{TableTypeValue, is_indexable};
 ghost use Rattle.wasmi_region.specs.Table.{table_in, region_growth};
 ghost use Rattle.wasmi_c.specs.Host.{is_about};
-ghost use Rattle.wasmi_c.specs.Placement.{GrowsAs, GrowsBy, SettlesBy, grown_number, status_of};
+ghost use Rattle.wasmi_c.specs.Placement.{GrowsAs, GrowsBy, IsNone, SettlesBy, grown_number, status_of};
 ghost use Rattle.wasmi_c.specs.Numbers.{embedded, limiter_of, IsTable, KeepsQuota};
-ghost use Rattle.wasmi_c.specs.TableCalls.{AsksTableEmbedded, IsNoTable, by_elements, of_table};
+ghost use Rattle.wasmi_c.specs.TableCalls.{AsksTableEmbedded, by_elements, of_table};
 
 use crate::fuel::MeterNumbers;
 use crate::host::{HostAnswers, Question};
@@ -53,9 +53,7 @@ pub fn grow_under<L: ResourceLimiter>(
     let grown = region_table::grow(
         ty, &mut size, region, delta, reference, &mut fuel, &mut lent,
     );
-    let Some(_limiter) = lent.into_resource_limiter() else {
-        unreachable!()
-    };
+    let _limiter = lent.into_limiter();
     table.size = size;
     meter.store_left(&fuel);
     leave_growth(grown, number)
@@ -76,7 +74,7 @@ pub fn grow(
         (embedded table.old region.old meter.old (limiter_of quota.old) number.old) result
         (embedded table.new region.new meter.new (limiter_of quota.new) number.new) }
     ensures quota { KeepsQuota quota.old quota.new }
-    ensures invalid { IsNoTable table.old region.old → quota.new ≡ quota.old }
+    ensures invalid { IsNone of_table table.old region.old → quota.new ≡ quota.old }
     ensures unasked { (ty : TableTypeValue) → IsTable table.old region.old ty
         → is_indexable ty (table.old.size + delta) ≡ false → quota.new ≡ quota.old }
 {

@@ -4,6 +4,7 @@ ghost use Rattle.std.specs.Prelude.{◌≡◌};
 ghost use Rattle.wasmi_region.specs.Table.{table_in, items_of};
 ghost use Rattle.wasmi_store.specs.Table.{raw_filling_of, copy_of, initialization_of};
 ghost use Rattle.wasmi_c.specs.TableCalls.{CopiesEmbedded, WritesTableEmbedded, of_table};
+ghost use Rattle.wasmi_c.specs.Numbers.{metered_region, placed};
 ghost use Rattle.wasmi_c.specs.Placement.{status_of, written_number};
 
 use crate::fuel::MeterNumbers;
@@ -34,8 +35,8 @@ pub fn fill(
     number: &mut u64,
 ) -> u8
     ensures { WritesTableEmbedded (λ ty. raw_filling_of range.now.to reference range.now.count)
-        table.now (record { region = region.old; meter = meter.old; number = number.old }) result
-        (record { region = region.new; meter = meter.new; number = number.new }) }
+        table.now (metered_region region.old meter.old number.old) result
+        (metered_region region.new meter.new number.new) }
 {
     let Some(ty) = table.type_if_valid(region) else {
         return INVALID_STATE;
@@ -57,8 +58,8 @@ pub fn copy_within(
 ) -> u8
     ensures { WritesTableEmbedded (λ ty. copy_of range.now.to range.now.from range.now.count
         (table_in ty region.old table.now.size))
-        table.now (record { region = region.old; meter = meter.old; number = number.old }) result
-        (record { region = region.new; meter = meter.new; number = number.new }) }
+        table.now (metered_region region.old meter.old number.old) result
+        (metered_region region.new meter.new number.new) }
 {
     let Some(ty) = table.type_if_valid(region) else {
         return INVALID_STATE;
@@ -81,9 +82,9 @@ pub fn copy(
     meter: &mut MeterNumbers,
     number: &mut u64,
 ) -> u8
-    ensures { CopiesEmbedded (record { numbers = source.now; region = source_region.now }) range.now
-        table.now (record { region = region.old; meter = meter.old; number = number.old }) result
-        (record { region = region.new; meter = meter.new; number = number.new }) }
+    ensures { CopiesEmbedded (placed source.now source_region.now) range.now table.now
+        (metered_region region.old meter.old number.old) result
+        (metered_region region.new meter.new number.new) }
 {
     let Some(ty) = table.type_if_valid(region) else {
         return INVALID_STATE;
@@ -111,8 +112,8 @@ pub fn init(
 ) -> u8
     ensures { WritesTableEmbedded (λ ty. initialization_of range.now.to range.now.from
         range.now.count (items_of ty items.now))
-        table.now (record { region = region.old; meter = meter.old; number = number.old }) result
-        (record { region = region.new; meter = meter.new; number = number.new }) }
+        table.now (metered_region region.old meter.old number.old) result
+        (metered_region region.new meter.new number.new) }
 {
     let Some(ty) = table.type_if_valid(region) else {
         return INVALID_STATE;

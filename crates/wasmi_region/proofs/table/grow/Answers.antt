@@ -10,9 +10,16 @@ use Rattle.wasmi_region.proofs.table.grow.Goals.{Else-delta-eq0}
 -- the growth by 1 or more, with what it begins with
 abbrev begun : (g : given.Over) → goal.Else-delta-eq0 g → table.RegionGrowth (Option g.row.L.Denot)
 begun g c = record {
-  limits = optional_rules g.L.ResourceLimiter.rules; ty = c.args.ty; region = c.args.region.now; size = c.args.size.now;
-  within = c.requires.within; meter = c.args.fuel.now; limiter = lent_limiter c.args.limiter.now; delta = c.args.delta;
-  reference = c.args.reference; some = c.if-delta-eq0.false;
+  limits = optional_rules g.L.ResourceLimiter.rules;
+  ty = c.args.ty;
+  region = c.args.region.now;
+  size = c.args.size.now;
+  within = c.requires.within;
+  meter = c.args.fuel.now;
+  limiter = lent_limiter c.args.limiter.now;
+  delta = c.args.delta;
+  reference = c.args.reference;
+  some = c.if-delta-eq0.false;
 }
 
 pub returns-in_default-clause-grown : goal.returns-in_default-clause-grown

@@ -8,7 +8,7 @@ pub returns : goal.returns
 returns c = record {
   asked = λ maximum. (
     of_equals (λ l l'. AskedIf quota_rules l
-        (record { kind = c.args.kind; current = c.args.current; desired = c.args.desired; maximum = maximum })
+        (record { kind = c.args.kind; current = c.args.size; desired = c.args.desired; maximum = maximum })
         c.growing-answer.result l')
         (sym c.in-Some.ensures.value) c.store.ensures.limiter (c.growing-answer.ensures.asked maximum),
     c.store.ensures.kept,

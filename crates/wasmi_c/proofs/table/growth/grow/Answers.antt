@@ -5,8 +5,5 @@ use Rattle.wasmi_c.proofs.table.growth.grow.Goals as goal
 
 pub returns-clause-grown : goal.returns-clause-grown
 returns-clause-grown c =
-    inr (
-      c.in-Some.ty,
-      c.in-Some.ensures,
-      by_quota of_table (by_elements c.args.delta c.args.reference) c.in-Some.ty _ _ c.grow_under.ensures.grown,
-    )
+    let grown = by_quota of_table (by_elements c.args.delta c.args.reference) c.in-Some.ty _ _ c.grow_under.ensures.grown in
+    inr (c.in-Some.ty, c.in-Some.ensures, grown)

@@ -1,36 +1,13 @@
 use Rattle.std.proofs.Common.{refl, rules}
-use Rattle.wasmi_meter.specs.Limiter.{optional_rules, lent_limiter}
-use Rattle.wasmi_store.proofs.GrowthLemmas.{of_loan}
+use Rattle.wasmi_meter.specs.Limiter.{lent_limiter}
 use Rattle.wasmi_c.specs.TableCalls.{by_elements, of_table}
-use Rattle.wasmi_c.specs.Numbers.{embedded}
-use Rattle.wasmi_c.specs.Placement.{GrowsAs}
-use Rattle.wasmi_c.proofs.PlacementLemmas.{kept_growth}
+use Rattle.wasmi_c.proofs.PlacementLemmas.{grown_with}
 use Rattle.wasmi_c.proofs.table.growth.grow_under.Goals as goal
 
 pub returns : goal.returns
-returns g c =
-    let new = c.grow-grown.new in
-    let kept = kept_growth (optional_rules g.L.ResourceLimiter.rules) _ _ _ c.args.meter.now _ _ _ _ _
-    c.store_left.ensures (rw c.fuel-fuel.ensures at c.grow-grown.ensures.grown) in
-    record {
-      grown = of_loan (λ l l'. GrowsAs of_table g.L.ResourceLimiter.rules (by_elements c.args.delta c.args.reference) c.args.ty
-          (embedded c.args.table.now c.args.region.now c.args.meter.now l c.args.number.now) c.leave_growth.result
-          (embedded (record c.args.table.now { size = new.size }) new.region c.store_left.new.self l'
-          c.leave_growth.new.number))
-          (lent_limiter c.from-lent.result) (lent_limiter new.limiter) _ _ (search rules) (search rules)
-          (record {
-            result = c.grow-grown.result;
-            grows = kept.0;
-            state = record {
-              type = c.requires.state.type;
-              sized = c.grow-grown.ensures.sized;
-              within = c.grow-grown.ensures.within;
-            };
-            numbers = refl;
-            meter = kept.1;
-            rest = c.grow-grown.ensures.rest;
-            refused = c.grow-grown.ensures.refused;
-            status_is = c.leave_growth.ensures.status;
-            number_is = c.leave_growth.ensures.number;
-          });
-    }
+returns g c = record {
+  grown = grown_with of_table (by_elements c.args.delta c.args.reference) c.args.ty (lent_limiter c.from-lent.result)
+      (lent_limiter c.grow-grown.new.limiter) (search rules) (search rules) c.store_left.ensures
+      (rw c.fuel-fuel.ensures at c.grow-grown.ensures.grown) (search rules) refl c.grow-grown.ensures.rest
+      c.grow-grown.ensures.refused (c.leave_growth.ensures.status, c.leave_growth.ensures.number);
+}
