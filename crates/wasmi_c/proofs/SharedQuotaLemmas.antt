@@ -1,5 +1,5 @@
 -- What one quota holds, as memories and tables are made and grow under it.
-use Rattle.std.proofs.Common.{◌≡◌, ◌∙◌, ℕ, ◌+◌, ◌-◌, ◌*◌, true, false, Option, Some, None, Result, Ok, Err, List, [], ◌∷◌, ◌++◌, length, take, replicate, sum, refl, ap, sym, subst, inl, inr, arith, length-append}
+use Rattle.std.proofs.Common.{◌≡◌, ◌∙◌, ℕ, ◌+◌, ◌-◌, ◌*◌, ◌≤◌, true, false, Option, Some, None, Result, Ok, Err, List, [], ◌∷◌, ◌++◌, length, take, replicate, sum, refl, ap, sym, subst, inl, inr, arith, length-append}
 use Rattle.std.specs.Prelude.{MatchOption, nat_eq, slice_get, slice_set}
 use Rattle.std.proofs.lemmas.List.{length-replicate, length-take-le}
 use Rattle.std.proofs.lemmas.List.Elements.{All-cons, All-nil}
@@ -32,7 +32,7 @@ use Rattle.wasmi_c.specs.MemoryCalls.{by_pages, of_memory}
 use Rattle.wasmi_c.specs.Placement.{GrowsBy, LeavesAs, Placement, status_of}
 use Rattle.wasmi_c.specs.TableCalls.{by_elements, of_table}
 use Rattle.wasmi_c.specs.SharedQuota.{UnderQuota, HoldsSums, MakesMemoryUnder, GrowsMemoryUnder, MakesTableUnder, GrowsTableUnder, CallsUnder, OneQuotaHoldsAll, sizes_made}
-use Rattle.wasmi_c.specs.Status.{memory_status, table_status}
+use Rattle.wasmi_c.specs.Status.{done_status, memory_status, table_status}
 use Rattle.wasmi_c.specs.declared.memory.numbers.MemoryNumbers.{MemoryNumbers}
 use Rattle.wasmi_c.specs.declared.quota.QuotaNumbers.{QuotaNumbers}
 use Rattle.wasmi_c.specs.declared.table.numbers.TableNumbers.{TableNumbers}
@@ -221,24 +221,24 @@ abbrev elements_made : Result TableValue TableError → ℕ
 elements_made (Ok x) = size_of x
 elements_made (Err error) = 0
 
+-- a creation that is done adds to the sum what stands at the front of its region
+sum_made : (sizes : List ℕ) {status : ℕ} (made size : ℕ) (region : List ℕ) → status ≡ done_status → made ≡ size
+    → made ≤ length region → sum (sizes_made sizes status made) ≡ sum sizes + length (take size region)
+sum_made sizes made size region is sized within =
+    rw (is, ← sized, length-take-le made region within) (sum_push sizes made)
+
 -- a creation of a memory adds the bytes that were made to the sum
 memory_summed : (ty : MemoryTypeValue) (p p' : Placed MemoryNumbers) (result : Result ℕ MemoryError) (status : ℕ)
     (sizes : List ℕ) → status ≡ status_of of_memory result → LeavesAs of_memory ty p result p'
     → sum (sizes_made sizes status p'.numbers.size) ≡ sum sizes + bytes_made (memory.made_in ty p'.region result)
-memory_summed ty p p' (Ok size) status sizes is left =
-    let sized : p'.numbers.size ≡ size = ap (λ (h : MemoryNumbers). h.size) left.0 in
-    let long : length (take size p'.region) ≡ size = length-take-le size p'.region (rw sized at left.1.within) in
-    rw (is, long, ← sized) (sum_push sizes p'.numbers.size)
+memory_summed ty p p' (Ok n) status sizes is left = sum_made sizes _ n _ is (ap of_memory.size left.0) left.1.within
 memory_summed ty p p' (Err e) status sizes is left = rw (is, refused_status e) (omega arith)
 
 -- and one of a table
 table_summed : (ty : TableTypeValue) (p p' : Placed TableNumbers) (result : Result ℕ TableError) (status : ℕ)
     (sizes : List ℕ) → status ≡ status_of of_table result → LeavesAs of_table ty p result p'
     → sum (sizes_made sizes status p'.numbers.size) ≡ sum sizes + elements_made (table.made_in ty p'.region result)
-table_summed ty p p' (Ok size) status sizes is left =
-    let sized : p'.numbers.size ≡ size = ap (λ (h : TableNumbers). h.size) left.0 in
-    let long : length (take size p'.region) ≡ size = length-take-le size p'.region (rw sized at left.1.within) in
-    rw (is, long, ← sized) (sum_push sizes p'.numbers.size)
+table_summed ty p p' (Ok n) status sizes is left = sum_made sizes _ n _ is (ap of_table.size left.0) left.1.within
 table_summed ty p p' (Err e) status sizes is left = rw (is, refused_table_status e) (omega arith)
 
 -- ---- calls
