@@ -97,7 +97,7 @@ module _ {V E : Type 0} (e : Request V E) where
   added (Failed cause notice_answer) = 0
 
   module _ (tells : TellsOfKind e) (quota quota' : Quota) where
-    -- an answer to the question after which so much more is held
+    -- an answer to the question counts as what is held more after it
     answer_counts : (answer : Answer) → Asked capped_quota quota e.question answer quota' → (n : ℕ)
         → (amount_held (holdings quota') kind ≡ amount_held (holdings quota) kind + n)
         × (amount_held (holdings quota') (other kind) ≡ amount_held (holdings quota) (other kind))
