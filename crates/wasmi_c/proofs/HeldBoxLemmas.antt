@@ -3,13 +3,18 @@ use mathlib.Core.Path.{subst}
 use mathlib.Core.List.{List, [], ◌∷◌, ◌++◌}
 use seplogic.Ra.Ura.{Ura}
 use lib.Dec.{T}
-use mir.Syntax.{impl, tnil, dnil, ty_ptr}
+use mir.Syntax.{Fn, Local, Opd, Sym, Ty, aggregate, assign, copy, dnil, field, impl, local, place, return, rv_opd, seq, tcons, tnil, ty_ptr, ty_struct, value_local}
 use mir.Val.{Val, vstruct, vcons, vnil, of_list, has_ty, WT}
+use base.Logic.{SProp, ent}
 use base.Fml.{Fml, fsep, fex}
 use base.Shift.{Keyless}
 use mir.Raw.{raw}
-use types.Logic.{Logic}
-use types.Kit.{Goal, Seq, Item, ‵, ◌$◌, move, drop, fsplit, fjoin, fpick, fpack, feq_l, feq_i}
+use prog.Wp.{WpFn, Tables}
+use types.Logic.{Logic, sem}
+use types.Kit.{Goal, Seq, Item, ‵, ◌$◌, ◌∵◌, !, qed, by, move, drop, fsplit, fjoin, fpick, fpack, feq_l, feq_i}
+use types.Part.{whole, sub, agg}
+use types.Run.{stop, fld, no_more, and_then, of_opd, returns, enter}
+use types.ByLocal.{alloc_all, pass_all, free_all, look_at, get, get_in, sets}
 use denote.Memory.{lone}
 use denote.Param.Laws.{Laws}
 use denote.Param.Send.{IsSend}
@@ -18,7 +23,7 @@ use denote.RawPtr.{Ptr, RawPtr, block_ptr, null_ptr, ptr_val}
 use denote.Steps.{nothing}
 use denote.Struct.Owning.{shape}
 use denote.Struct.Struct.{within}
-use Rattle.std.proofs.Common.{◌≡◌, refl, sym, Some, None, true≢false, lit<}
+use Rattle.std.proofs.Common.{◌≡◌, ℕ, refl, sym, Some, None, true≢false, lit<}
 use Rattle.std.proofs.Crossing.{frees}
 use Rattle.std.proofs.alloc.Calls.{α, Fits, handle_tells}
 use Rattle.std.specs.Global.{Global}
@@ -90,6 +95,42 @@ module _ (E : Bx) where
         (ptr_val at ∷ [], (hv ∷ [], tt)) $ fjoin t $
         k hv (subst (λ (ws : List Val). vs ≡ vstruct (of_list (ptr_val at ∷ (ws ++ []))) ∷ []) ea
         (subst (λ (ps : List Val). vs ≡ vstruct (of_list (ps ++ (vss.1.0 ++ []))) ∷ []) ep ev)) fa))))
+
+  -- the type of a struct of a pointer and an allocator
+  abbrev pair_ty : Sym → Ty
+  pair_ty name = ty_struct name (tcons ty_ptr (tcons (α E.al) tnil))
+
+  -- the function that takes the fields of such a struct and makes one of another name of them
+  abbrev moving : Sym → Sym → Fn
+  moving from to =
+      let var : Ty → Local = λ ty. local ty value_local in
+      let arg : ℕ → Opd = λ i. copy (place i []) in
+      record {
+        lifetimes = 0; outlives = []; ty_params = []; givens = 0; params = 1;
+        locals = var (pair_ty to) ∷ var (pair_ty from) ∷ var ty_ptr ∷ var (α E.al) ∷ var ty_ptr ∷ [];
+        body = seq (assign (place 2 []) (rv_opd (copy (place 1 (field 0 ∷ [])))))
+            (seq (assign (place 3 []) (rv_opd (copy (place 1 (field 1 ∷ [])))))
+            (seq (assign (place 4 []) (rv_opd (arg 2)))
+            (seq (assign (place 0 []) (aggregate (arg 4 ∷ arg 3 ∷ []))) return)));
+      }
+
+  -- this function returns the pair that it takes, with what is owned with it
+  pub moved : {M : Type 1} {𝓤 : Ura M} (𝓛 : Logic 𝓤) (𝓣 : Tables 𝓤 𝓛.H) (from to : Sym) (Post : Val → SProp 𝓤)
+      (at : Ptr) (alloc : E.al.row.Denot) (owned : Fml) (vs : List Val)
+      → ((w : Val) → ent 𝓤 (sem 𝓛 (Parts at alloc owned (w ∷ []))) (Post w))
+      → ent 𝓤 (sem 𝓛 (Parts at alloc owned vs)) (WpFn 𝓤 𝓛.H 𝓣.C 𝓣.Λ (moving from to) (vs ++ []) Post)
+  moved {𝓤 = 𝓤} 𝓛 𝓣 from to Post at alloc owned vs ends =
+      let Run : List Val → SProp 𝓤 = λ us. WpFn 𝓤 𝓛.H 𝓣.C 𝓣.Λ (moving from to) us Post in
+      qed 𝓛 (‵ (Parts at alloc owned vs) ∷ []) ∵ paired ! at alloc owned vs (λ hv ws fa.
+      let w = pair at hv in
+      by ! (subst (λ (us : List Val). ent 𝓤 (sem 𝓛 (Parts at alloc owned (w ∷ []))) (Run (us ++ []))) (sym ws)
+      (qed 𝓛 (‵ (Parts at alloc owned (w ∷ [])) ∷ []) ∵ enter ! 𝓣.C 𝓣.Λ (moving from to) (w ∷ []) _ $
+      alloc_all ! (λ ls. pass_all ! refl (pair_typed at hv fa, tt) $
+      sets ! (of_opd ! (get_in ! (fld ! refl (stop !)) (sub ! 0 refl (whole !)))) refl (ptr_typed at) $
+      sets ! (of_opd ! (get_in ! (fld ! refl (stop !)) (sub ! 1 refl (whole !)))) refl fa $
+      sets ! (of_opd ! (get ! refl)) refl (ptr_typed at) $
+      sets ! (agg ! (and_then ! (get ! refl) (and_then ! (get ! refl) (no_more !)))) refl (pair_typed at hv fa) $
+      returns ! (look_at ! 0 refl) $ free_all ! refl $ by ! (ends w)))))
 
 -- what owns a value or none names nothing of a thread, if the value doesn't
 pub owned_keyless : (row : RattleType) → IsSend row → (alloc : Global) (at : Ptr) (held : Option row.Denot)
