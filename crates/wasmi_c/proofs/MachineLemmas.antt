@@ -92,48 +92,29 @@ quotas_kept kinds holds stays turns s l s' l' ran kept =
 
 module _ (keeps : QuotasAreKept) (machine : MachineValue) (s : State) (l : AnyLimiter) (s' : State) (l' : AnyLimiter)
     (seen : record { state = s; limiter = l } ≡ machine) (kept : Keeps s l) where
-  -- they are by each call
-  kept_by_call : (call : Call) (reply : Reply)
-      → RepliesWith (optional_rules any_limiter_rules) call (world s (Some l)) reply (world s' (Some l')) → KeptAfter l s' l'
+  abbrev Kept : Type 0
+  Kept = Keeps s' l' × (caps_of l' ≡ caps_of machine.limiter)
+
+  -- a limiter that is kept from one to another has the caps of the machine's
+  of_machine : KeptAfter l s' l' → Kept
+  of_machine after = (after.0, after.1 ∙ ap (λ (m : MachineValue). caps_of m.limiter) seen)
+
+  -- after a call the limiter holds what the machine has, within the same caps
+  pub kept_by_call : (call : Call) (reply : Reply)
+      → RepliesWith (optional_rules any_limiter_rules) call (world s (Some l)) reply (world s' (Some l')) → Kept
   kept_by_call call reply (charge, written, step) =
-      keeps (record { call = call; reply = reply; charge = charge; written = written } ∷ []) s l s' l'
-      (world s' (Some l'), step, refl) kept
+      of_machine (keeps (record { call = call; reply = reply; charge = charge; written = written } ∷ []) s l s' l'
+      (world s' (Some l'), step, refl) kept)
 
-  -- so it holds what the machine has
-  pub call_keeps : (call : Call) (reply : Reply)
-      → RepliesWith (optional_rules any_limiter_rules) call (world s (Some l)) reply (world s' (Some l')) → Keeps s' l'
-  call_keeps call reply replies = (kept_by_call call reply replies).0
-
-  -- within the same caps
-  pub call_keeps_caps : (call : Call) (reply : Reply)
-      → RepliesWith (optional_rules any_limiter_rules) call (world s (Some l)) reply (world s' (Some l'))
-      → caps_of l' ≡ caps_of machine.limiter
-  call_keeps_caps call reply replies =
-      (kept_by_call call reply replies).1 ∙ ap (λ (m : MachineValue). caps_of m.limiter) seen
-
-  -- and by calls that are run, or refused
-  kept_by_run : (calls : List Call) (result : Result (Vec Reply Global) AllocError)
+  -- after calls that are run, or refused, the limiter holds what the machine has, within the same caps
+  pub kept_by_run : (calls : List Call) (result : Result (Vec Reply Global) AllocError)
       → IfOk result (λ replies. IsRunOf (optional_rules any_limiter_rules) calls (world s (Some l)) replies.items
       (world s' (Some l')))
-      → OnErr result ((s' ≡ s) × (l' ≡ l)) → KeptAfter l s' l'
-  kept_by_run calls (Ok replies) (turns, called, replied, ran) unchanged = keeps turns s l s' l' ran kept
-  kept_by_run calls (Err error) run unchanged =
+      → OnErr result ((s' ≡ s) × (l' ≡ l)) → Kept
+  kept_by_run calls (Ok replies) (turns, called, replied, ran) unchanged =
+      of_machine (keeps turns s l s' l' ran kept)
+  kept_by_run calls (Err error) run unchanged = of_machine
       (subst (λ t. Keeps t l') (sym unchanged.0) (subst (Keeps s) (sym unchanged.1) kept), ap caps_of unchanged.1)
-
-  -- so it holds what the machine has
-  pub run_keeps : (calls : List Call) (result : Result (Vec Reply Global) AllocError)
-      → IfOk result (λ replies. IsRunOf (optional_rules any_limiter_rules) calls (world s (Some l)) replies.items
-      (world s' (Some l')))
-      → OnErr result ((s' ≡ s) × (l' ≡ l)) → Keeps s' l'
-  run_keeps calls result run unchanged = (kept_by_run calls result run unchanged).0
-
-  -- within the same caps
-  pub run_keeps_caps : (calls : List Call) (result : Result (Vec Reply Global) AllocError)
-      → IfOk result (λ replies. IsRunOf (optional_rules any_limiter_rules) calls (world s (Some l)) replies.items
-      (world s' (Some l')))
-      → OnErr result ((s' ≡ s) × (l' ≡ l)) → caps_of l' ≡ caps_of machine.limiter
-  run_keeps_caps calls result run unchanged =
-      (kept_by_run calls result run unchanged).1 ∙ ap (λ (m : MachineValue). caps_of m.limiter) seen
 
 -- what a machine replies by its parts
 pub machine_replies : (machine : MachineValue) (s : State) (l : AnyLimiter) (call : Call) (reply : Reply) (s' : State)
@@ -331,9 +312,8 @@ loads_are numbers (Some op) kind_is is =
   where
     found : (load : Option loads.Load) (op : LoadOp) → option_and_then item_load_in load ≡ Some op
         → load ≡ Some (item.Scalar op)
-    found None op is = absurd cc
-    found (Some (item.Vector other)) op is = absurd cc
-    found (Some (item.Scalar other)) op is = ap (λ o. Some (item.Scalar o)) (same_Some other op is)
+    found (Some (item.Scalar other)) op is = cc
+    found lacking op is = absurd cc
 
 -- whatever store of an item was found by the number of such numbers, they stand for it
 pub stores_are : (numbers : CallStruct) (found : Option StoreOp)
@@ -348,9 +328,8 @@ stores_are numbers (Some op) kind_is is =
   where
     found : (store : Option stores.Store) (op : StoreOp) → option_and_then item_store_in store ≡ Some op
         → store ≡ Some (stored.Scalar op)
-    found None op is = absurd cc
-    found (Some stored.V128Store) op is = absurd cc
-    found (Some (stored.Scalar other)) op is = ap (λ o. Some (stored.Scalar o)) (same_Some other op is)
+    found (Some (stored.Scalar other)) op is = cc
+    found lacking op is = absurd cc
 
 -- whatever instruction of two vectors was found by the number of such numbers, they stand for it
 pub binaries_are : (numbers : CallStruct) (found : Option BinaryOp)
@@ -364,10 +343,8 @@ binaries_are numbers (Some op) kind_is is =
   where
     found : (binary : Option binaries.Binary) (op : BinaryOp) → option_and_then vector_binary_in binary ≡ Some op
         → binary ≡ Some (two.Vector op)
-    found None op is = absurd cc
-    found (Some (two.Scalar other)) op is = absurd cc
-    found (Some (two.Shift other)) op is = absurd cc
-    found (Some (two.Vector other)) op is = ap (λ o. Some (two.Vector o)) (same_Some other op is)
+    found (Some (two.Vector other)) op is = cc
+    found lacking op is = absurd cc
 
 -- a machine replies to the call that numbers stand for with the struct of its reply
 pub struct_told : (numbers : CallStruct) (call : Call) (machine : MachineValue) (full : Reply) (reply : ReplyStruct)

@@ -145,7 +145,6 @@ impl LimitedMachine {
 
     /// Grows a memory by so many pages.
     #[inline(always)]
-    #[tactic(auto, using(crate::proofs::MachineLemmas::call_keeps_caps))]
     fn grow_memory(&mut self, memory: usize, pages: u64) -> Reply
         ensures step { MachineReplies (GrowMemory memory pages) self.old result self.new }
         ensures caps { caps_of self.new.limiter ≡ caps_of self.old.limiter }
