@@ -22,7 +22,7 @@ use Rattle.wasmi_c.specs.Machine.Calls.{QuotasAreKept, CallsAreRuns}
 use Rattle.wasmi_grammar.specs.declared.script.Script.{Script}
 use Rattle.wasmi_grammar.specs.Lines.{WritesScript, calls_of, IsFirstBadLine}
 use Rattle.wasmi_script.specs.Outcomes.{replies_text, status_number, Replays}
-use Rattle.wasmi_c.specs.Machine.Calls.{MachineRuns, RefusesLines, RunsLines, WritesOut, no_header, RepliesToCopy, RepliesToSegment, RepliesInStatus, RepliesInWord, item_load, item_load_in, item_load_numbered, item_store_in, item_store_numbered, vector_binary_in, vector_binary_numbered, word_after, MachineReplies, RepliesInStruct, RepliesToStruct}
+use Rattle.wasmi_c.specs.Machine.Calls.{RefusesLines, RunsLines, RunsScriptBy, WritesOut, no_header, RepliesToCopy, RepliesToSegment, RepliesInStatus, RepliesInWord, item_load, item_load_in, item_load_numbered, item_store_in, item_store_numbered, vector_binary_in, vector_binary_numbered, word_after, MachineReplies, RepliesInStruct, RepliesToStruct}
 use Rattle.wasmi_c.specs.declared.machine.reply_struct.ReplyStruct.{ReplyStruct}
 use Rattle.wasmi_types.specs.declared.value.RefType.{RefType}
 use Rattle.wasmi_core.specs.declared.calls.Call.TheVariants.{NewSegment, Binary, GetFuel, Load, Store}
@@ -145,6 +145,23 @@ calls_run call machine reply machine' (charge, written, step) = (
   (world machine'.state (Some machine'.limiter), step, refl),
 )
 
+module _ (Runs : List Call → List Reply → Type 0) (lines old : List ℕ) (reply : ReplyStruct) where
+  -- lines that write a script without header lines are run as it is
+  pub ran : (script : Script) (calls : List Call) (replies replies' : List Reply) (new : List ℕ)
+      → WritesScript lines script → script.header ≡ no_header → calls ≡ calls_of script → replies' ≡ replies
+      → Runs calls replies → WritesOut (replies_text calls replies') old reply new
+      → (script : Script) × WritesScript lines script × RunsScriptBy Runs script old reply new
+  ran script calls replies replies' new written headless called same run text = (
+    script,
+    written,
+    record {
+      headless = headless;
+      replies = replies;
+      run = subst (λ cs. Runs cs replies) called run;
+      text = subst (λ all. WritesOut all old reply new) (λ i. replies_text (called i) (same i)) text;
+    },
+  )
+
 module _ (lines : List ℕ) (machine machine' : MachineValue) (old : List ℕ) (reply : ReplyStruct) where
   -- lines that are refused leave the machine and the bytes
   refused : machine' ≡ machine → RefusesLines lines reply → RunsLines lines machine old reply old machine'
@@ -164,23 +181,6 @@ module _ (lines : List ℕ) (machine machine' : MachineValue) (old : List ℕ) (
   -- or where memory is refused
   pub no_room : machine' ≡ machine → reply ≡ only no_room_status → RunsLines lines machine old reply old machine'
   no_room same is = refused same (inr (inr is))
-
-  -- lines that write a script are run as it is
-  pub ran : (script : Script) (calls : List Call) (replies replies' : List Reply) (new : List ℕ)
-      → WritesScript lines script → script.header ≡ no_header → calls ≡ calls_of script → replies' ≡ replies
-      → MachineRuns calls machine replies machine' → WritesOut (replies_text calls replies') old reply new
-      → RunsLines lines machine old reply new machine'
-  unfolding RunsLines
-  ran script calls replies replies' new written headless called same run text = inr (
-    script,
-    written,
-    record {
-      headless = headless;
-      replies = replies;
-      run = subst (λ cs. MachineRuns cs machine replies machine') called run;
-      text = subst (λ all. WritesOut all old reply new) (λ i. replies_text (called i) (same i)) text;
-    },
-  )
 
 -- a machine replies to a call with the struct of its reply
 pub in_struct : (call : Call) (machine : MachineValue) (full : Reply) (reply : ReplyStruct) (machine' : MachineValue)

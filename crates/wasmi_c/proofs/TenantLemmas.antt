@@ -8,10 +8,9 @@ use Rattle.wasmi_core.specs.declared.calls.Call.{Call}
 use Rattle.wasmi_core.specs.declared.calls.Reply.{Reply}
 use Rattle.wasmi_meter.specs.Limiter.{Rules}
 use Rattle.wasmi_budget.specs.Pool.{PoolValue, RunsTenant}
-use Rattle.wasmi_grammar.specs.Lines.{WritesScript, calls_of, IsFirstBadLine}
+use Rattle.wasmi_grammar.specs.Lines.{WritesScript, IsFirstBadLine}
 use Rattle.wasmi_grammar.specs.declared.script.Script.{Script}
-use Rattle.wasmi_script.specs.Outcomes.{replies_text}
-use Rattle.wasmi_c.specs.Machine.Calls.{RefusesLines, WritesOut, no_header}
+use Rattle.wasmi_c.specs.Machine.Calls.{RefusesLines, no_header}
 use Rattle.wasmi_c.specs.Machine.Replies.{only, reply_struct, with_number}
 use Rattle.wasmi_c.specs.Pool.{RefusesTenant, RunsTenantLines, TenantReplies, TenantRepliesToCopy}
 use Rattle.wasmi_c.specs.Status.{bad_line_status, header_line_status, no_room_status}
@@ -81,20 +80,3 @@ module _ (tenant : ℕ) (lines old : List ℕ) (reply : ReplyStruct) (pool pool'
   pub refused_tenant : pool' ≡ pool → RefusesTenant tenant pool reply
       → RunsTenantLines tenant lines old reply old pool pool'
   refused_tenant same why = refused same (inr why)
-
-  -- lines that write a script are run as it is
-  pub ran : (script : Script) (calls : List Call) (replies replies' : List Reply) (new : List ℕ)
-      → WritesScript lines script → script.header ≡ no_header → calls ≡ calls_of script → replies' ≡ replies
-      → RunsTenant pool tenant calls replies pool' → WritesOut (replies_text calls replies') old reply new
-      → RunsTenantLines tenant lines old reply new pool pool'
-  unfolding RunsTenantLines
-  ran script calls replies replies' new written headless called same run text = inr (
-    script,
-    written,
-    record {
-      headless = headless;
-      replies = replies;
-      run = subst (λ cs. RunsTenant pool tenant cs replies pool') called run;
-      text = subst (λ all. WritesOut all old reply new) (λ i. replies_text (called i) (same i)) text;
-    },
-  )

@@ -15,7 +15,6 @@ use prog.Wp.{WpFn, Tables}
 use types.Logic.{Logic}
 use contract.Monad.{Fun, fact}
 use contract.Running.{tables, tables_of}
-use sound.WpLaws.{WpFn-mono}
 use types.Kit.{Item, ‵, raw, ◌⊛◌, ◌$◌, ◌∵◌, !, qed, move, drop, join, split, fsplit, fjoin, fpack, feq_i, use1, suffices, done}
 use types.Run.{lit, of_opd, no_more, and_then, returns, enter}
 use types.Part.{agg}
@@ -29,9 +28,8 @@ use denote.Signature.{plain}
 use denote.Param.{layout}
 use denote.Steps.{nothing}
 use denote.Triple.Clauses.{Ended, Clauses}
-use denote.Triple.Spec.{triple_of}
-use denote.Triple.Table.{entered}
-use denote.Triple.Walked.{says, Stays, stay_dropped, walk_of, ends_at, walk_Meets}
+use denote.Triple.Walked.{says, Stays, stay_dropped, walk_of, ends_at}
+use Rattle.std.proofs.raw_atomic.Walks.{proved_at}
 use lib.Dec.{T}
 use Rattle.std.proofs.Common.{lit<}
 use Rattle.std.proofs.alloc.Calls.{α, handle_tells, Goes-blank}
@@ -101,9 +99,6 @@ unfolding tables_of
 empty_spec 𝓤 𝓛 𝓜 𝓡 wired X Z LX LZ g d dd allocator md =
     let E : Bx = record { row = X; laws = LX; al = record { row = Z; laws = LZ; g = g; d = d; drops = dd } } in
     let 𝓣 : Tables 𝓤 𝓛.H = tables_of 𝓤 𝓛.H 𝓜 (tables 𝓤 𝓛.H 𝓜 𝓡 𝓡.env) in
-    let fn = fn' E in
-    entered 𝓤 𝓛.H (triple_of 𝓛 (ended E).signature (F.spec X Z g d dd 𝓛 𝓜.mem 𝓡.returns)) 𝓣.C 𝓣.Λ (#self (args E)) fn
-    (code.unfolded 𝓤 𝓛.H 𝓜 𝓡 wired (X, (Z, tt)) d dd)
-    (walk_Meets 𝓛 (ended E) (stayed E) (Goes-blank 𝓛 2 (plain (λ _. P E)) no (λ κs x f. tt), tt)
-    (held E 𝓛 𝓜.mem 𝓡.returns 𝓣) (WpFn 𝓤 𝓛.H 𝓣.C 𝓣.Λ fn) (WpFn-mono 𝓤 𝓛.H 𝓛.laws 𝓣 fn)
-    (walk E 𝓛 𝓜.mem 𝓡.returns 𝓣))
+    proved_at 𝓛 (ended E) (stayed E) (held E 𝓛 𝓜.mem 𝓡.returns 𝓣) 𝓜 𝓡
+    (Goes-blank 𝓛 2 (plain (λ _. P E)) no (λ κs x f. tt), tt) (#self (args E)) (fn' E)
+    (code.unfolded 𝓤 𝓛.H 𝓜 𝓡 wired (X, (Z, tt)) d dd) (λ z are. walk E 𝓛 𝓜.mem 𝓡.returns 𝓣 z)

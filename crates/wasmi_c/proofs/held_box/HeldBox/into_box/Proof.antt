@@ -16,7 +16,7 @@ use prog.Wp.{WpFn, Tables}
 use types.Logic.{Logic}
 use contract.Monad.{Fun, fact}
 use contract.Running.{tables, tables_of}
-use sound.WpLaws.{fm_of, WpFn-mono}
+use sound.WpLaws.{fm_of}
 use types.Kit.{Item, at_ret, ‵, raw, ◌⊛◌, some, later, ◌$◌, ◌∵◌, !, qed, by, move, drop, use1, join, split, split3, pick, rewrite, fsplit, fjoin, feq_i, suffices, await, done}
 use types.Part.{whole, sub}
 use types.Run.{stop, fld, no_more, and_then, of_opd, returns, enter, first, blocks, exec}
@@ -30,8 +30,8 @@ use denote.Triple.Call.{calls_at_last}
 use denote.Triple.Clauses.{Ended, Clauses}
 use denote.Triple.Spec.{triple_of}
 use denote.Triple.Statement.{Triple, Contract}
-use denote.Triple.Table.{entered}
-use denote.Triple.Walked.{says, Stays, stay_dropped, walk_of, ends_at, walk_Meets}
+use denote.Triple.Walked.{says, Stays, stay_dropped, walk_of, ends_at}
+use Rattle.std.proofs.raw_atomic.Walks.{proved_at}
 use Rattle.wasmi_c.proofs.HeldBoxLemmas.{found}
 use Rattle.std.proofs.alloc.Calls.{token, Goes-blank}
 use Rattle.std_alloc.specs.Box.Ownership.{box_owns}
@@ -129,10 +129,7 @@ unfolding tables_of
 into_box_spec 𝓤 𝓛 𝓜 𝓡 wired X Z LX LZ g d dd allocator md =
     let E : Bx = record { row = X; laws = LX; al = record { row = Z; laws = LZ; g = g; d = d; drops = dd } } in
     let 𝓣 : Tables 𝓤 𝓛.H = tables_of 𝓤 𝓛.H 𝓜 (tables 𝓤 𝓛.H 𝓜 𝓡 𝓡.env) in
-    let fn = fn' E in
-    entered 𝓤 𝓛.H (triple_of 𝓛 (ended E).signature (F.spec X Z g d dd 𝓛 𝓜.mem 𝓡.returns)) 𝓣.C 𝓣.Λ (#self (args E)) fn
-    (code.unfolded 𝓤 𝓛.H 𝓜 𝓡 wired (X, (Z, tt)) d dd)
-    (walk_Meets 𝓛 (ended E) (stayed E) (Goes-blank 𝓛 2 (plain (λ _. From E)) no (λ κs x f. tt), tt)
-    (held E 𝓛 𝓜.mem 𝓡.returns 𝓣) (WpFn 𝓤 𝓛.H 𝓣.C 𝓣.Λ fn) (WpFn-mono 𝓤 𝓛.H 𝓛.laws 𝓣 fn)
-    (walk E 𝓛 𝓜.mem 𝓡.returns 𝓣
-    (raw_met.met 𝓤 𝓛 𝓜 𝓡 (code.calls-std_alloc::boxed::Box::from_raw 𝓡.env wired) X Z LX LZ g d dd allocator md)))
+    proved_at 𝓛 (ended E) (stayed E) (held E 𝓛 𝓜.mem 𝓡.returns 𝓣) 𝓜 𝓡
+    (Goes-blank 𝓛 2 (plain (λ _. From E)) no (λ κs x f. tt), tt) (#self (args E)) (fn' E)
+    (code.unfolded 𝓤 𝓛.H 𝓜 𝓡 wired (X, (Z, tt)) d dd) (λ z are. walk E 𝓛 𝓜.mem 𝓡.returns 𝓣
+    (raw_met.met 𝓤 𝓛 𝓜 𝓡 (code.calls-std_alloc::boxed::Box::from_raw 𝓡.env wired) X Z LX LZ g d dd allocator md) z)

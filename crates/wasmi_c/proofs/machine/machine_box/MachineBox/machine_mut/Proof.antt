@@ -14,7 +14,6 @@ use prog.Wp.{Env, WpFn, Tables}
 use types.Logic.{Logic, sem}
 use contract.Monad.{Fun}
 use contract.Running.{tables, tables_of}
-use sound.WpLaws.{WpFn-mono}
 use types.Kit.{Item, ⋆, ‵, raw, ◌⊛◌, some, later, await, pick, at_ret, ◌$◌, ◌∵◌, !, qed, by, move, keep, use1, split, join, group, rewrite, fsplit, fsplit3, fjoin, fpack, feq_l, suffices, frame, done}
 use types.Part.{whole, sub, look_in}
 use types.Run.{stop, fld, load, of_opd, addr, first, blocks, exec, returns, enter}
@@ -30,9 +29,8 @@ use denote.Signature.{plain, mut_ref_to}
 use denote.Steps.{nothing, opens}
 use denote.Follow.{follows, Part, lends_Part}
 use denote.Triple.Entry.{on_entry}
-use denote.Triple.Spec.{triple_of}
-use denote.Triple.Table.{entered}
-use denote.Triple.Walked.{says, needs, Stays, stay_dropped, walk_of, ends_at, Goes-spent_ref, walk_Meets}
+use denote.Triple.Walked.{says, needs, Stays, stay_dropped, walk_of, ends_at, Goes-spent_ref}
+use Rattle.std.proofs.raw_atomic.Walks.{proved_at}
 use Rattle.std.specs.Prelude.{Option, Some, IsSome}
 use Rattle.std.proofs.alloc.Calls.{token}
 use Rattle.std.proofs.VecSteps.Shapes.{after}
@@ -138,10 +136,8 @@ pub machine_mut_spec : {M : Type 1} → stated.statement M
 unfolding tables_of
 machine_mut_spec 𝓤 𝓛 𝓜 𝓡 wired =
     let 𝓣 : Tables 𝓤 𝓛.H = tables_of 𝓤 𝓛.H 𝓜 (tables 𝓤 𝓛.H 𝓜 𝓡 𝓡.env) in
-    entered 𝓤 𝓛.H (triple_of 𝓛 F.signature (F.spec 𝓛 𝓜.mem 𝓡.returns)) 𝓣.C 𝓣.Λ #self code.function
+    let c = F.clauses 𝓛 𝓜.mem 𝓡.returns in
+    proved_at 𝓛 F.ended stayed c 𝓜 𝓡 (Goes-spent_ref 𝓛 1 (0 ∷ []) tt (plain (λ _. S)), tt) #self code.function
     (code.unfolded 𝓤 𝓛.H 𝓜 𝓡 wired)
-    (walk_Meets 𝓛 F.ended stayed (Goes-spent_ref 𝓛 1 (0 ∷ []) tt (plain (λ _. S)), tt) (F.clauses 𝓛 𝓜.mem 𝓡.returns)
-    (WpFn 𝓤 𝓛.H 𝓣.C 𝓣.Λ code.function) (WpFn-mono 𝓤 𝓛.H 𝓛.laws 𝓣 code.function)
-    (λ z. let a = z.0.3.0 in needs 𝓤 (IsSome a.now.held) _ (λ there.
-    let machine = found a.now.held there in
-    entry 𝓛 𝓜.mem 𝓡.returns 𝓣 z.0.0.0 z.0.1.0 a.ref_ptr.0 a.ref_ptr.1 a.ghost_name a.now z.0.4.0 machine.0 machine.1)))
+    (λ z are. let a = z.0.3.0 in needs 𝓤 (IsSome a.now.held) _ (λ there. let machine = found a.now.held there in
+    entry 𝓛 𝓜.mem 𝓡.returns 𝓣 z.0.0.0 z.0.1.0 a.ref_ptr.0 a.ref_ptr.1 a.ghost_name a.now z.0.4.0 machine.0 machine.1))
