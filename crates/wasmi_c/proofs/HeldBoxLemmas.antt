@@ -106,7 +106,11 @@ module _ (E : Bx) where
       let var : Ty → Local = λ ty. local ty value_local in
       let arg : ℕ → Opd = λ i. copy (place i []) in
       record {
-        lifetimes = 0; outlives = []; ty_params = []; givens = 0; params = 1;
+        lifetimes = 0;
+        outlives = [];
+        ty_params = [];
+        givens = 0;
+        params = 1;
         locals = var (pair_ty to) ∷ var (pair_ty from) ∷ var ty_ptr ∷ var (α E.al) ∷ var ty_ptr ∷ [];
         body = seq (assign (place 2 []) (rv_opd (copy (place 1 (field 0 ∷ [])))))
             (seq (assign (place 3 []) (rv_opd (copy (place 1 (field 1 ∷ [])))))

@@ -1,8 +1,8 @@
 -- What calls and lines do to a machine with its limiter.
-use Rattle.std.proofs.Common.{◌≡◌, Some, Ok, Err, List, Result, IfOk, OnErr, [], ◌∷◌, refl, sym, subst, ap, arith, ℕ, inl, inr, ◌∙◌, ◌+◌, Option, None, sum, ◌≤◌, ◌<◌, ◌⊎◌, ◌++◌, length, drop}
+use Rattle.std.proofs.Common.{◌≡◌, Some, Ok, Err, List, Result, IfOk, OnErr, [], ◌∷◌, refl, sym, subst, ap, arith, ℕ, ◌∙◌, ◌+◌, Option, None, sum}
 use Rattle.std.proofs.lemmas.Option.{same_Some}
 use Rattle.std.specs.Global.{Global}
-use Rattle.std.specs.Prelude.{◌≢◌, Vec, IfSome, MatchOption}
+use Rattle.std.specs.Prelude.{Vec, IfSome, MatchOption}
 use Rattle.std.specs.declared.alloc.AllocError.{AllocError}
 use Rattle.std.specs.Option.{option_and_then, option_map}
 use Rattle.wasmi_meter.specs.AnyLimiter.{any_limiter_rules, caps_of}
@@ -19,15 +19,12 @@ use Rattle.wasmi_core.specs.declared.calls.Call.{Call}
 use Rattle.wasmi_core.specs.declared.calls.Reply.{Reply}
 use Rattle.wasmi_c.specs.Machine.Caps.{IsCapped, IsKept, Keeps, MachineValue}
 use Rattle.wasmi_c.specs.Machine.Calls.{QuotasAreKept, CallsAreRuns}
-use Rattle.wasmi_grammar.specs.declared.script.Script.{Script}
-use Rattle.wasmi_grammar.specs.Lines.{WritesScript, calls_of, IsFirstBadLine}
-use Rattle.wasmi_script.specs.Outcomes.{replies_text, status_number, Replays}
-use Rattle.wasmi_c.specs.Machine.Calls.{RefusesLines, RunsLines, RunsScriptBy, WritesOut, no_header, RepliesToCopy, RepliesToSegment, RepliesInStatus, RepliesInWord, item_load, item_load_in, item_load_numbered, item_store_in, item_store_numbered, vector_binary_in, vector_binary_numbered, word_after, MachineReplies, RepliesInStruct, RepliesToStruct}
+use Rattle.wasmi_c.specs.Machine.Calls.{RepliesToCopy, RepliesToSegment, item_load_in, item_load_numbered, item_store_in, item_store_numbered, vector_binary_in, vector_binary_numbered, MachineReplies, RepliesInStruct, RepliesToStruct}
 use Rattle.wasmi_c.specs.declared.machine.reply_struct.ReplyStruct.{ReplyStruct}
 use Rattle.wasmi_types.specs.declared.value.RefType.{RefType}
-use Rattle.wasmi_core.specs.declared.calls.Call.TheVariants.{NewSegment, Binary, GetFuel, Load, Store}
-use Rattle.wasmi_c.specs.Machine.Replies.{only, reply_struct, status_of, with_number}
-use Rattle.wasmi_c.specs.Status.{bad_line_status, header_line_status, no_call_status, no_room_status, text_too_short_status}
+use Rattle.wasmi_core.specs.declared.calls.Call.TheVariants.{NewSegment, Binary, Load, Store}
+use Rattle.wasmi_c.specs.Machine.Replies.{only, reply_struct}
+use Rattle.wasmi_c.specs.Status.{no_call_status}
 use Rattle.wasmi_c.specs.Types.{reference_type_of}
 use Rattle.wasmi_ops.specs.ScalarOps.{stored_bytes}
 use Rattle.wasmi_ops.specs.declared.scalar.access.LoadOp.{LoadOp}
@@ -35,14 +32,11 @@ use Rattle.wasmi_ops.specs.declared.scalar.access.StoreOp.{StoreOp}
 use Rattle.wasmi_ops.specs.declared.vector.binary.BinaryOp.{BinaryOp}
 use Rattle.wasmi_raw.specs.declared.raw.RawVal.{RawVal}
 use Rattle.wasmi_core.proofs.MemoryEffectsLemmas.{vector_store_kept}
-use Rattle.wasmi_core.specs.ValueEffects.{get_fuel_reply}
 use Rattle.wasmi_core.specs.MemoryEffects.{StoresMemoryAt, load_reply}
 use Rattle.wasmi_c.specs.Instruction.{load_numbered, store_numbered, binary_numbered}
 use Rattle.wasmi_c.specs.Machine.CallStructs.{call_as, call_of, kind_of, binary_as, load_as, store_as}
 use Rattle.wasmi_c.specs.declared.machine.call_struct.CallStruct.{CallStruct}
 use Rattle.wasmi_c.specs.declared.machine.kind.Kind.TheVariants.{Memory, Register}
-use Rattle.wasmi_script.specs.declared.replaying.Status.{Status}
-use Rattle.wasmi_c.specs.Script.{AnswersScript, StandsIn, IsTooLongFor}
 use Rattle.wasmi_meter.specs.declared.any_limiter.AnyLimiter.TheVariants as limiter
 use Rattle.wasmi_c.specs.declared.instruction.binary.Binary as binaries
 use Rattle.wasmi_c.specs.declared.instruction.binary.Binary.TheVariants as two
@@ -92,6 +86,7 @@ quotas_kept kinds holds stays turns s l s' l' ran kept =
 
 module _ (keeps : QuotasAreKept) (machine : MachineValue) (s : State) (l : AnyLimiter) (s' : State) (l' : AnyLimiter)
     (seen : record { state = s; limiter = l } ≡ machine) (kept : Keeps s l) where
+  -- the limiter holds what the machine has, within the caps of the one before
   abbrev Kept : Type 0
   Kept = Keeps s' l' × (caps_of l' ≡ caps_of machine.limiter)
 
@@ -145,60 +140,6 @@ calls_run call machine reply machine' (charge, written, step) = (
   (world machine'.state (Some machine'.limiter), step, refl),
 )
 
-module _ (Runs : List Call → List Reply → Type 0) (lines old : List ℕ) (reply : ReplyStruct) where
-  -- lines that write a script without header lines are run as it is
-  pub ran : (script : Script) (calls : List Call) (replies replies' : List Reply) (new : List ℕ)
-      → WritesScript lines script → script.header ≡ no_header → calls ≡ calls_of script → replies' ≡ replies
-      → Runs calls replies → WritesOut (replies_text calls replies') old reply new
-      → (script : Script) × WritesScript lines script × RunsScriptBy Runs script old reply new
-  ran script calls replies replies' new written headless called same run text = (
-    script,
-    written,
-    record {
-      headless = headless;
-      replies = replies;
-      run = subst (λ cs. Runs cs replies) called run;
-      text = subst (λ all. WritesOut all old reply new) (λ i. replies_text (called i) (same i)) text;
-    },
-  )
-
-module _ (lines : List ℕ) (machine machine' : MachineValue) (old : List ℕ) (reply : ReplyStruct) where
-  -- lines that are refused leave the machine and the bytes
-  refused : machine' ≡ machine → RefusesLines lines reply → RunsLines lines machine old reply old machine'
-  unfolding RunsLines
-  refused same why = inl (why, refl, same)
-
-  -- they are for their first bad line
-  pub bad_line : (number : ℕ) → machine' ≡ machine → IsFirstBadLine lines number
-      → reply ≡ with_number bad_line_status number → RunsLines lines machine old reply old machine'
-  bad_line number same bad is = refused same (inl (number, bad, is))
-
-  -- or for their header lines
-  pub headed : (script : Script) → machine' ≡ machine → WritesScript lines script → script.header ≢ no_header
-      → reply ≡ only header_line_status → RunsLines lines machine old reply old machine'
-  headed script same written header is = refused same (inr (inl (script, written, header, is)))
-
-  -- or where memory is refused
-  pub no_room : machine' ≡ machine → reply ≡ only no_room_status → RunsLines lines machine old reply old machine'
-  no_room same is = refused same (inr (inr is))
-
--- a machine replies to a call with the struct of its reply
-pub in_struct : (call : Call) (machine : MachineValue) (full : Reply) (reply : ReplyStruct) (machine' : MachineValue)
-    → MachineReplies call machine full machine' → reply ≡ reply_struct full → RepliesInStruct call machine reply machine'
-in_struct call machine full reply machine' replies told = (full, replies, told)
-
-module _ (call : Vec ℕ Global → Call) (items : List ℕ) (machine machine' : MachineValue) (reply : ReplyStruct) where
-  -- memory for a copy is refused
-  pub not_copied : machine' ≡ machine → reply ≡ only no_room_status → RepliesToCopy call items machine reply machine'
-  unfolding RepliesToCopy
-  not_copied same is = inl (is, same)
-
-  -- a machine replies to the call of a copy
-  pub copied : (copy : Vec ℕ Global) → copy.items ≡ items → RepliesInStruct (call copy) machine reply machine'
-      → RepliesToCopy call items machine reply machine'
-  unfolding RepliesToCopy
-  copied copy is replies = inr (copy, is, replies)
-
 -- a machine that replies to the making of a segment of a type replies to that of the type's number
 pub replies_of_type : (number : ℕ) (ref : RefType) (items : List ℕ) (machine : MachineValue)
     (reply : ReplyStruct)
@@ -207,65 +148,6 @@ pub replies_of_type : (number : ℕ) (ref : RefType) (items : List ℕ) (machine
 replies_of_type number ref items machine reply machine' is replies =
     subst (λ found. MatchOption found ((reply ≡ only no_call_status) × (machine' ≡ machine))
     (λ r. RepliesToCopy (NewSegment r) items machine reply machine')) (sym is) replies
-
--- a load of an item leaves the status and the value of its reply, and the machine stays
-pub load_leaves : (number index ptr offset : ℕ) (op : LoadOp) (machine : MachineValue) (word status word' : ℕ)
-    → item_load_numbered number ≡ Some op
-    → status ≡ status_of (load_reply op (ptr + offset) (live_at machine.state.memories index))
-    → word' ≡ word_after (load_reply op (ptr + offset) (live_at machine.state.memories index)) word
-    → RepliesInWord (item_load number index ptr offset) word machine (status, word') machine
-unfolding RepliesInWord
-load_leaves number index ptr offset op machine word status word' found same_status same_word =
-    subst (λ (one : Option LoadOp). RepliesInWord (option_map (λ op. Load op index ptr offset) one) word machine
-    (status, word') machine) (sym found) (
-      load_reply op (ptr + offset) (live_at machine.state.memories index),
-      (0, 0, record { free = (refl, refl); effect = refl; after = refl }),
-      λ i. (same_status i, same_word i),
-    )
-
--- the fuel that is left is told, and the machine stays
-pub fuel_told : (machine : MachineValue) (word status word' : ℕ)
-    → status ≡ status_of (get_fuel_reply machine.state.meter)
-    → word' ≡ word_after (get_fuel_reply machine.state.meter) word
-    → RepliesInWord (Some GetFuel) word machine (status, word') machine
-unfolding RepliesInWord
-fuel_told machine word status word' same_status same_word = (
-  get_fuel_reply machine.state.meter,
-  (0, 0, record { free = (refl, refl); effect = refl; after = refl }),
-  λ i. (same_status i, same_word i),
-)
-
--- where no load of an item has the number, there is no call
-pub no_load : (number index ptr offset : ℕ) (machine : MachineValue) (word : ℕ)
-    → item_load_numbered number ≡ None
-    → RepliesInWord (item_load number index ptr offset) word machine (no_call_status, word) machine
-unfolding RepliesInWord
-no_load number index ptr offset machine word lacking =
-    subst (λ (one : Option LoadOp). RepliesInWord (option_map (λ op. Load op index ptr offset) one) word machine
-    (no_call_status, word) machine) (sym lacking) (refl, refl)
-
--- a call leaves the status and the word of its reply
-pub word_left : (one : Call) (machine : MachineValue) (full : Reply) (word status word' : ℕ)
-    (machine' : MachineValue) → MachineReplies one machine full machine' → status ≡ status_of full
-    → word' ≡ word_after full word → RepliesInWord (Some one) word machine (status, word') machine'
-unfolding RepliesInWord
-word_left one machine full word status word' machine' replies same_status same_word =
-    (full, replies, λ i. (same_status i, same_word i))
-
-module _ {Op : Type 0} (call : Op → Call) (found : Option Op) (machine : MachineValue) where
-  -- where there is no call, the status says so
-  pub no_call_left : found ≡ None → RepliesInStatus (option_map call found) machine no_call_status machine
-  unfolding RepliesInStatus
-  no_call_left is =
-      subst (λ c. RepliesInStatus (option_map call c) machine no_call_status machine) (sym is) (refl, refl)
-
-  -- a call that there is leaves the status of its reply
-  pub status_left : (op : Op) (full : Reply) (status : ℕ) (machine' : MachineValue) → found ≡ Some op
-      → MachineReplies (call op) machine full machine' → status ≡ status_of full
-      → RepliesInStatus (option_map call found) machine status machine'
-  unfolding RepliesInStatus
-  status_left op full status machine' is replies same =
-      subst (λ c. RepliesInStatus (option_map call c) machine status machine') (sym is) (full, replies, same)
 
 -- a store of an item is a step, whatever the limiter
 pub replies_to_store : (op : StoreOp) (index ptr offset : ℕ) (value : RawVal) (machine : MachineValue) (s : State)
@@ -362,26 +244,3 @@ pub struct_loaded : (numbers : CallStruct) (op : LoadOp) (machine : MachineValue
 struct_loaded numbers op machine reply is told =
     struct_told numbers (Load op numbers.index numbers.ptr numbers.offset) machine _ reply machine is
     (0, 0, record { free = (refl, refl); effect = refl; after = refl }) told
-
-module _ (script old new printed : List ℕ) (needed status : ℕ) (ended : Status)
-    (replays : Replays (Some script) (Some []) (Some printed) ended) (counted : needed ≡ length printed) where
-  -- a script is answered where what it prints stands at the front or doesn't fit
-  answers : (StandsIn printed old new × (status ≡ status_number ended))
-      ⊎ (IsTooLongFor printed old new × (status ≡ text_too_short_status)) → AnswersScript script old new needed status
-  answers answered = record {
-    printed = printed;
-    ended = ended;
-    replays = replays;
-    length_needed = counted;
-    answered = answered;
-  }
-
-  -- a text that fits stands at the front
-  pub stands : length printed ≤ length old → new ≡ printed ++ drop (length printed) old → status ≡ status_number ended
-      → AnswersScript script old new needed status
-  stands fits written is = answers (inl ((fits, written), is))
-
-  -- one that doesn't fit isn't written
-  pub too_long : length old < length printed → new ≡ old → status ≡ text_too_short_status
-      → AnswersScript script old new needed status
-  too_long longer same is = answers (inr ((longer, same), is))

@@ -11,113 +11,87 @@ use Rattle.wasmi_meter.specs.declared.fuel.FuelError.TheVariants as fuel
 use Rattle.wasmi_store.specs.declared.table.element.SegmentError.{SegmentError}
 use Rattle.wasmi_store.specs.declared.table.element.SegmentError.TheVariants as segment
 
--- the status of a call that is done
+-- ---- the statuses of a call that is done or refused, each with the case in which it is returned
 abbrev pub done_status : ℕ
-done_status = 0
+done_status = 0  -- a call is done
 
--- the status of a script's run of which the text is longer than the caller's bytes
 abbrev pub text_too_short_status : ℕ
-text_too_short_status = 5
+text_too_short_status = 5  -- the text of a script's run is longer than the caller's bytes
 
--- the status if a handle has no machine
 abbrev pub no_machine_status : ℕ
-no_machine_status = 16
+no_machine_status = 16  -- a handle has no machine
 
--- the status if numbers stand for no call
 abbrev pub no_call_status : ℕ
-no_call_status = 17
+no_call_status = 17  -- numbers stand for no call
 
--- the status if there is no such memory, table, element segment, global or register
 abbrev pub no_such_status : ℕ
-no_such_status = 18
+no_such_status = 18  -- there is no such memory, table, element segment, global or register
 
--- the status if there is no spare region
 abbrev pub no_region_status : ℕ
-no_region_status = 19
+no_region_status = 19  -- there is no spare region
 
--- the status if memory is refused for a slot, a copy or a machine
 abbrev pub no_room_status : ℕ
-no_room_status = 20
+no_room_status = 20  -- memory is refused for a slot, a copy or a machine
 
--- the status if a table has no element of an index
 abbrev pub no_element_status : ℕ
-no_element_status = 21
+no_element_status = 21  -- a table has no element of an index
 
--- the status if a handle has a machine already
 abbrev pub has_machine_status : ℕ
-has_machine_status = 22
+has_machine_status = 22  -- a handle has a machine already
 
--- the status if a line is no command
 abbrev pub bad_line_status : ℕ
-bad_line_status = 23
+bad_line_status = 23  -- a line is no command
 
--- the status if there is a header line
 abbrev pub header_line_status : ℕ
-header_line_status = 24
+header_line_status = 24  -- there is a header line
 
--- the status if lines were run whose text is too long to count
 abbrev pub text_cut_status : ℕ
-text_cut_status = 25
+text_cut_status = 25  -- lines were run whose text is too long to count
 
--- the status if a number stands for no answer of a limiter
 abbrev pub no_answer_status : ℕ
-no_answer_status = 26
+no_answer_status = 26  -- a number stands for no answer of a limiter
 
--- the status if a handle has no pool
 abbrev pub no_pool_status : ℕ
-no_pool_status = 27
+no_pool_status = 27  -- a handle has no pool
 
--- the status if a handle has a pool already
 abbrev pub has_pool_status : ℕ
-has_pool_status = 28
+has_pool_status = 28  -- a handle has a pool already
 
--- the status if no tenant of a pool has an index
 abbrev pub no_tenant_status : ℕ
-no_tenant_status = 29
+no_tenant_status = 29  -- no tenant of a pool has an index
 
--- the status if a memory grows beyond its type, or a growth is denied
 abbrev pub memory_growth_status : ℕ
-memory_growth_status = 33
+memory_growth_status = 33  -- a memory grows beyond its type, or a growth is denied
 
--- the status if a read or a write ends past a memory
 abbrev pub memory_access_status : ℕ
-memory_access_status = 34
+memory_access_status = 34  -- a read or a write ends past a memory
 
--- the status if a table grows beyond its type, or a growth is denied
 abbrev pub table_growth_status : ℕ
-table_growth_status = 52
+table_growth_status = 52  -- a table grows beyond its type, or a growth is denied
 
--- the status if the meter is off
 abbrev pub metering_disabled_status : ℕ
-metering_disabled_status = 64
+metering_disabled_status = 64  -- the meter is off
 
--- the status if less fuel is left than is asked for
 abbrev pub out_of_fuel_status : ℕ
-out_of_fuel_status = 65
+out_of_fuel_status = 65  -- less fuel is left than is asked for
 
--- the status if numbers stand for no memory or table on its region
 abbrev pub invalid_state_status : ℕ
-invalid_state_status = 96
+invalid_state_status = 96  -- numbers stand for no memory or table on its region
 
--- the status if a growth asks a limiter
 abbrev pub asks_status : ℕ
-asks_status = 97
+asks_status = 97  -- a growth asks a limiter
 
--- the status if the limiter was asked about another size
 abbrev pub other_size_status : ℕ
-other_size_status = 98
+other_size_status = 98  -- the limiter was asked about another size
 
--- the status if no lane has an index
 abbrev pub no_lane_status : ℕ
-no_lane_status = 253
+no_lane_status = 253  -- no lane has an index
 
--- the status if arrays differ in length
 abbrev pub lengths_differ_status : ℕ
-lengths_differ_status = 254
+lengths_differ_status = 254  -- arrays differ in length
 
--- the status if no instruction has a number
 abbrev pub unknown_status : ℕ
-unknown_status = 255
+unknown_status = 255  -- no instruction has a number
 
 -- the status of a refused call on a memory
 abbrev pub memory_status : MemoryError → ℕ

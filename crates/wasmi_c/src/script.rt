@@ -14,7 +14,6 @@ use wasmi_script::{Status, replay};
 /// above 1,048,576 bytes; 3 if it is out of memory while reading, parsing, or for the replies; 4 if
 /// it is out of memory while writing: then the text is only the beginning. It is 5 if `text` is
 /// shorter than what is printed: then nothing is written to it.
-#[tactic(auto, using(crate::proofs::MachineLemmas::stands, crate::proofs::MachineLemmas::too_long))]
 pub fn run(alloc: Global, script: &[u8], text: &mut [u8], needed: &mut usize) -> u8
     ensures answers { AnswersScript script.now text.old text.new needed.new result }
 {

@@ -25,7 +25,7 @@ use wasmi_raw::RawVal;
 impl LimitedMachine {
     /// Loads an item by the load that has the number, if there is one.
     #[inline(always)]
-    #[tactic(auto, using(crate::proofs::MachineLemmas::load_leaves, crate::proofs::MachineLemmas::no_load))]
+    #[tactic(auto, unfolding(crate::specs::Machine::Calls::RepliesInWord))]
     pub fn load(&self, number: u16, memory: usize, ptr: u64, offset: u64, value: &mut u64) -> u8
         ensures { RepliesInWord (item_load number memory ptr offset) value.old self.now
             (result, value.new) self.now }
@@ -58,7 +58,7 @@ impl LimitedMachine {
 
     /// Tells the fuel that is left.
     #[inline(always)]
-    #[tactic(auto, using(crate::proofs::MachineLemmas::fuel_told))]
+    #[tactic(auto, unfolding(crate::specs::Machine::Calls::RepliesInWord))]
     pub fn fuel_left(&self, left: &mut u64) -> u8
         ensures { RepliesInWord (Some GetFuel) left.old self.now (result, left.new) self.now }
     {
@@ -82,7 +82,7 @@ impl LimitedMachine {
 
     /// Stores an item by the store that has the number, if there is one.
     #[inline(always)]
-    #[tactic(auto, using(crate::proofs::MachineLemmas::no_call_left))]
+    #[tactic(auto, unfolding(crate::specs::Machine::Calls::RepliesInStatus))]
     pub fn store(&mut self, number: u16, memory: usize, ptr: u64, offset: u64, value: u64) -> u8
         ensures step { RepliesInStatus (item_store number memory ptr offset value) self.old result
             self.new }
@@ -114,7 +114,7 @@ impl LimitedMachine {
 
     /// Executes the instruction on two vectors that has the number, if there is one.
     #[inline(always)]
-    #[tactic(auto, using(crate::proofs::MachineLemmas::no_call_left))]
+    #[tactic(auto, unfolding(crate::specs::Machine::Calls::RepliesInStatus))]
     pub fn binary(&mut self, number: u16, dst: u8, a: u8, b: u8) -> u8
         ensures step { RepliesInStatus (vector_binary number dst a b) self.old result self.new }
         ensures caps { caps_of self.new.limiter ≡ caps_of self.old.limiter }
@@ -127,7 +127,7 @@ impl LimitedMachine {
 
     /// Grows a memory by so many pages, and leaves a status and a word of the reply.
     #[inline(always)]
-    #[tactic(auto, using(crate::proofs::MachineLemmas::word_left))]
+    #[tactic(auto, unfolding(crate::specs::Machine::Calls::RepliesInWord))]
     pub fn grow(&mut self, memory: usize, pages: u64, number: &mut u64) -> u8
         ensures step { RepliesInWord (Some (GrowMemory memory pages)) number.old self.old
             (result, number.new) self.new }

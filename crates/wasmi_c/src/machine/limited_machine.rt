@@ -91,7 +91,6 @@ impl LimitedMachine {
     }
 
     /// Replies to one call, with the reply as a struct.
-    #[tactic(auto, using(crate::proofs::MachineLemmas::in_struct))]
     fn reply_in_struct(&mut self, call: &Call) -> ReplyStruct
         ensures step { RepliesInStruct call.now self.old result self.new }
         ensures caps { caps_of self.new.limiter ≡ caps_of self.old.limiter }
@@ -154,7 +153,7 @@ impl LimitedMachine {
     }
 
     /// Writes a copy of the caller's bytes over those of a memory from an offset on.
-    #[tactic(auto, using(crate::proofs::MachineLemmas::not_copied))]
+    #[tactic(auto, unfolding(crate::specs::Machine::Calls::RepliesToCopy))]
     pub fn write(
         &mut self,
         alloc: Global,
@@ -177,7 +176,7 @@ impl LimitedMachine {
 
     /// Makes an element segment of a copy of the caller's references, if the number is one of a
     /// reference type.
-    #[tactic(auto, using(crate::proofs::MachineLemmas::replies_of_type, crate::proofs::MachineLemmas::not_copied))]
+    #[tactic(auto, using(crate::proofs::MachineLemmas::replies_of_type), unfolding(crate::specs::Machine::Calls::RepliesToCopy))]
     pub fn new_segment(&mut self, alloc: Global, ty: u8, items: &[u32]) -> ReplyStruct
         ensures step { RepliesToSegment ty items.now self.old result self.new }
         ensures caps { caps_of self.new.limiter ≡ caps_of self.old.limiter }
@@ -226,7 +225,7 @@ impl LimitedMachine {
     }
 
     /// Runs lines of calls, and writes their replies to the front of a text.
-    #[tactic(auto, using(crate::proofs::MachineLemmas::bad_line, crate::proofs::MachineLemmas::no_room))]
+    #[tactic(auto, unfolding(crate::specs::Machine::Calls::RunsLines))]
     pub fn run_lines(&mut self, alloc: Global, lines: &[u8], text: &mut [u8]) -> ReplyStruct
         ensures lines { RunsLines lines.now self.old text.old result text.new self.new }
         ensures caps { caps_of self.new.limiter ≡ caps_of self.old.limiter }
@@ -239,7 +238,7 @@ impl LimitedMachine {
     }
 
     /// Runs a script without header lines, whatever lines write it.
-    #[tactic(auto, using(crate::proofs::MachineLemmas::no_room))]
+    #[tactic(auto, unfolding(crate::specs::Machine::Calls::RunsLines))]
     fn run_script(&mut self, script: &Script, text: &mut [u8]) -> ReplyStruct
         ensures lines { (lines : List ℕ) → WritesScript lines script.now
             → RunsLines lines self.old text.old result text.new self.new }

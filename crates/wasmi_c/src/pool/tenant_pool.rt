@@ -73,7 +73,7 @@ impl TenantPool {
     }
 
     /// Replies to one call on the machine of a tenant.
-    #[tactic(auto, using(crate::proofs::TenantLemmas::tenant_refused))]
+    #[tactic(auto, unfolding(crate::specs::Pool::TenantReplies))]
     fn reply(&mut self, tenant: usize, call: &Call) -> ReplyStruct
         ensures step { TenantReplies tenant call.now result self.old self.new }
         ensures caps { self.new.caps ≡ self.old.caps }
@@ -111,7 +111,7 @@ impl TenantPool {
     }
 
     /// Writes a copy of the caller's bytes over those of a memory of a tenant from an offset on.
-    #[tactic(auto, using(crate::proofs::TenantLemmas::not_copied))]
+    #[tactic(auto, unfolding(crate::specs::Pool::TenantRepliesToCopy))]
     pub fn write(
         &mut self,
         alloc: Global,
@@ -137,7 +137,7 @@ impl TenantPool {
 
     /// Runs lines of calls on the machine of a tenant, and writes their replies to the front of a
     /// text.
-    #[tactic(auto, using(crate::proofs::TenantLemmas::bad_line, crate::proofs::TenantLemmas::no_room))]
+    #[tactic(auto, unfolding(crate::specs::Pool::RunsTenantLines))]
     pub fn run_lines(
         &mut self,
         alloc: Global,
@@ -156,7 +156,7 @@ impl TenantPool {
     }
 
     /// Runs a script without header lines on the machine of a tenant, whatever lines write it.
-    #[tactic(auto, using(crate::proofs::TenantLemmas::refused_tenant))]
+    #[tactic(auto, unfolding(crate::specs::Pool::RunsTenantLines))]
     fn run_script(&mut self, tenant: usize, script: &Script, text: &mut [u8]) -> ReplyStruct
         ensures step { (lines : List ℕ) → WritesScript lines script.now
             → RunsTenantLines tenant lines text.old result text.new self.old self.new }

@@ -1,5 +1,7 @@
-use Rattle.wasmi_c.proofs.MachineLemmas.{copied}
+use Rattle.std.proofs.Common.{inr}
+use Rattle.wasmi_c.specs.Machine.Calls.{RepliesToCopy}
 use Rattle.wasmi_c.proofs.machine.limited_machine.LimitedMachine.write.Goals as goal
 
 pub returns-clause-step : goal.returns-clause-step
-returns-clause-step c = copied _ _ _ _ _ c.in-Ok.bytes c.in-Ok.ensures.items c.reply_in_struct.ensures.step
+unfolding RepliesToCopy
+returns-clause-step c = inr (c.in-Ok.bytes, c.in-Ok.ensures.items, c.reply_in_struct.ensures.step)

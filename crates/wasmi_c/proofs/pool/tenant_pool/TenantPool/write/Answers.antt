@@ -1,5 +1,7 @@
-use Rattle.wasmi_c.proofs.TenantLemmas.{copied}
+use Rattle.std.proofs.Common.{inr}
+use Rattle.wasmi_c.specs.Pool.{TenantRepliesToCopy}
 use Rattle.wasmi_c.proofs.pool.tenant_pool.TenantPool.write.Goals as goal
 
 pub returns-clause-step : goal.returns-clause-step
-returns-clause-step c = copied _ _ _ _ _ _ c.in-Ok.bytes c.in-Ok.ensures.items c.reply.ensures.step
+unfolding TenantRepliesToCopy
+returns-clause-step c = inr (c.in-Ok.bytes, c.in-Ok.ensures.items, c.reply.ensures.step)

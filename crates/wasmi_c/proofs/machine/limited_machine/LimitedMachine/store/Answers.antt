@@ -1,8 +1,0 @@
-use Rattle.std.proofs.Common.{◌∙◌, sym}
-use Rattle.wasmi_c.proofs.MachineLemmas.{status_left}
-use Rattle.wasmi_c.proofs.machine.limited_machine.LimitedMachine.store.Goals as goal
-
-pub returns-clause-step : goal.returns-clause-step
-returns-clause-step c =
-    status_left _ _ _ c.in-Some.op _ _ _ (sym c.item_store_numbered.ensures ∙ c.in-Some.is) c.store_item.ensures.step
-    c.common_status.ensures
