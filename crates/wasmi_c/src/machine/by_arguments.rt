@@ -97,7 +97,7 @@ impl LimitedMachine {
 
     /// Stores an item, which asks no limiter.
     #[inline(always)]
-    #[tactic(auto, using(crate::proofs::MachineLemmas::kept_by_store, crate::proofs::MachineLemmas::replies_to_store))]
+    #[tactic(auto, using(crate::proofs::MachineLemmas::kept_by_store))]
     pub(super) fn store_item(
         &mut self,
         op: StoreOp,

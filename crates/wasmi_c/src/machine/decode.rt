@@ -31,7 +31,7 @@ impl CallStruct {
 
     /// The load of an item, if the numbers stand for one.
     #[inline(always)]
-    #[tactic(auto, using(crate::proofs::MachineLemmas::loads_are))]
+    #[tactic(auto, unfolding(crate::specs::Machine::CallStructs::call_of))]
     pub fn item_load(&self) -> Option<LoadOp>
         ensures { IfSome result (λ op. call_of self.now
             ≡ Some (Load op self.now.index self.now.ptr self.now.offset)) }
@@ -44,7 +44,7 @@ impl CallStruct {
 
     /// The store of an item, if the numbers stand for one.
     #[inline(always)]
-    #[tactic(auto, using(crate::proofs::MachineLemmas::stores_are))]
+    #[tactic(auto, unfolding(crate::specs::Machine::CallStructs::call_of))]
     pub fn item_store(&self) -> Option<StoreOp>
         ensures { IfSome result (λ op. call_of self.now
             ≡ Some (Store op self.now.index self.now.ptr self.now.offset self.now.value)) }
@@ -57,7 +57,7 @@ impl CallStruct {
 
     /// The instruction of two vectors, if the numbers stand for one.
     #[inline(always)]
-    #[tactic(auto, using(crate::proofs::MachineLemmas::binaries_are))]
+    #[tactic(auto, unfolding(crate::specs::Machine::CallStructs::call_of))]
     pub fn vector_binary(&self) -> Option<BinaryOp>
         ensures { IfSome result (λ op. call_of self.now
             ≡ Some (Binary op self.now.dst self.now.a self.now.b)) }

@@ -73,7 +73,6 @@ impl LimitedMachine {
     }
 
     /// Does nothing: its contract says that the machine is within its caps.
-    #[tactic(auto, using(crate::proofs::MachineLemmas::seen_within))]
     pub fn show_within(&self)
         ensures { IsCapped self.now }
     {
@@ -107,7 +106,6 @@ impl LimitedMachine {
 
     /// Replies to the call that numbers stand for, if there is one.
     #[inline(always)]
-    #[tactic(auto, using(crate::proofs::MachineLemmas::struct_loaded, crate::proofs::MachineLemmas::struct_told))]
     pub fn reply_to_struct(&mut self, numbers: &CallStruct) -> ReplyStruct
         ensures step { RepliesToStruct numbers.now self.old result self.new }
         ensures caps { caps_of self.new.limiter ≡ caps_of self.old.limiter }
@@ -176,7 +174,7 @@ impl LimitedMachine {
 
     /// Makes an element segment of a copy of the caller's references, if the number is one of a
     /// reference type.
-    #[tactic(auto, using(crate::proofs::MachineLemmas::replies_of_type), unfolding(crate::specs::Machine::Calls::RepliesToCopy))]
+    #[tactic(auto, unfolding(crate::specs::Machine::Calls::RepliesToCopy))]
     pub fn new_segment(&mut self, alloc: Global, ty: u8, items: &[u32]) -> ReplyStruct
         ensures step { RepliesToSegment ty items.now self.old result self.new }
         ensures caps { caps_of self.new.limiter ≡ caps_of self.old.limiter }
