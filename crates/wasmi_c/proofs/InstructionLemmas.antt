@@ -1,5 +1,5 @@
 -- Arrays that a call of an instruction writes, refusals of such calls, and the lanes of a shuffle.
-use Rattle.std.proofs.Common.{◌≡◌, ◌≢◌, ℕ, suc, ◌<◌, ◌⊎◌, ◌&&◌, Bool, true, false, List, [], ◌∷◌, length, map, get_or, refl, arith, rules, tests, ◌≤◌, Some, None, take, sym, ap, ◌∙◌}
+use Rattle.std.proofs.Common.{◌≡◌, ℕ, suc, ◌<◌, ◌&&◌, Bool, true, false, List, [], ◌∷◌, length, map, get_or, refl, arith, rules, tests, ◌≤◌, Some, None, take, sym, ap, ◌∙◌}
 use Rattle.std.specs.Prelude.{◌==◌, Ok, Err, if◌then◌else◌, nat_lt}
 use Rattle.std.specs.Simd.Lanes.{zip2}
 use Rattle.std.proofs.lemmas.Grind.{same_number_lists}
@@ -13,12 +13,6 @@ written : {V : Type 0} (test : Bool) (value old new : V) → test ≡ true → n
     → Leaves (if test then Ok value else Err LengthsDiffer) old new 0
 written true value old new passes is = (refl, is)
 written false value old new passes is = cc
-
--- what doesn't pass a test isn't written
-refused : {V : Type 0} (test : Bool) (value old new : V) (status : ℕ) → test ≡ false → status ≡ 254 → new ≡ old
-    → Leaves (if test then Ok value else Err LengthsDiffer) old new status
-refused true value old new status fails differs kept = cc
-refused false value old new status fails differs kept = (differs, kept)
 
 -- a list is what a function gives of another one, since each element is what it gives of that at its index
 mapped : {A B : Type 0} (f : A → B) (xs : List A) (ys : List B) → length ys ≡ length xs
@@ -72,13 +66,6 @@ unfolding each_of
 each_written f a old new same kept each =
     written (length old == length a) (map f a) old new (search (rules, tests)) (mapped f a new (omega arith) each)
 
--- one of another length isn't
-pub each_refused : {A B : Type 0} (f : A → B) (a : List A) (old new : List B) (status : ℕ)
-    → length old ≢ length a → status ≡ 254 → new ≡ old → Leaves (each_of f a (length old)) old new status
-unfolding each_of
-each_refused f a old new status differs unequal kept =
-    refused (length old == length a) (map f a) old new status (search (rules, tests)) unequal kept
-
 -- an array is written where each element is what the function gives of the elements of two arrays
 pub each_two_written : {A B C : Type 0} (f : A → B → C) (a : List A) (b : List B) (old new : List C)
     → length b ≡ length a → length old ≡ length a → length new ≡ length old
@@ -88,15 +75,6 @@ unfolding each_of_two
 each_two_written f a b old new seconds same kept each =
     written ((length b == length a) && (length old == length a)) (zip2 f a b) old new (search (rules, tests))
     (mapped_two f a b new seconds (omega arith) each)
-
--- one isn't where a length is another
-pub each_two_refused : {A B C : Type 0} (f : A → B → C) (a : List A) (b : List B) (old new : List C) (status : ℕ)
-    → (length b ≢ length a) ⊎ (length old ≢ length a) → status ≡ 254 → new ≡ old
-    → Leaves (each_of_two f a b (length old)) old new status
-unfolding each_of_two
-each_two_refused f a b old new status differs unequal kept =
-    refused ((length b == length a) && (length old == length a)) (zip2 f a b) old new status
-    (search (rules, tests)) unequal kept
 
 -- an array is written where each element is what the function gives of the elements of three arrays
 pub each_three_written : {A B C D : Type 0} (f : A → B → C → D) (a : List A) (b : List B) (c : List C)
@@ -109,18 +87,8 @@ each_three_written f a b c old new seconds thirds same kept each =
     written ((length b == length a) && (length c == length a) && (length old == length a)) (zip3 f a b c) old new
     (search (rules, tests)) (mapped_three f a b c new seconds thirds (omega arith) each)
 
--- one isn't where a length is another
-pub each_three_refused : {A B C D : Type 0} (f : A → B → C → D) (a : List A) (b : List B) (c : List C)
-    (old new : List D) (status : ℕ) → (length b ≢ length a) ⊎ (length c ≢ length a) ⊎ (length old ≢ length a)
-    → status ≡ 254 → new ≡ old → Leaves (each_of_three f a b c (length old)) old new status
-unfolding each_of_three
-each_three_refused f a b c old new status differs unequal kept =
-    refused ((length b == length a) && (length c == length a) && (length old == length a)) (zip3 f a b c) old new status
-    (search (rules, tests)) unequal kept
-
--- what an array of results is left with
-pub ruleset arrays =
-    (each_written, each_refused, each_two_written, each_two_refused, each_three_written, each_three_refused)
+-- what is left in an array of results that is written
+pub ruleset arrays = (each_written, each_two_written, each_three_written)
 
 -- whether a lane has the index
 abbrev pub has_lane : ℕ → Bool

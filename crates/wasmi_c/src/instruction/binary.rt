@@ -45,7 +45,7 @@ impl Binary {
 
     // The code of each instruction has its own loop.
     #[inline(always)]
-    #[tactic(auto, using(crate::proofs::InstructionLemmas::arrays))]
+    #[tactic(auto, using(crate::proofs::InstructionLemmas::arrays), unfolding(crate::specs::Instruction::each_of_two))]
     fn each(self, a: &[RawVal], b: &[RawVal], results: &mut [InstructionResult]) -> u8
         ensures { Leaves (each_of_two (binary_outcome self) a.now b.now (length results.old))
             results.old results.new result }

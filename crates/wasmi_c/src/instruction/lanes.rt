@@ -84,7 +84,7 @@ pub fn extract_each(number: u16, lane: u8, a: &[RawVal], values: &mut [RawVal]) 
     }
 }
 
-#[tactic(auto, using(crate::proofs::InstructionLemmas::arrays))]
+#[tactic(auto, using(crate::proofs::InstructionLemmas::arrays), unfolding(crate::specs::Instruction::each_of))]
 fn extract_each_by_op(op: &ExtractOp, a: &[RawVal], values: &mut [RawVal]) -> u8
     ensures { Leaves (each_of (extracted_value op.now) a.now (length values.old))
         values.old values.new result }
@@ -128,7 +128,7 @@ pub fn replace_each(
     }
 }
 
-#[tactic(auto, using(crate::proofs::InstructionLemmas::arrays))]
+#[tactic(auto, using(crate::proofs::InstructionLemmas::arrays), unfolding(crate::specs::Instruction::each_of_two))]
 fn replace_each_by_op(op: &ReplaceOp, a: &[RawVal], items: &[RawVal], values: &mut [RawVal]) -> u8
     ensures { Leaves (each_of_two (replaced_value op.now) a.now items.now (length values.old))
         values.old values.new result }

@@ -42,7 +42,7 @@ impl Load {
 
     // The code of each instruction has its own loop.
     #[inline(always)]
-    #[tactic(auto, using(crate::proofs::InstructionLemmas::arrays))]
+    #[tactic(auto, using(crate::proofs::InstructionLemmas::arrays), unfolding(crate::specs::Instruction::each_of))]
     fn each(self, memory: &[u8], ptrs: &[u64], offset: u64, results: &mut [InstructionResult]) -> u8
         ensures { Leaves (each_of (load_outcome self memory.now offset) ptrs.now
             (length results.old)) results.old results.new result }

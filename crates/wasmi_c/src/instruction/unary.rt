@@ -38,7 +38,7 @@ impl Unary {
 
     // The code of each instruction has its own loop.
     #[inline(always)]
-    #[tactic(auto, using(crate::proofs::InstructionLemmas::arrays))]
+    #[tactic(auto, using(crate::proofs::InstructionLemmas::arrays), unfolding(crate::specs::Instruction::each_of))]
     fn each(self, a: &[RawVal], values: &mut [RawVal]) -> u8
         ensures { Leaves (each_of (unary_value self) a.now (length values.old))
             values.old values.new result }
