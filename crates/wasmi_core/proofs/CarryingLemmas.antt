@@ -52,7 +52,8 @@ module _ {S T : Type 0} (image : S → T) where
       follows_too (Denied answer) l l' asks = carries.asked l e.question answer l' asks
       follows_too Met l l' asks = carries.asked l e.question _ l' asks
       follows_too (Failed cause notice_answer) l l' (permitted, asks, notices) = (
-        image permitted, carries.asked l e.question _ permitted asks,
+        image permitted,
+        carries.asked l e.question _ permitted asks,
         carries.noticed permitted (e.notice cause) notice_answer l' notices,
       )
 
@@ -62,7 +63,9 @@ module _ {S T : Type 0} (image : S → T) where
       attempt_too s s' outcome charge a = record {
         may_end = a.may_end;
         follows = follows_too outcome s.limiter s'.limiter a.follows;
-        charged = a.charged; meter = a.meter; value = a.value;
+        charged = a.charged;
+        meter = a.meter;
+        value = a.value;
       }
 
     -- a creation
@@ -75,11 +78,14 @@ module _ {S T : Type 0} (image : S → T) where
     grows_too : {V E : Type 0} (g : Growth V E) (s s' : MeteredValue V S) (result : Result ℕ E) (charge : ℕ)
         → Grows rules g s result charge s' → Grows rules' g (moved s) result charge (moved s')
     grows_too g s s' result charge (inl none) = inl (record {
-      none = none.none; answered = none.answered; uncharged = none.uncharged;
+      none = none.none;
+      answered = none.answered;
+      uncharged = none.uncharged;
       same = ap moved none.same;
     })
     grows_too g s s' result charge (inr some) = inr (record {
-      some = some.some; outcome = some.outcome;
+      some = some.some;
+      outcome = some.outcome;
       attempt = attempt_too g.request s s' some.outcome charge some.attempt;
       answered = some.answered;
     })
@@ -108,7 +114,10 @@ module _ {S T : Type 0} (image : S → T) where
           → Relation' (image w.limiter) turn.reply step.part (image step.limiter)
           → Asks (carried image w) turn (carried image w') with_part Relation'
       asks_too step effect = record {
-        free = step.free; part = step.part; limiter = image step.limiter; effect = effect;
+        free = step.free;
+        part = step.part;
+        limiter = image step.limiter;
+        effect = effect;
         after = ap (carried image) step.after;
       }
 
@@ -121,7 +130,11 @@ module _ {S T : Type 0} (image : S → T) where
           turn.charge (record { value = step.part; meter = Some step.meter; limiter = image step.limiter })
           → ActsMetered (carried image w) turn (carried image w') old with_part Relation' bytes
       pays_too step effect = record {
-        part = step.part; meter = step.meter; limiter = image step.limiter; effect = effect; wrote = step.wrote;
+        part = step.part;
+        meter = step.meter;
+        limiter = image step.limiter;
+        effect = effect;
+        wrote = step.wrote;
         after = ap (carried image) step.after;
       }
 
@@ -150,7 +163,10 @@ module _ {S T : Type 0} (image : S → T) where
           pays_too step (acts_too k (reply_of replied.Number replied.Table) (GrowsTableCharging rules n init)
           (GrowsTableCharging rules' n init) (table_growth_too n init) _ _ turn.reply turn.charge step.effect)
       effect_carried (RangeWritten k source dst len) step = record {
-        part = step.part; meter = step.meter; effect = step.effect; wrote = step.wrote;
+        part = step.part;
+        meter = step.meter;
+        effect = step.effect;
+        wrote = step.wrote;
         after = ap (carried image) step.after;
       }
       effect_carried (Told told) step =
@@ -158,7 +174,10 @@ module _ {S T : Type 0} (image : S → T) where
       effect_carried (BytesRead k offset len) step =
           record { free = step.free; effect = step.effect; after = ap (carried image) step.after }
       effect_carried effect step = record {
-        free = step.free; machine = step.machine; effect = step.effect; after = ap (carried image) step.after;
+        free = step.free;
+        machine = step.machine;
+        effect = step.effect;
+        after = ap (carried image) step.after;
       }
 
 -- a run under the first is one under the second, with the same turns and machines

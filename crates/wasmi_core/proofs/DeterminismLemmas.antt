@@ -161,7 +161,8 @@ lent_same once ty part l o o' has has' a b =
 -- what a turn on one part of the state ends in
 abbrev acted : {A S : Type 0} → Turn → A → Meter → S → Acted A S
 acted t part meter limiter = record {
-  reply = t.reply; charge = t.charge;
+  reply = t.reply;
+  charge = t.charge;
   after = record { value = part; meter = Some meter; limiter = limiter };
 }
 
@@ -174,7 +175,9 @@ module _ {S : Type 0} (w : World S) (t t' : Turn) (v v' : World S) where
   told_unique : {Relation : Reply → Type 0} → OnlyReplies w t v Relation → OnlyReplies w t' v' Relation
       → (Relation t.reply → Relation t'.reply → t.reply ≡ t'.reply) → Same
   told_unique step step' once = (
-    once step.effect step'.effect, step.free.0 ∙ sym step'.free.0, step.free.1 ∙ sym step'.free.1,
+    once step.effect step'.effect,
+    step.free.0 ∙ sym step'.free.0,
+    step.free.1 ∙ sym step'.free.1,
     step.after ∙ sym step'.after,
   )
 
@@ -183,7 +186,9 @@ module _ {S : Type 0} (w : World S) (t t' : Turn) (v v' : World S) where
       → ((s s' : State) → Relation t.reply s → Relation t'.reply s' → (t.reply ≡ t'.reply) × (s ≡ s')) → Same
   changed_unique step step' once =
       let same = once step.machine step'.machine step.effect step'.effect in (
-        same.0, step.free.0 ∙ sym step'.free.0, step.free.1 ∙ sym step'.free.1,
+        same.0,
+        step.free.0 ∙ sym step'.free.0,
+        step.free.1 ∙ sym step'.free.1,
         step.after ∙ ap (λ s. let u : World S = record w { state = s } in u) same.1 ∙ sym step'.after,
       )
 
@@ -196,7 +201,9 @@ module _ {S : Type 0} (w : World S) (t t' : Turn) (v v' : World S) where
         let same = once (record { reply = t.reply; part = step.part; limiter = step.limiter })
         (record { reply = t'.reply; part = step'.part; limiter = step'.limiter }) has has' step.effect step'.effect
         in (
-          same.0, step.free.0 ∙ sym step'.free.0, step.free.1 ∙ sym step'.free.1,
+          same.0,
+          step.free.0 ∙ sym step'.free.0,
+          step.free.1 ∙ sym step'.free.1,
           step.after ∙ (λ i. record { state = with_part (same.1 i); limiter = same.2 i }) ∙ sym step'.after,
         )
 
@@ -212,7 +219,9 @@ module _ {S : Type 0} (w : World S) (t t' : Turn) (v v' : World S) where
           let parts = ap (λ (s : MeteredValue A S). s.value) same.2 in
           let meters = same_Some step.meter step'.meter (ap (λ (s : MeteredValue A S). s.meter) same.2) in
           let limiters = ap (λ (s : MeteredValue A S). s.limiter) same.2 in (
-            same.0, same.1, step.wrote ∙ ap bytes same.0 ∙ sym step'.wrote,
+            same.0,
+            same.1,
+            step.wrote ∙ ap bytes same.0 ∙ sym step'.wrote,
             step.after
                 ∙ (λ i. record { state = record (with_part (parts i)) { meter = meters i }; limiter = limiters i })
                 ∙ sym step'.after,
@@ -228,7 +237,9 @@ module _ {S : Type 0} (w : World S) (t t' : Turn) (v v' : World S) where
           once (acted t step.part step.meter tt) (acted t' step'.part step'.meter tt) step.effect step'.effect in
           let parts = ap (λ (s : MeteredValue A (Unit {0})). s.value) same.2 in
           let meters = same_Some step.meter step'.meter (ap (λ (s : MeteredValue A (Unit {0})). s.meter) same.2) in (
-            same.0, same.1, step.wrote ∙ ap bytes same.0 ∙ sym step'.wrote,
+            same.0,
+            same.1,
+            step.wrote ∙ ap bytes same.0 ∙ sym step'.wrote,
             step.after
                 ∙ (λ i. record { state = record (with_part (parts i)) { meter = meters i }; limiter = w.limiter })
                 ∙ sym step'.after,

@@ -199,7 +199,8 @@ acts_same {X = X} {S = S} Acts same k reply_to s o o' a b =
     let value = put ∙ ap (λ (t : MeteredValue X S). slice_set s.value k (Live t.value)) both.2 ∙ sym put' in
     let meter = ap (λ (t : MeteredValue X S). t.meter) both.2 in
     let limiter = ap (λ (t : MeteredValue X S). t.limiter) both.2 in (
-      replies ∙ ap reply_to both.0 ∙ sym replies', both.1,
+      replies ∙ ap reply_to both.0 ∙ sym replies',
+      both.1,
       λ i. record { value = value i; meter = meter i; limiter = limiter i },
     ))
 

@@ -189,7 +189,12 @@ module _ {S : Type 0} (rules : Rules S) (t : Meeting S) (place : Place) where
   nothing_passes : AsksFor t.question Nothing t.reply → t.last ≡ t.first → NothingGrows t.before t.after
       → IsCharged place Nothing t.meter t.charge → Passed
   nothing_passes unasked same still free = record {
-    exchange = Nothing; asks = unasked; passes = same; replies = tt; grows = still; charged = free;
+    exchange = Nothing;
+    asks = unasked;
+    passes = same;
+    replies = tt;
+    grows = still;
+    charged = free;
   }
 
   -- an attempt passes by its outcome: one kind is watched, and the sizes of the other stay
@@ -213,17 +218,28 @@ module _ {S : Type 0} (rules : Rules S) (t : Meeting S) (place : Place) where
     attempt_passes meter (Unasked cause) is follows own charged =
         nothing_passes (inl (is.asks ∙ no_question_refused e cause is.may_end)) follows (still own) charged
     attempt_passes meter (Denied answer) is follows own charged = record {
-      exchange = Denial e.question answer; asks = is.asks ∙ question_unrefused e is.may_end.0;
-      passes = (is.may_end.1, follows); replies = is.replies; grows = still own; charged = charged;
+      exchange = Denial e.question answer;
+      asks = is.asks ∙ question_unrefused e is.may_end.0;
+      passes = (is.may_end.1, follows);
+      replies = is.replies;
+      grows = still own;
+      charged = charged;
     }
     attempt_passes meter Met is follows own charged = record {
-      exchange = Permission e.question; asks = is.asks ∙ question_unrefused e is.may_end.0; passes = follows;
-      replies = is.replies; grows = (own, others); charged = charged;
+      exchange = Permission e.question;
+      asks = is.asks ∙ question_unrefused e is.may_end.0;
+      passes = follows;
+      replies = is.replies;
+      grows = (own, others);
+      charged = charged;
     }
     attempt_passes meter (Failed cause notice_answer) is follows own charged = record {
       exchange = Notice e.question (e.notice cause) notice_answer;
-      asks = is.asks ∙ question_unrefused e is.may_end.0; passes = (tells cause, follows.0, follows.1, follows.2);
-      replies = is.replies; grows = still own; charged = charged;
+      asks = is.asks ∙ question_unrefused e is.may_end.0;
+      passes = (tells cause, follows.0, follows.1, follows.2);
+      replies = is.replies;
+      grows = still own;
+      charged = charged;
     }
 
 -- slots before and after an exchange, and what is counted of each value
@@ -420,14 +436,18 @@ table_fails cause (Err error) = refl
 new_memory_is : (room : Room) (ty : MemoryTypeValue)
     → IsCreationOf byte_count (new_memory room ty) (memory.creation_of room ty)
 new_memory_is room ty = record {
-  tells = λ cause. refl; fresh = refl; full = length-replicate {A = ℕ} (minimum_bytes ty) 0;
+  tells = λ cause. refl;
+  fresh = refl;
+  full = length-replicate {A = ℕ} (minimum_bytes ty) 0;
 }
 
 -- a new table is what is made
 new_table_is : (ty : TableTypeValue) (init : TypedRawRef)
     → IsCreationOf size_of (new_table ty init.raw) (table.creation_of ty init.ty)
 new_table_is ty init = record {
-  tells = λ cause. refl; fresh = refl; full = length-replicate {A = ℕ} ty.minimum init.raw;
+  tells = λ cause. refl;
+  fresh = refl;
+  full = length-replicate {A = ℕ} ty.minimum init.raw;
 }
 
 -- a late cause that a test decides
@@ -447,7 +467,8 @@ memory_priced pages x m = record {
   price = due_again m 1 (length x.bytes) (pages * page_bytes x.ty.page);
   late = λ cause is price. subst (λ c. failed_charge (MemoryFailure c) price ≡ 0)
       (late_is (fits_room x.room (pages * page_bytes x.ty.page)) memory_error.InvalidStaticBufferSize cause is) refl;
-  unpaid = λ due price. refl; refuses = memory_wanted x.room;
+  unpaid = λ due price. refl;
+  refuses = memory_wanted x.room;
 }
 
 -- the growth of a memory by so many pages
@@ -459,10 +480,13 @@ memory_growth_is : (pages : ℕ) (x : MemoryValue) (m : Meter) → IsGrowthOf by
 memory_growth_is pages x m =
     let added = pages * page_bytes x.ty.page in
     record {
-      tells = λ cause. refl; now = refl;
+      tells = λ cause. refl;
+      now = refl;
       full = length-append x.bytes (replicate added 0)
           ∙ ap (λ n. length x.bytes + n) (length-replicate {A = ℕ} added 0);
-      up = omega arith; priced = memory_priced pages x m; refusal = replied.Memory;
+      up = omega arith;
+      priced = memory_priced pages x m;
+      refusal = replied.Memory;
       told = record { refuses = λ error. tt; fails = memory_fails };
     }
 
@@ -483,18 +507,27 @@ table_growth n reference x = record { amount = n; size = size_of x; request = ta
 -- the growth of a table is one of its elements
 table_growth_is : (n reference : ℕ) (x : TableValue) (m : Meter) → IsGrowthOf size_of x m (table_growth n reference x)
 table_growth_is n reference x m = record {
-  tells = λ cause. refl; now = refl;
+  tells = λ cause. refl;
+  now = refl;
   full = length-append x.elements (replicate n reference)
       ∙ ap (λ k. length x.elements + k) (length-replicate {A = ℕ} n reference);
-  up = omega arith; priced = table_priced n reference x m; refusal = replied.Table;
+  up = omega arith;
+  priced = table_priced n reference x m;
+  refusal = replied.Table;
   told = record { refuses = λ error. tt; fails = table_fails };
 }
 
 -- a turn, as an exchange is between its limiters
 abbrev meeting_of : {S : Type 0} → World S → Turn → Option Question → World S → Meeting S
 meeting_of w turn question w' = record {
-  first = w.limiter; last = w'.limiter; before = sizes w.state; after = sizes w'.state; meter = w.state.meter;
-  charge = turn.charge; reply = turn.reply; question = question;
+  first = w.limiter;
+  last = w'.limiter;
+  before = sizes w.state;
+  after = sizes w'.state;
+  meter = w.state.meter;
+  charge = turn.charge;
+  reply = turn.reply;
+  question = question;
 }
 
 module _ {S : Type 0} (rules : Rules S) (w : World S) (turn : Turn) (w' : World S) where
@@ -508,26 +541,34 @@ module _ {S : Type 0} (rules : Rules S) (w : World S) (turn : Turn) (w' : World 
     -- its memories, and its tables
     abbrev memories_watch : Watch S MemoryValue
     memories_watch = record {
-      meeting = meeting_of w turn question w'; count = byte_count; slots = w.state.memories; later = w'.state.memories;
+      meeting = meeting_of w turn question w';
+      count = byte_count;
+      slots = w.state.memories;
+      later = w'.state.memories;
     }
 
     -- its tables
     abbrev tables_watch : Watch S TableValue
     tables_watch = record {
-      meeting = meeting_of w turn question w'; count = size_of; slots = w.state.tables; later = w'.state.tables;
+      meeting = meeting_of w turn question w';
+      count = size_of;
+      slots = w.state.tables;
+      later = w'.state.tables;
     }
 
     -- its memories, where the tables stay
     memories_watched : w'.state.tables ≡ w.state.tables → IsWatched memories_watch Bytes
     memories_watched same = record {
-      own = refl; own' = refl;
+      own = refl;
+      own' = refl;
       others = but_bytes (λ kind. sizes w'.state kind ≡ sizes w.state kind) (ap (map (slot_count size_of)) same);
     }
 
     -- its tables, where the memories stay
     tables_watched : w'.state.memories ≡ w.state.memories → IsWatched tables_watch Elements
     tables_watched same = record {
-      own = refl; own' = refl;
+      own = refl;
+      own' = refl;
       others = but_elements (λ kind. sizes w'.state kind ≡ sizes w.state kind) (ap (map (slot_count byte_count)) same);
     }
 
@@ -767,7 +808,8 @@ growths_are_permitted rules w turn w' step =
       exchange = passed.exchange;
       asks = subst (λ question. AsksFor question passed.exchange turn.reply) (same_question w.state turn.call)
           passed.asks;
-      passes = passed.passes; replies = passed.replies;
+      passes = passed.passes;
+      replies = passed.replies;
       grows = subst (λ place. GrowsBy place passed.exchange (sizes w.state) (sizes w'.state))
           (same_place w.state turn.call) passed.grows;
       charged = same_charge w.state turn.call passed.exchange w.state.meter turn.reply turn.charge passed.charged

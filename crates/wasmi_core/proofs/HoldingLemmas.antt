@@ -90,19 +90,22 @@ module _ {L : Type 0} (rules : Rules L) (holdings : L → Holdings) (keeps : Kee
   exchange_holds s s' l limiter place Nothing held passes grows =
       (l, passes, still_held s s' (holdings l) (holdings l) held (record { bytes = refl; elements = refl }) grows)
   exchange_holds s s' l (Some l') place (Denial q answer) held (denial, asks) grows = (
-    l', refl,
+    l',
+    refl,
     still_held s s' (holdings l) (holdings l') held
         (denial_keeps q answer (holdings l) (holdings l') denial (keeps.reserves l l' q answer asks)) grows,
   )
   exchange_holds s s' l None place (Denial q answer) held (denial, asks) grows = absurd asks
   exchange_holds s s' l (Some l') place (Permission q) held asks (grows, others) = (
-    l', refl,
+    l',
+    refl,
     more_held s s' q.kind (q.desired - q.current) (holdings l) (holdings l') held
         (keeps.reserves l l' q (Ok true) asks) (grown_sum place q (sizes s q.kind) (sizes s' q.kind) grows) others,
   )
   exchange_holds s s' l None place (Permission q) held asks grows = absurd asks
   exchange_holds s s' l (Some l') place (Notice q failure notice_answer) held (kind, Some p, asks, notices) grows = (
-    l', refl,
+    l',
+    refl,
     still_held s s' (holdings l) (holdings l') held
         (given_back q.kind (q.desired - q.current) (holdings l) (holdings p) (holdings l')
         (keeps.reserves l p q (Ok true) asks) (rw kind at (keeps.gives_back p l' failure notice_answer notices))) grows,

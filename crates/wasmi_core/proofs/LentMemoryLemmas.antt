@@ -96,7 +96,8 @@ module _ {V E : Type 0} (e : Request V E) (refuses : E → Type 0)
     may_end = ends s.meter easy outcome a.may_end;
     follows = follows rules s.limiter s'.limiter outcome a.follows;
     charged = a.charged ∙ charges s.meter easy outcome a.may_end;
-    meter = a.meter; value = ap own a.value ∙ values s.value outcome;
+    meter = a.meter;
+    value = ap own a.value ∙ values s.value outcome;
   }
 
 -- what a room of one's own may refuse after the charge
@@ -145,12 +146,15 @@ grows_owned : {S : Type 0} (rules : Rules S) (pages : ℕ) (s : MeteredValue Mem
     → GrowsMemoryCharging rules pages (with_value s (owned_memory s.value)) result charge
     (with_value s' (owned_memory s'.value))
 grows_owned {S} rules pages s result charge s' fits (inl none) = inl (record {
-  none = none.none; answered = none.answered; uncharged = none.uncharged;
+  none = none.none;
+  answered = none.answered;
+  uncharged = none.uncharged;
   same = ap (λ (t : MeteredValue MemoryValue S). with_value t (owned_memory t.value)) none.same;
 })
 grows_owned rules pages s result charge s' fits (inr some) =
     let e = memory.growth_of s.value pages in inr (record {
-      some = some.some; outcome = some.outcome;
+      some = some.some;
+      outcome = some.outcome;
       attempt = attempts e (LacksMemory Owned) (lacks_owned s.value.room) owned_memory rules s s' some.outcome charge
           (fits_easy pages s.value fits) some.attempt;
       answered = some.answered ∙ answered_eased some.outcome;
@@ -251,13 +255,16 @@ growth_owned : {S : Type 0} (rules : Rules S) (k pages : ℕ) (s s' : MeteredVal
 growth_owned {S} rules k pages s s' reply charge fits acts =
     on_owned s.value k _ _ _ _ (both_live (live_at s.value k) _ _ _ _ fits acts)
     (λ missing. (
-      missing.1.0, missing.1.1,
+      missing.1.0,
+      missing.1.1,
       ap (λ (t : MeteredValue (List (Slot MemoryValue)) S). with_value t (map owned_slot t.value)) missing.1.2,
     ))
     (λ x h. (
-      h.1.0, owned_memory h.1.1,
+      h.1.0,
+      owned_memory h.1.1,
       grows_owned rules pages (with_value s x) h.1.0 charge (with_value s' h.1.1) h.0 h.1.2,
-      h.1.3, put_owned s.value k s'.value (Live h.1.1) h.1.4,
+      h.1.3,
+      put_owned s.value k s'.value (Live h.1.1) h.1.4,
     ))
 
 -- a memory is made in a slot
@@ -279,7 +286,8 @@ creates_owned : {S : Type 0} (rules : Rules S) (room : Room) (ty : MemoryTypeVal
     → Creates replied.Memory (MakesMemory rules Owned ty) (map owned_slot slots) l reply (map owned_slot slots') l'
 creates_owned rules room ty slots l reply slots' l' fits (inl none) = inl (none.0, ap (map owned_slot) none.1, none.2)
 creates_owned rules room ty slots l reply slots' l' fits (inr (result, makes, appends)) = inr (
-  result_map_both owned_memory (λ error. error) result, makes_owned rules room ty l result l' fits makes,
+  result_map_both owned_memory (λ error. error) result,
+  makes_owned rules room ty l result l' fits makes,
   appends_owned result slots reply slots' appends,
 )
 
@@ -317,7 +325,9 @@ change_owned s reply s' (BytesStored k a stored) c = record {
   after = ap owned c.after;
 }
 change_owned s reply s' (MemoryDropped k) c = record {
-  part = map owned_slot c.part; effect = drops_owned s.memories k reply c.part c.effect; after = ap owned c.after;
+  part = map owned_slot c.part;
+  effect = drops_owned s.memories k reply c.part c.effect;
+  after = ap owned c.after;
 }
 change_owned s reply s' change c = record { part = c.part; effect = c.effect; after = ap owned c.after }
 
@@ -350,7 +360,10 @@ module _ {S : Type 0} (rules : Rules S) (w : World S) (turn : Turn) (w' : World 
   effect_owned (TableGrown k n init) fits step =
       acts_too step step.part step.meter step.effect refl (ap owned_world step.after)
   effect_owned (RangeWritten k source dst len) fits step = record {
-    part = step.part; meter = step.meter; effect = step.effect; wrote = step.wrote;
+    part = step.part;
+    meter = step.meter;
+    effect = step.effect;
+    wrote = step.wrote;
     after = ap owned_world step.after;
   }
 
@@ -378,7 +391,9 @@ creation_is_owned rules w turn w' ty region called spare fits step =
     (λ c. HasEffect rules (effect_of w.state c) w turn w') called step in
     let creates = on_spare _ _ w.state.spare region spare lent.effect in
     record {
-      free = lent.free; part = map owned_slot lent.part.slots; limiter = lent.limiter;
+      free = lent.free;
+      part = map owned_slot lent.part.slots;
+      limiter = lent.limiter;
       effect = creates_owned rules (Lent region) ty w.state.memories w.limiter turn.reply lent.part.slots lent.limiter
           (grind (arith, nat_tests, fits)) creates.0;
       after = ap unlent_world lent.after;

@@ -72,7 +72,8 @@ module _ {L T : Type 0} (IsIn : L → Type 0) (image : L → Option T) (rules : 
   within_revealed refusal e (Denied answer) l l' within shown f = (within, f)
   within_revealed refusal e Met l l' within shown f = (within, f)
   within_revealed refusal e (Failed c notice_answer) (Some l) l' within shown (Some p, asks, notices) = (
-    Some p, (within, asks),
+    Some p,
+    (within, asks),
     ((p, refl, (carries.asked l e.question (Ok true) p (is_in l within) asks).0), notices),
   )
   within_revealed refusal e (Failed c notice_answer) (Some l) l' within shown (None, asks, notices) = absurd asks
@@ -194,7 +195,8 @@ module _ {T : Type 0} (kind : HeldKind T) where
       let within = run_within IsOfKind kind.held any_limiter_rules kind.rules kind_carries s (kind.hold own) turns s' l'
       (own, refl) ran in
       let last : kind.held l' ≡ Some within.0.0 = ap kind.held within.0.1 ∙ kind.is_held within.0.0 in (
-        within.0.0, within.0.1,
+        within.0.0,
+        within.0.1,
         subst (λ l. Run (optional_rules kind.rules) (world s l) turns (world s' (Some within.0.0))) (kind.is_held own)
             (subst (λ l. Run (optional_rules kind.rules) (world s (kind.held (kind.hold own))) turns (world s' l)) last
             within.1),
@@ -204,12 +206,20 @@ module _ {T : Type 0} (kind : HeldKind T) where
 pub runs_keep_kind : RunsKeepKind
 runs_keep_kind turns s limiter.Unlimited s' l' ran = unlimited_run quota_rules s turns s' l' ran
 runs_keep_kind turns s (limiter.Quota quota) s' l' ran = kind_run (record {
-  hold = limiter.Quota; held = quota_of; rules = quota_rules; is_held = λ l. refl;
-  asks = λ l q answer l' done. done; notices = λ l failure answer l' done. done;
+  hold = limiter.Quota;
+  held = quota_of;
+  rules = quota_rules;
+  is_held = λ l. refl;
+  asks = λ l q answer l' done. done;
+  notices = λ l failure answer l' done. done;
 }) turns s quota s' l' ran
 runs_keep_kind turns s (limiter.Answers list) s' l' ran = kind_run (record {
-  hold = limiter.Answers; held = list_of; rules = answer_list_rules; is_held = λ l. refl;
-  asks = λ l q answer l' done. done; notices = λ l failure answer l' done. done;
+  hold = limiter.Answers;
+  held = list_of;
+  rules = answer_list_rules;
+  is_held = λ l. refl;
+  asks = λ l q answer l' done. done;
+  notices = λ l failure answer l' done. done;
 }) turns s list s' l' ran
 
 -- what a relation gives in each world, it gives by the rules of a kind

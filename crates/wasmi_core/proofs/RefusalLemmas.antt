@@ -69,7 +69,10 @@ module _ {S : Type 0} (rules : Rules S) (w : World S) (turn : Turn) (w' : World 
         (record {
           memories = lent_back rules ty (memory_part w.state) w.limiter turn.reply step.part step.limiter refused
               step.effect;
-          tables = refl; segments = refl; globals = refl; registers = refl;
+          tables = refl;
+          segments = refl;
+          globals = refl;
+          registers = refl;
         }),
     ap (λ (x : World S). x.state.spare) step.after
         ∙ lent_spare rules ty (memory_part w.state) w.limiter turn.reply step.part step.limiter step.effect,
@@ -131,11 +134,18 @@ module _ {S : Type 0} (rules : Rules S) (w : World S) (turn : Turn) (w' : World 
   growth_meter at (Notice question failure notice_answer) asks passes replies charged takes =
       elim (out_of_memory_or_free failure) [
         | inl wanting ↦ inr (record {
-            index = at.0; grows = at.1; question = question; asks = asks; failure = failure;
-            notice_answer = notice_answer; wants = wanting.0; tells = passes; replies = replies;
-            meter = subst (λ c. PaysCharge w.state.meter c w'.state.meter)
-                (charged ∙ wanting.1 (growth_due w.state.meter question)) takes;
-          })
+          index = at.0;
+          grows = at.1;
+          question = question;
+          asks = asks;
+          failure = failure;
+          notice_answer = notice_answer;
+          wants = wanting.0;
+          tells = passes;
+          replies = replies;
+          meter = subst (λ c. PaysCharge w.state.meter c w'.state.meter)
+              (charged ∙ wanting.1 (growth_due w.state.meter question)) takes;
+        })
         | inr free ↦ stays takes (charged ∙ free (growth_due w.state.meter question))
       ]
 
@@ -183,8 +193,10 @@ run_refusals_keep_contents rules = each_turn rules _ (refusals_keep_contents rul
 -- contents that are the same twice
 same_twice : (s t u : State) → SameContents s t → SameContents t u → SameContents s u
 same_twice s t u first second = record {
-  memories = second.memories ∙ first.memories; tables = second.tables ∙ first.tables;
-  segments = second.segments ∙ first.segments; globals = second.globals ∙ first.globals;
+  memories = second.memories ∙ first.memories;
+  tables = second.tables ∙ first.tables;
+  segments = second.segments ∙ first.segments;
+  globals = second.globals ∙ first.globals;
   registers = second.registers ∙ first.registers;
 }
 

@@ -74,7 +74,9 @@ module _ {S : Type 0} (n : Narrowing S) where
   attempt_revealed refusal e reveals s s' outcome charge within shown a = record {
     may_end = a.may_end;
     follows = reveals outcome s.limiter s'.limiter within shown a.follows;
-    charged = a.charged; meter = a.meter; value = a.value;
+    charged = a.charged;
+    meter = a.meter;
+    value = a.value;
   }
 
   -- a creation
@@ -108,7 +110,8 @@ module _ {S : Type 0} (n : Narrowing S) where
       λ c error. subst n.shown (ap (reply_of replied.Number refusal)
       (some.answered ∙ answered_error g.request g.size some.outcome c error)) shows in
       inr (record {
-        some = some.some; outcome = some.outcome;
+        some = some.some;
+        outcome = some.outcome;
         attempt = attempt_revealed refusal g.request reveals s s' some.outcome charge within shown some.attempt;
         answered = some.answered;
       })

@@ -62,7 +62,8 @@ module _ {S : Type 0} (rules : Rules S) where
       let spent : balance.0 + charges turns ≡ left = omega (arith, balance.2, added.0, added.1) in
       let most : rate * charges_for_writing turns ≤ rate * (left - balance.0) = mul-le-mul_left rate
       (omega (arith, writing_within turns, spent)) in (
-        balance.0, balance.1,
+        balance.0,
+        balance.1,
         record {
           charged = spent;
           written = λ rated. omega (arith, (writing_is_bounded rules w left on rated turns w' ran).by_charges, most);

@@ -86,7 +86,9 @@ valid_by : (s s' : State) → (AllValid IsValidMemory s.memories → AllValid Is
     → (All IsValidSegment s.segments → All IsValidSegment s'.segments)
     → (length s.registers ≡ 16 → length s'.registers ≡ 16) → IsValid s → IsValid s'
 valid_by s s' memories tables segments registers v = record {
-  memories = memories v.memories; tables = tables v.tables; segments = segments v.segments;
+  memories = memories v.memories;
+  tables = tables v.tables;
+  segments = segments v.segments;
   registers = registers v.registers;
 }
 
@@ -95,7 +97,8 @@ module _ (s : State) where
   -- the memories
   the_memories : PartOf s (with_memories s) s.memories (KeepsMemories s)
   the_memories = record {
-    whole = refl; meter = λ part. refl;
+    whole = refl;
+    meter = λ part. refl;
     still = λ part keeps. each_kind (λ kind. sizes (with_memories s part) kind ≡ sizes s kind) keeps.0 refl;
     valid = λ part keeps. valid_by s (with_memories s part) keeps.1 (λ v. v) (λ v. v) (λ v. v);
   }
@@ -103,7 +106,8 @@ module _ (s : State) where
   -- the tables
   the_tables : PartOf s (with_tables s) s.tables (KeepsTables s)
   the_tables = record {
-    whole = refl; meter = λ part. refl;
+    whole = refl;
+    meter = λ part. refl;
     still = λ part keeps. each_kind (λ kind. sizes (with_tables s part) kind ≡ sizes s kind) refl keeps.0;
     valid = λ part keeps. valid_by s (with_tables s part) (λ v. v) keeps.1 (λ v. v) (λ v. v);
   }
@@ -114,7 +118,8 @@ module _ (s : State) where
       × ((with_part part).meter ≡ s.meter))
       → ((part : A) → Keeps part → IsValid s → IsValid (with_part part)) → PartOf s with_part old Keeps
   unsized with_part old Keeps whole same valid = record {
-    whole = whole; meter = λ part. (same part).2;
+    whole = whole;
+    meter = λ part. (same part).2;
     still = λ part keeps. each_kind (λ kind. sizes (with_part part) kind ≡ sizes s kind)
         (ap (map (slot_count byte_count)) (same part).0) (ap (map (slot_count size_of)) (same part).1);
     valid = valid;
@@ -143,7 +148,8 @@ drop_facts count Valid k slots = record {
   back = drops_back count k slots;
   same = λ reply reply' part part' has has'. drops_same count k slots reply reply' part part';
   keeps = λ reply part drops. (
-    drops_kept count k slots reply part drops, drops_valid Valid count k slots reply part drops,
+    drops_kept count k slots reply part drops,
+    drops_valid Valid count k slots reply part drops,
   );
 }
 
@@ -181,11 +187,13 @@ change_facts s (ElementSet k index value) = change_of (the_tables s) (record {
   same = λ reply reply' part part' has has' effect effect'.
       sets_same k index value s.tables reply reply' part part' effect effect';
   keeps = λ reply part effect. (
-    set_kept k s.tables reply part index value effect, set_valid k index value s.tables reply part effect,
+    set_kept k s.tables reply part index value effect,
+    set_valid k index value s.tables reply part effect,
   );
 })
 change_facts s (SegmentMade ty items) = change_of (the_segments s) (record {
-  back = segment_back ty items s.segments; same = segments_same ty items s.segments;
+  back = segment_back ty items s.segments;
+  same = segments_same ty items s.segments;
   keeps = creates_segment_valid ty items s.segments;
 })
 change_facts s (ItemsDropped k) = change_of (the_segments s) (record {
@@ -195,7 +203,9 @@ change_facts s (ItemsDropped k) = change_of (the_segments s) (record {
       _ (λ x x' valid change. subst IsValidSegment (sym change.1) (omega arith)) effect;
 })
 change_facts s (GlobalMade global) = change_of (the_globals s) (record {
-  back = global_made_back global s.globals; same = globals_same global s.globals; keeps = λ reply part effect. tt;
+  back = global_made_back global s.globals;
+  same = globals_same global s.globals;
+  keeps = λ reply part effect. tt;
 })
 change_facts s (GlobalSet k value) = change_of (the_globals s) (record {
   back = global_refused k value s.globals;

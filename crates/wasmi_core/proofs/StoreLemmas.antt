@@ -40,7 +40,8 @@ module _ {S : Type 0} {w : World S} {call : Call} {reply : Reply} where
     pub changes_part : {Relation : Reply → A → Type 0} → Relation reply part
         → Changes w (free_turn call reply) (record w { state = with_part part }) (ChangesPart with_part Relation)
     changes_part effect = record {
-      free = (refl, refl); machine = _;
+      free = (refl, refl);
+      machine = _;
       effect = record { part = part; effect = effect; after = refl };
       after = refl;
     }
@@ -63,7 +64,8 @@ module _ {S : Type 0} {w : World S} {call : Call} {reply : Reply} where
         (metered_value part (Some meter) l) → IsAnswered call reply (λ turn. ActsMetered w turn
         (world (record (with_part part) { meter = meter }) l) old with_part Relation bytes)
     acts (charge, effect) = (
-      charge, bytes reply,
+      charge,
+      bytes reply,
       record { part = part; meter = meter; limiter = _; effect = effect; wrote = refl; after = refl },
     )
 
@@ -98,7 +100,12 @@ module _ {S : Type 0} {v v' w w' : World S} {turn : Turn} where
         → w' ≡ world (record (with_part' part) { meter = meter }) step.limiter
         → ActsMetered w turn w' old' with_part' Relation' bytes'
     acts_too step part meter effect same after = record {
-      part = part; meter = meter; limiter = step.limiter; effect = effect; wrote = step.wrote ∙ same; after = after;
+      part = part;
+      meter = meter;
+      limiter = step.limiter;
+      effect = effect;
+      wrote = step.wrote ∙ same;
+      after = after;
     }
 
 -- one call more: the turns so far are by the calls up to a place, and the next turn is by the one there

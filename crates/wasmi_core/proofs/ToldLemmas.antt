@@ -44,7 +44,8 @@ module _ {S : Type 0} (rules : Rules S) (IsAccepting : S → Type 0) (stays : St
   want_revealed refusal e nowant (Failed c notice_answer) l l' within shown (permitted, asks, notices) =
       let still = stays.asked l e.question (Ok true) permitted within asks in
       let accepted = stays.noticed permitted (e.notice c) notice_answer l' still notices in (
-        permitted, asks,
+        permitted,
+        asks,
         (
           notices,
           nowant c (subst (λ h. IsNotOutOfMemory (refusal (error_of_failure e.refusal c h))) accepted.0 (shown _ refl)),

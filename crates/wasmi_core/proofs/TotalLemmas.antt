@@ -56,7 +56,8 @@ module _ (copy : Copying) (reply : Reply) (charge : ℕ) (s' : MeteredValue (Slo
       ≡ metered copy.slots (Some copy.meter)
   nothing_put slot at_i same slots' put = λ k. record {
     value = (put ∙ ap (λ s. set copy.slots copy.into s.value) same ∙ set_read copy.slots copy.into slot at_i) k;
-    meter = (same k).meter; limiter = tt;
+    meter = (same k).meter;
+    limiter = tt;
   }
 
   -- a table is written over with what another slot has

@@ -63,7 +63,9 @@ module _ {S : Type 0} (rules : Rules S) (w : World S) (turn : Turn) (w' : World 
   effect_valid : (effect : Effect) → IsValidEffect effect → HasEffect rules effect w turn w' → IsValid w'.state
   effect_valid (FuelSet fuel) typed step = rw (ap now step.after, step.effect.1)
       (record {
-        memories = valid.memories; tables = valid.tables; segments = valid.segments;
+        memories = valid.memories;
+        tables = valid.tables;
+        segments = valid.segments;
         registers = valid.registers;
       })
   effect_valid (Changed change) typed step =

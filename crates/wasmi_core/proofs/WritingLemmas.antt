@@ -55,7 +55,8 @@ record Wrote (m : Meter) (charge written : ℕ) (wrote : Bool) (set : ℕ) (m' :
 -- a turn that writes nothing
 idles : (m m' : Meter) (charge written : ℕ) → written ≡ 0 → m' ≡ m → Wrote m charge written false 0 m'
 idles m m' charge written none same = record {
-  costs = ap (λ (m : Meter). m.costs) same; paid = λ left on rated. omega (arith, none);
+  costs = ap (λ (m : Meter). m.costs) same;
+  paid = λ left on rated. omega (arith, none);
   spent = λ left on. (left, ap (λ (m : Meter). m.left) same ∙ on, omega arith);
 }
 
@@ -63,14 +64,16 @@ idles m m' charge written none same = record {
 sets : (fuel : ℕ) (m m' : Meter) (charge written : ℕ) → written ≡ 0 → m' ≡ meter_set m fuel
     → Wrote m charge written false fuel m'
 sets fuel m m' charge written none same = record {
-  costs = ap (λ (m : Meter). m.costs) same; paid = λ left on rated. omega (arith, none);
+  costs = ap (λ (m : Meter). m.costs) same;
+  paid = λ left on rated. omega (arith, none);
   spent = λ left on. (fuel, ap (λ (m : Meter). m.left) same ∙ ap (option_map (λ n. fuel)) on, omega arith);
 }
 
 -- a refusal: something may be charged, and nothing is written
 refuses : (m m' : Meter) (charge : ℕ) → m'.costs ≡ m.costs → PaysCharge m charge m' → Wrote m charge 0 false 0 m'
 refuses m m' charge same takes = record {
-  costs = same; paid = λ left on rated. omega arith;
+  costs = same;
+  paid = λ left on rated. omega arith;
   spent = λ left on. let t = rest_left m m' charge takes left on in (t.0, t.1, omega (arith, t.2));
 }
 
@@ -79,7 +82,8 @@ pays : (m m' : Meter) (charge written : ℕ) → m'.costs ≡ m.costs → PaysCh
     → ((left : ℕ) → m.left ≡ Some left → 0 < rate m → written ≤ rate m * charge + (rate m - 1))
     → Wrote m charge written true 0 m'
 pays m m' charge written same takes bound = record {
-  costs = same; paid = bound;
+  costs = same;
+  paid = bound;
   spent = λ left on. let t = rest_left m m' charge takes left on in (t.0, t.1, omega (arith, t.2));
 }
 
@@ -157,7 +161,8 @@ added_fits : (b c : Bool) (x : MemoryValue) (pages : ℕ)
     → pages * page_bytes x.ty.page < 2 ^ 64
 added_fits b c x pages inside =
     let below : (pages_of x + pages) * page_bytes x.ty.page < 2 ^ 64 = grind (
-      arith, nat_tests,
+      arith,
+      nat_tests,
       (and_parts (b && c) (nat_lt ((pages_of x + pages) * page_bytes x.ty.page) (2 ^ 64)) inside).1,
     ) in
     let split : (pages_of x + pages) * page_bytes x.ty.page ≡ pages_of x * page_bytes x.ty.page + pages * page_bytes

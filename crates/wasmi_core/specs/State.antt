@@ -50,7 +50,12 @@ pub record State : Type 0 where
 -- a machine on which nothing was made yet, with 16 registers of zeros
 abbrev pub new_state : Meter → State
 new_state meter = record {
-  memories = []; tables = []; segments = []; globals = []; registers = replicate 16 (raw_of 0); meter = meter;
+  memories = [];
+  tables = [];
+  segments = [];
+  globals = [];
+  registers = replicate 16 (raw_of 0);
+  meter = meter;
   spare = None;
 }
 

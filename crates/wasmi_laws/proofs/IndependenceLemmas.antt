@@ -173,11 +173,13 @@ module _ {X : Type 0} (k : ℕ) (Change : Reply → X → X → Type 0) where
       (λ x. (x' : X) × Change reply x x' × (slots' ≡ slice_set slots k (Live x')))
       → ListMoves k (λ xs r xs'. ChangesAt k xs r xs' (Change r)) slots reply slots'
   slot_moves_by slots reply slots' None is h = record {
-    put = None; after = h.1;
+    put = None;
+    after = h.1;
     too = λ ys same. rw (ap (option_and_then live_value) same ∙ is) (h.0, refl);
   }
   slot_moves_by slots reply slots' (Some x) is h = record {
-    put = Some (Live h.0); after = h.2;
+    put = Some (Live h.0);
+    after = h.2;
     too = λ ys same. rw (ap (option_and_then live_value) same ∙ is) (h.0, h.1, refl);
   }
 
@@ -193,11 +195,13 @@ module _ {X : Type 0} (count : X → ℕ) (k : ℕ) (slots : List (Slot X)) (rep
       (λ x. (reply ≡ Done) × (slots' ≡ slice_set slots k (Gone (count x))))
       → ListMoves k (DropsAt count k) slots reply slots'
   drop_moves_by None is h = record {
-    put = None; after = h.1;
+    put = None;
+    after = h.1;
     too = λ ys same. rw (ap (option_and_then live_value) same ∙ is) (h.0, refl);
   }
   drop_moves_by (Some x) is h = record {
-    put = Some (Gone (count x)); after = h.1;
+    put = Some (Gone (count x));
+    after = h.1;
     too = λ ys same. rw (ap (option_and_then live_value) same ∙ is) (h.0, refl);
   }
 
@@ -280,13 +284,19 @@ module _ (location : Location) (p : Part location)
       → ((ys : List (Content location)) → slice_get ys p.index ≡ slice_get (p.read s) p.index
       → Effect ys reply (put_in p.index put ys)) → PartMoves
   part_moves_by part is None after too = record {
-    edit = Keep; here = tt; after = is ∙ ap (p.with_part s) after ∙ p.whole s;
+    edit = Keep;
+    here = tt;
+    after = is ∙ ap (p.with_part s) after ∙ p.whole s;
     too = λ t same. record { part = p.read t; effect = too (p.read t) (p.found s t same); after = sym (p.whole t) };
   }
   part_moves_by part is (Some x) after too = record {
-    edit = Put location x; here = refl; after = is ∙ ap (p.with_part s) after ∙ sym (p.puts x s);
+    edit = Put location x;
+    here = refl;
+    after = is ∙ ap (p.with_part s) after ∙ sym (p.puts x s);
     too = λ t same. record {
-      part = slice_set (p.read t) p.index x; effect = too (p.read t) (p.found s t same); after = p.puts x t;
+      part = slice_set (p.read t) p.index x;
+      effect = too (p.read t) (p.found s t same);
+      after = p.puts x t;
     };
   }
 
@@ -356,11 +366,15 @@ module _ {S : Type 0} (rules : Rules S) (w : World S) (turn : Turn) (w' : World 
   effect_moves : (effect : Effect) → IsLocalEffect effect → HasEffect rules effect w turn w'
       → TurnMoves (λ u u'. HasEffect rules effect u turn u') (changed_in effect) (read_in effect) w w'
   effect_moves (Told told) local step = record {
-    edit = Keep; here = tt; after = step.after;
+    edit = Keep;
+    here = tt;
+    after = step.after;
     too = λ u same reads. record { free = step.free; effect = step.effect; after = refl };
   }
   effect_moves (BytesRead k offset len) local step = record {
-    edit = Keep; here = tt; after = step.after;
+    edit = Keep;
+    here = tt;
+    after = step.after;
     too = λ u same reads. record {
       free = step.free;
       effect = subst (λ slot. OnLive (option_and_then live_value slot) (turn.reply ≡ NoSuch)
@@ -371,10 +385,14 @@ module _ {S : Type 0} (rules : Rules S) (w : World S) (turn : Turn) (w' : World 
   effect_moves (Changed change) local step =
       let moves = change_moves w.state turn.reply step.machine change local step.effect in
       record {
-        edit = moves.edit; here = moves.here;
+        edit = moves.edit;
+        here = moves.here;
         after = step.after ∙ ap (λ (s : State). let v : World S = record w { state = s } in v) moves.after;
         too = λ u same reads. record {
-          free = step.free; machine = edited moves.edit u.state; effect = moves.too u.state same; after = refl;
+          free = step.free;
+          machine = edited moves.edit u.state;
+          effect = moves.too u.state same;
+          after = refl;
         };
       }
   effect_moves effect local step = absurd local

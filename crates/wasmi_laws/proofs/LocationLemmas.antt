@@ -441,7 +441,8 @@ module _ (changed dropped : Option Location) (location : Location) (x : Content 
   -- what has become of it in a turn
   later_here : (now : Content location) × (found ≡ Some now) × IsLater location x now
   later_here = (
-    after.now, after.here,
+    after.now,
+    after.here,
     ⊎_elim (λ same. subst (IsLater location x) (sym same) (later_same location x)) (λ may. may.later) after.how,
   )
 
@@ -449,7 +450,8 @@ module _ (changed dropped : Option Location) (location : Location) (x : Content 
   live_here : (dropped ≡ Some location → ⊥) → IsLive location x
       → (now : Content location) × (found ≡ Some now) × IsLive location now
   live_here not live = (
-    after.now, after.here,
+    after.now,
+    after.here,
     ⊎_elim (λ same. subst (IsLive location) (sym same) live)
         (λ may. ⊎_elim (λ now. now) (λ drops. absurd (not drops)) (may.live live)) after.how,
   )

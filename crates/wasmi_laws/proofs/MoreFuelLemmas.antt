@@ -159,7 +159,10 @@ module _ (more : ℕ) where
         → Grows rules g (before t) result t.charge (after t)
         → Grows rules g (enriched (before t)) result t.charge (enriched (after t))
     grows_richer refusal g unpaid t result has (inl none) = inl (record {
-      none = none.none; answered = none.answered; uncharged = none.uncharged; same = ap enriched none.same;
+      none = none.none;
+      answered = none.answered;
+      uncharged = none.uncharged;
+      same = ap enriched none.same;
     })
     grows_richer refusal g unpaid t result has (inr some) =
         let a = some.attempt in
@@ -169,12 +172,14 @@ module _ (more : ℕ) where
         let takes = grows_takes rules g t.first.value m t.first.limiter result t.charge t.last.value t.last.meter
         t.last.limiter (inr some) in
         inr (record {
-          some = some.some; outcome = some.outcome;
+          some = some.some;
+          outcome = some.outcome;
           attempt = record {
             may_end = may_end refusal g.request unpaid m some.outcome told a.may_end;
             follows = a.follows;
             charged = a.charged ∙ same_charge refusal g.request unpaid m some.outcome told a.may_end;
-            meter = after_is m t.charge t.last.meter takes.0 a.meter; value = a.value;
+            meter = after_is m t.charge t.last.meter takes.0 a.meter;
+            value = a.value;
           };
           answered = some.answered;
         })
@@ -303,10 +308,12 @@ module _ (more : ℕ) {S : Type 0} (rules : Rules S) (accepts : AcceptsNotices r
         (λ x x' result. table_grows_richer more rules accepts n init
         (growing w x turn.charge x' step.meter step.limiter) result) step.effect) refl (ap richer_world step.after)
     effect_richer (RangeWritten k source dst len) keeps step = record {
-      part = step.part; meter = richer more step.meter;
+      part = step.part;
+      meter = richer more step.meter;
       effect = range_richer more k (write_of source dst len) w.state.tables w.state.meter turn.reply turn.charge
           step.part step.meter has step.effect;
-      wrote = step.wrote; after = ap richer_world step.after;
+      wrote = step.wrote;
+      after = ap richer_world step.after;
     }
 
     -- so each step

@@ -100,7 +100,9 @@ module _ {S : Type 0} (rules : Rules S) (it : NumberStore) where
   stored_by t u (charge, written, step) = on_live (live_at t.state.memories it.memory) _ _ step.effect.effect
       (λ missing. absurd (none_done missing.0))
       (λ x found h. record {
-        before = x; after = h.0; was = found;
+        before = x;
+        after = h.0;
+        was = found;
         here = ap (λ (v : World S). slice_get v.state.memories it.memory) step.after
             ∙ ap (λ (s : State). slice_get s.memories it.memory) step.effect.after
             ∙ ap (λ slots. slice_get slots it.memory) h.2

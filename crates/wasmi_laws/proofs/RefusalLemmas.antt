@@ -157,32 +157,41 @@ table_lacks_loud c lacks plain = subst (λ x. IsPlainRefusal (replied.Table x)) 
 -- a memory is made
 memory_made_loud : (room : Room) (ty : MemoryTypeValue) → AllLoud replied.Memory (memory.creation_of room ty)
 memory_made_loud room ty = record {
-  denied = λ p. p; refused = λ p. p;
+  denied = λ p. p;
+  refused = λ p. p;
   late = tested_loud replied.Memory _ memory_error.InvalidStaticBufferSize (λ p. p);
-  unpaid = λ n p. p; refuses = lacks_loud room;
+  unpaid = λ n p. p;
+  refuses = lacks_loud room;
 }
 
 -- a memory grows
 memory_grown_loud : (x : MemoryValue) (pages : ℕ) → AllLoud replied.Memory (memory.growth_of x pages)
 memory_grown_loud x pages = record {
-  denied = λ p. p; refused = λ p. p;
+  denied = λ p. p;
+  refused = λ p. p;
   late = tested_loud replied.Memory _ memory_error.InvalidStaticBufferSize (λ p. p);
-  unpaid = λ n p. p; refuses = lacks_loud x.room;
+  unpaid = λ n p. p;
+  refuses = lacks_loud x.room;
 }
 
 -- a table is made
 table_made_loud : (ty : TableTypeValue) (init : RefType) → AllLoud replied.Table (table.creation_of ty init)
 table_made_loud ty init = record {
-  denied = λ p. p; refused = λ p. p; late = λ c is. absurd (none-some c is); unpaid = λ n p. p;
+  denied = λ p. p;
+  refused = λ p. p;
+  late = λ c is. absurd (none-some c is);
+  unpaid = λ n p. p;
   refuses = table_lacks_loud;
 }
 
 -- a table grows
 table_grown_loud : (x : TableValue) (n reference : ℕ) → AllLoud replied.Table (table.growth_of x n reference)
 table_grown_loud x n reference = record {
-  denied = λ p. p; refused = λ p. p;
+  denied = λ p. p;
+  refused = λ p. p;
   late = tested_loud replied.Table _ table_error.GrowOutOfBounds (λ p. p);
-  unpaid = λ n p. p; refuses = table_lacks_loud;
+  unpaid = λ n p. p;
+  refuses = table_lacks_loud;
 }
 
 module _ {S : Type 0} (rules : Rules S) where
@@ -266,8 +275,13 @@ same_world : {S : Type 0} (rules : Rules S) (w : World S) (turn : Turn) (w' : Wo
     → w'.state.meter ≡ w.state.meter → w'.state.spare ≡ w.state.spare → w'.limiter ≡ w.limiter → w' ≡ w
 same_world rules w turn w' keeps meter spare limiter = λ i. record {
   state = record {
-    memories = keeps.contents.memories i; tables = keeps.contents.tables i; segments = keeps.contents.segments i;
-    globals = keeps.contents.globals i; registers = keeps.contents.registers i; meter = meter i; spare = spare i;
+    memories = keeps.contents.memories i;
+    tables = keeps.contents.tables i;
+    segments = keeps.contents.segments i;
+    globals = keeps.contents.globals i;
+    registers = keeps.contents.registers i;
+    meter = meter i;
+    spare = spare i;
   };
   limiter = limiter i;
 }

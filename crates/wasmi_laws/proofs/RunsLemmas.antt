@@ -53,12 +53,16 @@ module _ {S : Type 0} (rules : Rules S) where
       record {
         between = cut.0;
         first_run = (
-          take n turns, made_first Turn.call turns calls calls' made,
-          sym (take-map Turn.reply n turns) ∙ ap (take n) told, cut.1,
+          take n turns,
+          made_first Turn.call turns calls calls' made,
+          sym (take-map Turn.reply n turns) ∙ ap (take n) told,
+          cut.1,
         );
         rest_run = (
-          drop n turns, made_rest Turn.call turns calls calls' made,
-          sym (drop-map Turn.reply n turns) ∙ ap (drop n) told, cut.2,
+          drop n turns,
+          made_rest Turn.call turns calls calls' made,
+          sym (drop-map Turn.reply n turns) ∙ ap (drop n) told,
+          cut.2,
         );
       }
 
@@ -119,8 +123,12 @@ sum_shrinks (x ∷ xs) [] none = absurd (none-some _ (none 0 x refl).1)
 sum_shrinks (x ∷ xs) (y ∷ ys) none =
     let first = none 0 x refl in
     omega (
-      arith, sum_by-cons (λ z. z) x xs, sum_by-cons (λ z. z) y ys,
-      sum_shrinks xs ys (λ k. none (suc k)), first.2, same_Some y first.0 first.1,
+      arith,
+      sum_by-cons (λ z. z) x xs,
+      sum_by-cons (λ z. z) y ys,
+      sum_shrinks xs ys (λ k. none (suc k)),
+      first.2,
+      same_Some y first.0 first.1,
     )
 
 module _ {S : Type 0} (rules : Rules S) where

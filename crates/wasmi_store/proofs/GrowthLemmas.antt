@@ -173,11 +173,14 @@ module _ {V E S : Type 0} (rules : Rules S) (amount size : ℕ) (e : Request V E
   pub grows_unmetered : {result : Result ℕ E} {charge : ℕ} → Grows rules priced off result charge s'
       → Grows rules priced (metered_value x None l) result charge (metered_value s'.value None s'.limiter)
   grows_unmetered (inl g) = inl (record {
-    none = g.none; answered = g.answered; uncharged = g.uncharged;
+    none = g.none;
+    answered = g.answered;
+    uncharged = g.uncharged;
     same = ap (λ (s : MeteredValue V S). metered_value s.value None s.limiter) g.same;
   })
   grows_unmetered (inr g) = let a = g.attempt in inr (record {
-    some = g.some; outcome = g.outcome;
+    some = g.some;
+    outcome = g.outcome;
     attempt = record { may_end = a.may_end; follows = a.follows; charged = a.charged; meter = refl; value = a.value };
     answered = g.answered;
   })

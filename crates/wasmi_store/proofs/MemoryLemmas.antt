@@ -85,7 +85,10 @@ abbrev pub growing : {S : Type 0} → Rules S → (x : MemoryValue) → Meter �
 growing rules x m l pages some = record {
   rules = rules;
   growth = record { amount = pages; size = pages_of x; request = growth_of x pages };
-  some = some; value = x; meter = m; limiter = l;
+  some = some;
+  value = x;
+  meter = m;
+  limiter = l;
 }
 
 -- a growth out of the bounds of the type is refused, and the limiter isn't asked

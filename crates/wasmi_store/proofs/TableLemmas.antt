@@ -46,7 +46,10 @@ abbrev pub growing : {S : Type 0} → Rules S → (x : TableValue) → Meter →
 growing rules x m l n reference some = record {
   rules = rules;
   growth = record { amount = n; size = size_of x; request = growth_of x n reference };
-  some = some; value = x; meter = m; limiter = l;
+  some = some;
+  value = x;
+  meter = m;
+  limiter = l;
 }
 
 -- a growth past what can be indexed is refused, and the limiter isn't asked
@@ -161,7 +164,8 @@ module _ {I : Type 0} {steps : I → Option ℕ → I → Type 0} {can : I → T
   -- memory was refused for one more item
   pub read_refused : length xs < most_items → IsOutOfMemory steps s u
   read_refused few = record {
-    items = e.items ++ x ∷ []; run = Yields-snoc steps s t u e.items x e.run next;
+    items = e.items ++ x ∷ [];
+    run = Yields-snoc steps s t u e.items x e.run next;
     some = omega (arith, length-append e.items (x ∷ []));
     short = omega (arith, few, e.counted, length-append e.items (x ∷ []));
   }

@@ -92,7 +92,8 @@ made_memory_is_valid rules room ty l x l' valid makes =
     rw met.0 (record {
       type = valid;
       sized = rw (length-replicate {A = ℕ} (minimum_bytes ty) 0) (record {
-        whole = pages.0; minimum = omega (arith, pages.1);
+        whole = pages.0;
+        minimum = omega (arith, pages.1);
         within = subst (λ n. in_bounds ty n ≡ true) (sym pages.1) bounds;
       });
     })
@@ -112,7 +113,8 @@ grown_memory_is_valid rules pages s result charge s' valid grows =
     (λ early late. record {
       type = valid.type;
       sized = rw size (record {
-        whole = added.0; minimum = omega (arith, added.1, valid.sized.minimum);
+        whole = added.0;
+        minimum = omega (arith, added.1, valid.sized.minimum);
         within = subst (λ k. in_bounds x.ty k ≡ true) (sym added.1) (passed _ _ early);
       });
     }) result charge grows
@@ -126,7 +128,8 @@ made_table_is_valid rules ty init l x l' valid makes =
     rw met.0 (record {
       type = valid;
       sized = rw (length-replicate ty.minimum init.raw) (record {
-        minimum = omega arith; indexable = grind (arith, nat_tests);
+        minimum = omega arith;
+        indexable = grind (arith, nat_tests);
         within = maximum_holds ty.minimum ty.maximum (λ m is. (valid.maximum m is).0);
       });
     })
@@ -144,7 +147,9 @@ grown_table_is_valid rules n init s result charge s' valid grows =
     (λ early late. record {
       type = valid.type;
       sized = rw size (record {
-        minimum = omega (arith, valid.sized.minimum); indexable = passed _ _ early; within = passed _ _ late;
+        minimum = omega (arith, valid.sized.minimum);
+        indexable = passed _ _ early;
+        within = passed _ _ late;
       });
     }) result charge raw)
     (λ refused. subst (λ (t : MeteredValue TableValue _). IsValidTable t.value) (sym refused.2) valid)

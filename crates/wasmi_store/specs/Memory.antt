@@ -136,9 +136,14 @@ abbrev pub creation_of : Room → MemoryTypeValue → Request (Unit {0}) MemoryE
 creation_of room ty = record {
   early = if nat_lt (minimum_bytes ty) (2 ^ 64) then None else Some MinimumSizeOverflow;
   question = size_question 0 (minimum_bytes ty) (maximum_bytes ty);
-  denial = ResourceLimiterDeniedAllocation; refusal = ResourceLimiterDeniedAllocation; notice = MemoryFailure;
+  denial = ResourceLimiterDeniedAllocation;
+  refusal = ResourceLimiterDeniedAllocation;
+  notice = MemoryFailure;
   late = if fits_room room (minimum_bytes ty) then None else Some InvalidStaticBufferSize;
-  price = None; unpaid = OutOfFuel; refuses = LacksMemory room; grown = tt;
+  price = None;
+  unpaid = OutOfFuel;
+  refuses = LacksMemory room;
+  grown = tt;
 }
 
 -- what is asked and paid where a memory grows by so many pages, and the causes of a refusal: a short region before want
@@ -147,9 +152,13 @@ abbrev pub growth_of : MemoryValue → ℕ → Request MemoryValue MemoryError
 growth_of x pages = let added = pages * page_bytes x.ty.page in record {
   early = if in_bounds x.ty (pages_of x + pages) then None else Some OutOfBoundsGrowth;
   question = size_question (length x.bytes) (length x.bytes + added) (maximum_bytes x.ty);
-  denial = OutOfBoundsGrowth; refusal = ResourceLimiterDeniedAllocation; notice = MemoryFailure;
+  denial = OutOfBoundsGrowth;
+  refusal = ResourceLimiterDeniedAllocation;
+  notice = MemoryFailure;
   late = if fits_room x.room added then None else Some InvalidStaticBufferSize;
-  price = Some (λ costs. copy_cost costs added 1); unpaid = OutOfFuel; refuses = LacksMemory x.room;
+  price = Some (λ costs. copy_cost costs added 1);
+  unpaid = OutOfFuel;
+  refuses = LacksMemory x.room;
   grown = memory_of x.ty (with_zeros (buffer_of x) added);
 }
 

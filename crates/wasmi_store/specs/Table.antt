@@ -97,8 +97,14 @@ abbrev pub creation_of : TableTypeValue → RefType → Request (Unit {0}) Table
 creation_of ty init = record {
   early = if same_type ty.element init then None else Some ElementTypeMismatch;
   question = record { kind = Elements; current = 0; desired = ty.minimum; maximum = ty.maximum };
-  denial = ResourceLimiterDeniedAllocation; refusal = ResourceLimiterDeniedAllocation; notice = TableFailure;
-  late = None; price = None; unpaid = OutOfFuel; refuses = λ cause. cause ≡ OutOfSystemMemory; grown = tt;
+  denial = ResourceLimiterDeniedAllocation;
+  refusal = ResourceLimiterDeniedAllocation;
+  notice = TableFailure;
+  late = None;
+  price = None;
+  unpaid = OutOfFuel;
+  refuses = λ cause. cause ≡ OutOfSystemMemory;
+  grown = tt;
 }
 
 -- what is asked and paid where a table grows by n elements, and the causes of a refusal: the maximum is tested after
@@ -107,9 +113,13 @@ abbrev pub growth_of : TableValue → ℕ → ℕ → Request TableValue TableEr
 growth_of x n reference = record {
   early = if is_indexable x.ty (size_of x + n) then None else Some GrowOutOfBounds;
   question = record { kind = Elements; current = size_of x; desired = size_of x + n; maximum = x.ty.maximum };
-  denial = GrowOutOfBounds; refusal = ResourceLimiterDeniedAllocation; notice = TableFailure;
+  denial = GrowOutOfBounds;
+  refusal = ResourceLimiterDeniedAllocation;
+  notice = TableFailure;
   late = if is_within_maximum x.ty (size_of x + n) then None else Some GrowOutOfBounds;
-  price = Some (element_price n); unpaid = OutOfFuel; refuses = λ cause. cause ≡ OutOfSystemMemory;
+  price = Some (element_price n);
+  unpaid = OutOfFuel;
+  refuses = λ cause. cause ≡ OutOfSystemMemory;
   grown = with_added x n reference;
 }
 
@@ -179,15 +189,19 @@ filling_of dst value len x = record (raw_filling_of dst value.raw len x) { typed
 -- so many elements from src on of a table, perhaps the same one, are copied over those from dst on
 abbrev pub copy_of : ℕ → ℕ → ℕ → TableValue → TableValue → TableWrite
 copy_of dst src len source x = record {
-  typed = same_type x.ty.element source.ty.element; written = copied x.elements dst source.elements src len;
-  outside = CopyOutOfBounds; paid = Some len;
+  typed = same_type x.ty.element source.ty.element;
+  written = copied x.elements dst source.elements src len;
+  outside = CopyOutOfBounds;
+  paid = Some len;
 }
 
 -- so many items from src on of an element segment are copied over the elements from dst on; no item is free
 abbrev pub initialization_of : ℕ → ℕ → ℕ → SegmentValue → TableValue → TableWrite
 initialization_of dst src len segment x = record {
-  typed = same_type x.ty.element segment.ty; written = copied x.elements dst segment.items src len;
-  outside = InitOutOfBounds; paid = if nat_eq len 0 then None else Some len;
+  typed = same_type x.ty.element segment.ty;
+  written = copied x.elements dst segment.items src len;
+  outside = InitOutOfBounds;
+  paid = if nat_eq len 0 then None else Some len;
 }
 
 -- a table with its meter, if there is one; a write asks no limiter

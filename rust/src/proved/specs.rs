@@ -3003,9 +3003,14 @@ abbrev pub <b id="creation_of">creation_of</b> : <a href="../../store/Buffer/ind
 <a href="../../store/Memory/index.html#creation_of">creation_of</a> <a href="../../store/Memory/index.html#room">room</a> <a href="../../store/Memory/index.html#ty">ty</a> = record {
   early = if nat_lt (<a href="../../store/Memory/index.html#minimum_bytes">minimum_bytes</a> <a href="../../store/Memory/index.html#ty">ty</a>) (2 ^ 64) then None else Some MinimumSizeOverflow;
   question = <a href="../../store/Memory/index.html#size_question">size_question</a> 0 (<a href="../../store/Memory/index.html#minimum_bytes">minimum_bytes</a> <a href="../../store/Memory/index.html#ty">ty</a>) (<a href="../../store/Memory/index.html#maximum_bytes">maximum_bytes</a> <a href="../../store/Memory/index.html#ty">ty</a>);
-  denial = ResourceLimiterDeniedAllocation; refusal = ResourceLimiterDeniedAllocation; notice = <a href="../../meter/Limiter/index.html#MemoryFailure">MemoryFailure</a>;
+  denial = ResourceLimiterDeniedAllocation;
+  refusal = ResourceLimiterDeniedAllocation;
+  notice = <a href="../../meter/Limiter/index.html#MemoryFailure">MemoryFailure</a>;
   late = if <a href="../../store/Buffer/index.html#fits_room">fits_room</a> <a href="../../store/Memory/index.html#room">room</a> (<a href="../../store/Memory/index.html#minimum_bytes">minimum_bytes</a> <a href="../../store/Memory/index.html#ty">ty</a>) then None else Some InvalidStaticBufferSize;
-  price = None; unpaid = OutOfFuel; refuses = <a href="../../store/Buffer/index.html#LacksMemory">LacksMemory</a> <a href="../../store/Memory/index.html#room">room</a>; grown = tt;
+  price = None;
+  unpaid = OutOfFuel;
+  refuses = <a href="../../store/Buffer/index.html#LacksMemory">LacksMemory</a> <a href="../../store/Memory/index.html#room">room</a>;
+  grown = tt;
 }
 
 -- what is asked and paid where a memory grows by so many pages, and the causes of a refusal: a short region before want
@@ -3014,9 +3019,13 @@ abbrev pub <b id="growth_of">growth_of</b> : <a href="../../store/Memory/index.h
 <a href="../../store/Memory/index.html#growth_of">growth_of</a> x pages = let added = pages * <a href="../../store/Memory/index.html#page_bytes">page_bytes</a> x.ty.<a href="../../store/Memory/index.html#page">page</a> in record {
   early = if <a href="../../store/Memory/index.html#in_bounds">in_bounds</a> x.ty (<a href="../../store/Memory/index.html#pages_of">pages_of</a> x + pages) then None else Some OutOfBoundsGrowth;
   question = <a href="../../store/Memory/index.html#size_question">size_question</a> (length x.bytes) (length x.bytes + added) (<a href="../../store/Memory/index.html#maximum_bytes">maximum_bytes</a> x.ty);
-  denial = OutOfBoundsGrowth; refusal = ResourceLimiterDeniedAllocation; notice = <a href="../../meter/Limiter/index.html#MemoryFailure">MemoryFailure</a>;
+  denial = OutOfBoundsGrowth;
+  refusal = ResourceLimiterDeniedAllocation;
+  notice = <a href="../../meter/Limiter/index.html#MemoryFailure">MemoryFailure</a>;
   late = if <a href="../../store/Buffer/index.html#fits_room">fits_room</a> x.room added then None else Some InvalidStaticBufferSize;
-  price = Some (λ costs. <a href="../../meter/Meter/index.html#copy_cost">copy_cost</a> costs added 1); unpaid = OutOfFuel; refuses = <a href="../../store/Buffer/index.html#LacksMemory">LacksMemory</a> x.room;
+  price = Some (λ costs. <a href="../../meter/Meter/index.html#copy_cost">copy_cost</a> costs added 1);
+  unpaid = OutOfFuel;
+  refuses = <a href="../../store/Buffer/index.html#LacksMemory">LacksMemory</a> x.room;
   grown = <a href="../../store/Memory/index.html#memory_of">memory_of</a> x.ty (<a href="../../store/Buffer/index.html#with_zeros">with_zeros</a> (<a href="../../store/Memory/index.html#buffer_of">buffer_of</a> x) added);
 }
 
@@ -3222,8 +3231,14 @@ abbrev pub <b id="creation_of">creation_of</b> : <a href="../../store/Table/inde
 <a href="../../store/Table/index.html#creation_of">creation_of</a> <a href="../../store/Table/index.html#ty">ty</a> init = record {
   early = if <a href="../../store/Table/index.html#same_type">same_type</a> ty.element init then None else Some ElementTypeMismatch;
   question = record { kind = Elements; current = 0; desired = ty.minimum; <a href="../../store/Table/index.html#maximum">maximum</a> = ty.maximum };
-  denial = ResourceLimiterDeniedAllocation; refusal = ResourceLimiterDeniedAllocation; notice = <a href="../../meter/Limiter/index.html#TableFailure">TableFailure</a>;
-  late = None; price = None; unpaid = OutOfFuel; refuses = λ cause. cause ≡ OutOfSystemMemory; grown = tt;
+  denial = ResourceLimiterDeniedAllocation;
+  refusal = ResourceLimiterDeniedAllocation;
+  notice = <a href="../../meter/Limiter/index.html#TableFailure">TableFailure</a>;
+  late = None;
+  price = None;
+  unpaid = OutOfFuel;
+  refuses = λ cause. cause ≡ OutOfSystemMemory;
+  grown = tt;
 }
 
 -- what is asked and paid where a table grows by n elements, and the causes of a refusal: the maximum is tested after
@@ -3232,9 +3247,13 @@ abbrev pub <b id="growth_of">growth_of</b> : <a href="../../store/Table/index.ht
 <a href="../../store/Table/index.html#growth_of">growth_of</a> x n reference = record {
   early = if <a href="../../store/Table/index.html#is_indexable">is_indexable</a> x.ty (<a href="../../store/Table/index.html#size_of">size_of</a> x + n) then None else Some GrowOutOfBounds;
   question = record { kind = Elements; current = <a href="../../store/Table/index.html#size_of">size_of</a> x; desired = <a href="../../store/Table/index.html#size_of">size_of</a> x + n; <a href="../../store/Table/index.html#maximum">maximum</a> = x.ty.<a href="../../store/Table/index.html#maximum">maximum</a> };
-  denial = GrowOutOfBounds; refusal = ResourceLimiterDeniedAllocation; notice = <a href="../../meter/Limiter/index.html#TableFailure">TableFailure</a>;
+  denial = GrowOutOfBounds;
+  refusal = ResourceLimiterDeniedAllocation;
+  notice = <a href="../../meter/Limiter/index.html#TableFailure">TableFailure</a>;
   late = if <a href="../../store/Table/index.html#is_within_maximum">is_within_maximum</a> x.ty (<a href="../../store/Table/index.html#size_of">size_of</a> x + n) then None else Some GrowOutOfBounds;
-  price = Some (<a href="../../store/Table/index.html#element_price">element_price</a> n); unpaid = OutOfFuel; refuses = λ cause. cause ≡ OutOfSystemMemory;
+  price = Some (<a href="../../store/Table/index.html#element_price">element_price</a> n);
+  unpaid = OutOfFuel;
+  refuses = λ cause. cause ≡ OutOfSystemMemory;
   grown = <a href="../../store/Table/index.html#with_added">with_added</a> x n reference;
 }
 
@@ -3304,15 +3323,19 @@ abbrev pub <b id="filling_of">filling_of</b> : ℕ → TypedRawRef → ℕ → <
 -- so many elements from src on of a table, perhaps the same one, are copied over those from dst on
 abbrev pub <b id="copy_of">copy_of</b> : ℕ → ℕ → ℕ → <a href="../../store/Table/index.html#TableValue">TableValue</a> → <a href="../../store/Table/index.html#TableValue">TableValue</a> → <a href="../../store/Table/index.html#TableWrite">TableWrite</a>
 <a href="../../store/Table/index.html#copy_of">copy_of</a> dst src len source x = record {
-  <a href="../../store/Table/index.html#typed">typed</a> = <a href="../../store/Table/index.html#same_type">same_type</a> x.ty.<a href="../../store/Table/index.html#element">element</a> source.ty.<a href="../../store/Table/index.html#element">element</a>; <a href="../../store/Table/index.html#written">written</a> = <a href="../../store/Growth/index.html#copied">copied</a> x.elements dst source.elements src len;
-  <a href="../../store/Table/index.html#outside">outside</a> = CopyOutOfBounds; <a href="../../store/Table/index.html#paid">paid</a> = Some len;
+  <a href="../../store/Table/index.html#typed">typed</a> = <a href="../../store/Table/index.html#same_type">same_type</a> x.ty.<a href="../../store/Table/index.html#element">element</a> source.ty.<a href="../../store/Table/index.html#element">element</a>;
+  <a href="../../store/Table/index.html#written">written</a> = <a href="../../store/Growth/index.html#copied">copied</a> x.elements dst source.elements src len;
+  <a href="../../store/Table/index.html#outside">outside</a> = CopyOutOfBounds;
+  <a href="../../store/Table/index.html#paid">paid</a> = Some len;
 }
 
 -- so many items from src on of an element segment are copied over the elements from dst on; no item is free
 abbrev pub <b id="initialization_of">initialization_of</b> : ℕ → ℕ → ℕ → <a href="../../store/Segment/index.html#SegmentValue">SegmentValue</a> → <a href="../../store/Table/index.html#TableValue">TableValue</a> → <a href="../../store/Table/index.html#TableWrite">TableWrite</a>
 <a href="../../store/Table/index.html#initialization_of">initialization_of</a> dst src len segment x = record {
-  <a href="../../store/Table/index.html#typed">typed</a> = <a href="../../store/Table/index.html#same_type">same_type</a> x.ty.<a href="../../store/Table/index.html#element">element</a> segment.ty; <a href="../../store/Table/index.html#written">written</a> = <a href="../../store/Growth/index.html#copied">copied</a> x.elements dst segment.items src len;
-  <a href="../../store/Table/index.html#outside">outside</a> = InitOutOfBounds; <a href="../../store/Table/index.html#paid">paid</a> = if nat_eq len 0 then None else Some len;
+  <a href="../../store/Table/index.html#typed">typed</a> = <a href="../../store/Table/index.html#same_type">same_type</a> x.ty.<a href="../../store/Table/index.html#element">element</a> segment.ty;
+  <a href="../../store/Table/index.html#written">written</a> = <a href="../../store/Growth/index.html#copied">copied</a> x.elements dst segment.items src len;
+  <a href="../../store/Table/index.html#outside">outside</a> = InitOutOfBounds;
+  <a href="../../store/Table/index.html#paid">paid</a> = if nat_eq len 0 then None else Some len;
 }
 
 -- a table with its meter, if there is one; a write asks no limiter
@@ -4331,7 +4354,12 @@ pub record <b id="State">State</b> : Type 0 where
 -- a machine on which nothing was made yet, with 16 registers of zeros
 abbrev pub <b id="new_state">new_state</b> : <a href="../../meter/Meter/index.html#Meter">Meter</a> → <a href="../../machine/State/index.html#State">State</a>
 <a href="../../machine/State/index.html#new_state">new_state</a> <a href="../../machine/State/index.html#meter">meter</a> = record {
-  <a href="../../machine/State/index.html#memories">memories</a> = []; <a href="../../machine/State/index.html#tables">tables</a> = []; <a href="../../machine/State/index.html#segments">segments</a> = []; <a href="../../machine/State/index.html#globals">globals</a> = []; <a href="../../machine/State/index.html#registers">registers</a> = replicate 16 (<a href="../../raw/RawVal/index.html#raw_of">raw_of</a> 0); <a href="../../machine/State/index.html#meter">meter</a> = <a href="../../machine/State/index.html#meter">meter</a>;
+  <a href="../../machine/State/index.html#memories">memories</a> = [];
+  <a href="../../machine/State/index.html#tables">tables</a> = [];
+  <a href="../../machine/State/index.html#segments">segments</a> = [];
+  <a href="../../machine/State/index.html#globals">globals</a> = [];
+  <a href="../../machine/State/index.html#registers">registers</a> = replicate 16 (<a href="../../raw/RawVal/index.html#raw_of">raw_of</a> 0);
+  <a href="../../machine/State/index.html#meter">meter</a> = <a href="../../machine/State/index.html#meter">meter</a>;
   <a href="../../machine/State/index.html#spare">spare</a> = None;
 }
 

@@ -16,11 +16,13 @@ loop-call-preserved g c =
         calls_more ran.0 _ _ _ ran.1 c.loop-call-test.true c.call-item.is,
         rw (
           map_push Turn.reply ran.0 (record { call = _; reply = _; charge = step.0; written = step.1 }),
-          ran.2, c.push_reserved.ensures.items,
+          ran.2,
+          c.push_reserved.ensures.items,
         ) refl,
         Run-push (optional_rules g.L.ResourceLimiter.rules) _ _ _ ran.3 _ _ step.2,
       );
-      loan = search rules; valid = c.step-reply.ensures.valid;
+      loan = search rules;
+      valid = c.step-reply.ensures.valid;
       count = c.push_reserved.ensures.len ∙ ap (λ n. n + 1) c.loop-call.invariant.count;
       room = omega (arith, c.push_reserved.ensures.capacity);
     }

@@ -11,6 +11,8 @@ invariant-loop-call g l = record {
   ran : (turns : List Turn) × (map Turn.call turns ≡ take l.call-index l.calls) × (map Turn.reply
       turns ≡ l.replies.items) × Run (optional_rules g.L.ResourceLimiter.rules)
       (world l.fn.machine (lent_limiter l.fn.limiter)) turns (world l.machine (lent_limiter l.limiter));
-  loan : KeepsLoan l.fn.limiter l.limiter; valid : IsValid l.machine; count : vec_len l.replies ≡ l.call-index;
+  loan : KeepsLoan l.fn.limiter l.limiter;
+  valid : IsValid l.machine;
+  count : vec_len l.replies ≡ l.call-index;
   room : length l.calls ≤ vec_capacity l.replies;
 }

@@ -9,22 +9,34 @@ use Rattle.wasmi_core.proofs.tables.copy_to_other.Goals as goal
 -- the copy of a range
 abbrev copying : CopyRange → List (Slot TableValue) → ℕ → ℕ → Meter → Copying
 copying range slots into from meter = record {
-  write = copy_of range.dst range.src range.len; slots = slots; into = into; from = from; meter = meter;
+  write = copy_of range.dst range.src range.len;
+  slots = slots;
+  into = into;
+  from = from;
+  meter = meter;
 }
 
 pub returns-then-dst_index-src_index : goal.returns-then-dst_index-src_index
 returns-then-dst_index-src_index c =
     let parts = c.split_at_mut-front.ensures in
-    record { copied = (c.copy_from_slot.ensures.0,
-    copies_forward (copying c.args.range c.args.slots.now c.args.dst_index c.args.src_index _) _ _ _ _ _
-    (record { joined = parts.value; front_len = parts.front_len; by_index = parts.by_index }) _ _
-    c.if-dst_index-src_index.true c.requires.src c.copy_from_slot.ensures.1) }
+    record {
+      copied = (
+        c.copy_from_slot.ensures.0,
+        copies_forward (copying c.args.range c.args.slots.now c.args.dst_index c.args.src_index _) _ _ _ _ _
+            (record { joined = parts.value; front_len = parts.front_len; by_index = parts.by_index }) _ _
+            c.if-dst_index-src_index.true c.requires.src c.copy_from_slot.ensures.1,
+      );
+    }
 
 pub returns-else-dst_index-src_index : goal.returns-else-dst_index-src_index
 returns-else-dst_index-src_index c =
     let parts = c.split_at_mut-front-else-dst_index-src_index.ensures in
     let copy = c.copy_from_slot-else-dst_index-src_index in
-    record { copied = (copy.ensures.0,
-    copies_backward (copying c.args.range c.args.slots.now c.args.dst_index c.args.src_index _) _ _ _ _ _
-    (record { joined = parts.value; front_len = parts.front_len; by_index = parts.by_index }) _ _
-    (omega (arith, c.if-dst_index-src_index.false, c.requires.other)) c.requires.dst copy.ensures.1) }
+    record {
+      copied = (
+        copy.ensures.0,
+        copies_backward (copying c.args.range c.args.slots.now c.args.dst_index c.args.src_index _) _ _ _ _ _
+            (record { joined = parts.value; front_len = parts.front_len; by_index = parts.by_index }) _ _
+            (omega (arith, c.if-dst_index-src_index.false, c.requires.other)) c.requires.dst copy.ensures.1,
+      );
+    }

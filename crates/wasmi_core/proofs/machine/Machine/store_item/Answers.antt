@@ -10,5 +10,7 @@ invariant_of-self c =
     record {
       memories = vector_store_valid c.args.memory (c.args.ptr + c.args.offset) (Some bytes) _ _ _ c.store.ensures
           valid.memories;
-      tables = valid.tables; segments = valid.segments; registers = valid.registers;
+      tables = valid.tables;
+      segments = valid.segments;
+      registers = valid.registers;
     }

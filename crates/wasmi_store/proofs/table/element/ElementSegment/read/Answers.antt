@@ -15,7 +15,11 @@ items-preserved g c =
       read = read_next c.items.read.items c.items.invariant.read c.in-Some.item c.in-Some.ensures.steps
           c.push.new.self.items appended c.in-Some.ensures.goes.keeps;
       short = omega (
-        arith, c.items-test.true, c.len.ensures, c.items.read.ok.0, ap length appended,
+        arith,
+        c.items-test.true,
+        c.len.ensures,
+        c.items.read.ok.0,
+        ap length appended,
         length-append c.items.read.items (c.in-Some.item ∷ []),
       );
       free = λ none. absurd

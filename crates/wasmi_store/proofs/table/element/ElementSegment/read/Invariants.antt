@@ -8,7 +8,8 @@ abbrev pub invariant-items : goal.invariant-items
 invariant-items g l = record {
   read : SoFar g.I.Iterator.next_gives g.I.Iterator.can_next l.initial.items []
       (length l.read.items) l.items l.read.items;
-  short : length l.read.items ≤ most_items; free : length l.read.items ≡ 0 → vec_capacity l.read ≡ 0;
+  short : length l.read.items ≤ most_items;
+  free : length l.read.items ≡ 0 → vec_capacity l.read ≡ 0;
 }
 
 abbrev pub decreases-items : goal.decreases-items
