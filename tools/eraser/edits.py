@@ -25,8 +25,8 @@ EDITS = [
     ("meter", "fn try_from(error: FuelError)", "pub(crate) fn of_fuel(error: FuelError)", 1),
     ("typed", "impl TryFrom<TypedRawVal> for TypedRawRef {\n    type Error = NotAReference;\n", "impl TypedRawRef {\n", 1),
     ("typed", "fn try_from(typed: TypedRawVal)", "pub(crate) fn of_value(typed: TypedRawVal)", 1),
-    ("store_tests", "TableError::try_from(", "TableError::of_fuel(", 2),
-    ("value_tests", "TypedRawRef::try_from(", "TypedRawRef::of_value(", 1),
+    ("tests", "TableError::try_from(", "TableError::of_fuel(", 2),
+    ("tests", "TypedRawRef::try_from(", "TypedRawRef::of_value(", 1),
     # Rust knows the size of each type.
     ("meter", "/// # Contract /// /// ```text /// SIZE = 1 /// ``` impl ValueSize for u8 { const SIZE: u64 = 1;",
      "/// The size in memory. Proved are the 1 of a byte and the 4 of a reference.\nimpl<T> ValueSize for T { const SIZE: u64 = size_of::<T>() as u64;", 1),

@@ -1,4 +1,5 @@
-//! What the tests share: comparisons, machines, types of memories, and runs.
+//! The machine: lists of calls, their replies, and what a host sees afterwards; what these tests
+//! share: machines, types of memories, and runs.
 ghost use Rattle.std.specs.Prelude.{None};
 ghost use Rattle.wasmi_meter.specs.Capped.{nothing};
 ghost use Rattle.wasmi_core.specs.State.{HoldsTotals};
@@ -6,21 +7,13 @@ ghost use Rattle.wasmi_core.specs.State.{HoldsTotals};
 mod limiters;
 mod regions;
 
+use super::same;
 use std::alloc::Global;
-use std::fmt::Debug;
 use std::process::Abort;
 use wasmi_core::{
     Call, CustomFuelCosts, Fuel, FuelCostsProvider, Machine, MemoryType, NoLimits, RawRef, RefType,
     Reply, ResourceLimiterRef, TypedRawRef, run,
 };
-
-/// Compares an answer with the expected one; `what` says in the message what was compared.
-fn same<T: PartialEq + Debug + Drop>(rt: &impl Abort, what: &str, answer: T, expected: T) {
-    assert!(rt;
-        answer == expected,
-        "{what}: {answer:?} in place of {expected:?}"
-    );
-}
 
 /// Runs calls without a limiter, and compares the replies.
 fn runs_to(rt: &impl Abort, machine: &mut Machine, calls: &[Call], expected: &[Reply]) {

@@ -1,4 +1,5 @@
-//! What the tests share: scripts that are run, and comparisons with what they have to print.
+//! Scripts, from a reader to a writer; what their tests share: scripts that are run, and
+//! comparisons with what they have to print.
 
 // Lines, and beside each what is printed for it; after a `;` stands what is printed at the end. An
 // empty last line is a line feed at the end.
@@ -8,7 +9,7 @@ macro_rules! script {
         $(, $line:expr $(=> $printed:expr)?)* $(,)?
         $(; $($last:expr),+ $(,)?)?
     ) => {
-        $crate::tests::Script {
+        $crate::tests::script::Script {
             text: concat!($first $(, "\n", $line)*),
             printed: concat!(
                 $($first_printed, "\n",)?
@@ -42,8 +43,8 @@ mod bad_lines;
 mod replies;
 mod streams;
 
+use super::same;
 use std::alloc::Global;
-use std::fmt::Debug;
 use std::process::Abort;
 use std::str;
 use streams::{Source, Target};
@@ -58,13 +59,6 @@ struct Script {
 
 // A script whose calls are answered.
 const METERED: Script = metered! {};
-
-fn same<T: PartialEq + Debug + Drop>(rt: &impl Abort, what: &str, answer: T, expected: T) {
-    assert!(rt;
-        answer == expected,
-        "{what}: {answer:?} in place of {expected:?}"
-    );
-}
 
 fn same_text(rt: &impl Abort, printed: &[u8], expected: &[u8]) {
     let (text, wanted) = (str::from_utf8(printed), str::from_utf8(expected));

@@ -1,10 +1,10 @@
-//! What the tests share: comparisons, types, meters, and memories and tables.
+//! Meters, limiters, memories and tables; what their tests share: types, meters, values.
 mod limiters;
 mod memories;
 mod tables;
 
+use super::same;
 use std::alloc::Global;
-use std::fmt::Debug;
 use std::process::Abort;
 use wasmi_meter::{
     CustomFuelCosts, Fuel, FuelCostsProvider, MemoryError, NoLimits, ResourceLimiter,
@@ -14,14 +14,6 @@ use wasmi_raw::RawRef;
 use wasmi_store::{Memory, MemoryType, Table, TableType};
 use wasmi_typed::TypedRawRef;
 use wasmi_types::RefType;
-
-/// Compares an answer with the expected one; `what` says in the message of which call.
-fn same<T: PartialEq + Debug + Drop>(rt: &impl Abort, what: &str, answer: T, expected: T) {
-    assert!(rt;
-        answer == expected,
-        "{what}: {answer:?} in place of {expected:?}"
-    );
-}
 
 /// Builds a type of memories, which may be invalid.
 fn build_type(

@@ -1,5 +1,5 @@
 //! Runs under a limiter of one's own that reserves, under one that answers by random numbers, and
-//! runs that find no memory; and what a pool of tenants refuses (`wasmi_script_tests` has scripts of
+//! runs that find no memory; and what a pool of tenants refuses (`script::replies` has scripts of
 //! tenants).
 ghost use Rattle.std.specs.Prelude.{◌≡◌};
 ghost use Rattle.wasmi_meter.specs.Capped.{Reserves, GivesBack};

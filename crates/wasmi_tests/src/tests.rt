@@ -1,6 +1,10 @@
 //! What the tests share: comparisons, of values and of their texts.
 
 mod function_types;
+mod instructions;
+mod machine;
+mod script;
+mod store;
 mod traps;
 mod values;
 

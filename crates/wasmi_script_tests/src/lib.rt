@@ -1,5 +1,0 @@
-//! Tests of the program: scripts and what they print.
-#![tactic(auto)]
-
-#[cfg(test)]
-mod tests;
