@@ -32,7 +32,8 @@ use Rattle.wasmi_c.specs.MemoryCalls.{by_pages, of_memory}
 use Rattle.wasmi_c.specs.Placement.{GrowsBy, LeavesAs, Placement, status_of}
 use Rattle.wasmi_c.specs.TableCalls.{by_elements, of_table}
 use Rattle.wasmi_c.specs.SharedQuota.{UnderQuota, HoldsSums, MakesMemoryUnder, GrowsMemoryUnder, MakesTableUnder, GrowsTableUnder, CallsUnder, OneQuotaHoldsAll, sizes_made}
-use Rattle.wasmi_c.specs.Status.{done_status, memory_status, table_status}
+use Rattle.wasmi_c.specs.Status.{memory_status, table_status}
+use Rattle.wasmi_c.specs.declared.status.TheConstants.{DONE}
 use Rattle.wasmi_c.specs.declared.memory.numbers.MemoryNumbers.{MemoryNumbers}
 use Rattle.wasmi_c.specs.declared.quota.QuotaNumbers.{QuotaNumbers}
 use Rattle.wasmi_c.specs.declared.table.numbers.TableNumbers.{TableNumbers}
@@ -222,7 +223,7 @@ elements_made (Ok x) = size_of x
 elements_made (Err error) = 0
 
 -- a creation that is done adds to the sum what stands at the front of its region
-sum_made : (sizes : List ℕ) {status : ℕ} (made size : ℕ) (region : List ℕ) → status ≡ done_status → made ≡ size
+sum_made : (sizes : List ℕ) {status : ℕ} (made size : ℕ) (region : List ℕ) → status ≡ DONE → made ≡ size
     → made ≤ length region → sum (sizes_made sizes status made) ≡ sum sizes + length (take size region)
 sum_made sizes made size region is sized within =
     rw (is, ← sized, length-take-le made region within) (sum_push sizes made)

@@ -6,7 +6,7 @@ use Rattle.std.specs.Int.{w32}
 use Rattle.std.specs.List.{list_all}
 use Rattle.wasmi_types.specs.declared.trap.TrapCode.{TrapCode}
 use Rattle.wasmi_types.specs.Trap.{code_number}
-use Rattle.wasmi_c.specs.Status.{done_status, no_lane_status, lengths_differ_status, unknown_status}
+use Rattle.wasmi_c.specs.declared.status.TheConstants.{DONE, NO_LANE, LENGTHS_DIFFER, UNKNOWN}
 use Rattle.wasmi_c.specs.declared.instruction.refusal.Refusal.{Refusal}
 use Rattle.wasmi_c.specs.declared.instruction.refusal.Refusal.TheVariants.{Trap, NoLane, LengthsDiffer, Unknown}
 use Rattle.wasmi_raw.specs.declared.raw.RawVal.{RawVal}
@@ -41,14 +41,14 @@ use Rattle.wasmi_c.specs.Types.{where_true}
 -- the status of a call that writes nothing: the number of the trap, or which argument is wrong
 abbrev pub refusal_status : Refusal → ℕ
 refusal_status (Trap code) = code_number code
-refusal_status NoLane = no_lane_status
-refusal_status LengthsDiffer = lengths_differ_status
-refusal_status Unknown = unknown_status
+refusal_status NoLane = NO_LANE
+refusal_status LengthsDiffer = LENGTHS_DIFFER
+refusal_status Unknown = UNKNOWN
 
 -- a call leaves the value that is expected and the status 0, or what was there and the status of the refusal
 abbrev pub Leaves : {V : Type 0} → Result V Refusal → V → V → ℕ → Type 0
 Leaves expected old new status = MatchResult expected
-    (λ value. (status ≡ done_status) × (new ≡ value))
+    (λ value. (status ≡ DONE) × (new ≡ value))
     (λ refusal. (status ≡ refusal_status refusal) × (new ≡ old))
 
 -- the next step, if this one isn't refused: what a do-block joins its lines by
@@ -99,7 +99,7 @@ each_of_three f a b c count =
 
 -- a value with the status 0, or the value 0 with the number of the trap
 abbrev pub result_of : Result RawVal TrapCode → InstructionResult
-result_of (Ok value) = record { value = value; status = done_status }
+result_of (Ok value) = record { value = value; status = DONE }
 result_of (Err trap) = record { value = raw_of 0; status = code_number trap }
 
 -- the value that a load from an address gives, or the trap

@@ -13,7 +13,8 @@ use Rattle.wasmi_region.specs.Memory.{memory_in, made_in}
 use Rattle.wasmi_c.specs.Host.{memory_growth}
 use Rattle.wasmi_c.specs.Numbers.{settings_of, IsState, MeteredRegion, Placed, placed}
 use Rattle.wasmi_c.specs.Placement.{Placement, AsksAs, ByType, ByTypes, MakesAs, WritesAs}
-use Rattle.wasmi_c.specs.Status.{done_status, memory_growth_status, memory_access_status, invalid_state_status, memory_status}
+use Rattle.wasmi_c.specs.Status.{memory_status}
+use Rattle.wasmi_c.specs.declared.status.TheConstants.{DONE, MEMORY_GROWTH, MEMORY_ACCESS, INVALID_STATE}
 use Rattle.wasmi_c.specs.declared.host.Question.{Question}
 use Rattle.wasmi_c.specs.declared.memory.numbers.MemoryNumbers.{MemoryNumbers}
 use Rattle.wasmi_c.specs.declared.range.Range.{Range}
@@ -47,25 +48,25 @@ by_pages pages region x = memory_growth x pages
 abbrev pub AsksEmbedded : MemoryNumbers → List ℕ → ℕ → ℕ → Question → Question → Type 0
 AsksEmbedded h region pages status q q' = ByType of_memory h region status (q' ≡ q) (λ ty.
     let x = memory_in ty region h.size in
-    AsksAs pages (in_bounds ty (pages_of x + pages)) memory_growth_status (growth_of x pages).question status q q')
+    AsksAs pages (in_bounds ty (pages_of x + pages)) MEMORY_GROWTH (growth_of x pages).question status q q')
 
 -- a memory is made by a call, or the numbers have no type, and then nothing is written
 abbrev pub MakesEmbedded : Placed MemoryNumbers → Option Quota → ℕ → Placed MemoryNumbers → Option Quota → Type 0
 MakesEmbedded a l status a' l' =
-    (IsNoType a.numbers × (status ≡ invalid_state_status) × (a' ≡ a) × (l' ≡ l))
+    (IsNoType a.numbers × (status ≡ INVALID_STATE) × (a' ≡ a) × (l' ≡ l))
     ⊎ ((ty : MemoryTypeValue) × (named_type (settings_of a.numbers) ≡ Some ty)
     × MakesAs of_memory (λ made. MakesMemory (optional_rules quota_rules) (Lent a.region) ty l made l') ty a status a')
 
 -- the size of a memory in pages, by a call
 abbrev pub CountsEmbedded : MemoryNumbers → List ℕ → ℕ → ℕ → ℕ → Type 0
 CountsEmbedded h region number status number' = ByType of_memory h region status (number' ≡ number) (λ ty.
-    (status ≡ done_status) × (number' ≡ h.size / page_bytes ty.page))
+    (status ≡ DONE) × (number' ≡ h.size / page_bytes ty.page))
 
 -- bytes of a memory from an offset on are copied out where they end within it, and nothing is copied else
 abbrev pub ReadsAs : List ℕ → ℕ → List ℕ → ℕ → List ℕ → Type 0
 ReadsAs bytes offset old status new =
-    ((at bytes offset (length old) ≡ Some new) × (status ≡ done_status))
-    ⊎ ((at bytes offset (length old) ≡ None) × (status ≡ memory_access_status) × (new ≡ old))
+    ((at bytes offset (length old) ≡ Some new) × (status ≡ DONE))
+    ⊎ ((at bytes offset (length old) ≡ None) × (status ≡ MEMORY_ACCESS) × (new ≡ old))
 
 -- bytes of a memory are read by a call
 abbrev pub ReadsEmbedded : Placed MemoryNumbers → ℕ → List ℕ → ℕ → List ℕ → Type 0
@@ -77,8 +78,8 @@ ReadsEmbedded a offset old status new = ByType of_memory a.numbers a.region stat
 abbrev pub OverwritesAs : ℕ → List ℕ → ℕ → List ℕ → ℕ → List ℕ → Type 0
 OverwritesAs size region offset source status region' =
     ((overwrite (take size region) offset source ≡ Some (take size region'))
-    × (drop size region' ≡ drop size region) × (status ≡ done_status))
-    ⊎ ((overwrite (take size region) offset source ≡ None) × (status ≡ memory_access_status) × (region' ≡ region))
+    × (drop size region' ≡ drop size region) × (status ≡ DONE))
+    ⊎ ((overwrite (take size region) offset source ≡ None) × (status ≡ MEMORY_ACCESS) × (region' ≡ region))
 
 -- bytes of a memory are written by a call
 abbrev pub WritesEmbedded : Placed MemoryNumbers → ℕ → List ℕ → ℕ → List ℕ → Type 0

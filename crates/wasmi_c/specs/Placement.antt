@@ -5,7 +5,7 @@ use Rattle.wasmi_meter.specs.Meter.{Meter}
 use Rattle.wasmi_store.specs.Growth.{Growth, Grows, metered_value, Makes}
 use Rattle.wasmi_c.specs.Host.{fresh, host_rules, is_about, plain_question, answer_of, notice_answer_of, memory_growth}
 use Rattle.wasmi_c.specs.Numbers.{meter_of, KeepsMeter, Embedded, MeteredRegion, Placed, SameRest}
-use Rattle.wasmi_c.specs.Status.{done_status, invalid_state_status, asks_status, other_size_status}
+use Rattle.wasmi_c.specs.declared.status.TheConstants.{DONE, INVALID_STATE, ASKS, OTHER_SIZE}
 use Rattle.wasmi_c.specs.declared.host.HostAnswers.{HostAnswers}
 use Rattle.wasmi_c.specs.declared.host.Question.{Question}
 use Rattle.wasmi_meter.specs.Attempt.{Request}
@@ -31,9 +31,9 @@ pub record Placement (H T V E : Type 0) : Type 1 where
 -- what a growth by an amount asks: nothing where it is by 0, or where the type doesn't allow it, which has a status
 abbrev pub AsksAs : ℕ → Bool → ℕ → limiter.Question → ℕ → Question → Question → Type 0
 AsksAs amount allowed refusal asked status q q' =
-    ((amount ≡ 0) × (status ≡ done_status) × (q' ≡ q))
+    ((amount ≡ 0) × (status ≡ DONE) × (q' ≡ q))
     ⊎ ((0 < amount) × (allowed ≡ false) × (status ≡ refusal) × (q' ≡ q))
-    ⊎ ((0 < amount) × (allowed ≡ true) × (status ≡ asks_status) × (q' ≡ plain_question asked))
+    ⊎ ((0 < amount) × (allowed ≡ true) × (status ≡ ASKS) × (q' ≡ plain_question asked))
 
 module _ {H T V E : Type 0} (p : Placement H T V E) where
   -- numbers stand for nothing on a region
@@ -43,19 +43,19 @@ module _ {H T V E : Type 0} (p : Placement H T V E) where
   -- a call acts by the type of the numbers; where they stand for nothing, the status says so, and all is the same
   abbrev pub ByType : H → List ℕ → ℕ → Type 0 → (T → Type 0) → Type 0
   ByType h region status Same Acts =
-      (IsNone h region × (status ≡ invalid_state_status) × Same) ⊎ ((ty : T) × p.IsAt h region ty × Acts ty)
+      (IsNone h region × (status ≡ INVALID_STATE) × Same) ⊎ ((ty : T) × p.IsAt h region ty × Acts ty)
 
   -- a copy from other numbers by a call acts by the types of both; where either stand for nothing, the status says so,
   -- and all is the same
   abbrev pub ByTypes : Placed H → Placed H → ℕ → Type 0 → (T → T → Type 0) → Type 0
   ByTypes source a status Same Acts =
-      ((IsNone a.numbers a.region ⊎ IsNone source.numbers source.region) × (status ≡ invalid_state_status) × Same)
+      ((IsNone a.numbers a.region ⊎ IsNone source.numbers source.region) × (status ≡ INVALID_STATE) × Same)
       ⊎ ((ty source_ty : T) × p.IsAt a.numbers a.region ty × p.IsAt source.numbers source.region source_ty
       × Acts ty source_ty)
 
   -- the status of a result
   abbrev pub status_of : {R : Type 0} → Result R E → ℕ
-  status_of (Ok _) = done_status
+  status_of (Ok _) = DONE
   status_of (Err e) = p.status e
 
   -- the number after a growth: the old size, or the fuel that is needed; else it stays
@@ -98,7 +98,7 @@ module _ {H T V E : Type 0} (p : Placement H T V E) where
   SettlesBy growth answers s status s' = ByType s.numbers s.region status (s' ≡ s) (λ ty.
       MatchBool (is_about answers (growth s.region (p.value ty s.region (p.size s.numbers))))
       (GrowsAs host_rules growth ty (record s { limiter = Some (fresh answers) }) status s')
-      ((status ≡ other_size_status) × (s' ≡ s)))
+      ((status ≡ OTHER_SIZE) × (s' ≡ s)))
 
   -- what a creation leaves: numbers that stand for the new value, and the region past it; or all as it was
   abbrev pub LeavesAs : T → Placed H → Result ℕ E → Placed H → Type 0

@@ -12,7 +12,7 @@ use Rattle.wasmi_c.specs.Machine.Calls.{ReadsOut, totals_in, RefusesLines, RunsS
 use Rattle.wasmi_c.specs.Machine.CallStructs.{call_of}
 use Rattle.wasmi_c.specs.Machine.NewMachines.{meter_with}
 use Rattle.wasmi_c.specs.Machine.Replies.{only, with_number, reply_struct}
-use Rattle.wasmi_c.specs.Status.{done_status, has_pool_status, no_call_status, no_pool_status, no_room_status, no_tenant_status}
+use Rattle.wasmi_c.specs.declared.status.TheConstants.{DONE, HAS_POOL, NO_CALL, NO_POOL, NO_ROOM, NO_TENANT}
 use Rattle.wasmi_c.specs.declared.machine.call_struct.CallStruct.{CallStruct}
 use Rattle.wasmi_c.specs.declared.machine.limits.Limits.{Limits}
 use Rattle.wasmi_c.specs.declared.machine.limits.Totals.{Totals}
@@ -24,9 +24,9 @@ new_pool bytes elements = record { caps = record { bytes = bytes; elements = ele
 
 -- a pool with these caps is made where there is none; where there is one, or memory is refused, nothing has changed
 abbrev pub MakesPool : ℕ → ℕ → Option PoolValue → ℕ → Option PoolValue → Type 0
-MakesPool bytes elements (Some pool) status held' = (status ≡ has_pool_status) × (held' ≡ Some pool)
-MakesPool bytes elements None status held' = ((status ≡ no_room_status) × (held' ≡ None))
-    ⊎ ((status ≡ done_status) × (held' ≡ Some (new_pool bytes elements)))
+MakesPool bytes elements (Some pool) status held' = (status ≡ HAS_POOL) × (held' ≡ Some pool)
+MakesPool bytes elements None status held' = ((status ≡ NO_ROOM) × (held' ≡ None))
+    ⊎ ((status ≡ DONE) × (held' ≡ Some (new_pool bytes elements)))
 
 -- the pool of a handle is within its caps, and they are those of the pool that was there before, if one was
 abbrev pub KeepsCaps : Option PoolValue → Option PoolValue → Type 0
@@ -36,14 +36,14 @@ KeepsCaps (Some pool) (Some pool') = IsWithinCaps pool' × (pool'.caps ≡ pool.
 
 -- a machine with nothing on it is added, with its meter; or memory is refused, and the pool is the same
 abbrev pub AddsNewTenant : Limits → ReplyStruct → PoolValue → PoolValue → Type 0
-AddsNewTenant limits reply pool pool' = ((reply ≡ only no_room_status) × (pool' ≡ pool))
+AddsNewTenant limits reply pool pool' = ((reply ≡ only NO_ROOM) × (pool' ≡ pool))
     ⊎ (AddsTenant pool (new_state (meter_with limits)) pool'
-    × (reply ≡ with_number done_status (length pool.machines)))
+    × (reply ≡ with_number DONE (length pool.machines)))
 
 -- no tenant has the index, or there is one and memory for the replies is refused
 abbrev pub RefusesTenant : ℕ → PoolValue → ReplyStruct → Type 0
-RefusesTenant tenant pool reply = ((length pool.machines ≤ tenant) × (reply ≡ only no_tenant_status))
-    ⊎ ((tenant < length pool.machines) × (reply ≡ only no_room_status))
+RefusesTenant tenant pool reply = ((length pool.machines ≤ tenant) × (reply ≡ only NO_TENANT))
+    ⊎ ((tenant < length pool.machines) × (reply ≡ only NO_ROOM))
 
 -- a run of one call on a tenant's machine has a reply, given as a struct; or it is refused, and the pool is the same
 unfoldable pub TenantReplies : ℕ → Call → ReplyStruct → PoolValue → PoolValue → Type 0
@@ -53,13 +53,13 @@ TenantReplies tenant call reply pool pool' = (RefusesTenant tenant pool reply ×
 -- so the call that numbers stand for; where they stand for none, the pool is the same
 abbrev pub TenantRepliesToStruct : ℕ → CallStruct → ReplyStruct → PoolValue → PoolValue → Type 0
 TenantRepliesToStruct tenant numbers reply pool pool' = MatchOption (call_of numbers)
-    ((reply ≡ only no_call_status) × (pool' ≡ pool))
+    ((reply ≡ only NO_CALL) × (pool' ≡ pool))
     (λ call. TenantReplies tenant call reply pool pool')
 
 -- so a call that takes a copy of the caller's list; or memory for that is refused, and the pool is the same
 unfoldable pub TenantRepliesToCopy
     : ℕ → (Vec ℕ Global → Call) → List ℕ → ReplyStruct → PoolValue → PoolValue → Type 0
-TenantRepliesToCopy tenant call items reply pool pool' = ((reply ≡ only no_room_status) × (pool' ≡ pool))
+TenantRepliesToCopy tenant call items reply pool pool' = ((reply ≡ only NO_ROOM) × (pool' ≡ pool))
     ⊎ ((copy : Vec ℕ Global) × (copy.items ≡ items) × TenantReplies tenant (call copy) reply pool pool')
 
 -- the bytes of a memory of a tenant are copied to the caller's; where there is no such tenant, the caller's stay; the
@@ -67,7 +67,7 @@ TenantRepliesToCopy tenant call items reply pool pool' = ((reply ≡ only no_roo
 abbrev pub TenantReadsOut : ℕ → ℕ → ℕ → List ℕ → ReplyStruct → List ℕ → PoolValue → PoolValue → Type 0
 TenantReadsOut tenant memory offset old reply new pool pool' = (pool' ≡ pool)
     × MatchOption (slice_get pool.machines tenant)
-    ((reply ≡ only no_tenant_status) × (new ≡ old))
+    ((reply ≡ only NO_TENANT) × (new ≡ old))
     (λ machine. ReadsOut memory offset machine old reply new)
 
 -- lines are run on a tenant's machine as the script that they write, or they are refused, and nothing has changed
@@ -80,14 +80,14 @@ RunsTenantLines tenant lines old reply new pool pool' =
 -- what a tenant's machine has
 abbrev pub tenant_totals : ℕ → PoolValue → Totals
 tenant_totals tenant pool = elim (slice_get pool.machines tenant) [
-  | None ↦ totals_in no_tenant_status 0 0
-  | Some machine ↦ totals_in done_status (total machine Bytes) (total machine Elements)
+  | None ↦ totals_in NO_TENANT 0 0
+  | Some machine ↦ totals_in DONE (total machine Bytes) (total machine Elements)
 ]
 
 -- what all tenants' machines have
 abbrev pub pool_totals : PoolValue → Totals
-pool_totals pool = totals_in done_status (total_of pool.machines Bytes) (total_of pool.machines Elements)
+pool_totals pool = totals_in DONE (total_of pool.machines Bytes) (total_of pool.machines Elements)
 
 -- the totals where there is no pool
 abbrev pub no_pool_totals : Totals
-no_pool_totals = totals_in no_pool_status 0 0
+no_pool_totals = totals_in NO_POOL 0 0

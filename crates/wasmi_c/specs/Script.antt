@@ -2,7 +2,7 @@
 use Rattle.std.specs.Prelude.{◌≡◌, ◌≤◌, ◌<◌, ◌⊎◌, ◌++◌, ℕ, List, [], Some, length, drop}
 use Rattle.wasmi_script.specs.declared.replaying.Status.{Status}
 use Rattle.wasmi_script.specs.Outcomes.{status_number, Replays}
-use Rattle.wasmi_c.specs.Status.{text_too_short_status}
+use Rattle.wasmi_c.specs.declared.status.TheConstants.{TEXT_TOO_SHORT}
 
 -- a text stands at the front of bytes that it fits, and the bytes after it stay
 abbrev pub StandsIn : List ℕ → List ℕ → List ℕ → Type 0
@@ -20,4 +20,4 @@ pub record AnswersScript (script old new : List ℕ) (needed status : ℕ) : Typ
   pub replays : Replays (Some script) (Some []) (Some printed) ended
   pub length_needed : needed ≡ length printed
   pub answered : (StandsIn printed old new × (status ≡ status_number ended))
-      ⊎ (IsTooLongFor printed old new × (status ≡ text_too_short_status))
+      ⊎ (IsTooLongFor printed old new × (status ≡ TEXT_TOO_SHORT))

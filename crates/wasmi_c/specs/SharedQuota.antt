@@ -5,7 +5,7 @@ use Rattle.wasmi_meter.specs.declared.quota.Quota.{Quota}
 use Rattle.wasmi_c.specs.MemoryCalls.{MakesEmbedded, by_pages, of_memory}
 use Rattle.wasmi_c.specs.Numbers.{Embedded, KeepsQuota, Placed, limiter_of, quota_of}
 use Rattle.wasmi_c.specs.Placement.{GrowsBy}
-use Rattle.wasmi_c.specs.Status.{done_status}
+use Rattle.wasmi_c.specs.declared.status.TheConstants.{DONE}
 use Rattle.wasmi_c.specs.TableCalls.{MakesTableEmbedded, by_elements, of_table}
 use Rattle.wasmi_c.specs.declared.memory.numbers.MemoryNumbers.{MemoryNumbers}
 use Rattle.wasmi_c.specs.declared.quota.QuotaNumbers.{QuotaNumbers}
@@ -26,7 +26,7 @@ pub record HoldsSums (u : UnderQuota) : Type 0 where
 
 -- sizes after a creation with this status: one more if it is done
 abbrev pub sizes_made : List ℕ → ℕ → ℕ → List ℕ
-sizes_made sizes status size = if nat_eq status done_status then sizes ++ size ∷ [] else sizes
+sizes_made sizes status size = if nat_eq status DONE then sizes ++ size ∷ [] else sizes
 
 -- a memory is made under a quota by a call
 pub record MakesMemoryUnder (u u' : UnderQuota) : Type 0 where

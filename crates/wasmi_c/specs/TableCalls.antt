@@ -10,7 +10,8 @@ use Rattle.wasmi_store.specs.Table.{TableValue, TableWrite, SetsTableRaw, Writes
 use Rattle.wasmi_region.specs.Table.{table_in, made_in, region_growth, MakesTableIn}
 use Rattle.wasmi_c.specs.Numbers.{MeteredRegion, Placed, placed, SameRest, table_type_of, IsTable}
 use Rattle.wasmi_c.specs.Placement.{Placement, AsksAs, ByType, ByTypes, status_of, MakesAs, WritesAs}
-use Rattle.wasmi_c.specs.Status.{done_status, no_element_status, table_growth_status, invalid_state_status, table_status}
+use Rattle.wasmi_c.specs.Status.{table_status}
+use Rattle.wasmi_c.specs.declared.status.TheConstants.{DONE, NO_ELEMENT, TABLE_GROWTH, INVALID_STATE}
 use Rattle.wasmi_c.specs.declared.host.Question.{Question}
 use Rattle.wasmi_c.specs.declared.table.numbers.TableNumbers.{TableNumbers}
 use Rattle.wasmi_c.specs.declared.range.Range.{Range}
@@ -40,19 +41,19 @@ by_elements delta reference region x = region_growth (length region) delta refer
 abbrev pub AsksTableEmbedded : TableNumbers → List ℕ → ℕ → ℕ → Question → Question → Type 0
 AsksTableEmbedded h region delta status q q' = ByType of_table h region status (q' ≡ q) (λ ty.
     let x = table_in ty region h.size in
-    AsksAs delta (is_indexable ty (size_of x + delta)) table_growth_status (growth_of x delta 0).question status q q')
+    AsksAs delta (is_indexable ty (size_of x + delta)) TABLE_GROWTH (growth_of x delta 0).question status q q')
 
 -- an element by a call
 abbrev pub GetsElement : Placed TableNumbers → ℕ → ℕ → ℕ → ℕ → Type 0
 GetsElement a index old status new = ByType of_table a.numbers a.region status (new ≡ old) (λ ty.
     MatchOption (slice_get (take a.numbers.size a.region) index)
-    ((status ≡ no_element_status) × (new ≡ old))
-    (λ reference. (status ≡ done_status) × (new ≡ reference)))
+    ((status ≡ NO_ELEMENT) × (new ≡ old))
+    (λ reference. (status ≡ DONE) × (new ≡ reference)))
 
 -- a table is made by a call of one reference, or the numbers have no type, and then nothing is written
 abbrev pub MakesTableEmbedded : ℕ → Placed TableNumbers → Option Quota → ℕ → Placed TableNumbers → Option Quota → Type 0
 MakesTableEmbedded reference a l status a' l' = MatchOption (table_type_of a.numbers)
-    ((status ≡ invalid_state_status) × (a' ≡ a) × (l' ≡ l))
+    ((status ≡ INVALID_STATE) × (a' ≡ a) × (l' ≡ l))
     (λ ty. MakesAs of_table
     (λ made. MakesTableIn (optional_rules quota_rules) ty (length a.region) reference l made l') ty a status a')
 
@@ -85,4 +86,4 @@ CopiesEmbedded source range h s status s' =
 -- the size of a table in elements, by a call
 abbrev pub CountsElements : TableNumbers → List ℕ → ℕ → ℕ → ℕ → Type 0
 CountsElements h region number status number' = ByType of_table h region status (number' ≡ number) (λ ty.
-    (status ≡ done_status) × (number' ≡ h.size))
+    (status ≡ DONE) × (number' ≡ h.size))

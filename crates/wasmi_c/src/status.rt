@@ -1,5 +1,5 @@
-//! The statuses that calls return, besides the numbers of trap codes. The contracts have the
-//! numbers of `specs/Status.antt`, C those of the headers.
+//! The statuses that calls return, besides the numbers of trap codes. Contracts cite these
+//! constants; `tools/header` compares them with the headers, and with those that were released.
 ghost use Rattle.std.specs.Prelude.{◌≡◌};
 ghost use Rattle.wasmi_c.specs.Status.{fuel_status, global_status, memory_status, segment_status, table_status};
 ghost use Rattle.wasmi_c.specs.MemoryCalls.{memory_fuel_needed};

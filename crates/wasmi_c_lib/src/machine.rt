@@ -4,7 +4,7 @@ ghost use Rattle.wasmi_core.specs.declared.calls.Call.TheVariants.{GetFuel, Grow
 ghost use Rattle.wasmi_c.specs.Machine.Calls.{RepliesInStatus, RepliesInWord, item_load, item_store, vector_binary, OnHeld, ReadsOut, RepliesToCopy, RepliesToSegment, RepliesToStruct, PaysFuel, no_totals, totals_of, RunsLines};
 ghost use Rattle.wasmi_c.specs.Machine.NewMachines.{IsNewMachine, MakesMachine, MakesWithAnswers};
 ghost use Rattle.wasmi_c.specs.Machine.Replies.{only};
-ghost use Rattle.wasmi_c.specs.Status.{no_machine_status};
+ghost use Rattle.wasmi_c.specs.declared.status.TheConstants.{NO_MACHINE};
 ghost use Rattle.wasmi_c.specs.declared.machine.reply_struct.ReplyStruct.{ReplyStruct};
 
 use std::alloc::Global;
@@ -47,7 +47,7 @@ pub extern "C" fn wasmi_machine_drop(alloc: Global, handle: &mut Handle)
 /// Replies to a call: `Handle::call`.
 #[unsafe(no_mangle)]
 pub extern "C" fn wasmi_machine_call(handle: &mut Handle, call: &CallStruct) -> ReplyStruct
-    ensures { OnHeld (RepliesToStruct call.now) (only no_machine_status)
+    ensures { OnHeld (RepliesToStruct call.now) (only NO_MACHINE)
         handle.old.machine.held result handle.new.machine.held }
 {
     handle.call(call)
@@ -64,7 +64,7 @@ pub extern "C" fn wasmi_machine_read(
     ensures { OnHeld {R = ReplyStruct × List ℕ}
         (λ machine left machine'. (machine' ≡ machine)
         × ReadsOut memory offset machine.state bytes.old left.0 left.1)
-        (only no_machine_status, bytes.old)
+        (only NO_MACHINE, bytes.old)
         handle.old.machine.held (result, bytes.new) handle.new.machine.held }
 {
     handle.read(memory, offset, bytes)
@@ -79,7 +79,7 @@ pub extern "C" fn wasmi_machine_write(
     offset: usize,
     bytes: &[u8],
 ) -> ReplyStruct
-    ensures { OnHeld (RepliesToCopy (Write memory offset) bytes.now) (only no_machine_status)
+    ensures { OnHeld (RepliesToCopy (Write memory offset) bytes.now) (only NO_MACHINE)
         handle.old.machine.held result handle.new.machine.held }
 {
     handle.write(alloc, memory, offset, bytes)
@@ -93,7 +93,7 @@ pub extern "C" fn wasmi_machine_new_segment(
     ty: u8,
     items: &[u32],
 ) -> ReplyStruct
-    ensures { OnHeld (RepliesToSegment ty items.now) (only no_machine_status)
+    ensures { OnHeld (RepliesToSegment ty items.now) (only NO_MACHINE)
         handle.old.machine.held result handle.new.machine.held }
 {
     handle.new_segment(alloc, ty, items)
@@ -112,7 +112,7 @@ pub extern "C" fn wasmi_machine_totals(handle: &mut Handle) -> Totals
 /// Takes fuel that isn't a call's: `Handle::consume_fuel`.
 #[unsafe(no_mangle)]
 pub extern "C" fn wasmi_machine_consume_fuel(handle: &mut Handle, amount: u64) -> ReplyStruct
-    ensures { OnHeld (PaysFuel amount) (only no_machine_status)
+    ensures { OnHeld (PaysFuel amount) (only NO_MACHINE)
         handle.old.machine.held result handle.new.machine.held }
 {
     handle.consume_fuel(amount)
@@ -129,7 +129,7 @@ pub extern "C" fn wasmi_machine_load(
     value: &mut u64,
 ) -> u8
     ensures { OnHeld (RepliesInWord (item_load op memory ptr offset) value.old)
-        (no_machine_status, value.old)
+        (NO_MACHINE, value.old)
         handle.old.machine.held (result, value.new) handle.new.machine.held }
 {
     handle.load(op, memory, ptr, offset, value)
@@ -145,7 +145,7 @@ pub extern "C" fn wasmi_machine_store(
     offset: u64,
     value: u64,
 ) -> u8
-    ensures { OnHeld (RepliesInStatus (item_store op memory ptr offset value)) no_machine_status
+    ensures { OnHeld (RepliesInStatus (item_store op memory ptr offset value)) NO_MACHINE
         handle.old.machine.held result handle.new.machine.held }
 {
     handle.store(op, memory, ptr, offset, value)
@@ -154,7 +154,7 @@ pub extern "C" fn wasmi_machine_store(
 /// Executes an instruction on two vectors: `Handle::binary`.
 #[unsafe(no_mangle)]
 pub extern "C" fn wasmi_machine_binary(handle: &mut Handle, op: u16, dst: u8, a: u8, b: u8) -> u8
-    ensures { OnHeld (RepliesInStatus (vector_binary op dst a b)) no_machine_status
+    ensures { OnHeld (RepliesInStatus (vector_binary op dst a b)) NO_MACHINE
         handle.old.machine.held result handle.new.machine.held }
 {
     handle.binary(op, dst, a, b)
@@ -169,7 +169,7 @@ pub extern "C" fn wasmi_machine_grow(
     number: &mut u64,
 ) -> u8
     ensures { OnHeld (RepliesInWord (Some (GrowMemory memory pages)) number.old)
-        (no_machine_status, number.old)
+        (NO_MACHINE, number.old)
         handle.old.machine.held (result, number.new) handle.new.machine.held }
 {
     handle.grow(memory, pages, number)
@@ -178,7 +178,7 @@ pub extern "C" fn wasmi_machine_grow(
 /// Gives the fuel that is left: `Handle::fuel_left`.
 #[unsafe(no_mangle)]
 pub extern "C" fn wasmi_machine_fuel_left(handle: &mut Handle, left: &mut u64) -> u8
-    ensures { OnHeld (RepliesInWord (Some GetFuel) left.old) (no_machine_status, left.old)
+    ensures { OnHeld (RepliesInWord (Some GetFuel) left.old) (NO_MACHINE, left.old)
         handle.old.machine.held (result, left.new) handle.new.machine.held }
 {
     handle.fuel_left(left)
@@ -194,7 +194,7 @@ pub extern "C" fn wasmi_machine_run_lines(
 ) -> ReplyStruct
     ensures { OnHeld {R = ReplyStruct × List ℕ}
         (λ machine left machine'. RunsLines lines.now machine text.old left.0 left.1 machine')
-        (only no_machine_status, text.old)
+        (only NO_MACHINE, text.old)
         handle.old.machine.held (result, text.new) handle.new.machine.held }
 {
     handle.run_lines(alloc, lines, text)

@@ -4,7 +4,7 @@ ghost use Rattle.wasmi_core.specs.declared.calls.Call.TheVariants.{Write};
 ghost use Rattle.wasmi_c.specs.Machine.Calls.{ActsOnHeld};
 ghost use Rattle.wasmi_c.specs.Machine.Replies.{only};
 ghost use Rattle.wasmi_c.specs.Pool.{AddsNewTenant, KeepsCaps, MakesPool, RunsTenantLines, TenantReadsOut, TenantRepliesToCopy, TenantRepliesToStruct, no_pool_totals, pool_totals, tenant_totals};
-ghost use Rattle.wasmi_c.specs.Status.{no_pool_status};
+ghost use Rattle.wasmi_c.specs.declared.status.TheConstants.{NO_POOL};
 ghost use Rattle.wasmi_c.specs.declared.machine.reply_struct.ReplyStruct.{ReplyStruct};
 
 use std::alloc::Global;
@@ -41,7 +41,7 @@ pub extern "C" fn wasmi_pool_add(
     handle: &mut PoolHandle,
     limits: &Limits,
 ) -> ReplyStruct
-    ensures step { ActsOnHeld (only no_pool_status) handle.old.pool.held result handle.new.pool.held
+    ensures step { ActsOnHeld (only NO_POOL) handle.old.pool.held result handle.new.pool.held
         (AddsNewTenant limits.now result) }
     ensures caps { KeepsCaps handle.old.pool.held handle.new.pool.held }
 {
@@ -56,7 +56,7 @@ pub extern "C" fn wasmi_pool_call(
     tenant: usize,
     call: &CallStruct,
 ) -> ReplyStruct
-    ensures step { ActsOnHeld (only no_pool_status) handle.old.pool.held result handle.new.pool.held
+    ensures step { ActsOnHeld (only NO_POOL) handle.old.pool.held result handle.new.pool.held
         (TenantRepliesToStruct tenant call.now result) }
     ensures caps { KeepsCaps handle.old.pool.held handle.new.pool.held }
 {
@@ -73,7 +73,7 @@ pub extern "C" fn wasmi_pool_read(
     offset: usize,
     bytes: &mut [u8],
 ) -> ReplyStruct
-    ensures step { ActsOnHeld {R = ReplyStruct × List ℕ} (only no_pool_status, bytes.old)
+    ensures step { ActsOnHeld {R = ReplyStruct × List ℕ} (only NO_POOL, bytes.old)
         handle.old.pool.held (result, bytes.new) handle.new.pool.held
         (TenantReadsOut tenant memory offset bytes.old result bytes.new) }
     ensures caps { KeepsCaps handle.old.pool.held handle.new.pool.held }
@@ -91,7 +91,7 @@ pub extern "C" fn wasmi_pool_write(
     offset: usize,
     bytes: &[u8],
 ) -> ReplyStruct
-    ensures step { ActsOnHeld (only no_pool_status) handle.old.pool.held result handle.new.pool.held
+    ensures step { ActsOnHeld (only NO_POOL) handle.old.pool.held result handle.new.pool.held
         (TenantRepliesToCopy tenant (Write memory offset) bytes.now result) }
     ensures caps { KeepsCaps handle.old.pool.held handle.new.pool.held }
 {
@@ -107,7 +107,7 @@ pub extern "C" fn wasmi_pool_run_lines(
     lines: &[u8],
     text: &mut [u8],
 ) -> ReplyStruct
-    ensures step { ActsOnHeld {R = ReplyStruct × List ℕ} (only no_pool_status, text.old)
+    ensures step { ActsOnHeld {R = ReplyStruct × List ℕ} (only NO_POOL, text.old)
         handle.old.pool.held (result, text.new) handle.new.pool.held
         (RunsTenantLines tenant lines.now text.old result text.new) }
     ensures caps { KeepsCaps handle.old.pool.held handle.new.pool.held }

@@ -11,7 +11,7 @@ use Rattle.wasmi_meter.specs.Limiter.{Rules, optional_rules, Question, kind_of}
 use Rattle.wasmi_meter.specs.Meter.{Meter}
 use Rattle.wasmi_meter.specs.Capped.{quota_rules, IsWithinCaps}
 use Rattle.wasmi_store.specs.Buffer.{Room}
-use Rattle.wasmi_store.specs.Growth.{Growth, metered_value}
+use Rattle.wasmi_store.specs.Growth.{Growth, metered_value, IsDenied}
 use Rattle.wasmi_store.specs.Memory.{MemoryValue, MakesMemory, GrowsMemoryCharging, new_memory, pages_of, growth_of, MemoryTypeValue, minimum_bytes, page_bytes}
 use Rattle.wasmi_store.specs.Table.{TableValue, MakesTable, GrowsTableCharging, GrowsTableRawCharging, new_table, size_of, TableTypeValue, same_type}
 use Rattle.wasmi_store.proofs.GrowthLemmas.{on_test}
@@ -24,7 +24,7 @@ use Rattle.wasmi_core.specs.Laws.{IsRefusal, LentGrowthsSucceed}
 use Rattle.wasmi_core.specs.Steps.{Run, Sequence, MemoryGrown, HasEffect, effect_of, Step}
 use Rattle.wasmi_core.specs.State.{live_at, with_memories, World, Turn, world}
 use Rattle.wasmi_core.proofs.StoreLemmas.{each_turn}
-use Rattle.wasmi_law_callers.specs.Runs.{CanGrowInRegion, IsDenied, IsGrownOrDenied, GrowsInRegion}
+use Rattle.wasmi_law_callers.specs.Runs.{CanGrowInRegion, IsGrownOrDenied, GrowsInRegion}
 use Rattle.std.proofs.lemmas.Option.{same_Some}
 use Rattle.wasmi_core.specs.Exchange.{Exchange, Nothing, Denial, Permission, Notice, Place, Nowhere, New, At, Passes, GrowsAsAsked, GrowsBy}
 use Rattle.wasmi_law_callers.specs.declared.recorder.Recorder.{Recorder}

@@ -31,7 +31,7 @@ use Rattle.wasmi_c.specs.Machine.Caps.{MachineValue}
 use Rattle.wasmi_c.specs.Machine.Calls.{CallsAreRuns, MachineRunsJoin}
 use Rattle.wasmi_c.specs.Machine.Replies.{only}
 use Rattle.wasmi_c.specs.Pool.{TenantReplies, TenantRepliesToStruct}
-use Rattle.wasmi_c.specs.Status.{no_call_status, no_machine_status, no_pool_status}
+use Rattle.wasmi_c.specs.declared.status.TheConstants.{NO_CALL, NO_MACHINE, NO_POOL}
 use Rattle.wasmi_c.specs.declared.machine.call_struct.CallStruct.{CallStruct}
 use Rattle.wasmi_c.specs.declared.machine.reply_struct.ReplyStruct.{ReplyStruct}
 
@@ -256,7 +256,7 @@ numbered : (numbers : CallStruct) (call : Call) (machine machine' : MachineValue
     → call_of numbers ≡ Some call → RepliesToStruct numbers machine reply machine'
     → RepliesInStruct call machine reply machine'
 numbered numbers call machine machine' reply is =
-    subst (λ found. MatchOption found ((reply ≡ only no_call_status) × (machine' ≡ machine))
+    subst (λ found. MatchOption found ((reply ≡ only NO_CALL) × (machine' ≡ machine))
     (λ called. RepliesInStruct called machine reply machine')) is
 
 -- a machine that replies to a call with a struct stands in a handle
@@ -267,11 +267,11 @@ Placed call machine reply held' =
 -- a handle that has a machine has one that replies to the call that numbers stand for
 pub placed : (numbers : CallStruct) (held held' : Option MachineValue) (reply : ReplyStruct)
     (machine : MachineValue) (call : Call)
-    → ActsOnHeld (only no_machine_status) held reply held' (λ m m'. RepliesToStruct numbers m reply m')
+    → ActsOnHeld (only NO_MACHINE) held reply held' (λ m m'. RepliesToStruct numbers m reply m')
     → held ≡ Some machine → call_of numbers ≡ Some call → Placed call machine reply held'
 placed numbers held held' reply machine call step there is =
     let here = subst
-    (λ h. ActsOnHeld (only no_machine_status) h reply held' (λ m m'. RepliesToStruct numbers m reply m')) there step in
+    (λ h. ActsOnHeld (only NO_MACHINE) h reply held' (λ m m'. RepliesToStruct numbers m reply m')) there step in
     (here.0, numbered numbers call machine here.0 reply is here.1, here.2)
 
 -- two calls on the machine of a handle, one after the other, are one run of both
@@ -311,9 +311,9 @@ numbered_stays (Some call) tenant other reply none pool pool' apart replied =
 
 -- a call on a tenant of a handle's pool leaves the machine of another index there
 pub beside : (numbers : CallStruct) (tenant other : ℕ) (held held' : Option PoolValue) (reply : ReplyStruct)
-    (pool : PoolValue) → ActsOnHeld (only no_pool_status) held reply held' (TenantRepliesToStruct tenant numbers reply)
+    (pool : PoolValue) → ActsOnHeld (only NO_POOL) held reply held' (TenantRepliesToStruct tenant numbers reply)
     → held ≡ Some pool → tenant ≢ other → KeepsTenant other pool held'
 beside numbers tenant other held held' reply pool step there apart =
     let here = subst
-    (λ h. ActsOnHeld (only no_pool_status) h reply held' (TenantRepliesToStruct tenant numbers reply)) there step in
+    (λ h. ActsOnHeld (only NO_POOL) h reply held' (TenantRepliesToStruct tenant numbers reply)) there step in
     (here.0, here.2, numbered_stays (call_of numbers) tenant other reply _ pool here.0 apart here.1)

@@ -1,9 +1,10 @@
 -- What a caller says of runs, also on pools and by handles, and of lists of types.
 use Rattle.std.specs.Prelude.{◌≡◌, ◌⊎◌, ◌<◌, ◌≤◌, ◌+◌, ◌*◌, ℕ, true, Option, Some, List, [], ◌∷◌, ◌++◌, length, slice_set, All, slice_get}
 use Rattle.wasmi_meter.specs.Attempt.{Request, optional_due, covers}
-use Rattle.wasmi_meter.specs.Limiter.{Rules, Question, Answer, IsDenial, optional_rules}
+use Rattle.wasmi_meter.specs.Limiter.{Rules, optional_rules}
 use Rattle.wasmi_meter.specs.Meter.{Meter}
 use Rattle.wasmi_store.specs.Buffer.{Lent, fits_room}
+use Rattle.wasmi_store.specs.Growth.{IsDenied}
 use Rattle.wasmi_store.specs.Memory.{MemoryValue, pages_of, growth_of, MemoryTypeValue, minimum_bytes, page_bytes, in_bounds}
 use Rattle.wasmi_core.specs.declared.calls.Call.{Call}
 use Rattle.wasmi_core.specs.declared.calls.Call.TheVariants.{GrowMemory}
@@ -91,10 +92,6 @@ IsLent x = (rest : List ℕ) × (x.room ≡ Lent rest)
 -- so much is left, or no meter is there, that a request can be paid
 abbrev pub CanPay : {V E : Type 0} → Option Meter → Request V E → Type 0
 CanPay m request = covers m (optional_due m request.price) ≡ true
-
--- a limiter was asked a question, and denied it
-abbrev pub IsDenied : {S : Type 0} → Rules S → Question → S → S → Type 0
-IsDenied rules question l l' = (answer : Answer) × IsDenial answer × rules.asked l question answer l'
 
 -- a memory can grow by so many pages in the lent region that it lies in: its type and its region have place for them,
 -- and a meter can pay them

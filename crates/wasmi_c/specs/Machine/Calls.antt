@@ -19,7 +19,7 @@ use Rattle.wasmi_core.specs.declared.calls.Reply.{Reply}
 use Rattle.wasmi_c.specs.Machine.CallStructs.{call_of}
 use Rattle.wasmi_c.specs.Machine.Caps.{MachineValue, StaysWithinCaps, Keeps}
 use Rattle.wasmi_c.specs.Machine.Replies.{only, with_number, memory_refusal, fuel_refusal, reply_struct, status_of}
-use Rattle.wasmi_c.specs.Status.{done_status, no_call_status, no_machine_status, no_room_status, no_such_status, bad_line_status, header_line_status, text_cut_status}
+use Rattle.wasmi_c.specs.declared.status.TheConstants.{DONE, NO_CALL, NO_MACHINE, NO_ROOM, NO_SUCH, BAD_LINE, HEADER_LINE, TEXT_CUT}
 use Rattle.wasmi_c.specs.Types.{reference_type_of}
 use Rattle.wasmi_c.specs.declared.machine.call_struct.CallStruct.{CallStruct}
 use Rattle.wasmi_c.specs.declared.machine.limits.Totals.{Totals}
@@ -60,7 +60,7 @@ RepliesInStruct call machine reply machine' =
 -- a machine replies to the call that numbers stand for; where they stand for none, it is the same
 abbrev pub RepliesToStruct : CallStruct → MachineValue → ReplyStruct → MachineValue → Type 0
 RepliesToStruct numbers machine reply machine' = MatchOption (call_of numbers)
-    ((reply ≡ only no_call_status) × (machine' ≡ machine))
+    ((reply ≡ only NO_CALL) × (machine' ≡ machine))
     (λ call. RepliesInStruct call machine reply machine')
 
 -- what a handle holds has become another; where it holds nothing, the status says so, and it holds nothing afterwards
@@ -79,21 +79,21 @@ pub record OnHeld {R : Type 0} (Acts : MachineValue → R → MachineValue → T
 -- it, the caller's stay
 abbrev pub ReadsOut : ℕ → ℕ → State → List ℕ → ReplyStruct → List ℕ → Type 0
 ReadsOut memory offset machine old reply new = MatchOption (live_at machine.memories memory)
-    ((reply ≡ only no_such_status) × (new ≡ old))
+    ((reply ≡ only NO_SUCH) × (new ≡ old))
     (λ found. MatchOption (at found.bytes offset (length old))
     ((reply ≡ memory_refusal OutOfBoundsAccess) × (new ≡ old))
-    (λ bytes. (reply ≡ only done_status) × (new ≡ bytes)))
+    (λ bytes. (reply ≡ only DONE) × (new ≡ bytes)))
 
 -- a machine replies to a call that takes a copy of the caller's list; or memory for that is refused, and it is the same
 unfoldable pub RepliesToCopy
     : (Vec ℕ Global → Call) → List ℕ → MachineValue → ReplyStruct → MachineValue → Type 0
-RepliesToCopy call items machine reply machine' = ((reply ≡ only no_room_status) × (machine' ≡ machine))
+RepliesToCopy call items machine reply machine' = ((reply ≡ only NO_ROOM) × (machine' ≡ machine))
     ⊎ ((copy : Vec ℕ Global) × (copy.items ≡ items) × RepliesInStruct (call copy) machine reply machine')
 
 -- a machine replies to the making of an element segment; where the number is none of a reference type, it is the same
 abbrev pub RepliesToSegment : ℕ → List ℕ → MachineValue → ReplyStruct → MachineValue → Type 0
 RepliesToSegment ty items machine reply machine' = MatchOption (reference_type_of ty)
-    ((reply ≡ only no_call_status) × (machine' ≡ machine))
+    ((reply ≡ only NO_CALL) × (machine' ≡ machine))
     (λ ref. RepliesToCopy (NewSegment ref) items machine reply machine')
 
 -- so many bytes and elements, as numbers of 128 bits
@@ -103,17 +103,17 @@ totals_in status bytes elements =
 
 -- the machine's totals
 abbrev pub totals_of : MachineValue → Totals
-totals_of machine = totals_in done_status (total machine.state Bytes) (total machine.state Elements)
+totals_of machine = totals_in DONE (total machine.state Bytes) (total machine.state Elements)
 
 -- the totals where there is no machine
 abbrev pub no_totals : Totals
-no_totals = totals_in no_machine_status 0 0
+no_totals = totals_in NO_MACHINE 0 0
 
 -- an amount of fuel is taken where the meter is on and so much is left, and the reply has what is left then
 abbrev pub PaysFuel : ℕ → MachineValue → ReplyStruct → MachineValue → Type 0
 PaysFuel amount machine reply machine' = MatchOption machine.state.meter.left
     ((reply ≡ fuel_refusal FuelMeteringDisabled) × (machine' ≡ machine))
-    (λ left. (amount ≤ left → (reply ≡ with_number done_status (left - amount))
+    (λ left. (amount ≤ left → (reply ≡ with_number DONE (left - amount))
     × (machine' ≡ record machine { state = record machine.state { meter = meter_after machine.state.meter amount } }))
     × (left < amount → (reply ≡ fuel_refusal (OutOfFuel amount)) × (machine' ≡ machine)))
 
@@ -168,20 +168,20 @@ word_after full word = word
 -- a machine replies to a call with a status and a word; where there is no call, the machine and the word stay
 unfoldable pub RepliesInWord : Option Call → ℕ → MachineValue → ℕ × ℕ → MachineValue → Type 0
 RepliesInWord called word machine left machine' = MatchOption called
-    ((left ≡ (no_call_status, word)) × (machine' ≡ machine))
+    ((left ≡ (NO_CALL, word)) × (machine' ≡ machine))
     (λ one. (full : Reply) × MachineReplies one machine full machine' × (left ≡ (status_of full, word_after full word)))
 
 -- a machine replies to a call with a status; where there is no call, the machine stays
 unfoldable pub RepliesInStatus : Option Call → MachineValue → ℕ → MachineValue → Type 0
 RepliesInStatus called machine status machine' = MatchOption called
-    ((status ≡ no_call_status) × (machine' ≡ machine))
+    ((status ≡ NO_CALL) × (machine' ≡ machine))
     (λ one. (full : Reply) × MachineReplies one machine full machine' × (status ≡ status_of full))
 
 -- the reply that has the length of a text, or says that the text has 2 ^ 64 - 1 bytes or more
 abbrev pub length_reply : ℕ → ReplyStruct
 length_reply count = if nat_lt count (2 ^ 64 - 1)
-    then with_number done_status count
-    else with_number text_cut_status (2 ^ 64 - 1)
+    then with_number DONE count
+    else with_number TEXT_CUT (2 ^ 64 - 1)
 
 -- as much of a text as fits stands at the front of bytes, those after it stay, and the reply has the text's length
 pub record WritesOut (text old : List ℕ) (reply : ReplyStruct) (new : List ℕ) : Type 0 where
@@ -213,9 +213,9 @@ RunsScript script machine old reply new machine' =
 -- Lines that aren't run have a first bad line, or are a script with header lines, or memory is refused for their calls
 -- or replies.
 abbrev pub RefusesLines : List ℕ → ReplyStruct → Type 0
-RefusesLines lines reply = ((number : ℕ) × IsFirstBadLine lines number × (reply ≡ with_number bad_line_status number))
-    ⊎ ((script : Script) × WritesScript lines script × (script.header ≢ no_header) × (reply ≡ only header_line_status))
-    ⊎ (reply ≡ only no_room_status)
+RefusesLines lines reply = ((number : ℕ) × IsFirstBadLine lines number × (reply ≡ with_number BAD_LINE number))
+    ⊎ ((script : Script) × WritesScript lines script × (script.header ≢ no_header) × (reply ≡ only HEADER_LINE))
+    ⊎ (reply ≡ only NO_ROOM)
 
 -- lines are run on a machine as the script that they write, or they are refused, and nothing has changed
 unfoldable pub RunsLines : List ℕ → MachineValue → List ℕ → ReplyStruct → List ℕ → MachineValue → Type 0

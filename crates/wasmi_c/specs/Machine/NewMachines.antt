@@ -10,7 +10,7 @@ use Rattle.wasmi_meter.specs.declared.limiter.Kind.TheVariants.{Bytes, Elements}
 use Rattle.wasmi_meter.specs.declared.quota.Quota.{Quota}
 use Rattle.wasmi_core.specs.State.{new_state}
 use Rattle.wasmi_c.specs.Machine.Caps.{MachineValue}
-use Rattle.wasmi_c.specs.Status.{done_status, has_machine_status, no_answer_status, no_room_status}
+use Rattle.wasmi_c.specs.declared.status.TheConstants.{DONE, HAS_MACHINE, NO_ANSWER, NO_ROOM}
 use Rattle.wasmi_c.specs.Types.{if_flag, meter_of}
 use Rattle.wasmi_c.specs.declared.machine.limits.Limits.{Limits}
 use Rattle.wasmi_meter.specs.declared.answer_list.LimiterAnswer.TheVariants.{Permit, Deny, Error, Complain}
@@ -59,15 +59,15 @@ pub record IsNewWithAnswers (limits : Limits) (answers : List LimiterAnswer) (ma
 -- a machine that is so is made where there is none; where there is one, or memory is refused, nothing has changed
 abbrev pub MakesMachine : (MachineValue → Type 0) → Option MachineValue → ℕ → Option MachineValue
     → Type 0
-MakesMachine IsNew (Some machine) status held' = (status ≡ has_machine_status) × (held' ≡ Some machine)
-MakesMachine IsNew None status held' = ((status ≡ no_room_status) × (held' ≡ None))
-    ⊎ ((machine : MachineValue) × IsNew machine × (status ≡ done_status) × (held' ≡ Some machine))
+MakesMachine IsNew (Some machine) status held' = (status ≡ HAS_MACHINE) × (held' ≡ Some machine)
+MakesMachine IsNew None status held' = ((status ≡ NO_ROOM) × (held' ≡ None))
+    ⊎ ((machine : MachineValue) × IsNew machine × (status ≡ DONE) × (held' ≡ Some machine))
 
 -- a machine with a list of answers is made where there is none; where there is one, a number stands for no answer, or
 -- memory is refused, nothing has changed
 abbrev pub MakesWithAnswers : Limits → List ℕ → Option MachineValue → ℕ → Option MachineValue → Type 0
 MakesWithAnswers limits numbers (Some machine) status held' =
-    (status ≡ has_machine_status) × (held' ≡ Some machine)
+    (status ≡ HAS_MACHINE) × (held' ≡ Some machine)
 MakesWithAnswers limits numbers None status held' =
-    (¬ All IsAnswer numbers × (status ≡ no_answer_status) × (held' ≡ None))
+    (¬ All IsAnswer numbers × (status ≡ NO_ANSWER) × (held' ≡ None))
     ⊎ (All IsAnswer numbers × MakesMachine (IsNewWithAnswers limits (map answer_of numbers)) None status held')

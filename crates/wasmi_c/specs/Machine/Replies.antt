@@ -14,7 +14,8 @@ use Rattle.wasmi_meter.specs.declared.fuel.FuelError.{FuelError}
 use Rattle.wasmi_meter.specs.declared.fuel.FuelError.TheVariants as fuel
 use Rattle.wasmi_core.specs.declared.calls.Reply.{Reply}
 use Rattle.wasmi_core.specs.declared.calls.Reply.TheVariants as reply
-use Rattle.wasmi_c.specs.Status.{done_status, no_element_status, no_region_status, no_room_status, no_such_status, memory_status, table_status, fuel_status, global_status, segment_status}
+use Rattle.wasmi_c.specs.Status.{memory_status, table_status, fuel_status, global_status, segment_status}
+use Rattle.wasmi_c.specs.declared.status.TheConstants.{DONE, NO_ELEMENT, NO_REGION, NO_ROOM, NO_SUCH}
 use Rattle.wasmi_c.specs.declared.machine.reply_struct.ReplyStruct.{ReplyStruct}
 
 -- the raw value of a reply without a value
@@ -32,7 +33,7 @@ only status = with_number status 0
 
 -- a reply with a value
 abbrev pub with_value : RawVal → ReplyStruct
-with_value value = record (only done_status) { value = value }
+with_value value = record (only DONE) { value = value }
 
 -- the number of a reference type among the value types
 abbrev pub reference_number : RefType → ℕ
@@ -41,7 +42,7 @@ reference_number Extern = 6
 
 -- a reply with an element of a table
 abbrev pub with_reference : TypedRawRef → ReplyStruct
-with_reference element = record (only done_status) { reference = element.raw; ty = reference_number element.ty }
+with_reference element = record (only DONE) { reference = element.raw; ty = reference_number element.ty }
 
 -- the fuel that a refused call on a memory needs, else 0
 abbrev pub memory_fuel : MemoryError → ℕ
@@ -72,22 +73,22 @@ fuel_refusal error = with_number (fuel_status error) (meter_fuel error)
 
 -- the status of a reply
 abbrev pub status_of : Reply → ℕ
-status_of reply.Done = done_status
-status_of (reply.Made index) = done_status
-status_of (reply.Value value) = done_status
-status_of (reply.Number number) = done_status
-status_of (reply.Bytes bytes) = done_status
-status_of (reply.Reference (Some element)) = done_status
-status_of (reply.Reference None) = no_element_status
+status_of reply.Done = DONE
+status_of (reply.Made index) = DONE
+status_of (reply.Value value) = DONE
+status_of (reply.Number number) = DONE
+status_of (reply.Bytes bytes) = DONE
+status_of (reply.Reference (Some element)) = DONE
+status_of (reply.Reference None) = NO_ELEMENT
 status_of (reply.Memory error) = memory_status error
 status_of (reply.Table error) = table_status error
 status_of (reply.Fuel error) = fuel_status error
 status_of (reply.Global error) = global_status error
 status_of (reply.Segment error) = segment_status error
 status_of (reply.Trap code) = code_number code
-status_of reply.NoSuch = no_such_status
-status_of reply.NoRegion = no_region_status
-status_of reply.NoRoom = no_room_status
+status_of reply.NoSuch = NO_SUCH
+status_of reply.NoRegion = NO_REGION
+status_of reply.NoRoom = NO_ROOM
 
 -- the number of a reply: what was made, a size, fuel, how many bytes, or the fuel that a refused call needs; else 0
 abbrev pub number_of : Reply → ℕ

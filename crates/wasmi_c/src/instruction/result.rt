@@ -3,7 +3,7 @@ ghost use Rattle.std.specs.Prelude.{◌≡◌, MatchResult};
 ghost use Rattle.wasmi_types.specs.Trap.{code_number};
 ghost use Rattle.wasmi_raw.specs.RawVal.{raw_of_vector};
 ghost use Rattle.wasmi_ops.specs.ScalarOps.{as_raw};
-ghost use Rattle.wasmi_c.specs.Status.{done_status};
+ghost use Rattle.wasmi_c.specs.declared.status.TheConstants.{DONE};
 ghost use Rattle.wasmi_c.specs.Instruction.{Gives, result_of};
 
 use crate::status::DONE;
@@ -89,7 +89,7 @@ pub fn leave_pair(given: (i64, i64), lo: &mut i64, hi: &mut i64)
 /// The status of an instruction without a value.
 #[inline(always)]
 pub fn status_of(given: Result<(), TrapCode>) -> u8
-    ensures { MatchResult given (λ _. result ≡ done_status) (λ trap. result ≡ code_number trap) }
+    ensures { MatchResult given (λ _. result ≡ DONE) (λ trap. result ≡ code_number trap) }
 {
     match given {
         Ok(()) => DONE,

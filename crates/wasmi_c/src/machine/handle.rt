@@ -5,7 +5,7 @@ ghost use Rattle.wasmi_core.specs.declared.calls.Call.TheVariants.{GetFuel, Grow
 ghost use Rattle.wasmi_c.specs.Machine.Calls.{RepliesInStatus, RepliesInWord, item_load, item_store, vector_binary, OnHeld, ReadsOut, RepliesToCopy, RepliesToSegment, RepliesToStruct, PaysFuel, no_totals, totals_of, RunsLines};
 ghost use Rattle.wasmi_c.specs.Machine.NewMachines.{IsNewMachine, MakesMachine, MakesWithAnswers};
 ghost use Rattle.wasmi_c.specs.Machine.Replies.{only};
-ghost use Rattle.wasmi_c.specs.Status.{no_machine_status};
+ghost use Rattle.wasmi_c.specs.declared.status.TheConstants.{NO_MACHINE};
 ghost use Rattle.wasmi_c.specs.declared.machine.reply_struct.ReplyStruct.{ReplyStruct};
 
 use crate::held_box::HeldBox;
@@ -149,7 +149,7 @@ impl Handle {
     /// Replies to a call, if the numbers stand for one.
     #[inline(always)]
     pub fn call(&mut self, call: &CallStruct) -> ReplyStruct
-        ensures { OnHeld (RepliesToStruct call.now) (only no_machine_status)
+        ensures { OnHeld (RepliesToStruct call.now) (only NO_MACHINE)
             self.old.machine.held result self.new.machine.held }
     {
         on_machine!(self, ReplyStruct::only(NO_MACHINE), machine => machine.reply_to_struct(call))
@@ -160,7 +160,7 @@ impl Handle {
         ensures { OnHeld {R = ReplyStruct × List ℕ}
             (λ machine left machine'. (machine' ≡ machine)
             × ReadsOut memory offset machine.state bytes.old left.0 left.1)
-            (only no_machine_status, bytes.old)
+            (only NO_MACHINE, bytes.old)
             self.old.machine.held (result, bytes.new) self.new.machine.held }
     {
         on_machine!(self, ReplyStruct::only(NO_MACHINE), machine => {
@@ -176,7 +176,7 @@ impl Handle {
         offset: usize,
         bytes: &[u8],
     ) -> ReplyStruct
-        ensures { OnHeld (RepliesToCopy (Write memory offset) bytes.now) (only no_machine_status)
+        ensures { OnHeld (RepliesToCopy (Write memory offset) bytes.now) (only NO_MACHINE)
             self.old.machine.held result self.new.machine.held }
     {
         on_machine!(self, ReplyStruct::only(NO_MACHINE), machine => {
@@ -186,7 +186,7 @@ impl Handle {
 
     /// Makes an element segment of a copy of the caller's references.
     pub fn new_segment(&mut self, alloc: Global, ty: u8, items: &[u32]) -> ReplyStruct
-        ensures { OnHeld (RepliesToSegment ty items.now) (only no_machine_status)
+        ensures { OnHeld (RepliesToSegment ty items.now) (only NO_MACHINE)
             self.old.machine.held result self.new.machine.held }
     {
         on_machine!(self, ReplyStruct::only(NO_MACHINE), machine => {
@@ -207,7 +207,7 @@ impl Handle {
     /// Takes fuel, as an interpreter does for the instructions that it executes between calls; the
     /// number is what is left.
     pub fn consume_fuel(&mut self, amount: u64) -> ReplyStruct
-        ensures { OnHeld (PaysFuel amount) (only no_machine_status)
+        ensures { OnHeld (PaysFuel amount) (only NO_MACHINE)
             self.old.machine.held result self.new.machine.held }
     {
         on_machine!(self, ReplyStruct::only(NO_MACHINE), machine => machine.consume_fuel(amount))
@@ -217,7 +217,7 @@ impl Handle {
     /// `value` to it.
     pub fn load(&mut self, op: u16, memory: usize, ptr: u64, offset: u64, value: &mut u64) -> u8
         ensures { OnHeld (RepliesInWord (item_load op memory ptr offset) value.old)
-            (no_machine_status, value.old)
+            (NO_MACHINE, value.old)
             self.old.machine.held (result, value.new) self.new.machine.held }
     {
         on_machine!(self, NO_MACHINE, machine => machine.load(op, memory, ptr, offset, value))
@@ -225,7 +225,7 @@ impl Handle {
 
     /// Stores an item to a memory at `ptr + offset`, by the store that has the number.
     pub fn store(&mut self, op: u16, memory: usize, ptr: u64, offset: u64, value: u64) -> u8
-        ensures { OnHeld (RepliesInStatus (item_store op memory ptr offset value)) no_machine_status
+        ensures { OnHeld (RepliesInStatus (item_store op memory ptr offset value)) NO_MACHINE
             self.old.machine.held result self.new.machine.held }
     {
         on_machine!(self, NO_MACHINE, machine => machine.store(op, memory, ptr, offset, value))
@@ -233,7 +233,7 @@ impl Handle {
 
     /// Sets a register to what the instruction of a number makes of the vectors in two registers.
     pub fn binary(&mut self, op: u16, dst: u8, a: u8, b: u8) -> u8
-        ensures { OnHeld (RepliesInStatus (vector_binary op dst a b)) no_machine_status
+        ensures { OnHeld (RepliesInStatus (vector_binary op dst a b)) NO_MACHINE
             self.old.machine.held result self.new.machine.held }
     {
         on_machine!(self, NO_MACHINE, machine => machine.binary(op, dst, a, b))
@@ -243,7 +243,7 @@ impl Handle {
     /// that is needed if less is left.
     pub fn grow(&mut self, memory: usize, pages: u64, number: &mut u64) -> u8
         ensures { OnHeld (RepliesInWord (Some (GrowMemory memory pages)) number.old)
-            (no_machine_status, number.old)
+            (NO_MACHINE, number.old)
             self.old.machine.held (result, number.new) self.new.machine.held }
     {
         on_machine!(self, NO_MACHINE, machine => machine.grow(memory, pages, number))
@@ -251,7 +251,7 @@ impl Handle {
 
     /// Sets `left` to the fuel that is left.
     pub fn fuel_left(&mut self, left: &mut u64) -> u8
-        ensures { OnHeld (RepliesInWord (Some GetFuel) left.old) (no_machine_status, left.old)
+        ensures { OnHeld (RepliesInWord (Some GetFuel) left.old) (NO_MACHINE, left.old)
             self.old.machine.held (result, left.new) self.new.machine.held }
     {
         on_machine!(self, NO_MACHINE, machine => machine.fuel_left(left))
@@ -263,7 +263,7 @@ impl Handle {
     pub fn run_lines(&mut self, alloc: Global, lines: &[u8], text: &mut [u8]) -> ReplyStruct
         ensures { OnHeld {R = ReplyStruct × List ℕ}
             (λ machine left machine'. RunsLines lines.now machine text.old left.0 left.1 machine')
-            (only no_machine_status, text.old)
+            (only NO_MACHINE, text.old)
             self.old.machine.held (result, text.new) self.new.machine.held }
     {
         on_machine!(self, ReplyStruct::only(NO_MACHINE), machine => {

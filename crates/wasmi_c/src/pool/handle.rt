@@ -5,7 +5,7 @@ ghost use Rattle.wasmi_core.specs.declared.calls.Call.TheVariants.{Write};
 ghost use Rattle.wasmi_c.specs.Machine.Calls.{ActsOnHeld};
 ghost use Rattle.wasmi_c.specs.Machine.Replies.{only};
 ghost use Rattle.wasmi_c.specs.Pool.{AddsNewTenant, KeepsCaps, MakesPool, RunsTenantLines, TenantReadsOut, TenantRepliesToCopy, TenantRepliesToStruct, no_pool_totals, pool_totals, tenant_totals};
-ghost use Rattle.wasmi_c.specs.Status.{no_pool_status};
+ghost use Rattle.wasmi_c.specs.declared.status.TheConstants.{NO_POOL};
 ghost use Rattle.wasmi_c.specs.declared.machine.reply_struct.ReplyStruct.{ReplyStruct};
 
 use crate::held_box::HeldBox;
@@ -118,7 +118,7 @@ impl PoolHandle {
     /// Adds a tenant: a machine with nothing on it, with the meter of the limits, whose caps aren't
     /// read. The number is its index.
     pub fn add(&mut self, alloc: Global, limits: &Limits) -> ReplyStruct
-        ensures step { ActsOnHeld (only no_pool_status) self.old.pool.held result self.new.pool.held
+        ensures step { ActsOnHeld (only NO_POOL) self.old.pool.held result self.new.pool.held
             (AddsNewTenant limits.now result) }
         ensures caps { KeepsCaps self.old.pool.held self.new.pool.held }
     {
@@ -127,7 +127,7 @@ impl PoolHandle {
 
     /// Replies to a call on the machine of a tenant, if the numbers stand for one.
     pub fn call(&mut self, alloc: Global, tenant: usize, call: &CallStruct) -> ReplyStruct
-        ensures step { ActsOnHeld (only no_pool_status) self.old.pool.held result self.new.pool.held
+        ensures step { ActsOnHeld (only NO_POOL) self.old.pool.held result self.new.pool.held
             (TenantRepliesToStruct tenant call.now result) }
         ensures caps { KeepsCaps self.old.pool.held self.new.pool.held }
     {
@@ -146,7 +146,7 @@ impl PoolHandle {
         offset: usize,
         bytes: &mut [u8],
     ) -> ReplyStruct
-        ensures step { ActsOnHeld {R = ReplyStruct × List ℕ} (only no_pool_status, bytes.old)
+        ensures step { ActsOnHeld {R = ReplyStruct × List ℕ} (only NO_POOL, bytes.old)
             self.old.pool.held (result, bytes.new) self.new.pool.held
             (TenantReadsOut tenant memory offset bytes.old result bytes.new) }
         ensures caps { KeepsCaps self.old.pool.held self.new.pool.held }
@@ -165,7 +165,7 @@ impl PoolHandle {
         offset: usize,
         bytes: &[u8],
     ) -> ReplyStruct
-        ensures step { ActsOnHeld (only no_pool_status) self.old.pool.held result self.new.pool.held
+        ensures step { ActsOnHeld (only NO_POOL) self.old.pool.held result self.new.pool.held
             (TenantRepliesToCopy tenant (Write memory offset) bytes.now result) }
         ensures caps { KeepsCaps self.old.pool.held self.new.pool.held }
     {
@@ -182,7 +182,7 @@ impl PoolHandle {
         lines: &[u8],
         text: &mut [u8],
     ) -> ReplyStruct
-        ensures step { ActsOnHeld {R = ReplyStruct × List ℕ} (only no_pool_status, text.old)
+        ensures step { ActsOnHeld {R = ReplyStruct × List ℕ} (only NO_POOL, text.old)
             self.old.pool.held (result, text.new) self.new.pool.held
             (RunsTenantLines tenant lines.now text.old result text.new) }
         ensures caps { KeepsCaps self.old.pool.held self.new.pool.held }
