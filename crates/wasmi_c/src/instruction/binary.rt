@@ -1,12 +1,13 @@
 //! The instructions of two operands.
 ghost use Rattle.std.specs.Prelude.{◌≡◌, length};
+ghost use Rattle.wasmi_c.specs.declared.instruction.binary.Binary.TheVariants.{Scalar, Vector, Shift};
 ghost use Rattle.wasmi_c.specs.Instruction.{Leaves, each_of_two, binary_numbered, binary_outcome, binary_result, binary_results, binary_value};
 
 use crate::instruction::list::numbered;
 use crate::instruction::numbers::{BINARY_INSTRUCTIONS, binary_numbers};
 use crate::instruction::refusal::Refusal;
 use crate::instruction::result::{InstructionResult, leave, result_of};
-use crate::instruction::rows::op_once;
+use crate::instruction::rows::part_once;
 use crate::status::DONE;
 use wasmi_ops::{BinaryOp, ScalarBinaryOp, ShiftOp};
 use wasmi_raw::{RawVal, ReadAs};
@@ -94,5 +95,35 @@ fn each_by_op(op: Binary, a: &[RawVal], b: &[RawVal], results: &mut [Instruction
     ensures { Leaves (each_of_two (binary_outcome op) a.now b.now (length results.old))
         results.old results.new result }
 {
-    binary_numbers!(op_once! op Binary each(a, b, results))
+    match op {
+        Binary::Scalar(op) => each_scalar(op, a, b, results),
+        Binary::Vector(op) => each_vector(op, a, b, results),
+        Binary::Shift(op) => each_shift(op, a, b, results),
+    }
+}
+
+fn each_scalar(
+    op: ScalarBinaryOp,
+    a: &[RawVal],
+    b: &[RawVal],
+    results: &mut [InstructionResult],
+) -> u8
+    ensures { Leaves (each_of_two (binary_outcome (Scalar op)) a.now b.now (length results.old))
+        results.old results.new result }
+{
+    binary_numbers!(part_once! Scalar [op Binary each(a, b, results)])
+}
+
+fn each_vector(op: BinaryOp, a: &[RawVal], b: &[RawVal], results: &mut [InstructionResult]) -> u8
+    ensures { Leaves (each_of_two (binary_outcome (Vector op)) a.now b.now (length results.old))
+        results.old results.new result }
+{
+    binary_numbers!(part_once! Vector [op Binary each(a, b, results)])
+}
+
+fn each_shift(op: ShiftOp, a: &[RawVal], b: &[RawVal], results: &mut [InstructionResult]) -> u8
+    ensures { Leaves (each_of_two (binary_outcome (Shift op)) a.now b.now (length results.old))
+        results.old results.new result }
+{
+    binary_numbers!(part_once! Shift [op Binary each(a, b, results)])
 }

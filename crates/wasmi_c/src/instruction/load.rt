@@ -6,7 +6,7 @@ use crate::instruction::list::numbered;
 use crate::instruction::numbers::{LOAD_INSTRUCTIONS, load_numbers};
 use crate::instruction::refusal::Refusal;
 use crate::instruction::result::{InstructionResult, leave, result_of};
-use crate::instruction::rows::op_once;
+use crate::instruction::rows::part_once;
 use crate::status::DONE;
 use wasmi_ops::{LoadOp, VectorLoadOp};
 use wasmi_raw::RawVal;
@@ -79,7 +79,10 @@ pub fn load_by_number(number: u16, memory: &[u8], ptr: u64, offset: u64, value: 
 fn load_by_op(op: Load, memory: &[u8], ptr: u64, offset: u64) -> Result<RawVal, TrapCode>
     ensures { result ≡ loaded_value op memory.now (ptr + offset) }
 {
-    load_numbers!(op_once! op Load load(memory, ptr, offset))
+    match op {
+        Load::Scalar(op) => load_numbers!(part_once! Scalar [op Load load(memory, ptr, offset)]),
+        Load::Vector(op) => load_numbers!(part_once! Vector [op Load load(memory, ptr, offset)]),
+    }
 }
 
 /// Writes what the load of a number gives from each pointer of an array plus the offset, or its
@@ -111,5 +114,12 @@ fn each_by_op(
     ensures { Leaves (each_of (load_outcome op memory.now offset) ptrs.now (length results.old))
         results.old results.new result }
 {
-    load_numbers!(op_once! op Load each(memory, ptrs, offset, results))
+    match op {
+        Load::Scalar(op) => {
+            load_numbers!(part_once! Scalar [op Load each(memory, ptrs, offset, results)])
+        }
+        Load::Vector(op) => {
+            load_numbers!(part_once! Vector [op Load each(memory, ptrs, offset, results)])
+        }
+    }
 }

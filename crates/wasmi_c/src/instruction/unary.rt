@@ -1,11 +1,12 @@
 //! The instructions of one operand.
 ghost use Rattle.std.specs.Prelude.{◌≡◌, length};
+ghost use Rattle.wasmi_c.specs.declared.instruction.unary.Unary.TheVariants.{Scalar, Make, Vector, Test};
 ghost use Rattle.wasmi_c.specs.Instruction.{Leaves, each_of, unary_numbered, unary_result, unary_results, unary_value};
 
 use crate::instruction::list::numbered;
 use crate::instruction::numbers::{UNARY_INSTRUCTIONS, unary_numbers};
 use crate::instruction::refusal::Refusal;
-use crate::instruction::rows::op_once;
+use crate::instruction::rows::part_once;
 use crate::status::DONE;
 use wasmi_ops::{MakeOp, ScalarUnaryOp, TestOp, UnaryOp};
 use wasmi_raw::RawVal;
@@ -89,5 +90,38 @@ fn each_by_op(op: Unary, a: &[RawVal], values: &mut [RawVal]) -> u8
     ensures { Leaves (each_of (unary_value op) a.now (length values.old))
         values.old values.new result }
 {
-    unary_numbers!(op_once! op Unary each(a, values))
+    match op {
+        Unary::Scalar(op) => each_scalar(op, a, values),
+        Unary::Make(op) => each_make(op, a, values),
+        Unary::Vector(op) => each_vector(op, a, values),
+        Unary::Test(op) => each_test(op, a, values),
+    }
+}
+
+fn each_scalar(op: ScalarUnaryOp, a: &[RawVal], values: &mut [RawVal]) -> u8
+    ensures { Leaves (each_of (unary_value (Scalar op)) a.now (length values.old))
+        values.old values.new result }
+{
+    unary_numbers!(part_once! Scalar [op Unary each(a, values)])
+}
+
+fn each_make(op: MakeOp, a: &[RawVal], values: &mut [RawVal]) -> u8
+    ensures { Leaves (each_of (unary_value (Make op)) a.now (length values.old))
+        values.old values.new result }
+{
+    unary_numbers!(part_once! Make [op Unary each(a, values)])
+}
+
+fn each_vector(op: UnaryOp, a: &[RawVal], values: &mut [RawVal]) -> u8
+    ensures { Leaves (each_of (unary_value (Vector op)) a.now (length values.old))
+        values.old values.new result }
+{
+    unary_numbers!(part_once! Vector [op Unary each(a, values)])
+}
+
+fn each_test(op: TestOp, a: &[RawVal], values: &mut [RawVal]) -> u8
+    ensures { Leaves (each_of (unary_value (Test op)) a.now (length values.old))
+        values.old values.new result }
+{
+    unary_numbers!(part_once! Test [op Unary each(a, values)])
 }
