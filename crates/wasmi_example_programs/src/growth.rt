@@ -28,12 +28,10 @@ pub fn main(rt: HostRuntime) -> anyhow::Result<()> {
     let mut builder = MemoryType::builder();
     builder.min(60).page_size_log2(0);
     let mut memory = Memory::new_lending(rt.alloc(), builder.build()?, &mut quota)?;
-    println!(rt; "{:?}", grow(&mut memory, 41, &mut fuel, &mut quota))?;
-    println!(rt; "{:?}", grow(&mut memory, 40, &mut fuel, &mut quota))?;
-    println!(rt;
-        "{} bytes, held {}",
-        memory.data().len(),
-        quota.held_bytes()
-    )?;
+    for pages in [41, 40] {
+        println!(rt; "{:?}", grow(&mut memory, pages, &mut fuel, &mut quota))?;
+    }
+    let bytes = memory.data().len();
+    println!(rt; "{bytes} bytes, held {}", quota.held_bytes())?;
     Ok(())
 }

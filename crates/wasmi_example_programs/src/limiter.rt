@@ -35,7 +35,7 @@ pub fn main(rt: HostRuntime) -> anyhow::Result<()> {
     for pages in 1..3 {
         let mut builder = MemoryType::builder();
         builder.min(pages);
-        let calls = vec![in rt.alloc(); Call::NewMemory(builder.build()?)]?;
+        let calls = [Call::NewMemory(builder.build()?)];
         println!(rt; "{:?}", run_lending(&mut machine, &calls, &mut limiter)?)?;
     }
     Ok(())

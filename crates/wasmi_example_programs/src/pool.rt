@@ -17,8 +17,7 @@ pub fn main(rt: HostRuntime) -> anyhow::Result<()> {
     // Each asks for a page: the second one is denied.
     let mut builder = MemoryType::builder();
     builder.min(1);
-    let ty = builder.build()?;
-    let calls = vec![in rt.alloc(); Call::NewMemory(ty)]?;
+    let calls = [Call::NewMemory(builder.build()?)];
     for tenant in 0..pool.len() {
         let replies = pool.run(tenant, &calls)?;
         println!(rt; "tenant {tenant}: {replies:?}")?;

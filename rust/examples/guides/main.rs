@@ -2,42 +2,49 @@
 mod bill {
     //! A bill: what a list of calls of unknown origin costs, and what is left for the next one.
 
+    use std::io;
     use std::io::Write as _;
     use wasmi_core_proved::machine::{
         Call, Fuel, FuelCostsProvider, Machine, MemoryType, NoLimits, run_lending,
     };
-    use wasmi_core_proved::rattle::Vec;
 
     /// Runs a list of calls and prints what it was charged.
     pub fn main() -> Result<(), Box<dyn std::error::Error>> {
         // Fuel is counted at the default prices: one unit pays for 64 copied bytes.
         let mut fuel = Fuel::new(true, FuelCostsProvider::default());
         fuel.set_fuel(2000)?;
-        let mut machine = Machine::new(fuel);
         let mut builder = MemoryType::builder();
         builder.min(1);
-        let ty = builder.build()?;
         let grow = Call::GrowMemory {
             memory: 0,
             pages: 1,
         };
-        let calls = Vec::of([Call::NewMemory(ty), grow, Call::GetFuel])?;
+        let calls = [Call::NewMemory(builder.build()?), grow, Call::GetFuel];
+        let mut machine = Machine::new(fuel);
+        bill(&mut machine, &calls)?;
+        Ok(())
+    }
 
+    /// Runs calls, and prints their replies and what they were charged.
+    fn bill(machine: &mut Machine, calls: &[Call]) -> io::Result<()> {
         // Whoever pays must not set the fuel.
         if calls.iter().any(Call::sets_fuel) {
-            writeln!(std::io::stdout(), "refused: a call sets the fuel")?;
-            return Ok(());
+            return writeln!(std::io::stdout(), "refused: a call sets the fuel");
         }
-        let before = machine.fuel().get_fuel()?;
-        let replies = run_lending(&mut machine, &calls, &mut NoLimits)?;
-        let after = machine.fuel().get_fuel()?;
+        let before = left(machine);
+        let replies = run_lending(machine, calls, &mut NoLimits)?;
+        let after = left(machine);
         writeln!(std::io::stdout(), "replies: {replies:?}")?;
         writeln!(
             std::io::stdout(),
             "charged {}, left {after}",
             before.saturating_sub(after)
-        )?;
-        Ok(())
+        )
+    }
+
+    /// What is left, or 0 if metering is off.
+    fn left(machine: &Machine) -> u64 {
+        machine.fuel().get_fuel().unwrap_or(0)
     }
 }
 mod growth {
@@ -73,20 +80,17 @@ mod growth {
         let mut builder = MemoryType::builder();
         builder.min(60).page_size_log2(0);
         let mut memory = Memory::new_lending(builder.build()?, &mut quota)?;
+        for pages in [41, 40] {
+            writeln!(
+                std::io::stdout(),
+                "{:?}",
+                grow(&mut memory, pages, &mut fuel, &mut quota)
+            )?;
+        }
+        let bytes = memory.data().len();
         writeln!(
             std::io::stdout(),
-            "{:?}",
-            grow(&mut memory, 41, &mut fuel, &mut quota)
-        )?;
-        writeln!(
-            std::io::stdout(),
-            "{:?}",
-            grow(&mut memory, 40, &mut fuel, &mut quota)
-        )?;
-        writeln!(
-            std::io::stdout(),
-            "{} bytes, held {}",
-            memory.data().len(),
+            "{bytes} bytes, held {}",
             quota.held_bytes()
         )?;
         Ok(())
@@ -100,7 +104,6 @@ mod limiter {
         Call, Fuel, FuelCostsProvider, Kind, LimiterByKind, LimiterError, Machine, MemoryType,
         run_lending,
     };
-    use wasmi_core_proved::rattle::Vec;
 
     /// Permits each memory up to so many bytes, and each table up to so many elements.
     #[derive(Clone, Copy, Debug)]
@@ -126,7 +129,7 @@ mod limiter {
         for pages in 1..3 {
             let mut builder = MemoryType::builder();
             builder.min(pages);
-            let calls = Vec::of([Call::NewMemory(builder.build()?)])?;
+            let calls = [Call::NewMemory(builder.build()?)];
             writeln!(
                 std::io::stdout(),
                 "{:?}",
@@ -182,7 +185,6 @@ mod pool {
     use std::io::Write as _;
     use wasmi_core_proved::machine::{Call, Fuel, FuelCostsProvider, Machine, MemoryType};
     use wasmi_core_proved::pool::Pool;
-    use wasmi_core_proved::rattle::Vec;
 
     /// Runs one list of calls on each tenant.
     pub fn main() -> Result<(), Box<dyn std::error::Error>> {
@@ -198,8 +200,7 @@ mod pool {
         // Each asks for a page: the second one is denied.
         let mut builder = MemoryType::builder();
         builder.min(1);
-        let ty = builder.build()?;
-        let calls = Vec::of([Call::NewMemory(ty)])?;
+        let calls = [Call::NewMemory(builder.build()?)];
         for tenant in 0..pool.len() {
             let replies = pool.run(tenant, &calls)?;
             writeln!(std::io::stdout(), "tenant {tenant}: {replies:?}")?;
@@ -214,35 +215,37 @@ mod pool {
 mod quota {
     //! A machine under a quota: a list of calls, their replies, and what the quota holds afterwards.
 
+    use std::io;
     use std::io::Write as _;
     use wasmi_core_proved::machine::{
         Call, Fuel, FuelCostsProvider, Machine, MemoryType, Quota, run_reserving,
     };
-    use wasmi_core_proved::rattle::Vec;
 
     /// Makes a memory and lets it grow past the cap.
     pub fn main() -> Result<(), Box<dyn std::error::Error>> {
         // One to sixteen pages of 64 KiB, as a module may declare it.
         let mut builder = MemoryType::builder();
         builder.min(1).max(Some(16));
-        let ty = builder.build()?;
+        let grow = Call::GrowMemory {
+            memory: 0,
+            pages: 2,
+        };
+        run(&[Call::NewMemory(builder.build()?), grow])?;
+        Ok(())
+    }
 
+    /// Runs calls on a new machine, and prints their replies and what the quota holds.
+    fn run(calls: &[Call]) -> io::Result<()> {
         // A meter that is off, and a cap of two pages on all memories; no tables.
         let fuel = Fuel::new(false, FuelCostsProvider::default());
         let mut machine = Machine::new(fuel);
         let mut quota = Quota::new(131_072, 0);
 
-        let grow = Call::GrowMemory {
-            memory: 0,
-            pages: 2,
-        };
-        let calls = Vec::of([Call::NewMemory(ty), grow])?;
-        let replies = run_reserving(&mut machine, &calls, &mut quota)?;
+        let replies = run_reserving(&mut machine, calls, &mut quota)?;
         for (call, reply) in calls.iter().zip(&replies) {
             writeln!(std::io::stdout(), "{call:?}: {reply:?}")?;
         }
-        writeln!(std::io::stdout(), "held: {} bytes", quota.held_bytes())?;
-        Ok(())
+        writeln!(std::io::stdout(), "held: {} bytes", quota.held_bytes())
     }
 }
 
