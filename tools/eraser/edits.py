@@ -100,8 +100,10 @@ EDITS += [
     ("script", 'format_args!(" {byte}")', '(" ", &byte)', 1),
     ("script", 'format_args!("held {bytes} {elements}")', '("held ", &bytes, " ", &elements)', 1),
     ("script", 'format_args!("held {index} {bytes} {elements}")', '("held ", &index, " ", &bytes, " ", &elements)', 1),
-    ("script", 'write!(f, "{first}")?', "first.show(f)?", 1),
+    ("script", 'write!(f, "{}{}", wording.start, wording.words)', "(wording.start, wording.words).show(f)", 1),
+    ("script", 'write!(f, "{first}")', "first.show(f)", 1),
     ("script", 'write!(f, " {second}")', '(" ", &second).show(f)', 1),
+    ("script", 'write!(f, "{first} {second}")', '(&first, " ", &second).show(f)', 1),
     ("script", "impl fmt::Display for ReplyHead<'_> { #[inline] fn fmt(&self, f: &mut fmt::Formatter<'_>) -> fmt::Result {", """
 impl fmt::Display for ReplyHead<'_> {
     fn fmt(&self, f: &mut fmt::Formatter<'_>) -> fmt::Result {

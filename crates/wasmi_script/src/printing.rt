@@ -198,14 +198,12 @@ impl fmt::Display for ReplyHead<'_> {
 
     fn fmt<W: fmt::Write>(&self, f: &mut fmt::Formatter<W>) -> fmt::Result {
         let wording = Wording::of(self.call, self.reply);
-        f.write_str(wording.start)?;
-        f.write_str(wording.words)?;
-        if let Some(first) = wording.first {
-            write!(f, "{first}")?;
-        }
-        match wording.second {
-            Some(second) => write!(f, " {second}"),
-            None => Ok(()),
+        write!(f, "{}{}", wording.start, wording.words)?;
+        match (wording.first, wording.second) {
+            (None, None) => Ok(()),
+            (Some(first), None) => write!(f, "{first}"),
+            (None, Some(second)) => write!(f, " {second}"),
+            (Some(first), Some(second)) => write!(f, "{first} {second}"),
         }
     }
 }

@@ -563,14 +563,12 @@ mod printing {
         #[inline]
         fn show<W: Sink>(&self, f: &mut W) -> fmt::Result {
             let wording = Wording::of(self.call, self.reply);
-            f.write_str(wording.start)?;
-            f.write_str(wording.words)?;
-            if let Some(first) = wording.first {
-                first.show(f)?;
-            }
-            match wording.second {
-                Some(second) => (" ", &second).show(f),
-                None => Ok(()),
+            (wording.start, wording.words).show(f)?;
+            match (wording.first, wording.second) {
+                (None, None) => Ok(()),
+                (Some(first), None) => first.show(f),
+                (None, Some(second)) => (" ", &second).show(f),
+                (Some(first), Some(second)) => (&first, " ", &second).show(f),
             }
         }
     }

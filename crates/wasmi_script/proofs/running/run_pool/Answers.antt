@@ -1,4 +1,5 @@
-use Rattle.std.proofs.Common.{Bor, List, ℕ, ◌≡◌, ◌∙◌, ◌+◌, arith, refl, sym, ap, subst, take}
+use Rattle.std.proofs.Common.{Bor, List, ℕ, zero, suc, ◌≡◌, ◌∙◌, ◌+◌, ◌<◌, [], ◌∷◌, Option, None, Some, arith, length, refl, sym, ap, subst, take}
+use Rattle.std.specs.Prelude.{IsSome, slice_get}
 use Rattle.std.specs.Option.{option_map}
 use Rattle.std.proofs.lemmas.List.{take_all}
 use Rattle.wasmi_core.specs.State.{new_state}
@@ -34,3 +35,19 @@ returns c =
       refl,
       subst (λ ps. AnswersParts start ps c.loop-index.replies.items c.loop-index.pool) all c.loop-index.invariant,
     )
+
+pub loop-index-init : goal.loop-index-init
+loop-index-init c = (c.in_ok-replies.ensures.items, c.in_ok-pool.ensures)
+
+-- what is got below the length is there
+there : {A B : Type 0} (f : A → B) (got : Option A) (xs : List B) (i : ℕ) → option_map f got ≡ slice_get xs i
+    → i < length xs → IsSome got
+there f (Some x) xs i is within = refl
+there f None (x ∷ xs) zero is within = absurd cc
+there f None (x ∷ xs) (suc i) is within = there f None xs i is (omega arith)
+there f None [] i is within = absurd (omega arith)
+
+pub unwrap-tenant-requires : goal.unwrap-tenant-requires
+unwrap-tenant-requires c =
+    there run_at _ (parts_in c.args.script.now.parts) c.loop-index.index c.get.ensures
+    (omega (arith, c.loop-index-test.true, c.len-index-end.ensures))
