@@ -256,13 +256,11 @@ pub mod interpreter {
                 Instruction::Constant { dst, number } => Some(set(dst, RawVal::from(number))),
                 Instruction::Copy { dst, src } => Some(set(dst, machine.register(src)?)),
                 Instruction::Add { dst, lhs, rhs } => {
-                    let lhs = machine.register(lhs)?;
-                    let rhs = machine.register(rhs)?;
+                    let (lhs, rhs) = machine.register(lhs).zip(machine.register(rhs))?;
                     Some(set(dst, wasm::i64_add(lhs.read_as(), rhs.read_as()).into()))
                 }
                 Instruction::Multiply { dst, lhs, rhs } => {
-                    let lhs = machine.register(lhs)?;
-                    let rhs = machine.register(rhs)?;
+                    let (lhs, rhs) = machine.register(lhs).zip(machine.register(rhs))?;
                     Some(set(dst, wasm::i64_mul(lhs.read_as(), rhs.read_as()).into()))
                 }
                 Instruction::AddBytes { dst, lhs, rhs } => Some(Action::Calls(Call::Binary {
@@ -279,20 +277,21 @@ pub mod interpreter {
                     offset,
                 })),
                 Instruction::Store { ptr, offset, value } => {
-                    let ptr = machine.register(ptr)?.to_bits64();
-                    let value = machine.register(value)?;
+                    let (ptr, value) = machine.register(ptr).zip(machine.register(value))?;
                     Some(Action::Calls(Call::Store {
                         op: StoreOp::Store64,
                         memory: 0,
-                        ptr,
+                        ptr: ptr.to_bits64(),
                         offset,
                         value,
                     }))
                 }
                 Instruction::Grow { dst, pages } => {
-                    machine.register(dst)?;
-                    let pages = machine.register(pages)?.to_bits64();
-                    Some(Action::Grows { dst, pages })
+                    let (_, pages) = machine.register(dst).zip(machine.register(pages))?;
+                    Some(Action::Grows {
+                        dst,
+                        pages: pages.to_bits64(),
+                    })
                 }
                 Instruction::Size { dst } => {
                     Some(set(dst, RawVal::from(machine.memory(0)?.size())))
