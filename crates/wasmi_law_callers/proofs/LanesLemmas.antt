@@ -1,5 +1,5 @@
 -- Lists of numbers and of types, words divided into lanes of unequal widths, and a byte made of tests.
-use Rattle.std.proofs.Common.{◌≡◌, ℕ, ℤ, ◌<◌, ◌≤◌, ◌^◌, Bool, true, false, if◌then◌else◌, refl, sym, ap, ap₂, ◌∙◌, arith, inl, inr, lit<, lit≤, List, ◌∷◌, [], ◌+◌, zero, suc, Some, slice_get, subst}
+use Rattle.std.proofs.Common.{◌≡◌, ℕ, ℤ, ◌<◌, ◌≤◌, ◌^◌, Bool, true, false, if◌then◌else◌, refl, sym, ap, ap₂, ◌∙◌, arith, inl, inr, lit<, lit≤, List, ◌∷◌, [], ◌+◌, ◌-◌, zero, suc, Some, length, get_or, slice_get, subst}
 use Rattle.std.proofs.lemmas.List.Elements.{All-head, All-tail}
 use Rattle.std.proofs.lemmas.Nat.Bits.{bit_at_ones, same_from_bits_below}
 use Rattle.wasmi_types.specs.Numbers.{Width, signed, wrap}
@@ -7,7 +7,7 @@ use Rattle.std.specs.Prelude.{◌↔◌, FitsSigned, IsTrue, All, map}
 use Rattle.std.specs.Int.{bit_at}
 use Rattle.wasmi_lanes.specs.Words.{field, AreLanes}
 use Rattle.std.proofs.lemmas.Bool.{cases_lt}
-use Rattle.std.proofs.lemmas.Option.{same_Some}
+use Rattle.std.proofs.lemmas.Option.{same_Some, slice_get_read}
 use Rattle.wasmi_law_callers.specs.Runs.{RelatesForward}
 
 -- where each number that fits is read as itself, so is a list of such numbers
@@ -82,3 +82,32 @@ module _ {X : Type 0} (Relates : X → X → Type 0) (own : (a : X) → Relates 
   chain_is_forward n i ended next =
       let forward = next_reaches n (λ k a b below at at'. next k a b (omega arith) at at') in
       (λ yes. forward, λ given. refl)
+
+module _ {X : Type 0} (Relates : X → X → Type 0) (xs : List X) (i : ℕ) (x y : X) (later : 1 ≤ i) (within : i < length xs)
+    (at : x ≡ get_or xs (i - 1) x) (at' : y ≡ get_or xs i y) where
+  -- the item before this one, and this one
+  before_is : slice_get xs (i - 1) ≡ Some x
+  before_is = slice_get_read xs (length xs) (i - 1) x refl (omega arith) at
+
+  here_is : slice_get xs i ≡ Some y
+  here_is = slice_get_read xs (length xs) i y refl within at'
+
+  -- where one item isn't related to the next, not each is related to all that follow
+  pub chain_breaks : (told : Bool) → told ≡ false → IsTrue told ↔ Relates x y
+      → IsTrue false ↔ RelatesForward Relates xs (length xs)
+  chain_breaks told fails tells = (
+    λ yes. absurd cc,
+    λ forward. sym fails ∙ tells.1 (forward (i - 1) i x y (omega arith) within before_is here_is),
+  )
+
+  -- where the items before are related to the next, and one more is, so are all of these
+  pub chain_goes_on : (told : Bool) → told ≡ true → IsTrue told ↔ Relates x y → RelatesNext Relates xs i
+      → RelatesNext Relates xs (i + 1)
+  chain_goes_on told holds tells next k a b below found found' =
+      elim (cases_lt (k + 1) i) as (λ _. Relates a b) [
+        | inl less ↦ next k a b less found found'
+        | inr reached ↦
+            let is_x = same_Some x a (sym before_is ∙ ap (slice_get xs) (omega arith) ∙ found) in
+            let is_y = same_Some y b (sym here_is ∙ ap (slice_get xs) (omega arith) ∙ found') in
+            subst (λ u. Relates u b) is_x (subst (Relates x) is_y (tells.0 holds))
+      ]

@@ -18,7 +18,6 @@ use wasmi_core::{
 use wasmi_store::laws;
 
 /// Makes a memory: the quota holds the bytes that were made.
-#[tactic(auto, using(crate::proofs::LimitersLemmas::memory_made_counts))]
 pub fn make_memory<'r>(
     alloc: Global,
     ty: MemoryType,
@@ -30,7 +29,6 @@ pub fn make_memory<'r>(
 }
 
 /// Makes a memory in a region: the quota holds the bytes that were made.
-#[tactic(auto, using(crate::proofs::LimitersLemmas::memory_made_counts))]
 pub fn make_static_memory<'r>(
     ty: MemoryType,
     quota: &mut Quota,
@@ -42,7 +40,6 @@ pub fn make_static_memory<'r>(
 }
 
 /// Lets a memory grow: the quota holds the bytes that were added.
-#[tactic(auto, using(crate::proofs::LimitersLemmas::memory_grown_counts))]
 pub fn grow_memory(
     memory: &mut Memory,
     pages: u64,
@@ -73,7 +70,6 @@ pub fn make_grown_memory<'r>(
 }
 
 /// Makes a table: the quota holds the elements that were made.
-#[tactic(auto, using(crate::proofs::LimitersLemmas::table_made_counts))]
 pub fn make_table(
     alloc: Global,
     ty: TableType,
@@ -86,7 +82,6 @@ pub fn make_table(
 }
 
 /// Lets a table grow: the quota holds the elements that were added.
-#[tactic(auto, using(crate::proofs::LimitersLemmas::typed_table_grown_counts))]
 pub fn grow_table(
     table: &mut Table,
     delta: u64,
@@ -101,7 +96,6 @@ pub fn grow_table(
 
 /// Lets a table grow with a reference that has no type: the quota holds the elements that were
 /// added.
-#[tactic(auto, using(crate::proofs::LimitersLemmas::table_grown_counts))]
 pub fn grow_table_raw(
     table: &mut Table,
     delta: u64,
