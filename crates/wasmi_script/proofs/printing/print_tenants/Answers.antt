@@ -1,4 +1,6 @@
-use Rattle.std.proofs.Common.{lit≤, codes}
+use Rattle.std.proofs.Common.{ℕ, zero, suc, ◌≡◌, ◌∙◌, ◌<◌, List, [], ◌∷◌, Option, None, Some, arith, codes, length, lit≤, refl, sym}
+use Rattle.std.specs.Prelude.{IsSome, slice_get}
+use Rattle.std.specs.Option.{option_map}
 use Rattle.wasmi_script.proofs.LengthLemmas.{three_numbers}
 use Rattle.wasmi_script.proofs.PrintingLemmas.{always_err, prints_then, prints_front}
 use Rattle.wasmi_script.proofs.OutcomesLemmas.{IsHeldAt, one_tenant, tenants_whole}
@@ -6,18 +8,40 @@ use Rattle.wasmi_script.proofs.printing.print_tenants.Goals as goal
 
 pub returns-in_err-print_line-clause-front : goal.returns-in_err-print_line-clause-front
 returns-in_err-print_line-clause-front g c =
-    let held : IsHeldAt c.args.pool.now.machines c.loop-index.index-counter c.unwrap-bytes.result
-    c.unwrap-elements.result = record { bytes_held = cc; elements_held = cc } in
+    let held : IsHeldAt c.args.pool.now.machines _ c.unwrap-bytes.result c.unwrap-elements.result = record {
+      bytes_held = sym c.held_bytes.ensures ∙ c.unwrap-bytes.ensures;
+      elements_held = sym c.held_elements.ensures ∙ c.unwrap-elements.ensures;
+    } in
     always_err c.from_residual.result
     (prints_front g.W.Write.contents _ _ _ _ _ _ _ (tenants_whole _ _ _ _ held) c.loop-index.invariant
     c.in_err-print_line.ensures.front)
 
 pub loop-index-preserved : goal.loop-index-preserved
 loop-index-preserved g c =
-    let held : IsHeldAt c.args.pool.now.machines c.loop-index.index-counter c.unwrap-bytes.result
-    c.unwrap-elements.result = record { bytes_held = cc; elements_held = cc } in
+    let held : IsHeldAt c.args.pool.now.machines _ c.unwrap-bytes.result c.unwrap-elements.result = record {
+      bytes_held = sym c.held_bytes.ensures ∙ c.unwrap-bytes.ensures;
+      elements_held = sym c.held_elements.ensures ∙ c.unwrap-elements.ensures;
+    } in
     prints_then g.W.Write.contents _ _ _ _ _ _ (one_tenant _ _ _ _ held) c.loop-index.invariant
     c.in_ok-print_line.ensures.ok
 
 pub print_line-requires : goal.print_line-requires
 print_line-requires g c = record { short = three_numbers (codes "held ") _ _ _ (lit≤ tt) }
+
+-- what is made of an item below the length is there
+there : {A B : Type 0} (f : A → B) (xs : List A) (i : ℕ) (made : Option B) → made ≡ option_map f (slice_get xs i)
+    → i < length xs → IsSome made
+there f xs i (Some y) is within = refl
+there f [] i None is within = absurd (omega arith)
+there f (x ∷ xs) zero None is within = absurd cc
+there f (x ∷ xs) (suc i) None is within = there f xs i None is (omega arith)
+
+pub unwrap-bytes-requires : goal.unwrap-bytes-requires
+unwrap-bytes-requires g c =
+    there _ c.args.pool.now.machines _ _ c.held_bytes.ensures
+    (omega (arith, c.loop-index-test.true, c.len-index-end.ensures.value))
+
+pub unwrap-elements-requires : goal.unwrap-elements-requires
+unwrap-elements-requires g c =
+    there _ c.args.pool.now.machines _ _ c.held_elements.ensures
+    (omega (arith, c.loop-index-test.true, c.len-index-end.ensures.value))
