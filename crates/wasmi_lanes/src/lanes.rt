@@ -175,7 +175,6 @@ where
         LaneArray { items }
     }
 
-    #[tactic(auto, using(std::proofs::lemmas::List::get_or_default))]
     #[inline(always)]
     fn lanewise_unary<F: Fn(T) -> T>(self, f: F) -> Self {
         let mut items = self.items;
@@ -185,7 +184,6 @@ where
         LaneArray { items }
     }
 
-    #[tactic(auto, using(std::proofs::lemmas::List::get_or_default))]
     #[inline(always)]
     fn lanewise_binary<F: Fn(T, T) -> T>(self, other: Self, f: F) -> Self {
         let mut items = self.items;
@@ -195,7 +193,6 @@ where
         LaneArray { items }
     }
 
-    #[tactic(auto, using(std::proofs::lemmas::List::get_or_default))]
     #[inline(always)]
     fn lanewise_ternary<F: Fn(T, T, T) -> T>(self, b: Self, c: Self, f: F) -> Self {
         let mut items = self.items;

@@ -118,7 +118,6 @@ where
     ImmLaneIdx<N>: CountsLanes<N>,
     ImmLaneIdx<M>: CountsLanes<M>,
 {
-    #[tactic(auto, using(std::proofs::lemmas::List::get_or_default))]
     #[inline(always)]
     fn pairwise_unary<F: Fn(T, T) -> U>(narrow: LaneArray<T, N>, f: F) -> Self {
         let mut items = [U::ALL_ZEROS; M];
@@ -128,7 +127,6 @@ where
         LaneArray { items }
     }
 
-    #[tactic(auto, using(std::proofs::lemmas::List::get_or_default))]
     #[inline(always)]
     fn pairwise_binary<F: Fn([T; 2], [T; 2]) -> U>(
         a: LaneArray<T, N>,
@@ -145,7 +143,6 @@ where
         LaneArray { items }
     }
 
-    #[tactic(auto, using(std::proofs::lemmas::List::get_or_default))]
     #[inline(always)]
     fn low_unary<F: Fn(T) -> U>(narrow: LaneArray<T, N>, f: F) -> Self {
         let mut items = [U::ALL_ZEROS; M];
@@ -155,7 +152,6 @@ where
         LaneArray { items }
     }
 
-    #[tactic(auto, using(std::proofs::lemmas::List::get_or_default))]
     #[inline(always)]
     fn high_unary<F: Fn(T) -> U>(narrow: LaneArray<T, N>, f: F) -> Self {
         let mut items = [U::ALL_ZEROS; M];
@@ -165,7 +161,6 @@ where
         LaneArray { items }
     }
 
-    #[tactic(auto, using(std::proofs::lemmas::List::get_or_default))]
     #[inline(always)]
     fn low_binary<F: Fn(T, T) -> U>(a: LaneArray<T, N>, b: LaneArray<T, N>, f: F) -> Self {
         let mut items = [U::ALL_ZEROS; M];
@@ -175,7 +170,6 @@ where
         LaneArray { items }
     }
 
-    #[tactic(auto, using(std::proofs::lemmas::List::get_or_default))]
     #[inline(always)]
     fn high_binary<F: Fn(T, T) -> U>(a: LaneArray<T, N>, b: LaneArray<T, N>, f: F) -> Self {
         let mut items = [U::ALL_ZEROS; M];

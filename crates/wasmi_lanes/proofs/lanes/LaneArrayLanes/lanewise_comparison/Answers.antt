@@ -1,21 +1,22 @@
-use Rattle.std.proofs.Common.{◌<◌, ◌≢◌, length, arith, rules, get_or-set_other, get_or-set_same, below_more}
+use Rattle.std.proofs.Common.{Bool, ◌≡◌, if◌then◌else◌, get_or, arith, rules}
+use Rattle.std.proofs.lemmas.Grind.{common_steps}
 use Rattle.std.proofs.lemmas.List.{get_or_default}
+use Rattle.wasmi_lanes.proofs.LanesLemmas.{set_more}
 use Rattle.wasmi_lanes.proofs.lanes.LaneArrayLanes.lanewise_comparison.Goals as goal
+
+pub offset_bounds-items-i : goal.offset_bounds-items-i
+offset_bounds-items-i g c = grind (arith, common_steps)
 
 pub loop-i-preserved : goal.loop-i-preserved
 loop-i-preserved g c =
-    below_more _ _
-    (λ k h.
-    let before = c.loop-i.invariant k h in
-    let other : k ≢ c.loop-i.i = omega arith in
-    (before.0, before.1, rw get_or-set_other before.2))
-    (let inside : c.loop-i.i < length c.loop-i.items = search rules in
-    let self_inside : c.loop-i.i < length c.args.self.items = search rules in
-    let other_inside : c.loop-i.i < length c.args.other.items = search rules in
-    let x = get_or_default c.args.self.items c.loop-i.i c.index-self-i.result g.T.LaneInteger.ALL_ZEROS self_inside in
-    let y = get_or_default c.args.other.items c.loop-i.i c.index-other-i.result g.T.LaneInteger.ALL_ZEROS other_inside
-    in
-    (c.f.result, rw (x, y) at c.f.ensures, rw get_or-set_same c.ones_if.ensures))
+    let item = g.T.LaneInteger in
+    let default = item.ALL_ZEROS in
+    set_more
+    (λ k chosen. (holds : Bool)
+    × goal.F-post g c.args.f (get_or c.args.self.items k default) (get_or c.args.other.items k default) holds
+    × (chosen ≡ (if holds then item.ALL_ONES else default)))
+    c.loop-i.items c.loop-i.i c.ones_if.result _ (search rules) c.loop-i.invariant
+    (c.f.result, grind (arith, get_or_default), c.ones_if.ensures)
 
 pub returns : goal.returns
 returns g c = record { lanes = λ i h. c.loop-i.invariant i (omega arith) }
