@@ -33,6 +33,14 @@ extracted_at xs n first count i long inside room below =
     ∙ pick_l-range_with_len 0 xs first count (omega arith))
     ∙ get_or-chunk first count xs i 0 below
 
+-- neighbouring lanes, picked from the list of all lanes
+pub extracted_lane : (w : Width) (v : ℕ) (xs : List ℕ) (n first count : ℕ) → length xs ≡ n
+    → T (all_below n (range_with_len first count)) → first + count ≤ n
+    → ((k : ℕ) → k < n → get_or xs k 0 ≡ lane w v k)
+    → (i : ℕ) → i < count → get_or (pick_l 0 (xs ++ xs) (range_with_len first count)) i 0 ≡ lane w v (first + i)
+extracted_lane w v xs n first count long inside room are i below =
+    extracted_at xs n first count i long inside room below ∙ are (first + i) (omega arith)
+
 -- the bits of a lane that was read signed
 pub bits_at : (w : Width) (n i word : ℕ) (xs : List ℤ) → length xs ≡ n → i < n
     → get_or xs i (pos 0) ≡ cast_signed w word → word < 2 ^ bits w → get_or (map (cast_unsigned w) xs) i 0 ≡ word

@@ -163,10 +163,6 @@ module _ {A : Type 0} (narrow wide : Width) (read : ℕ → A) (i : ℕ) (inside
       (λ k. row (read (lane narrow a (2 * k))) (read (lane narrow a (2 * k + 1))) (read (lane narrow b (2 * k)))
       (read (lane narrow b (2 * k + 1))))
 
-pub ruleset halves = (lane_of_half, lane_of_halves)
-
-pub ruleset pairs = (lane_of_pair, lane_of_pairs)
-
 -- ---- extended lanes
 
 -- a number in the signed range, wrapped, is read as itself
@@ -204,8 +200,6 @@ module _ (narrow wide : Width) (first v i at : ℕ) (wider : bits narrow ≤ bit
       lane_of_half narrow wide unsigned i inside first (λ x. x) v ∙ mod-eq_of_lt (omega arith)
       ∙ ap (lane narrow v) (sym place)
 
-pub ruleset extended_lanes = (signed_of_extended, lane_of_extended)
-
 -- ---- lanes made of wider ones
 
 module _ {A : Type 0} (wide narrow : Width) (read : ℕ → A) (row : A → ℕ) (low high i : ℕ) where
@@ -239,8 +233,6 @@ module _ {A : Type 0} (wide narrow : Width) (read : ℕ → A) (row : A → ℕ)
       let back : n + i - n ≡ i = omega arith in
       lane_chosen (n + i) inside ∙ ap (chosen (n + i)) (le-ltb (n + i) n (omega arith))
       ∙ ap (λ k. row (read (lane wide high k)) % 2 ^ bits narrow) back
-
-pub ruleset wide_lanes = (lane_of_low, lane_of_high)
 
 -- ---- bits of tests
 
@@ -285,8 +277,6 @@ module _ {A : Type 0} (w : Width) (read : ℕ → A) (test : A → Bool) (v : �
   pub each_of_test : every_lane w read test v ≡ true → (i : ℕ) → i < lane_count w → test (read (lane w v i)) ≡ true
   unfolding every_lane
   each_of_test all = each_holds (lane_count w) (λ k. test (read (lane w v k))) all
-
-pub ruleset bits_of_tests = (bit_of_first, bits_below, bit_of_lane, bits_of_lanes_below)
 
 -- a test of the numbers below n at once holds exactly where it holds of each
 pub test_of_numbers : (n : ℕ) (test : ℕ → Bool)

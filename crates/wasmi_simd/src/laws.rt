@@ -10,7 +10,6 @@ ghost use Rattle.wasmi_simd.specs.WideningTable as vector;
 
 /// Lane i of a vector that is made of half of the narrow lanes is the row of the narrow lanes
 /// `first + i`, wrapped to the wide width. `A` is the integer as which a narrow lane is read.
-#[tactic(auto, using(crate::proofs::WideningLemmas::halves))]
 pub fn lanes_of_halves<A>()
     ensures unary { (narrow wide : Width) (first : ℕ) (read : ℕ → A) (row : A → ℕ) (v i : ℕ)
         → i < lane_count wide
@@ -25,7 +24,6 @@ pub fn lanes_of_halves<A>()
 
 /// Lane i of half of a vector, extended, is read as the narrow lane is: the lanes of the lower half
 /// keep their index, and those of the upper half are counted on.
-#[tactic(auto, using(crate::proofs::WideningLemmas::extended_lanes))]
 pub fn extended_lanes()
     ensures low_s { (narrow wide : Width) (v i : ℕ) → bits narrow ≤ bits wide → i < lane_count wide
         → signed wide (lane wide (vector.extend_low_s narrow wide v) i)
@@ -49,7 +47,6 @@ pub fn wrapped_numbers()
 
 /// Lane i of a vector that is made of neighbouring narrow lanes is the row of the narrow lanes 2i
 /// and 2i + 1, wrapped to the wide width. `A` is the integer as which a narrow lane is read.
-#[tactic(auto, using(crate::proofs::WideningLemmas::pairs))]
 pub fn pairwise_lanes<A>()
     ensures unary { (narrow wide : Width) (read : ℕ → A) (row : A → A → ℕ) (v i : ℕ)
         → i < lane_count wide
@@ -66,7 +63,6 @@ pub fn pairwise_lanes<A>()
 /// The lanes of a vector that is made of the wide lanes of two vectors are the rows of the first
 /// one's, then those of the second one's, wrapped to the narrow width. `A` is the integer as which
 /// a wide lane is read.
-#[tactic(auto, using(crate::proofs::WideningLemmas::wide_lanes))]
 pub fn lanes_of_wide_lanes<A>()
     ensures low { (wide narrow : Width) (read : ℕ → A) (row : A → ℕ) (low high i : ℕ)
         → i < lane_count wide → i < lane_count narrow
@@ -80,7 +76,6 @@ pub fn lanes_of_wide_lanes<A>()
 
 /// Bit i of the number that is made of a test of each lane tells whether the test holds of lane i,
 /// and no other bit is 1. `A` is the integer as which a lane is read.
-#[tactic(auto, using(crate::proofs::WideningLemmas::bits_of_tests))]
 pub fn bits_of_lanes<A>()
     ensures bit { (w : Width) (read : ℕ → A) (test : A → Bool) (v i : ℕ) → i < lane_count w
         → bit_at (lane_bits w read test v) i ≡ (if test (read (lane w v i)) then 1 else 0) }
