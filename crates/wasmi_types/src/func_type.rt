@@ -4,6 +4,7 @@ ghost use Rattle.std.specs.Prelude.{◌≡◌, not, nat_le, if◌then◌else◌,
 ghost use Rattle.std.specs.Cmp.{partial_equiv_from_equiv, partial_order_from_agreeing_total};
 ghost use Rattle.std.specs.Cmp.Lexicographic.{on_texts};
 ghost use Rattle.std.specs.Ordering.{as_partial_cmp};
+ghost use Rattle.std.specs.Rc.{rc_slice_items};
 ghost use Rattle.std.proofs.Common.{refl};
 ghost use Rattle.wasmi_types.specs.FunctionType.{entries, entry_count, same_lists, order_key, function_type_cmp, lists_input};
 ghost use Rattle.wasmi_types.specs.FunctionTypeProofs.{same_lists_equiv, same_lists_by_cmp, same_lists_alike, same_type_decides};
@@ -167,12 +168,10 @@ impl FuncType {
                 },
             });
         }
-        let mut params_results = Vec::from_slice(alloc, &entries.inline)?;
-        params_results.extend_from_slice(entries.rest.as_slice())?;
         Ok(FuncType {
             inner: FuncTypeInner::Big {
                 len_params,
-                params_results: RcSlice::from_vec(params_results)?,
+                params_results: entries.shared(alloc)?,
             },
         })
     }
@@ -397,6 +396,16 @@ impl Entries {
             self.rest.push(ty)?;
         }
         Ok(())
+    }
+
+    /// More entries than stand inline, all of them in shared memory.
+    fn shared(&self, alloc: Global) -> Result<RcSlice<ValType>, AllocError>
+        requires many { 21 < length self.now }
+        ensures items { IfOk result (λ items. rc_slice_items items ≡ self.now) }
+    {
+        let mut items = Vec::from_slice(alloc, &self.inline)?;
+        items.extend_from_slice(self.rest.as_slice())?;
+        RcSlice::from_vec(items)
     }
 
     /// Appends the next type, and answers whether there was one.

@@ -179,12 +179,10 @@ mod func_type {
                     },
                 });
             }
-            let mut params_results = Vec::from_slice(&entries.inline)?;
-            params_results.extend_from_slice(entries.rest.as_slice())?;
             Ok(FuncType {
                 inner: FuncTypeInner::Big {
                     len_params,
-                    params_results: RcSlice::from_vec(params_results)?,
+                    params_results: entries.shared()?,
                 },
             })
         }
@@ -482,6 +480,21 @@ mod func_type {
                 self.rest.push(ty)?;
             }
             Ok(())
+        }
+
+        /// More entries than stand inline, all of them in shared memory.
+        ///
+        /// # Contract
+        ///
+        /// ```text
+        /// requires many: 21 < length self.now
+        /// ensures items: IfOk result (λ items. rc_slice_items items ≡ self.now)
+        /// ```
+        #[inline]
+        fn shared(&self) -> Result<RcSlice<ValType>, AllocError> {
+            let mut items = Vec::from_slice(&self.inline)?;
+            items.extend_from_slice(self.rest.as_slice())?;
+            RcSlice::from_vec(items)
         }
 
         /// Appends the next type, and answers whether there was one.
