@@ -90,6 +90,7 @@ module _ (N : Record) (bare : Bare N.parts) (name_of : N.D → List ℕ) where
 
   -- a list that has each variant under its name gives a name its variant
   entry_found : (names : List (NameEntry N.D)) → has_each names ≡ true → (op : N.D) → IsNamed names (name_of op) op
+  unfolding IsNamed
   entry_found names whole op = subst (λ it. IsNamed names (name_of it) it) (N.eta op)
       (found_is (entry_of names (name_of (N.make (N.as_values op)))) (N.make (N.as_values op))
       (one_passes N.parts bare (λ c. is_found (entry_of names (name_of (N.make c))) (N.make c)) whole (N.as_values op)))
@@ -100,7 +101,7 @@ module _ (N : Record) (bare : Bare N.parts) (name_of : N.D → List ℕ) where
 
   -- where names differ, the name of a variant gives that variant
   pub named_is : has_each entries ≡ true → (word : List ℕ) (op : N.D) → word ≡ name_of op → named word ≡ Some op
-  unfolding named
+  unfolding named IsNamed
   named_is whole word op is = ap (entry_of entries) is ∙ entry_found entries whole op
 
   -- and variants of one name are one
@@ -113,7 +114,7 @@ module _ (N : Record) (bare : Bare N.parts) (name_of : N.D → List ℕ) where
   -- a list that has each op under its name tells what names mean
   pub tells_names : (names : List (NameEntry N.D)) → entries_named name_of names ≡ true → has_each names ≡ true
       → TellsNames names name_of
-  unfolding IsName
+  unfolding IsName IsNamed
   tells_names names right whole name result = accepts_same result (IsNamed names name) (λ op. name ≡ name_of op)
       (λ op. found_named name_of names name op right)
       (λ op is. subst (λ text. IsNamed names text op) (sym is) (entry_found names whole op))

@@ -23,7 +23,7 @@ entry_of [] name = None
 entry_of (entry ∷ entries) name = cond (bytes_eq entry.0 name) (Some entry.1) (entry_of entries name)
 
 -- a list gives a name this op
-abbrev pub IsNamed : {A : Type 0} → List (NameEntry A) → List ℕ → A → Type 0
+unfoldable pub IsNamed : {A : Type 0} → List (NameEntry A) → List ℕ → A → Type 0
 IsNamed names name op = entry_of names name ≡ Some op
 
 -- a word is the name of this op

@@ -280,10 +280,13 @@ pub fn two<A: Operand, B: Operand>(words: &[&str]) -> Result<(A, B), LineError>
     ensures { Accepts result (λ all. (length words.now ≡ 2) × A.writes (word_at words.now 0) all.0
         × B.writes (word_at words.now 1) all.1) }
 {
-    let [a, b] = words else {
+    let &[a, b] = words else {
         return Err(LineError::BadCommand);
     };
-    Ok((A::from_word(a)?, B::from_word(b)?))
+    match (A::from_word(a), B::from_word(b)) {
+        (Ok(a), Ok(b)) => Ok((a, b)),
+        _ => Err(LineError::BadCommand),
+    }
 }
 
 /// What three words write.
@@ -291,10 +294,13 @@ pub fn three<A: Operand, B: Operand, C: Operand>(words: &[&str]) -> Result<(A, B
     ensures { Accepts result (λ all. (length words.now ≡ 3) × A.writes (word_at words.now 0) all.0
         × B.writes (word_at words.now 1) all.1 × C.writes (word_at words.now 2) all.2) }
 {
-    let [a, b, c] = words else {
+    let &[a, b, c] = words else {
         return Err(LineError::BadCommand);
     };
-    Ok((A::from_word(a)?, B::from_word(b)?, C::from_word(c)?))
+    match (A::from_word(a), B::from_word(b), C::from_word(c)) {
+        (Ok(a), Ok(b), Ok(c)) => Ok((a, b, c)),
+        _ => Err(LineError::BadCommand),
+    }
 }
 
 /// What four words write.
@@ -305,15 +311,18 @@ pub fn four<A: Operand, B: Operand, C: Operand, D: Operand>(
         × B.writes (word_at words.now 1) all.1 × C.writes (word_at words.now 2) all.2
         × D.writes (word_at words.now 3) all.3) }
 {
-    let [a, b, c, d] = words else {
+    let &[a, b, c, d] = words else {
         return Err(LineError::BadCommand);
     };
-    Ok((
-        A::from_word(a)?,
-        B::from_word(b)?,
-        C::from_word(c)?,
-        D::from_word(d)?,
-    ))
+    match (
+        A::from_word(a),
+        B::from_word(b),
+        C::from_word(c),
+        D::from_word(d),
+    ) {
+        (Ok(a), Ok(b), Ok(c), Ok(d)) => Ok((a, b, c, d)),
+        _ => Err(LineError::BadCommand),
+    }
 }
 
 /// What five words write.
@@ -324,16 +333,19 @@ pub fn five<A: Operand, B: Operand, C: Operand, D: Operand, E: Operand>(
         × B.writes (word_at words.now 1) all.1 × C.writes (word_at words.now 2) all.2
         × D.writes (word_at words.now 3) all.3 × E.writes (word_at words.now 4) all.4) }
 {
-    let [a, b, c, d, e] = words else {
+    let &[a, b, c, d, e] = words else {
         return Err(LineError::BadCommand);
     };
-    Ok((
-        A::from_word(a)?,
-        B::from_word(b)?,
-        C::from_word(c)?,
-        D::from_word(d)?,
-        E::from_word(e)?,
-    ))
+    match (
+        A::from_word(a),
+        B::from_word(b),
+        C::from_word(c),
+        D::from_word(d),
+        E::from_word(e),
+    ) {
+        (Ok(a), Ok(b), Ok(c), Ok(d), Ok(e)) => Ok((a, b, c, d, e)),
+        _ => Err(LineError::BadCommand),
+    }
 }
 
 /// What the words write, one each.

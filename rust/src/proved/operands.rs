@@ -697,10 +697,13 @@ pub mod operand {
     /// Definitions: [`Accepts`](crate::specs::operands::LineWords#Accepts), [`word_at`](crate::specs::operands::LineWords#word_at).
     #[inline]
     pub fn two<A: Operand, B: Operand>(words: &[&str]) -> Result<(A, B), LineError> {
-        let [a, b] = words else {
+        let &[a, b] = words else {
             return Err(LineError::BadCommand);
         };
-        Ok((A::from_word(a)?, B::from_word(b)?))
+        match (A::from_word(a), B::from_word(b)) {
+            (Ok(a), Ok(b)) => Ok((a, b)),
+            _ => Err(LineError::BadCommand),
+        }
     }
 
     /// What three words write.
@@ -717,10 +720,13 @@ pub mod operand {
     pub fn three<A: Operand, B: Operand, C: Operand>(
         words: &[&str],
     ) -> Result<(A, B, C), LineError> {
-        let [a, b, c] = words else {
+        let &[a, b, c] = words else {
             return Err(LineError::BadCommand);
         };
-        Ok((A::from_word(a)?, B::from_word(b)?, C::from_word(c)?))
+        match (A::from_word(a), B::from_word(b), C::from_word(c)) {
+            (Ok(a), Ok(b), Ok(c)) => Ok((a, b, c)),
+            _ => Err(LineError::BadCommand),
+        }
     }
 
     /// What four words write.
@@ -738,15 +744,18 @@ pub mod operand {
     pub fn four<A: Operand, B: Operand, C: Operand, D: Operand>(
         words: &[&str],
     ) -> Result<(A, B, C, D), LineError> {
-        let [a, b, c, d] = words else {
+        let &[a, b, c, d] = words else {
             return Err(LineError::BadCommand);
         };
-        Ok((
-            A::from_word(a)?,
-            B::from_word(b)?,
-            C::from_word(c)?,
-            D::from_word(d)?,
-        ))
+        match (
+            A::from_word(a),
+            B::from_word(b),
+            C::from_word(c),
+            D::from_word(d),
+        ) {
+            (Ok(a), Ok(b), Ok(c), Ok(d)) => Ok((a, b, c, d)),
+            _ => Err(LineError::BadCommand),
+        }
     }
 
     /// What five words write.
@@ -764,16 +773,19 @@ pub mod operand {
     pub fn five<A: Operand, B: Operand, C: Operand, D: Operand, E: Operand>(
         words: &[&str],
     ) -> Result<(A, B, C, D, E), LineError> {
-        let [a, b, c, d, e] = words else {
+        let &[a, b, c, d, e] = words else {
             return Err(LineError::BadCommand);
         };
-        Ok((
-            A::from_word(a)?,
-            B::from_word(b)?,
-            C::from_word(c)?,
-            D::from_word(d)?,
-            E::from_word(e)?,
-        ))
+        match (
+            A::from_word(a),
+            B::from_word(b),
+            C::from_word(c),
+            D::from_word(d),
+            E::from_word(e),
+        ) {
+            (Ok(a), Ok(b), Ok(c), Ok(d), Ok(e)) => Ok((a, b, c, d, e)),
+            _ => Err(LineError::BadCommand),
+        }
     }
 
     /// What the words write, one each.

@@ -5768,7 +5768,7 @@ abbrev pub <b id="entry_of">entry_of</b> : {A : Type 0} → List (<a href="../..
 <a href="../../operands/Names/index.html#entry_of">entry_of</a> (entry ∷ entries) name = cond (bytes_eq entry.0 name) (Some entry.1) (<a href="../../operands/Names/index.html#entry_of">entry_of</a> entries name)
 
 -- a list gives a name this op
-abbrev pub <b id="IsNamed">IsNamed</b> : {A : Type 0} → List (<a href="../../operands/Names/index.html#NameEntry">NameEntry</a> A) → List ℕ → A → Type 0
+unfoldable pub <b id="IsNamed">IsNamed</b> : {A : Type 0} → List (<a href="../../operands/Names/index.html#NameEntry">NameEntry</a> A) → List ℕ → A → Type 0
 <a href="../../operands/Names/index.html#IsNamed">IsNamed</a> names name op = <a href="../../operands/Names/index.html#entry_of">entry_of</a> names name ≡ Some op
 
 -- a word is the name of this op

@@ -3,7 +3,7 @@ use Rattle.std.proofs.lemmas.Iterator.{YieldsList-from_slice}
 use Rattle.std.proofs.lemmas.Iterator.Search.{find_from_yields_List}
 use Rattle.std.specs.List.{find}
 use Rattle.std.specs.Option.{option_map}
-use Rattle.wasmi_operands.specs.Names.{entry_of}
+use Rattle.wasmi_operands.specs.Names.{IsNamed, entry_of}
 use Rattle.wasmi_operands.proofs.names.op_named.Goals as goal
 
 -- the first entry of a name, and what it names
@@ -20,6 +20,7 @@ entry_of_found (entry ∷ entries) name =
     ]
 
 pub returns : goal.returns
+unfolding IsNamed
 returns g c =
     let name = c.args.name.now in
     let found = find_from_yields_List
