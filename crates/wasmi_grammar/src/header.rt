@@ -88,39 +88,44 @@ pub(crate) fn meter_line(operands: &[&str]) -> Result<MeterLine, LineError>
 pub(crate) fn region_line(operands: &[&str]) -> Result<RegionLine, LineError>
     ensures { Accepts result (WritesRegion operands.now) }
 {
-    let [len, byte] = operands else {
+    let &[len, byte] = operands else {
         return Err(LineError::BadCommand);
     };
-    let (len, byte) = (number(len)?, number(byte)?);
-    Ok(RegionLine { len, byte })
+    match (number(len), number(byte)) {
+        (Ok(len), Ok(byte)) => Ok(RegionLine { len, byte }),
+        _ => Err(LineError::BadCommand),
+    }
 }
 
 /// `quota B E`.
 pub(crate) fn quota(operands: &[&str]) -> Result<LimiterLine, LineError>
     ensures { Accepts result (NamesLimiterAfter (codes "quota") operands.now) }
 {
-    let [bytes, elements] = operands else {
+    let &[bytes, elements] = operands else {
         return Err(LineError::BadCommand);
     };
-    let (bytes, elements) = (number(bytes)?, number(elements)?);
-    Ok(LimiterLine::Quota(Amounts { bytes, elements }))
+    match (number(bytes), number(elements)) {
+        (Ok(bytes), Ok(elements)) => Ok(LimiterLine::Quota(Amounts { bytes, elements })),
+        _ => Err(LineError::BadCommand),
+    }
 }
 
 /// `tenants N B E`.
 pub(crate) fn tenants(operands: &[&str]) -> Result<LimiterLine, LineError>
     ensures { Accepts result (NamesLimiterAfter (codes "tenants") operands.now) }
 {
-    let [count, bytes, elements] = operands else {
+    let &[count, bytes, elements] = operands else {
         return Err(LineError::BadCommand);
     };
-    let (count, bytes, elements) = (number(count)?, number(bytes)?, number(elements)?);
-    if !(1..=MOST_TENANTS).contains(&count) {
-        return Err(LineError::BadCommand);
+    match (number(count), number(bytes), number(elements)) {
+        (Ok(count @ 1..=MOST_TENANTS), Ok(bytes), Ok(elements)) => {
+            Ok(LimiterLine::Tenants(TenantsLine {
+                count,
+                caps: Amounts { bytes, elements },
+            }))
+        }
+        _ => Err(LineError::BadCommand),
     }
-    Ok(LimiterLine::Tenants(TenantsLine {
-        count,
-        caps: Amounts { bytes, elements },
-    }))
 }
 
 /// `answers W ...`, which may have no word.

@@ -82,17 +82,27 @@ mod command {
         /// Definitions: [`Accepts`](crate::specs::operands::LineWords#Accepts), [`NamesAfter`](crate::specs::grammar::Commands#NamesAfter).
         #[inline]
         pub fn load_lane(operands: &[&str]) -> Result<Call, LineError> {
-            let [name, dst, a, lane, memory, ptr, offset] = operands else {
+            let &[name, dst, a, lane, memory, ptr, offset] = operands else {
                 return Err(LineError::BadCommand);
             };
-            Ok(Call::LoadLane {
-                op: load_lane_op(name, lane)?,
-                dst: number(dst)?,
-                a: number(a)?,
-                memory: number(memory)?,
-                ptr: number(ptr)?,
-                offset: number(offset)?,
-            })
+            match (
+                load_lane_op(name, lane),
+                number(dst),
+                number(a),
+                number(memory),
+                number(ptr),
+                number(offset),
+            ) {
+                (Ok(op), Ok(dst), Ok(a), Ok(memory), Ok(ptr), Ok(offset)) => Ok(Call::LoadLane {
+                    op,
+                    dst,
+                    a,
+                    memory,
+                    ptr,
+                    offset,
+                }),
+                _ => Err(LineError::BadCommand),
+            }
         }
 
         /// `vstore A K PTR OFFSET`.
@@ -126,16 +136,25 @@ mod command {
         /// Definitions: [`Accepts`](crate::specs::operands::LineWords#Accepts), [`NamesAfter`](crate::specs::grammar::Commands#NamesAfter).
         #[inline]
         pub fn store_lane(operands: &[&str]) -> Result<Call, LineError> {
-            let [name, a, lane, memory, ptr, offset] = operands else {
+            let &[name, a, lane, memory, ptr, offset] = operands else {
                 return Err(LineError::BadCommand);
             };
-            Ok(Call::StoreLane {
-                op: store_lane_op(name, lane)?,
-                a: number(a)?,
-                memory: number(memory)?,
-                ptr: number(ptr)?,
-                offset: number(offset)?,
-            })
+            match (
+                store_lane_op(name, lane),
+                number(a),
+                number(memory),
+                number(ptr),
+                number(offset),
+            ) {
+                (Ok(op), Ok(a), Ok(memory), Ok(ptr), Ok(offset)) => Ok(Call::StoreLane {
+                    op,
+                    a,
+                    memory,
+                    ptr,
+                    offset,
+                }),
+                _ => Err(LineError::BadCommand),
+            }
         }
     }
     pub mod memory {
@@ -328,13 +347,13 @@ mod command {
         /// Definitions: [`Accepts`](crate::specs::operands::LineWords#Accepts), [`NamesAfter`](crate::specs::grammar::Commands#NamesAfter).
         #[inline]
         pub fn new_table(operands: &[&str]) -> Result<Call, LineError> {
-            let [element, min, max, width, ty, raw] = operands else {
+            let &[element, min, max, width, ty, raw] = operands else {
                 return Err(LineError::BadCommand);
             };
-            Ok(Call::NewTable {
-                ty: table_type(element, min, max, width)?,
-                init: reference(ty, raw)?,
-            })
+            match (table_type(element, min, max, width), reference(ty, raw)) {
+                (Ok(ty), Ok(init)) => Ok(Call::NewTable { ty, init }),
+                _ => Err(LineError::BadCommand),
+            }
         }
 
         /// `tgrow K DELTA T N`.
@@ -348,14 +367,13 @@ mod command {
         /// Definitions: [`Accepts`](crate::specs::operands::LineWords#Accepts), [`NamesAfter`](crate::specs::grammar::Commands#NamesAfter).
         #[inline]
         pub fn grow(operands: &[&str]) -> Result<Call, LineError> {
-            let [table, delta, ty, raw] = operands else {
+            let &[table, delta, ty, raw] = operands else {
                 return Err(LineError::BadCommand);
             };
-            Ok(Call::GrowTable {
-                table: number(table)?,
-                delta: number(delta)?,
-                init: reference(ty, raw)?,
-            })
+            match (number(table), number(delta), reference(ty, raw)) {
+                (Ok(table), Ok(delta), Ok(init)) => Ok(Call::GrowTable { table, delta, init }),
+                _ => Err(LineError::BadCommand),
+            }
         }
 
         /// `get K I`.
@@ -384,14 +402,17 @@ mod command {
         /// Definitions: [`Accepts`](crate::specs::operands::LineWords#Accepts), [`NamesAfter`](crate::specs::grammar::Commands#NamesAfter).
         #[inline]
         pub fn set(operands: &[&str]) -> Result<Call, LineError> {
-            let [table, index, ty, raw] = operands else {
+            let &[table, index, ty, raw] = operands else {
                 return Err(LineError::BadCommand);
             };
-            Ok(Call::SetElement {
-                table: number(table)?,
-                index: number(index)?,
-                value: reference(ty, raw)?,
-            })
+            match (number(table), number(index), reference(ty, raw)) {
+                (Ok(table), Ok(index), Ok(value)) => Ok(Call::SetElement {
+                    table,
+                    index,
+                    value,
+                }),
+                _ => Err(LineError::BadCommand),
+            }
         }
 
         /// `init K SEGMENT DST SRC LEN`.
@@ -447,15 +468,18 @@ mod command {
         /// Definitions: [`Accepts`](crate::specs::operands::LineWords#Accepts), [`NamesAfter`](crate::specs::grammar::Commands#NamesAfter).
         #[inline]
         pub fn fill(operands: &[&str]) -> Result<Call, LineError> {
-            let [table, dst, ty, raw, len] = operands else {
+            let &[table, dst, ty, raw, len] = operands else {
                 return Err(LineError::BadCommand);
             };
-            Ok(Call::FillTable {
-                table: number(table)?,
-                dst: number(dst)?,
-                value: reference(ty, raw)?,
-                len: number(len)?,
-            })
+            match (number(table), number(dst), reference(ty, raw), number(len)) {
+                (Ok(table), Ok(dst), Ok(value), Ok(len)) => Ok(Call::FillTable {
+                    table,
+                    dst,
+                    value,
+                    len,
+                }),
+                _ => Err(LineError::BadCommand),
+            }
         }
 
         /// `segment T N ...`, which may have no reference.
@@ -808,13 +832,13 @@ mod command {
         /// Definitions: [`Accepts`](crate::specs::operands::LineWords#Accepts), [`NamesAfter`](crate::specs::grammar::Commands#NamesAfter).
         #[inline]
         pub fn extract(operands: &[&str]) -> Result<Call, LineError> {
-            let [name, a, lane] = operands else {
+            let &[name, a, lane] = operands else {
                 return Err(LineError::BadCommand);
             };
-            Ok(Call::Extract {
-                op: extract_op(name, lane)?,
-                a: number(a)?,
-            })
+            match (extract_op(name, lane), number(a)) {
+                (Ok(op), Ok(a)) => Ok(Call::Extract { op, a }),
+                _ => Err(LineError::BadCommand),
+            }
         }
 
         /// `replace NAME D A LANE B`.
@@ -828,15 +852,13 @@ mod command {
         /// Definitions: [`Accepts`](crate::specs::operands::LineWords#Accepts), [`NamesAfter`](crate::specs::grammar::Commands#NamesAfter).
         #[inline]
         pub fn replace(operands: &[&str]) -> Result<Call, LineError> {
-            let [name, dst, a, lane, item] = operands else {
+            let &[name, dst, a, lane, item] = operands else {
                 return Err(LineError::BadCommand);
             };
-            Ok(Call::Replace {
-                op: replace_op(name, lane)?,
-                dst: number(dst)?,
-                a: number(a)?,
-                item: number(item)?,
-            })
+            match (replace_op(name, lane), number(dst), number(a), number(item)) {
+                (Ok(op), Ok(dst), Ok(a), Ok(item)) => Ok(Call::Replace { op, dst, a, item }),
+                _ => Err(LineError::BadCommand),
+            }
         }
 
         /// `shuffle D A B LANE ...`, with sixteen lanes.
@@ -853,12 +875,10 @@ mod command {
             let [dst, a, b, lanes @ ..] = operands else {
                 return Err(LineError::BadCommand);
             };
-            Ok(Call::Shuffle {
-                dst: number(dst)?,
-                a: number(a)?,
-                b: number(b)?,
-                lanes: lanes_of(lanes)?,
-            })
+            match (number(dst), number(a), number(b), lanes_of(lanes)) {
+                (Ok(dst), Ok(a), Ok(b), Ok(lanes)) => Ok(Call::Shuffle { dst, a, b, lanes }),
+                _ => Err(LineError::BadCommand),
+            }
         }
 
         /// The indices of lanes that sixteen words write, one each.
@@ -1016,11 +1036,13 @@ mod header {
     /// Definitions: [`Accepts`](crate::specs::operands::LineWords#Accepts), [`WritesRegion`](crate::specs::grammar::Headers#WritesRegion).
     #[inline]
     pub(crate) fn region_line(operands: &[&str]) -> Result<RegionLine, LineError> {
-        let [len, byte] = operands else {
+        let &[len, byte] = operands else {
             return Err(LineError::BadCommand);
         };
-        let (len, byte) = (number(len)?, number(byte)?);
-        Ok(RegionLine { len, byte })
+        match (number(len), number(byte)) {
+            (Ok(len), Ok(byte)) => Ok(RegionLine { len, byte }),
+            _ => Err(LineError::BadCommand),
+        }
     }
 
     /// `quota B E`.
@@ -1034,11 +1056,13 @@ mod header {
     /// Definitions: [`Accepts`](crate::specs::operands::LineWords#Accepts), [`NamesLimiterAfter`](crate::specs::grammar::Headers#NamesLimiterAfter).
     #[inline]
     pub(crate) fn quota(operands: &[&str]) -> Result<LimiterLine, LineError> {
-        let [bytes, elements] = operands else {
+        let &[bytes, elements] = operands else {
             return Err(LineError::BadCommand);
         };
-        let (bytes, elements) = (number(bytes)?, number(elements)?);
-        Ok(LimiterLine::Quota(Amounts { bytes, elements }))
+        match (number(bytes), number(elements)) {
+            (Ok(bytes), Ok(elements)) => Ok(LimiterLine::Quota(Amounts { bytes, elements })),
+            _ => Err(LineError::BadCommand),
+        }
     }
 
     /// `tenants N B E`.
@@ -1052,17 +1076,18 @@ mod header {
     /// Definitions: [`Accepts`](crate::specs::operands::LineWords#Accepts), [`NamesLimiterAfter`](crate::specs::grammar::Headers#NamesLimiterAfter).
     #[inline]
     pub(crate) fn tenants(operands: &[&str]) -> Result<LimiterLine, LineError> {
-        let [count, bytes, elements] = operands else {
+        let &[count, bytes, elements] = operands else {
             return Err(LineError::BadCommand);
         };
-        let (count, bytes, elements) = (number(count)?, number(bytes)?, number(elements)?);
-        if !(1..=MOST_TENANTS).contains(&count) {
-            return Err(LineError::BadCommand);
+        match (number(count), number(bytes), number(elements)) {
+            (Ok(count @ 1..=MOST_TENANTS), Ok(bytes), Ok(elements)) => {
+                Ok(LimiterLine::Tenants(TenantsLine {
+                    count,
+                    caps: Amounts { bytes, elements },
+                }))
+            }
+            _ => Err(LineError::BadCommand),
         }
-        Ok(LimiterLine::Tenants(TenantsLine {
-            count,
-            caps: Amounts { bytes, elements },
-        }))
     }
 
     /// `answers W ...`, which may have no word.

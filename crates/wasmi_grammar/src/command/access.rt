@@ -54,17 +54,27 @@ pub fn vector_load(operands: &[&str]) -> Result<Call, LineError>
 pub fn load_lane(operands: &[&str]) -> Result<Call, LineError>
     ensures { Accepts result (NamesAfter (codes "vloadlane") operands.now) }
 {
-    let [name, dst, a, lane, memory, ptr, offset] = operands else {
+    let &[name, dst, a, lane, memory, ptr, offset] = operands else {
         return Err(LineError::BadCommand);
     };
-    Ok(Call::LoadLane {
-        op: load_lane_op(name, lane)?,
-        dst: number(dst)?,
-        a: number(a)?,
-        memory: number(memory)?,
-        ptr: number(ptr)?,
-        offset: number(offset)?,
-    })
+    match (
+        load_lane_op(name, lane),
+        number(dst),
+        number(a),
+        number(memory),
+        number(ptr),
+        number(offset),
+    ) {
+        (Ok(op), Ok(dst), Ok(a), Ok(memory), Ok(ptr), Ok(offset)) => Ok(Call::LoadLane {
+            op,
+            dst,
+            a,
+            memory,
+            ptr,
+            offset,
+        }),
+        _ => Err(LineError::BadCommand),
+    }
 }
 
 /// `vstore A K PTR OFFSET`.
@@ -84,14 +94,23 @@ pub fn vector_store(operands: &[&str]) -> Result<Call, LineError>
 pub fn store_lane(operands: &[&str]) -> Result<Call, LineError>
     ensures { Accepts result (NamesAfter (codes "vstorelane") operands.now) }
 {
-    let [name, a, lane, memory, ptr, offset] = operands else {
+    let &[name, a, lane, memory, ptr, offset] = operands else {
         return Err(LineError::BadCommand);
     };
-    Ok(Call::StoreLane {
-        op: store_lane_op(name, lane)?,
-        a: number(a)?,
-        memory: number(memory)?,
-        ptr: number(ptr)?,
-        offset: number(offset)?,
-    })
+    match (
+        store_lane_op(name, lane),
+        number(a),
+        number(memory),
+        number(ptr),
+        number(offset),
+    ) {
+        (Ok(op), Ok(a), Ok(memory), Ok(ptr), Ok(offset)) => Ok(Call::StoreLane {
+            op,
+            a,
+            memory,
+            ptr,
+            offset,
+        }),
+        _ => Err(LineError::BadCommand),
+    }
 }

@@ -15,27 +15,26 @@ use wasmi_operands::{LineError, index_ty, number, number_or_none, ref_type, refe
 pub fn new_table(operands: &[&str]) -> Result<Call, LineError>
     ensures { Accepts result (NamesAfter (codes "table") operands.now) }
 {
-    let [element, min, max, width, ty, raw] = operands else {
+    let &[element, min, max, width, ty, raw] = operands else {
         return Err(LineError::BadCommand);
     };
-    Ok(Call::NewTable {
-        ty: table_type(element, min, max, width)?,
-        init: reference(ty, raw)?,
-    })
+    match (table_type(element, min, max, width), reference(ty, raw)) {
+        (Ok(ty), Ok(init)) => Ok(Call::NewTable { ty, init }),
+        _ => Err(LineError::BadCommand),
+    }
 }
 
 /// `tgrow K DELTA T N`.
 pub fn grow(operands: &[&str]) -> Result<Call, LineError>
     ensures { Accepts result (NamesAfter (codes "tgrow") operands.now) }
 {
-    let [table, delta, ty, raw] = operands else {
+    let &[table, delta, ty, raw] = operands else {
         return Err(LineError::BadCommand);
     };
-    Ok(Call::GrowTable {
-        table: number(table)?,
-        delta: number(delta)?,
-        init: reference(ty, raw)?,
-    })
+    match (number(table), number(delta), reference(ty, raw)) {
+        (Ok(table), Ok(delta), Ok(init)) => Ok(Call::GrowTable { table, delta, init }),
+        _ => Err(LineError::BadCommand),
+    }
 }
 
 /// `get K I`.
@@ -50,14 +49,17 @@ pub fn get(operands: &[&str]) -> Result<Call, LineError>
 pub fn set(operands: &[&str]) -> Result<Call, LineError>
     ensures { Accepts result (NamesAfter (codes "tset") operands.now) }
 {
-    let [table, index, ty, raw] = operands else {
+    let &[table, index, ty, raw] = operands else {
         return Err(LineError::BadCommand);
     };
-    Ok(Call::SetElement {
-        table: number(table)?,
-        index: number(index)?,
-        value: reference(ty, raw)?,
-    })
+    match (number(table), number(index), reference(ty, raw)) {
+        (Ok(table), Ok(index), Ok(value)) => Ok(Call::SetElement {
+            table,
+            index,
+            value,
+        }),
+        _ => Err(LineError::BadCommand),
+    }
 }
 
 /// `init K SEGMENT DST SRC LEN`.
@@ -92,15 +94,18 @@ pub fn copy(operands: &[&str]) -> Result<Call, LineError>
 pub fn fill(operands: &[&str]) -> Result<Call, LineError>
     ensures { Accepts result (NamesAfter (codes "fill") operands.now) }
 {
-    let [table, dst, ty, raw, len] = operands else {
+    let &[table, dst, ty, raw, len] = operands else {
         return Err(LineError::BadCommand);
     };
-    Ok(Call::FillTable {
-        table: number(table)?,
-        dst: number(dst)?,
-        value: reference(ty, raw)?,
-        len: number(len)?,
-    })
+    match (number(table), number(dst), reference(ty, raw), number(len)) {
+        (Ok(table), Ok(dst), Ok(value), Ok(len)) => Ok(Call::FillTable {
+            table,
+            dst,
+            value,
+            len,
+        }),
+        _ => Err(LineError::BadCommand),
+    }
 }
 
 /// `segment T N ...`, which may have no reference.

@@ -63,28 +63,26 @@ pub fn test(operands: &[&str]) -> Result<Call, LineError>
 pub fn extract(operands: &[&str]) -> Result<Call, LineError>
     ensures { Accepts result (NamesAfter (codes "extract") operands.now) }
 {
-    let [name, a, lane] = operands else {
+    let &[name, a, lane] = operands else {
         return Err(LineError::BadCommand);
     };
-    Ok(Call::Extract {
-        op: extract_op(name, lane)?,
-        a: number(a)?,
-    })
+    match (extract_op(name, lane), number(a)) {
+        (Ok(op), Ok(a)) => Ok(Call::Extract { op, a }),
+        _ => Err(LineError::BadCommand),
+    }
 }
 
 /// `replace NAME D A LANE B`.
 pub fn replace(operands: &[&str]) -> Result<Call, LineError>
     ensures { Accepts result (NamesAfter (codes "replace") operands.now) }
 {
-    let [name, dst, a, lane, item] = operands else {
+    let &[name, dst, a, lane, item] = operands else {
         return Err(LineError::BadCommand);
     };
-    Ok(Call::Replace {
-        op: replace_op(name, lane)?,
-        dst: number(dst)?,
-        a: number(a)?,
-        item: number(item)?,
-    })
+    match (replace_op(name, lane), number(dst), number(a), number(item)) {
+        (Ok(op), Ok(dst), Ok(a), Ok(item)) => Ok(Call::Replace { op, dst, a, item }),
+        _ => Err(LineError::BadCommand),
+    }
 }
 
 /// `shuffle D A B LANE ...`, with sixteen lanes.
@@ -94,12 +92,10 @@ pub fn shuffle(operands: &[&str]) -> Result<Call, LineError>
     let [dst, a, b, lanes @ ..] = operands else {
         return Err(LineError::BadCommand);
     };
-    Ok(Call::Shuffle {
-        dst: number(dst)?,
-        a: number(a)?,
-        b: number(b)?,
-        lanes: lanes_of(lanes)?,
-    })
+    match (number(dst), number(a), number(b), lanes_of(lanes)) {
+        (Ok(dst), Ok(a), Ok(b), Ok(lanes)) => Ok(Call::Shuffle { dst, a, b, lanes }),
+        _ => Err(LineError::BadCommand),
+    }
 }
 
 /// The indices of lanes that sixteen words write, one each.
