@@ -1,4 +1,4 @@
-//! What words write as the operands of a command: one word, two to five words, or a list.
+//! What words write as the operands of a command: one to five words, or a list.
 #![tactic(auto, using(crate::proofs::OpNamesLemmas::op_names))]
 
 ghost use Rattle.std.specs.Prelude.{◌≡◌, ℕ, List, length};
@@ -273,6 +273,16 @@ pub fn reference(ty: &str, raw: &str) -> Result<TypedRawRef, LineError>
 {
     let ty = ref_type(ty)?;
     Ok(TypedRawRef::new(RawRef::from_word(raw)?, ty))
+}
+
+/// What one word writes, with none beside it.
+pub fn one<A: Operand>(words: &[&str]) -> Result<A, LineError>
+    ensures { Accepts result (λ a. (length words.now ≡ 1) × A.writes (word_at words.now 0) a) }
+{
+    let &[a] = words else {
+        return Err(LineError::BadCommand);
+    };
+    A::from_word(a)
 }
 
 /// What two words write.

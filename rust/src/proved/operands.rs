@@ -240,7 +240,7 @@ pub mod names {
     }
 }
 pub mod operand {
-    //! What words write as the operands of a command: one word, two to five words, or a list.
+    //! What words write as the operands of a command: one to five words, or a list.
 
     use crate::proved::meter::LimiterAnswer;
     use crate::proved::operands::decimal::number;
@@ -683,6 +683,23 @@ pub mod operand {
     pub fn reference(ty: &str, raw: &str) -> Result<TypedRawRef, LineError> {
         let ty = ref_type(ty)?;
         Ok(TypedRawRef::new(RawRef::from_word(raw)?, ty))
+    }
+
+    /// What one word writes, with none beside it.
+    ///
+    /// # Contract
+    ///
+    /// ```text
+    /// ensures: Accepts result (λ a. (length words.now ≡ 1) × A.writes (word_at words.now 0) a)
+    /// ```
+    ///
+    /// Definitions: [`Accepts`](crate::specs::operands::LineWords#Accepts), [`word_at`](crate::specs::operands::LineWords#word_at).
+    #[inline]
+    pub fn one<A: Operand>(words: &[&str]) -> Result<A, LineError> {
+        let &[a] = words else {
+            return Err(LineError::BadCommand);
+        };
+        A::from_word(a)
     }
 
     /// What two words write.
