@@ -1,5 +1,7 @@
 -- What the operands of a command write, by the word that it begins with.
-use Rattle.std.proofs.Common.{ℕ, ◌≡◌, List, [], ◌∷◌, Result, Err, bytes_eq, cond, codes, subst}
+use Rattle.std.proofs.Common.{ℕ, ◌≡◌, List, [], ◌∷◌, Result, Err, bytes_eq, cond, codes, length, subst}
+use Rattle.wasmi_types.specs.declared.value.RefType.{RefType}
+use Rattle.wasmi_store.specs.Memory.{MemoryTypeValue}
 use Rattle.wasmi_types.specs.declared.value.ValType.{ValType}
 use Rattle.wasmi_typed.specs.declared.global.Mutability.{Mutability}
 use Rattle.wasmi_raw.specs.declared.raw.RawVal.{RawVal}
@@ -15,52 +17,94 @@ use Rattle.wasmi_ops.specs.declared.vector.unary.UnaryOp.{UnaryOp}
 use Rattle.wasmi_core.specs.declared.calls.Call.{Call}
 use Rattle.wasmi_core.specs.declared.calls.Call.TheVariants as call
 use Rattle.wasmi_operands.specs.declared.error.LineError.{LineError}
-use Rattle.wasmi_operands.specs.LineWords.{Accepts, LineWords}
+use Rattle.wasmi_operands.specs.LineWords.{Accepts, LineWords, WritesNumber, word_at}
+use Rattle.wasmi_operands.specs.Names.{reference_word}
 use Rattle.wasmi_grammar.specs.Commands.{command_word, WritesOperands, NamesAfter}
 use Rattle.wasmi_operands.proofs.LineWordsLemmas.{refused_through}
 
--- what parsers make a call of: the values that the operands write, and the call of these
+-- what parsers make a call of: the values that the operands write
 abbrev Form : Type 1
-Form = (A : Type 0) × (A → Call)
+Form = (A : Type 0) × (LineWords → A → Type 0)
+
+-- the values of which a call is made
+abbrev made : (A : Type 0) → (A → Call) → Form
+made A make = (A, λ words a. WritesOperands words (make a))
 
 -- the form beside a word; beside others a call is made of itself
 abbrev form_in : List (List ℕ × Form) → List ℕ → Form
-form_in [] word = (Call, λ call. call)
+form_in [] word = made Call (λ call. call)
 form_in (entry ∷ entries) word = cond (bytes_eq entry.0 word) entry.1 (form_in entries word)
+
+-- a table, a number of 64 bits and a reference
+abbrev element_form : Form
+element_form = (
+  ℕ × ℕ × RefType × ℕ,
+  λ words a. (length words ≡ 4) × WritesNumber 64 (word_at words 0) a.0 × WritesNumber 64 (word_at words 1) a.1
+      × (word_at words 2 ≡ reference_word a.2) × WritesNumber 32 (word_at words 3) a.3,
+)
+
+-- the same, and how many elements
+abbrev elements_form : Form
+elements_form = (
+  ℕ × ℕ × RefType × ℕ × ℕ,
+  λ words a. (length words ≡ 5) × WritesNumber 64 (word_at words 0) a.0 × WritesNumber 64 (word_at words 1) a.1
+      × (word_at words 2 ≡ reference_word a.2) × WritesNumber 32 (word_at words 3) a.3
+      × WritesNumber 64 (word_at words 4) a.4,
+)
 
 -- the forms of commands whose operands are read at once
 abbrev forms : List (List ℕ × Form)
 forms =
-    (codes "grow", (ℕ × ℕ, λ a. call.GrowMemory a.0 a.1)) ∷
-    (codes "read", (ℕ × ℕ × ℕ, λ a. call.Read a.0 a.1 a.2)) ∷
-    (codes "load", (LoadOp × ℕ × ℕ × ℕ, λ a. call.Load a.0 a.1 a.2 a.3)) ∷
-    (codes "store", (StoreOp × ℕ × ℕ × ℕ × RawVal, λ a. call.Store a.0 a.1 a.2 a.3 a.4)) ∷
-    (codes "get", (ℕ × ℕ, λ a. call.GetElement a.0 a.1)) ∷
-    (codes "init", (ℕ × ℕ × ℕ × ℕ × ℕ, λ a. call.InitTable a.0 a.1 a.2 a.3 a.4)) ∷
-    (codes "copy", (ℕ × ℕ × ℕ × ℕ × ℕ, λ a. call.CopyTable a.0 a.1 a.2 a.3 a.4)) ∷ (
+    (codes "fuel", made ℕ (λ a. call.SetFuel a)) ∷
+    (codes "empty", made ℕ (λ a. call.DropItems a)) ∷
+    (codes "gget", made ℕ (λ a. call.GetGlobal a)) ∷
+    (codes "show", made ℕ (λ a. call.GetRegister a)) ∷
+    (codes "memory", made MemoryTypeValue (λ ty. call.NewMemory ty)) ∷
+    (codes "lent", made MemoryTypeValue (λ ty. call.NewLentMemory ty)) ∷
+    (codes "tgrow", element_form) ∷
+    (codes "tset", element_form) ∷
+    (codes "fill", elements_form) ∷
+    (codes "grow", made (ℕ × ℕ) (λ a. call.GrowMemory a.0 a.1)) ∷
+    (codes "read", made (ℕ × ℕ × ℕ) (λ a. call.Read a.0 a.1 a.2)) ∷
+    (codes "load", made (LoadOp × ℕ × ℕ × ℕ) (λ a. call.Load a.0 a.1 a.2 a.3)) ∷
+    (codes "store", made (StoreOp × ℕ × ℕ × ℕ × RawVal) (λ a. call.Store a.0 a.1 a.2 a.3 a.4)) ∷
+    (codes "get", made (ℕ × ℕ) (λ a. call.GetElement a.0 a.1)) ∷
+    (codes "init", made (ℕ × ℕ × ℕ × ℕ × ℕ) (λ a. call.InitTable a.0 a.1 a.2 a.3 a.4)) ∷
+    (codes "copy", made (ℕ × ℕ × ℕ × ℕ × ℕ) (λ a. call.CopyTable a.0 a.1 a.2 a.3 a.4)) ∷ (
       codes "global",
-      (
-        ValType × Mutability × ℕ × ℕ,
-        λ a. call.NewGlobal (record { lo = a.2; hi = a.3 }) (record { content = a.0; mutability = a.1 }),
-      ),
+      made (ValType × Mutability × ℕ × ℕ)
+          (λ a. call.NewGlobal (record { lo = a.2; hi = a.3 }) (record { content = a.0; mutability = a.1 })),
     ) ∷ (
       codes "gset",
-      (ℕ × ValType × ℕ × ℕ, λ a. call.SetGlobal a.0 (record { ty = a.1; raw = record { lo = a.2; hi = a.3 } })),
+      made (ℕ × ValType × ℕ × ℕ)
+          (λ a. call.SetGlobal a.0 (record { ty = a.1; raw = record { lo = a.2; hi = a.3 } })),
     ) ∷
-    (codes "set", (ℕ × ℕ × ℕ, λ a. call.SetRegister a.0 (record { lo = a.1; hi = a.2 }))) ∷
-    (codes "make", (MakeOp × ℕ × ℕ, λ a. call.Make a.0 a.1 a.2)) ∷
-    (codes "unary", (UnaryOp × ℕ × ℕ, λ a. call.Unary a.0 a.1 a.2)) ∷
-    (codes "binary", (BinaryOp × ℕ × ℕ × ℕ, λ a. call.Binary a.0 a.1 a.2 a.3)) ∷
-    (codes "ternary", (TernaryOp × ℕ × ℕ × ℕ × ℕ, λ a. call.Ternary a.0 a.1 a.2 a.3 a.4)) ∷
-    (codes "shift", (ShiftOp × ℕ × ℕ × ℕ, λ a. call.Shift a.0 a.1 a.2 a.3)) ∷
-    (codes "test", (TestOp × ℕ, λ a. call.Test a.0 a.1)) ∷
-    (codes "vload", (VectorLoadOp × ℕ × ℕ × ℕ × ℕ, λ a. call.VectorLoad a.0 a.1 a.2 a.3 a.4)) ∷
-    (codes "vstore", (ℕ × ℕ × ℕ × ℕ, λ a. call.VectorStore a.0 a.1 a.2 a.3)) ∷
+    (codes "set", made (ℕ × ℕ × ℕ) (λ a. call.SetRegister a.0 (record { lo = a.1; hi = a.2 }))) ∷
+    (codes "make", made (MakeOp × ℕ × ℕ) (λ a. call.Make a.0 a.1 a.2)) ∷
+    (codes "unary", made (UnaryOp × ℕ × ℕ) (λ a. call.Unary a.0 a.1 a.2)) ∷
+    (codes "binary", made (BinaryOp × ℕ × ℕ × ℕ) (λ a. call.Binary a.0 a.1 a.2 a.3)) ∷
+    (codes "ternary", made (TernaryOp × ℕ × ℕ × ℕ × ℕ) (λ a. call.Ternary a.0 a.1 a.2 a.3 a.4)) ∷
+    (codes "shift", made (ShiftOp × ℕ × ℕ × ℕ) (λ a. call.Shift a.0 a.1 a.2 a.3)) ∷
+    (codes "test", made (TestOp × ℕ) (λ a. call.Test a.0 a.1)) ∷
+    (codes "vload", made (VectorLoadOp × ℕ × ℕ × ℕ × ℕ) (λ a. call.VectorLoad a.0 a.1 a.2 a.3 a.4)) ∷
+    (codes "vstore", made (ℕ × ℕ × ℕ × ℕ) (λ a. call.VectorStore a.0 a.1 a.2 a.3)) ∷
     []
 
 -- a call whose operands are written is of the form of its word
 form : (words : LineWords) (call : Call) → WritesOperands words call
-    → (a : (form_in forms (command_word call)).0) × WritesOperands words ((form_in forms (command_word call)).1 a)
+    → (a : (form_in forms (command_word call)).0) × (form_in forms (command_word call)).1 words a
+form words (call.SetFuel fuel) w = (fuel, w)
+form words (call.DropItems segment) w = (segment, w)
+form words (call.GetGlobal global) w = (global, w)
+form words (call.GetRegister a) w = (a, w)
+form words (call.NewMemory ty) w = (ty, w)
+form words (call.NewLentMemory ty) w = (ty, w)
+form words (call.GrowTable table delta init) w =
+    ((table, delta, init.ty, init.raw), (w.0, w.1, w.2, w.3.0, w.3.1))
+form words (call.SetElement table index value) w =
+    ((table, index, value.ty, value.raw), (w.0, w.1, w.2, w.3.0, w.3.1))
+form words (call.FillTable table dst value len) w =
+    ((table, dst, value.ty, value.raw, len), (w.0, w.1, w.2, w.3.0, w.3.1, w.4))
 form words (call.GrowMemory memory pages) w = ((memory, pages), w)
 form words (call.Read memory offset len) w = ((memory, offset, len), w)
 form words (call.Load op memory ptr offset) w = ((op, memory, ptr, offset), w)
@@ -84,9 +128,9 @@ form words call w = (call, w)
 -- a command is refused since the values of its form are
 pub refused_form : (word : List ℕ) (words : LineWords) (error : LineError) (result : Result Call LineError)
     → result ≡ Err error
-    → Accepts {A = (form_in forms word).0} (Err error) (λ a. WritesOperands words ((form_in forms word).1 a))
+    → Accepts {A = (form_in forms word).0} (Err error) ((form_in forms word).1 words)
     → Accepts result (NamesAfter word words)
 refused_form word words error result is =
     refused_through error result is
-    (λ call names. subst (λ name. (a : (form_in forms name).0) × WritesOperands words ((form_in forms name).1 a))
+    (λ call names. subst (λ name. (a : (form_in forms name).0) × (form_in forms name).1 words a)
     names.0 (form words call names.1))

@@ -14,7 +14,7 @@ use std::alloc::{AllocError, Global};
 use std::marker::Model;
 use std::str;
 use wasmi_core::Call;
-use wasmi_operands::{LineError, number, read_words};
+use wasmi_operands::{LineError, operand, read_words};
 
 /// What a script asks for: what its lines say that were taken in.
 #[derive(Drop)]
@@ -316,10 +316,7 @@ fn line_of(alloc: Global, name: &str, operands: &[&str]) -> Result<Line, LineErr
 fn tenant_named(operands: &[&str]) -> Result<usize, LineError>
     ensures { Accepts result (WritesTenant operands.now) }
 {
-    let [tenant] = operands else {
-        return Err(LineError::BadCommand);
-    };
-    number(tenant)
+    operand::one(operands)
 }
 
 /// The call of a command with this name and these operands.

@@ -175,10 +175,7 @@ mod command {
         /// Definitions: [`Accepts`](crate::specs::operands::LineWords#Accepts), [`NamesAfter`](crate::specs::grammar::Commands#NamesAfter).
         #[inline]
         pub fn new_memory(operands: &[&str]) -> Result<Call, LineError> {
-            let [min, max, log2, width] = operands else {
-                return Err(LineError::BadCommand);
-            };
-            Ok(Call::NewMemory(memory_type(min, max, log2, width)?))
+            Ok(Call::NewMemory(four_word_type(operands)?))
         }
 
         /// `lent MIN MAX LOG2 WIDTH`.
@@ -192,10 +189,7 @@ mod command {
         /// Definitions: [`Accepts`](crate::specs::operands::LineWords#Accepts), [`NamesAfter`](crate::specs::grammar::Commands#NamesAfter).
         #[inline]
         pub fn new_lent_memory(operands: &[&str]) -> Result<Call, LineError> {
-            let [min, max, log2, width] = operands else {
-                return Err(LineError::BadCommand);
-            };
-            Ok(Call::NewLentMemory(memory_type(min, max, log2, width)?))
+            Ok(Call::NewLentMemory(four_word_type(operands)?))
         }
 
         /// `grow K PAGES`.
@@ -275,6 +269,24 @@ mod command {
             }
         }
 
+        /// The memory type of four words, if there is such a type.
+        ///
+        /// # Contract
+        ///
+        /// ```text
+        /// ensures: Accepts result (λ ty. (length words.now ≡ 4) × NamesType (word_at words.now 0)
+        ///     (word_at words.now 1) (word_at words.now 2) (word_at words.now 3) ty)
+        /// ```
+        ///
+        /// Definitions: [`Accepts`](crate::specs::operands::LineWords#Accepts), [`NamesType`](crate::specs::grammar::Commands#NamesType), [`word_at`](crate::specs::operands::LineWords#word_at).
+        #[inline]
+        fn four_word_type(words: &[&str]) -> Result<MemoryType, LineError> {
+            let &[min, max, log2, width] = words else {
+                return Err(LineError::BadCommand);
+            };
+            memory_type(min, max, log2, width)
+        }
+
         /// The memory type of these words, if there is such a type.
         ///
         /// # Contract
@@ -330,7 +342,7 @@ mod command {
     pub mod table {
         //! Commands of tables and element segments.
 
-        use crate::proved::machine::{Call, IndexType, RefType, TableType};
+        use crate::proved::machine::{Call, IndexType, RefType, TableType, TypedRawRef};
         use crate::proved::operands::operand::{self, list_of};
         use crate::proved::operands::{
             LineError, index_ty, number, number_or_none, ref_type, reference,
@@ -367,13 +379,12 @@ mod command {
         /// Definitions: [`Accepts`](crate::specs::operands::LineWords#Accepts), [`NamesAfter`](crate::specs::grammar::Commands#NamesAfter).
         #[inline]
         pub fn grow(operands: &[&str]) -> Result<Call, LineError> {
-            let &[table, delta, ty, raw] = operands else {
-                return Err(LineError::BadCommand);
-            };
-            match (number(table), number(delta), reference(ty, raw)) {
-                (Ok(table), Ok(delta), Ok(init)) => Ok(Call::GrowTable { table, delta, init }),
-                _ => Err(LineError::BadCommand),
-            }
+            let (table, delta, ty, raw) = operand::four(operands)?;
+            Ok(Call::GrowTable {
+                table,
+                delta,
+                init: TypedRawRef::new(raw, ty),
+            })
         }
 
         /// `get K I`.
@@ -402,17 +413,12 @@ mod command {
         /// Definitions: [`Accepts`](crate::specs::operands::LineWords#Accepts), [`NamesAfter`](crate::specs::grammar::Commands#NamesAfter).
         #[inline]
         pub fn set(operands: &[&str]) -> Result<Call, LineError> {
-            let &[table, index, ty, raw] = operands else {
-                return Err(LineError::BadCommand);
-            };
-            match (number(table), number(index), reference(ty, raw)) {
-                (Ok(table), Ok(index), Ok(value)) => Ok(Call::SetElement {
-                    table,
-                    index,
-                    value,
-                }),
-                _ => Err(LineError::BadCommand),
-            }
+            let (table, index, ty, raw) = operand::four(operands)?;
+            Ok(Call::SetElement {
+                table,
+                index,
+                value: TypedRawRef::new(raw, ty),
+            })
         }
 
         /// `init K SEGMENT DST SRC LEN`.
@@ -468,18 +474,13 @@ mod command {
         /// Definitions: [`Accepts`](crate::specs::operands::LineWords#Accepts), [`NamesAfter`](crate::specs::grammar::Commands#NamesAfter).
         #[inline]
         pub fn fill(operands: &[&str]) -> Result<Call, LineError> {
-            let &[table, dst, ty, raw, len] = operands else {
-                return Err(LineError::BadCommand);
-            };
-            match (number(table), number(dst), reference(ty, raw), number(len)) {
-                (Ok(table), Ok(dst), Ok(value), Ok(len)) => Ok(Call::FillTable {
-                    table,
-                    dst,
-                    value,
-                    len,
-                }),
-                _ => Err(LineError::BadCommand),
-            }
+            let (table, dst, ty, raw, len) = operand::five(operands)?;
+            Ok(Call::FillTable {
+                table,
+                dst,
+                value: TypedRawRef::new(raw, ty),
+                len,
+            })
         }
 
         /// `segment T N ...`, which may have no reference.
@@ -513,10 +514,7 @@ mod command {
         /// Definitions: [`Accepts`](crate::specs::operands::LineWords#Accepts), [`NamesAfter`](crate::specs::grammar::Commands#NamesAfter).
         #[inline]
         pub fn empty(operands: &[&str]) -> Result<Call, LineError> {
-            let [segment] = operands else {
-                return Err(LineError::BadCommand);
-            };
-            Ok(Call::DropItems(number(segment)?))
+            Ok(Call::DropItems(operand::one(operands)?))
         }
 
         /// The table type of these words, if there is such a type.
@@ -597,7 +595,7 @@ mod command {
         //! Commands of the meter, of globals and of registers.
 
         use crate::proved::machine::{Call, GlobalType, RawVal, TypedRawVal};
-        use crate::proved::operands::{LineError, number, operand};
+        use crate::proved::operands::{LineError, operand};
 
         /// `fuel N`.
         ///
@@ -610,10 +608,7 @@ mod command {
         /// Definitions: [`Accepts`](crate::specs::operands::LineWords#Accepts), [`NamesAfter`](crate::specs::grammar::Commands#NamesAfter).
         #[inline]
         pub fn set_fuel(operands: &[&str]) -> Result<Call, LineError> {
-            let [fuel] = operands else {
-                return Err(LineError::BadCommand);
-            };
-            Ok(Call::SetFuel(number(fuel)?))
+            Ok(Call::SetFuel(operand::one(operands)?))
         }
 
         /// `left`.
@@ -681,10 +676,7 @@ mod command {
         /// Definitions: [`Accepts`](crate::specs::operands::LineWords#Accepts), [`NamesAfter`](crate::specs::grammar::Commands#NamesAfter).
         #[inline]
         pub fn get_global(operands: &[&str]) -> Result<Call, LineError> {
-            let [global] = operands else {
-                return Err(LineError::BadCommand);
-            };
-            Ok(Call::GetGlobal(number(global)?))
+            Ok(Call::GetGlobal(operand::one(operands)?))
         }
 
         /// `set D LO HI`.
@@ -716,10 +708,7 @@ mod command {
         /// Definitions: [`Accepts`](crate::specs::operands::LineWords#Accepts), [`NamesAfter`](crate::specs::grammar::Commands#NamesAfter).
         #[inline]
         pub fn get_register(operands: &[&str]) -> Result<Call, LineError> {
-            let [a] = operands else {
-                return Err(LineError::BadCommand);
-            };
-            Ok(Call::GetRegister(number(a)?))
+            Ok(Call::GetRegister(operand::one(operands)?))
         }
     }
     pub mod vector {
@@ -1155,7 +1144,7 @@ mod script {
         Header, LimiterLine, MeterLine, RegionLine, listed, meter_line, quota, region_line, tenants,
     };
     use crate::proved::machine::Call;
-    use crate::proved::operands::{LineError, number, read_words};
+    use crate::proved::operands::{LineError, operand, read_words};
     use crate::rattle::Vec;
     use crate::rattle::alloc::AllocError;
     use std::str;
@@ -1575,10 +1564,7 @@ mod script {
     /// Definitions: [`Accepts`](crate::specs::operands::LineWords#Accepts), [`WritesTenant`](crate::specs::grammar::Headers#WritesTenant).
     #[inline]
     fn tenant_named(operands: &[&str]) -> Result<usize, LineError> {
-        let [tenant] = operands else {
-            return Err(LineError::BadCommand);
-        };
-        number(tenant)
+        operand::one(operands)
     }
 
     /// The call of a command with this name and these operands.

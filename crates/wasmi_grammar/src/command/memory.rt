@@ -1,8 +1,8 @@
 //! Commands of memories, and those that drop a memory or a table.
 #![tactic(auto, using(crate::proofs::CommandsLemmas::refused_form))]
 
-ghost use Rattle.std.specs.Prelude.{codes};
-ghost use Rattle.wasmi_operands.specs.LineWords.{Accepts, AcceptsWithMemory};
+ghost use Rattle.std.specs.Prelude.{◌≡◌, codes, length};
+ghost use Rattle.wasmi_operands.specs.LineWords.{Accepts, AcceptsWithMemory, word_at};
 ghost use Rattle.wasmi_grammar.specs.Commands.{NamesAfter, HasSettings, NamesType};
 
 use std::alloc::Global;
@@ -14,20 +14,14 @@ use wasmi_operands::{LineError, index_ty, number, number_or_none};
 pub fn new_memory(operands: &[&str]) -> Result<Call, LineError>
     ensures { Accepts result (NamesAfter (codes "memory") operands.now) }
 {
-    let [min, max, log2, width] = operands else {
-        return Err(LineError::BadCommand);
-    };
-    Ok(Call::NewMemory(memory_type(min, max, log2, width)?))
+    Ok(Call::NewMemory(four_word_type(operands)?))
 }
 
 /// `lent MIN MAX LOG2 WIDTH`.
 pub fn new_lent_memory(operands: &[&str]) -> Result<Call, LineError>
     ensures { Accepts result (NamesAfter (codes "lent") operands.now) }
 {
-    let [min, max, log2, width] = operands else {
-        return Err(LineError::BadCommand);
-    };
-    Ok(Call::NewLentMemory(memory_type(min, max, log2, width)?))
+    Ok(Call::NewLentMemory(four_word_type(operands)?))
 }
 
 /// `grow K PAGES`.
@@ -77,6 +71,17 @@ pub fn drop_live(operands: &[&str]) -> Result<Call, LineError>
         "table" => Ok(Call::DropTable(index)),
         _ => Err(LineError::BadCommand),
     }
+}
+
+/// The memory type of four words, if there is such a type.
+fn four_word_type(words: &[&str]) -> Result<MemoryType, LineError>
+    ensures { Accepts result (λ ty. (length words.now ≡ 4) × NamesType (word_at words.now 0)
+        (word_at words.now 1) (word_at words.now 2) (word_at words.now 3) ty) }
+{
+    let &[min, max, log2, width] = words else {
+        return Err(LineError::BadCommand);
+    };
+    memory_type(min, max, log2, width)
 }
 
 /// The memory type of these words, if there is such a type.

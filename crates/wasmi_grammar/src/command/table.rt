@@ -7,7 +7,7 @@ ghost use Rattle.wasmi_operands.specs.LineWords.{Accepts, AcceptsWithMemory};
 ghost use Rattle.wasmi_grammar.specs.Commands.{NamesAfter, HasLimits, NamesTableType};
 
 use std::alloc::Global;
-use wasmi_core::{Call, IndexType, RefType, TableType};
+use wasmi_core::{Call, IndexType, RefType, TableType, TypedRawRef};
 use wasmi_operands::operand::{self, list_of};
 use wasmi_operands::{LineError, index_ty, number, number_or_none, ref_type, reference};
 
@@ -28,13 +28,12 @@ pub fn new_table(operands: &[&str]) -> Result<Call, LineError>
 pub fn grow(operands: &[&str]) -> Result<Call, LineError>
     ensures { Accepts result (NamesAfter (codes "tgrow") operands.now) }
 {
-    let &[table, delta, ty, raw] = operands else {
-        return Err(LineError::BadCommand);
-    };
-    match (number(table), number(delta), reference(ty, raw)) {
-        (Ok(table), Ok(delta), Ok(init)) => Ok(Call::GrowTable { table, delta, init }),
-        _ => Err(LineError::BadCommand),
-    }
+    let (table, delta, ty, raw) = operand::four(operands)?;
+    Ok(Call::GrowTable {
+        table,
+        delta,
+        init: TypedRawRef::new(raw, ty),
+    })
 }
 
 /// `get K I`.
@@ -49,17 +48,12 @@ pub fn get(operands: &[&str]) -> Result<Call, LineError>
 pub fn set(operands: &[&str]) -> Result<Call, LineError>
     ensures { Accepts result (NamesAfter (codes "tset") operands.now) }
 {
-    let &[table, index, ty, raw] = operands else {
-        return Err(LineError::BadCommand);
-    };
-    match (number(table), number(index), reference(ty, raw)) {
-        (Ok(table), Ok(index), Ok(value)) => Ok(Call::SetElement {
-            table,
-            index,
-            value,
-        }),
-        _ => Err(LineError::BadCommand),
-    }
+    let (table, index, ty, raw) = operand::four(operands)?;
+    Ok(Call::SetElement {
+        table,
+        index,
+        value: TypedRawRef::new(raw, ty),
+    })
 }
 
 /// `init K SEGMENT DST SRC LEN`.
@@ -94,18 +88,13 @@ pub fn copy(operands: &[&str]) -> Result<Call, LineError>
 pub fn fill(operands: &[&str]) -> Result<Call, LineError>
     ensures { Accepts result (NamesAfter (codes "fill") operands.now) }
 {
-    let &[table, dst, ty, raw, len] = operands else {
-        return Err(LineError::BadCommand);
-    };
-    match (number(table), number(dst), reference(ty, raw), number(len)) {
-        (Ok(table), Ok(dst), Ok(value), Ok(len)) => Ok(Call::FillTable {
-            table,
-            dst,
-            value,
-            len,
-        }),
-        _ => Err(LineError::BadCommand),
-    }
+    let (table, dst, ty, raw, len) = operand::five(operands)?;
+    Ok(Call::FillTable {
+        table,
+        dst,
+        value: TypedRawRef::new(raw, ty),
+        len,
+    })
 }
 
 /// `segment T N ...`, which may have no reference.
@@ -125,10 +114,7 @@ pub fn new_segment(alloc: Global, operands: &[&str]) -> Result<Call, LineError>
 pub fn empty(operands: &[&str]) -> Result<Call, LineError>
     ensures { Accepts result (NamesAfter (codes "empty") operands.now) }
 {
-    let [segment] = operands else {
-        return Err(LineError::BadCommand);
-    };
-    Ok(Call::DropItems(number(segment)?))
+    Ok(Call::DropItems(operand::one(operands)?))
 }
 
 /// The table type of these words, if there is such a type.

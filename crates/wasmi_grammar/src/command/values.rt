@@ -6,16 +6,13 @@ ghost use Rattle.wasmi_operands.specs.LineWords.{Accepts};
 ghost use Rattle.wasmi_grammar.specs.Commands.{NamesAfter};
 
 use wasmi_core::{Call, GlobalType, RawVal, TypedRawVal};
-use wasmi_operands::{LineError, number, operand};
+use wasmi_operands::{LineError, operand};
 
 /// `fuel N`.
 pub fn set_fuel(operands: &[&str]) -> Result<Call, LineError>
     ensures { Accepts result (NamesAfter (codes "fuel") operands.now) }
 {
-    let [fuel] = operands else {
-        return Err(LineError::BadCommand);
-    };
-    Ok(Call::SetFuel(number(fuel)?))
+    Ok(Call::SetFuel(operand::one(operands)?))
 }
 
 /// `left`.
@@ -55,10 +52,7 @@ pub fn set_global(operands: &[&str]) -> Result<Call, LineError>
 pub fn get_global(operands: &[&str]) -> Result<Call, LineError>
     ensures { Accepts result (NamesAfter (codes "gget") operands.now) }
 {
-    let [global] = operands else {
-        return Err(LineError::BadCommand);
-    };
-    Ok(Call::GetGlobal(number(global)?))
+    Ok(Call::GetGlobal(operand::one(operands)?))
 }
 
 /// `set D LO HI`.
@@ -76,8 +70,5 @@ pub fn set_register(operands: &[&str]) -> Result<Call, LineError>
 pub fn get_register(operands: &[&str]) -> Result<Call, LineError>
     ensures { Accepts result (NamesAfter (codes "show") operands.now) }
 {
-    let [a] = operands else {
-        return Err(LineError::BadCommand);
-    };
-    Ok(Call::GetRegister(number(a)?))
+    Ok(Call::GetRegister(operand::one(operands)?))
 }
