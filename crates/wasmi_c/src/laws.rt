@@ -9,7 +9,6 @@ use wasmi_meter::ResourceLimiter;
 /// A growth by the host's answers, as a question and a settlement make it, is a growth by all rules
 /// that allow these answers: the limiter is asked that question and gives that answer, and it is
 /// told of the failure, if any, and gives that answer to the notice.
-#[tactic(auto, using(crate::proofs::PlacementLemmas::settled_growth))]
 pub fn settlements_are_growths<L: ResourceLimiter>()
     ensures memories { SettlementsAreGrowths (optional_rules L.rules) }
     ensures tables { TableSettlementsAreGrowths (optional_rules L.rules) }
@@ -17,7 +16,6 @@ pub fn settlements_are_growths<L: ResourceLimiter>()
 
 /// A creation by the host's answers is a creation by all rules that allow these answers, as a
 /// growth is.
-#[tactic(auto, using(crate::proofs::PlacementLemmas::settled_creation))]
 pub fn settlements_are_creations<L: ResourceLimiter>()
     ensures memories { SettlementsAreCreations (optional_rules L.rules) }
     ensures tables { TableSettlementsAreCreations (optional_rules L.rules) }

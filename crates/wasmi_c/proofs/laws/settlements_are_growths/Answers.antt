@@ -1,0 +1,13 @@
+use Rattle.wasmi_meter.specs.Limiter.{optional_rules}
+use Rattle.wasmi_region.specs.Table.{region_growth}
+use Rattle.wasmi_c.specs.Host.{memory_growth}
+use Rattle.wasmi_c.proofs.PlacementLemmas.{settled_growth}
+use Rattle.wasmi_c.proofs.laws.settlements_are_growths.Goals as goal
+
+pub returns-clause-memories : goal.returns-clause-memories
+returns-clause-memories g c pages x =
+    settled_growth (optional_rules g.L.ResourceLimiter.rules) (memory_growth x pages) x
+
+pub returns-clause-tables : goal.returns-clause-tables
+returns-clause-tables g c room n reference x =
+    settled_growth (optional_rules g.L.ResourceLimiter.rules) (region_growth room n reference x) x
