@@ -37,7 +37,7 @@ part_of v w le =
     ap (λ k. 2 ^ k) split ∙ pow-add 2 (bits w - bits v) (bits v)
 
 -- a number of the width w wrapped to v is the lowest bits of its unsigned image, read signed
-pub wrap_low : (v w : Width) (z : ℤ) → bits v ≤ bits w → SFits w z
+wrap_low : (v w : Width) (z : ℤ) → bits v ≤ bits w → SFits w z
     → int_wrap v z ≡ cast_signed v (cast_unsigned w z % 2 ^ bits v)
 unfolding int_wrap
 wrap_low v w (pos n) le f = refl
@@ -46,16 +46,6 @@ wrap_low v w (negsuc n) le f =
     ap (cast_signed v)
     (complement-mod q (2 ^ bits v) n (pow_pos (bits v)) (omega (arith, half_below w, part_of v w le, f.sfits))
     ∙ ap (λ k. (k - suc n) % 2 ^ bits v) (sym (part_of v w le)))
-
--- so of a number of 32 bits
-pub wrap_of_32 : (v : Width) (z : ℤ) → bits v ≤ 32 → SFits w32 z
-    → int_wrap v z ≡ cast_signed v (cast_unsigned w32 z % 2 ^ bits v)
-wrap_of_32 v z le f = wrap_low v w32 z le f
-
--- and of 64 bits
-pub wrap_of_64 : (v : Width) (z : ℤ) → bits v ≤ 64 → SFits w64 z
-    → int_wrap v z ≡ cast_signed v (cast_unsigned w64 z % 2 ^ bits v)
-wrap_of_64 v z le f = wrap_low v w64 z le f
 
 -- ---- the number below 2 to the power w
 
@@ -75,7 +65,7 @@ wrap_signed w (negsuc n) f =
     ap (λ k. 2 ^ bits w - 1 - k) (mod-eq_of_lt (omega (arith, half_below w, f.sfits))) ∙ omega arith
 
 -- of the signed number with the same low bits
-pub wrap_wrapped : (w : Width) (z r : ℤ) → r ≡ int_wrap w z → wrap w r ≡ wrap w z
+wrap_wrapped : (w : Width) (z r : ℤ) → r ≡ int_wrap w z → wrap w r ≡ wrap w z
 unfolding int_wrap
 wrap_wrapped w z r e =
     ap (wrap w) e ∙ wrap_signed w (int_wrap w z) (SFits-int_wrap w z) ∙ of_z-to_z w (wrap w z) (wrap_below w z)
@@ -87,8 +77,19 @@ image_low v w z le f =
     ∙ ap (cast_unsigned v) (wrap_low v w z le f)
     ∙ of_z-to_z v (cast_unsigned w z % 2 ^ bits v) (mod_below (cast_unsigned w z) (2 ^ bits v) (pow_pos (bits v)))
 
--- for `wrap_into`
-pub ruleset wraps_down = (wrap_of_32, wrap_of_64, to_z-of_z, wrap_wrapped)
+-- r is the lowest bits of a number z of the width w, read signed
+module _ (v w : Width) {z r : ℤ} {n : ℕ} (le : bits v ≤ bits w) (fits : SFits w z)
+    (image : n ≡ cast_unsigned w (cast_signed w (cast_unsigned w z))) (is : r ≡ cast_signed v (n % 2 ^ bits v)) where
+  -- r is z, wrapped
+  pub low_value : cast_signed v (cast_unsigned v r) ≡ int_wrap v z
+  low_value =
+      let low = is ∙ ap (λ k. cast_signed v (k % 2 ^ bits v)) (image ∙ ap (cast_unsigned w) (to_z-of_z w z fits))
+      ∙ sym (wrap_low v w z le fits) in
+      ap (λ x. cast_signed v (cast_unsigned v x)) low ∙ to_z-of_z v (int_wrap v z) (SFits-int_wrap v z)
+
+  -- and cut to the width v they are one number
+  pub low_wrap : wrap v (cast_signed v (cast_unsigned v r)) ≡ wrap v z
+  low_wrap = wrap_wrapped v z _ low_value
 
 -- for the stores of a module
 pub ruleset low_bits = (image_low, wrap_unsigned)

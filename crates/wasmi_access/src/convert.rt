@@ -1,5 +1,4 @@
 //! Widening and wrapping between the integers.
-#![tactic(auto, using(crate::proofs::ByteLemmas::wraps_down))]
 
 use crate::access::{ExtendInto, WrapInto};
 

@@ -407,6 +407,7 @@ pub mod access {
 }
 mod convert {
     //! Widening and wrapping between the integers.
+
     use crate::proved::accesses::access::{ExtendInto, WrapInto};
 
     impl ExtendInto<u16> for u8 {
