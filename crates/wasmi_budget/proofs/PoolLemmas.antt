@@ -1,6 +1,6 @@
 -- What stays of a tenant while its machine runs, and what the machines of a pool have together.
 use Rattle.std.proofs.Common.{◌≡◌, Option, Some, List, refl, sym, ◌∙◌, subst, ℕ, ◌+◌, ◌-◌, ◌≤◌, ◌<◌, ◌^◌, None, length, get_or, [], ◌∷◌, ◌++◌, ap, arith}
-use Rattle.std.proofs.lemmas.Option.{same_Some, none-some, slice_get_within, get_or_from_slice_get}
+use Rattle.std.proofs.lemmas.Option.{same_Some, none-some, slice_get_within, get_or_from_slice_get, slice_get_past, slice_get_read}
 use Rattle.wasmi_meter.specs.declared.limiter.Kind.{Kind}
 use Rattle.wasmi_meter.specs.Capped.{amount_of, amounts_of, IsWithin, Asked, Noticed, held_together}
 use Rattle.wasmi_meter.specs.Limiter.{Question, Answer, Failure, NoticeAnswer, optional_rules}
@@ -358,3 +358,12 @@ caps_hold pool within [] pool' ran = rw ran (refl, within)
 caps_hold pool within (turn ∷ turns) pool' (next, step, ran) =
     let rest = caps_hold next (step_within pool turn next within step) turns pool' ran in
     (rest.0 ∙ caps_stay pool turn next step, rest.1)
+
+module _ (xs machines : List State) (i : ℕ) where
+  -- a machine that is got is that of its index
+  pub got : (s : State) → xs ≡ machines → i < length xs → s ≡ get_or xs i s → slice_get machines i ≡ Some s
+  got s same within at = ap (λ ms. slice_get ms i) (sym same) ∙ slice_get_read xs (length xs) i s refl within at
+
+  -- where there is none to get, the index has none
+  pub not_got : xs ≡ machines → length xs ≤ i → slice_get machines i ≡ None
+  not_got same past = ap (λ ms. slice_get ms i) (sym same) ∙ slice_get_past xs i past

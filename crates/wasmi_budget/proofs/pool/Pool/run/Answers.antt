@@ -77,7 +77,7 @@ put_back machines i s s' same at = ap (set machines i) (same ∙ at) ∙ set-get
 
 pub invariant_of-self : goal.invariant_of-self
 invariant_of-self c =
-    rw (put_back c.self.inside.machines.items c.args.index _ _ c.in_err-replies.ensures.err.0
+    rw (put_back c.self.inside.machines.items c.args.index _ c.run.new.self c.in_err-replies.ensures.err.0
     c.index_mut-machine.ensures.value) c.self.invariant
 
 -- what holds holds after an error
@@ -87,7 +87,7 @@ always_err (Err e) p = p
 
 pub returns-in_err-replies-clause-refused : goal.returns-in_err-replies-clause-refused
 returns-in_err-replies-clause-refused c =
-    rw (put_back c.self.inside.machines.items c.args.index _ _ c.in_err-replies.ensures.err.0
+    rw (put_back c.self.inside.machines.items c.args.index _ c.run.new.self c.in_err-replies.ensures.err.0
     c.index_mut-machine.ensures.value) (always_err c.from_residual.result c.self.view_is)
 
 pub returns-in_err-replies-clause-no_tenant : goal.returns-in_err-replies-clause-no_tenant
