@@ -184,3 +184,8 @@ module _ {V E S : Type 0} (rules : Rules S) (amount size : ℕ) (e : Request V E
     attempt = record { may_end = a.may_end; follows = a.follows; charged = a.charged; meter = refl; value = a.value };
     answered = g.answered;
   })
+
+  -- so is one with some charge
+  pub charged_unmetered : {result : Result ℕ E} → (charge : ℕ) × Grows rules priced off result charge s'
+      → (charge : ℕ) × Grows rules priced (metered_value x None l) result charge (metered_value s'.value None s'.limiter)
+  charged_unmetered (charge, grows) = (charge, grows_unmetered grows)

@@ -1,18 +1,78 @@
 -- The making and the growth of a memory, by what was tested on the way.
-use Rattle.std.proofs.Common.{◌≡◌, ℕ, ◌+◌, ◌-◌, ◌*◌, ◌^◌, Bool, true, false, Option, Some, None, length, Ok, Err, refl, sym, ◌∙◌, arith}
+use Rattle.std.proofs.Common.{◌≡◌, ℕ, ◌+◌, ◌-◌, ◌*◌, ◌/◌, ◌%◌, ◌^◌, Bool, true, false, Option, Some, None, List, ◌++◌, length, take, replicate, Result, Ok, Err, subst, refl, sym, ap, ◌∙◌, arith}
 use Rattle.std.specs.Prelude.{if◌then◌else◌, nat_lt}
+use Rattle.std.specs.List.{refill, length_refill}
+use Rattle.std.specs.Result.{OnOk, IfErr}
+use Rattle.std.proofs.lemmas.List.{take_all, drop_all, append-nil, length-append, length-replicate}
+use Rattle.wasmi_types.specs.Access.{overwrite}
 use Rattle.wasmi_meter.specs.declared.error.MemoryError.{MemoryError}
-use Rattle.wasmi_meter.specs.declared.error.MemoryError.TheVariants.{OutOfBoundsGrowth, ResourceLimiterDeniedAllocation, MinimumSizeOverflow, InvalidStaticBufferSize, OutOfFuel}
+use Rattle.wasmi_meter.specs.declared.error.MemoryError.TheVariants.{OutOfBoundsGrowth, OutOfBoundsAccess, ResourceLimiterDeniedAllocation, MinimumSizeOverflow, InvalidStaticBufferSize, OutOfFuel}
 use Rattle.wasmi_meter.specs.declared.limiter.Kind.TheVariants.{Bytes}
 use Rattle.wasmi_meter.specs.Limiter.{Question, Answer, Rules}
 use Rattle.wasmi_meter.specs.Meter.{Meter, due, Charges, copy_cost}
 use Rattle.wasmi_meter.specs.Attempt.{Permits}
-use Rattle.wasmi_store.specs.Buffer.{Room, with_zeros, fits_room, CanFail}
-use Rattle.wasmi_store.specs.Memory.{MemoryTypeValue, page_bytes, minimum_bytes, maximum_bytes, in_bounds, MemoryValue, memory_of, buffer_of, pages_of, new_memory, size_question, creation_of, growth_of, MakesMemory, PermitsMinimum}
+use Rattle.wasmi_store.specs.Buffer.{Room, BufferValue, zeros_in, with_zeros, fits_room, CanFail}
+use Rattle.wasmi_store.specs.Memory.{MemoryTypeValue, page_bytes, minimum_bytes, maximum_bytes, in_bounds, MemoryValue, memory_of, buffer_of, pages_of, IsSized, new_memory, size_question, creation_of, growth_of, MakesMemory, PermitsMinimum, WritesMemory}
+use Rattle.wasmi_store.specs.declared.memory.ty.PageSize.{PageSize}
+use Rattle.wasmi_store.specs.declared.memory.ty.PageSize.TheVariants.{Byte, Wasm}
 use Rattle.wasmi_store.proofs.GrowthLemmas as any
 use Rattle.wasmi_meter.proofs.AttemptLemmas.{IsPermitted, ReachesCharge}
 use Rattle.wasmi_store.specs.Growth.{IsAsked}
 use Rattle.wasmi_store.proofs.GrowthLemmas.{no_cause, a_cause, permitted_by, TellsOf, GrowthAttempt, EndsIn}
+
+-- bytes that were lent and are written over by as many are the written ones
+pub refilled_by : (xs lent ws : List ℕ) → lent ≡ xs → length ws ≡ length lent → refill (length xs) xs ws ≡ ws
+refilled_by xs lent ws is long =
+    let same : length ws ≡ length xs = long ∙ ap length is in
+    ap (λ l. take (length xs) (ws ++ l)) (drop_all (length ws) xs (omega arith))
+    ∙ ap (take (length xs)) (append-nil ws) ∙ take_all (length xs) ws (omega arith)
+
+-- bytes that are written over stay as many
+pub sized_refilled : (ty : MemoryTypeValue) (xs ws : List ℕ) → IsSized ty (length xs)
+    → IsSized ty (length (refill (length xs) xs ws))
+sized_refilled ty xs ws sized = rw (← length_refill (length xs) xs ws refl) sized
+
+-- a buffer of zeros is sized as their number
+pub sized_zeros : (ty : MemoryTypeValue) (room : Room) (size : ℕ) (b : BufferValue) → b ≡ zeros_in room size
+    → IsSized ty size → IsSized ty (length b.bytes)
+sized_zeros ty room size b is sized = rw (is, length-replicate {A = ℕ} size 0) sized
+
+-- whole pages and n pages more are whole pages, and n more of them
+pages_added : (page : PageSize) (size n : ℕ) → size % page_bytes page ≡ 0
+    → ((size + n * page_bytes page) % page_bytes page ≡ 0)
+    × ((size + n * page_bytes page) / page_bytes page ≡ size / page_bytes page + n)
+pages_added Byte size n whole = (omega arith, omega arith)
+pages_added Wasm size n whole = (omega arith, omega arith)
+
+-- bytes that grow by pages within the bounds of their type stay sized
+pub sized_grown : (ty : MemoryTypeValue) (xs : List ℕ) (pages : ℕ) → IsSized ty (length xs)
+    → in_bounds ty (length xs / page_bytes ty.page + pages) ≡ true
+    → IsSized ty (length (xs ++ replicate (pages * page_bytes ty.page) 0))
+sized_grown ty xs pages sized bounds =
+    let n = pages * page_bytes ty.page in
+    let added = pages_added ty.page (length xs) pages sized.whole in
+    rw (length-append xs (replicate n 0), length-replicate {A = ℕ} n 0) (record {
+      whole = added.0;
+      minimum = omega (arith, added.1, sized.minimum);
+      within = subst (λ k. in_bounds ty k ≡ true) (sym added.1) bounds;
+    })
+
+-- so does a buffer that has grown up to the size of so many pages more
+pub sized_buffer : (ty : MemoryTypeValue) (b b' : BufferValue) (pages size : ℕ) → IsSized ty (length b.bytes)
+    → (in_bounds ty (length b.bytes / page_bytes ty.page + pages) ≡ true)
+    × (size ≡ length b.bytes + pages * page_bytes ty.page) → b' ≡ with_zeros b (size - length b.bytes)
+    → IsSized ty (length b'.bytes)
+sized_buffer ty b b' pages size sized found grown =
+    let added : size - length b.bytes ≡ pages * page_bytes ty.page = omega (arith, found.1) in
+    rw (grown, added) (sized_grown ty b.bytes pages sized found.0)
+
+-- what is written over a memory's bytes is written over the memory
+pub writes_memory : (x : MemoryValue) (offset : ℕ) (source : List ℕ) (result : Result (Unit {0}) MemoryError)
+    (ws : List ℕ) → OnOk result (overwrite x.bytes offset source ≡ Some ws)
+    → IfErr result (λ e. (e ≡ OutOfBoundsAccess) × (overwrite x.bytes offset source ≡ None) × (ws ≡ x.bytes))
+    → WritesMemory x offset source result (record x { bytes = ws })
+writes_memory x offset source (Ok _) ws ok err = (ok, refl, refl)
+writes_memory x offset source (Err e) ws ok err = (err.0, err.1, ap (λ l. record x { bytes = l }) err.2)
 
 -- a number that is there only where a test holds
 tested : (b : Bool) (n size : ℕ) → Some size ≡ (if b then Some n else None) → (b ≡ true) × (size ≡ n)

@@ -10,7 +10,7 @@ use Rattle.wasmi_meter.specs.declared.error.MemoryError.{MemoryError}
 use Rattle.wasmi_meter.specs.declared.error.TableError.{TableError}
 use Rattle.wasmi_meter.specs.Attempt.{MeteredValue, Request, AttemptOutcome, Unasked, Denied, Met, Failed, MayEnd, value_after}
 use Rattle.wasmi_typed.specs.declared.typed_ref.TypedRawRef.{TypedRawRef}
-use Rattle.wasmi_store.specs.Buffer.{Room, with_zeros}
+use Rattle.wasmi_store.specs.Buffer.{Room}
 use Rattle.wasmi_store.specs.Growth.{Growth, Makes, Grows}
 use Rattle.wasmi_store.specs.declared.memory.ty.PageSize.{PageSize}
 use Rattle.wasmi_store.specs.declared.memory.ty.PageSize.TheVariants.{Byte, Wasm}
@@ -19,6 +19,7 @@ use Rattle.wasmi_store.specs.Memory as memory
 use Rattle.wasmi_store.specs.Table.{TableTypeValue, same_type, TableValue, size_of, new_table, with_added, IsValidTable, MakesTable, GrowsTableCharging}
 use Rattle.wasmi_store.specs.Table as table
 use Rattle.wasmi_store.proofs.GrowthLemmas.{on_test}
+use Rattle.wasmi_store.proofs.MemoryLemmas.{sized_grown}
 
 -- what is made is made by an attempt that was met
 made_met : {T E S : Type 0} (rules : Rules S) (e : Request (Unit {0}) E) (made x : T) (l l' : S)
@@ -56,13 +57,6 @@ pages_multiplied : (page : PageSize) (n : ℕ)
     → ((n * page_bytes page) % page_bytes page ≡ 0) × ((n * page_bytes page) / page_bytes page ≡ n)
 pages_multiplied Byte n = (omega arith, omega arith)
 pages_multiplied Wasm n = (omega arith, omega arith)
-
--- whole pages and n pages more are whole pages, and n more of them
-pages_added : (page : PageSize) (size n : ℕ) → size % page_bytes page ≡ 0
-    → ((size + n * page_bytes page) % page_bytes page ≡ 0)
-    × ((size + n * page_bytes page) / page_bytes page ≡ size / page_bytes page + n)
-pages_added Byte size n whole = (omega arith, omega arith)
-pages_added Wasm size n whole = (omega arith, omega arith)
 
 -- a minimum lies within its maximum, if there is one
 maximum_holds : (n : ℕ) (maximum : Option ℕ) → ForSome maximum (λ m. n ≤ m)
@@ -104,19 +98,11 @@ pub grown_memory_is_valid : {S : Type 0} (rules : Rules S) (pages : ℕ) (s : Me
     → GrowsMemoryCharging rules pages s result charge s' → IsValidMemory s'.value
 grown_memory_is_valid rules pages s result charge s' valid grows =
     let x = s.value in
-    let added = pages_added x.ty.page (length x.bytes) pages valid.sized.whole in
-    let n = pages * page_bytes x.ty.page in
-    let size : length (with_zeros (buffer_of x) n).bytes ≡ length x.bytes + n =
-    length-append x.bytes (replicate n 0) ∙ ap (λ k. length x.bytes + k) (length-replicate {A = ℕ} n 0) in
     grown_valid rules
     (record { amount = pages; size = pages_of x; request = memory.growth_of x pages }) IsValidMemory s s' valid
     (λ early late. record {
       type = valid.type;
-      sized = rw size (record {
-        whole = added.0;
-        minimum = omega (arith, added.1, valid.sized.minimum);
-        within = subst (λ k. in_bounds x.ty k ≡ true) (sym added.1) (passed _ _ early);
-      });
+      sized = sized_grown x.ty x.bytes pages valid.sized (passed _ _ early);
     }) result charge grows
 
 -- a table that is made of a valid type

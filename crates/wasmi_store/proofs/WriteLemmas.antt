@@ -1,20 +1,22 @@
 -- The calls that write over a part of a list of elements: by what was tested on the way, and a copy a part at a time.
-use Rattle.std.proofs.Common.{◌≡◌, ℕ, suc, ◌+◌, ◌<◌, true, Option, Some, None, Err, inl, inr, List, [], ◌∷◌, ◌++◌, length, take, drop, refl, sym, ap, ◌∙◌, arith, append_assoc, ◌-◌, ◌≤◌, length-drop}
+use Rattle.std.proofs.Common.{◌≡◌, ℕ, suc, ◌+◌, ◌<◌, Bool, true, Option, Some, None, Err, inl, inr, List, [], ◌∷◌, ◌++◌, length, take, drop, refl, sym, ap, ◌∙◌, arith, append_assoc, ◌-◌, ◌≤◌, length-drop}
 use Rattle.std.proofs.lemmas.Bool.{cases_Bool}
 use Rattle.std.proofs.lemmas.Bool.Decides.{nat_tests}
 use lib.ListN.{set}
 use lib.Seq.{set_split, paste, take-add, take-paste, drop-paste}
 use Rattle.std.specs.Prelude.{nat_le, Result}
 use Rattle.wasmi_types.specs.Access.{overwrite}
+use Rattle.wasmi_meter.specs.declared.error.MemoryError.{MemoryError}
 use Rattle.wasmi_meter.specs.declared.error.TableError.{TableError}
+use Rattle.wasmi_meter.specs.declared.fuel.CustomFuelCosts.{CustomFuelCosts}
 use Rattle.wasmi_meter.specs.declared.error.TableError.TheVariants.{OutOfFuel}
 use Rattle.wasmi_meter.specs.Attempt.{covers}
 use Rattle.wasmi_meter.specs.Meter.{Meter, meter_after}
 use Rattle.wasmi_meter.proofs.AttemptLemmas.{meter_after_nothing}
 use Rattle.wasmi_types.specs.declared.value.RefType.{RefType}
 use Rattle.wasmi_types.specs.declared.value.RefType.TheVariants.{Func, Extern}
-use Rattle.wasmi_store.specs.Growth.{metered}
-use Rattle.wasmi_store.specs.Table.{TableValue, TableWrite, MeteredTable, Ends, WritesElements, WritesTable, table_of, write_due, TableTypeValue, same_type}
+use Rattle.wasmi_store.specs.Growth.{metered, BulkWrites}
+use Rattle.wasmi_store.specs.Table.{TableValue, TableWrite, MeteredTable, WriteEnding, Ends, WritesElements, WritesTable, table_of, write_due, TableTypeValue, same_type}
 use Rattle.std.proofs.lemmas.List.{length-take-le, take-take, take_at, drop_at, drop-drop, drop-take}
 
 module _ (write : TableValue → TableWrite) (ty : TableTypeValue) (xs : List ℕ) (m : Meter) where
@@ -64,6 +66,42 @@ module _ (write : TableValue → TableWrite) (ty : TableTypeValue) (xs : List �
     pub writes_elements : WritesElements w.written w.outside w.paid (metered xs (Some m)) result
         (metered xs' (Some m')) → Written
     writes_elements = by_range w.written refl
+
+-- a meter that is off
+abbrev off : CustomFuelCosts → Meter
+off costs = record { left = None; costs = costs }
+
+-- a write over bytes with a meter that is off is one without a meter
+pub bytes_unmetered : (written : Option (List ℕ)) (len : ℕ) (xs xs' : List ℕ) (costs : CustomFuelCosts) (m' : Option Meter)
+    (result : Result (Unit {0}) MemoryError)
+    → BulkWrites written len (metered xs (Some (off costs))) result (metered xs' m')
+    → BulkWrites written len (metered xs None) result (metered xs' None)
+bytes_unmetered None len xs xs' costs m' result writes = (writes.0, ap (λ s. metered s.value None) writes.1)
+bytes_unmetered (Some bytes) len xs xs' costs m' result writes =
+    (writes.0, ap (λ s. metered s.value None) writes.1)
+
+module _ (x : TableValue) (costs : CustomFuelCosts) (end : WriteEnding) where
+  -- how a write ends with a meter that is off, it ends without a meter
+  ends_unmetered : (typed : Bool) (written : Option (List ℕ)) (outside : TableError) (paid : Option ℕ)
+      → Ends (record { typed = typed; written = written; outside = outside; paid = paid })
+      (metered x (Some (off costs))) end
+      → Ends (record { typed = typed; written = written; outside = outside; paid = paid }) (metered x None) end
+  ends_unmetered typed written outside None ends = ends
+  ends_unmetered typed written outside (Some n) ends = ends
+
+-- a write over a table with a meter that is off is one without a meter
+pub table_unmetered : (write : TableValue → TableWrite) (x x' : TableValue) (costs : CustomFuelCosts) (m' : Option Meter)
+    (result : Result (Unit {0}) TableError)
+    → WritesTable write (metered x (Some (off costs))) result (metered x' m')
+    → WritesTable write (metered x None) result (metered x' None)
+table_unmetered write x x' costs m' result (charge, writes) = (
+  charge,
+  record {
+    ends = ends_unmetered x costs (record { result = result; charge = charge; value = x' })
+        (write x).typed (write x).written (write x).outside (write x).paid writes.ends;
+    meter = refl;
+  },
+)
 
 -- a reference type is the same as itself
 pub same_as_itself : (ty : RefType) → same_type ty ty ≡ true

@@ -4,7 +4,7 @@ use Rattle.wasmi_meter.specs.Limiter.{optional_rules}
 use Rattle.wasmi_store.specs.Buffer.{Owned}
 use Rattle.wasmi_store.specs.Memory.{creation_of, new_memory}
 use Rattle.wasmi_store.proofs.GrowthLemmas.{makes_refused}
-use Rattle.wasmi_store.proofs.MemoryLemmas.{making_reaches}
+use Rattle.wasmi_store.proofs.MemoryLemmas.{making_reaches, sized_zeros}
 use Rattle.wasmi_store.proofs.memory.LinearMemory+mut+slice+u8.new.Goals as goal
 
 pub returns-in_err-size-clause-made : goal.returns-in_err-size-clause-made
@@ -18,3 +18,6 @@ returns-in-Err-clause-made g c =
     makes_refused rules (creation_of Owned c.args.ty) (new_memory Owned c.args.ty) _ _
     (making_reaches rules Owned c.args.ty _ _ c.in_ok-size.size c.in_ok-size.ensures.permitted refl)
     _ c.in-Err.ensures.err _ _ c.tell.ensures.told
+
+pub invariant_of-result : goal.invariant_of-result
+invariant_of-result g c = sized_zeros _ Owned _ _ c.in-Ok.ensures.ok c.in_ok-size.ensures.sized

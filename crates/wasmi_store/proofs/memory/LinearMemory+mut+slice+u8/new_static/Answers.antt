@@ -1,7 +1,7 @@
 use Rattle.std.proofs.lemmas.Result.{err_from_is_err_and}
 use Rattle.wasmi_meter.specs.Limiter.{optional_rules}
 use Rattle.wasmi_store.specs.Buffer.{Lent}
-use Rattle.wasmi_store.proofs.MemoryLemmas.{makes_short}
+use Rattle.wasmi_store.proofs.MemoryLemmas.{makes_short, sized_zeros}
 use Rattle.wasmi_store.proofs.memory.LinearMemory+mut+slice+u8.new_static.Goals as goal
 
 pub returns-in_err-size-clause-made : goal.returns-in_err-size-clause-made
@@ -15,3 +15,6 @@ returns-in-Err-clause-made g c =
     makes_short (optional_rules g.L.ResourceLimiter.rules)
     (Lent c.args.region.now) c.args.ty _ _ c.in_ok-size.size c.in_ok-size.ensures.permitted e.0 _ _
     (rw e.1 at c.tell.ensures.told)
+
+pub invariant_of-result : goal.invariant_of-result
+invariant_of-result g c = sized_zeros _ (Lent c.args.region.now) _ _ c.in-Ok.ensures.ok.1 c.in_ok-size.ensures.sized

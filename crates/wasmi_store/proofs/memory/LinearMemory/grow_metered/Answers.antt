@@ -2,7 +2,7 @@ use Rattle.std.proofs.Common.{ap, arith, refl, sym, ◌∙◌}
 use Rattle.std.proofs.lemmas.Result.{err_from_is_err_and}
 use Rattle.wasmi_meter.specs.Limiter.{optional_rules}
 use Rattle.wasmi_store.specs.Memory.{memory_of}
-use Rattle.wasmi_store.proofs.MemoryLemmas.{grows_unasked, growth_asked, growth_permitted, grows_refused, grows_met}
+use Rattle.wasmi_store.proofs.MemoryLemmas.{grows_unasked, growth_asked, growth_permitted, grows_refused, grows_met, sized_buffer}
 use Rattle.wasmi_store.proofs.memory.LinearMemory.grow_metered.Goals as goal
 
 pub returns-in_default-clause-grown : goal.returns-in_default-clause-grown
@@ -39,3 +39,7 @@ returns-clause-grown g c =
     let fits = sym (rw (← c.len-old_size.ensures) at c.has_room-has_room.ensures) in
     rw (← c.self.view_is) (grows_met permits (fits ∙ c.in_ok-decide_growth.ensures.room) c.decide_growth.new.fuel
     c.in_ok-decide_growth.ensures.paid _ (ap (memory_of c.self.inside.ty) c.in_default-grow.ensures.ok) _ pages)
+
+pub invariant_of-self-2 : goal.invariant_of-self-2
+invariant_of-self-2 g c = sized_buffer _ _ _ c.args.additional _ c.self.invariant
+    (rw c.len-old_size.ensures at c.in-Some.ensures.size) c.in_default-grow.ensures.ok

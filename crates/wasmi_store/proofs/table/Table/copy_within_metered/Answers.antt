@@ -1,4 +1,5 @@
-use Rattle.std.proofs.Common.{◌∙◌, ap, length, sym}
+use Rattle.std.proofs.lemmas.Grind.{common_steps}
+use Rattle.std.proofs.Common.{◌∙◌, ap, length, sym, arith}
 use Rattle.std.proofs.lemmas.List.{with_items_is}
 use Rattle.wasmi_store.proofs.WriteLemmas.{writes_elements, same_as_itself}
 use Rattle.wasmi_store.proofs.table.Table.copy_within_metered.Goals as goal
@@ -10,3 +11,6 @@ returns c =
     rw (← c.self.view_is, with_items_is c.self.inside.elements _ long)
     (writes_elements _ c.self.inside.ty _ _ (same_as_itself _) _ _ _
     (rw c.as_mut_slice.ensures.value at c.copy_elements_within.ensures.written))
+
+pub invariant_of-self : goal.invariant_of-self
+invariant_of-self c = grind (arith, common_steps)

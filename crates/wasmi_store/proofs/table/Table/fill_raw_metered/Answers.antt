@@ -1,4 +1,5 @@
-use Rattle.std.proofs.Common.{◌∙◌, ap, length, refl, sym}
+use Rattle.std.proofs.lemmas.Grind.{common_steps}
+use Rattle.std.proofs.Common.{◌∙◌, ap, length, refl, sym, arith}
 use Rattle.std.proofs.lemmas.List.{with_items_is}
 use Rattle.wasmi_store.specs.Table.{raw_filling_of}
 use Rattle.wasmi_store.proofs.WriteLemmas.{writes_elements}
@@ -10,3 +11,6 @@ returns c =
     rw (← c.self.view_is, with_items_is c.self.inside.elements _ long)
     (writes_elements (raw_filling_of c.args.dst c.args.val c.args.len) c.self.inside.ty _ _ refl _ _ _
     (rw c.as_mut_slice.ensures.value at c.fill_elements.ensures.written))
+
+pub invariant_of-self : goal.invariant_of-self
+invariant_of-self c = grind (arith, common_steps)

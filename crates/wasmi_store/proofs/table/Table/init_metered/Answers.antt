@@ -1,4 +1,5 @@
-use Rattle.std.proofs.Common.{◌∙◌, ap, length, sym}
+use Rattle.std.proofs.lemmas.Grind.{common_steps}
+use Rattle.std.proofs.Common.{◌∙◌, ap, length, sym, arith}
 use Rattle.std.proofs.lemmas.List.{with_items_is}
 use Rattle.wasmi_store.specs.Segment.{segment_of}
 use Rattle.wasmi_store.specs.Table.{initialization_of}
@@ -13,3 +14,6 @@ returns c =
     (rw c.ty.ensures at c.in_ok-ensure_element_type_matches.ensures) _ _ _
     (rw (c.as_mut_slice.ensures.value, c.items-items.ensures, c.from-src.ensures, c.from-len.ensures) at
     c.init_elements.ensures.written))
+
+pub invariant_of-self : goal.invariant_of-self
+invariant_of-self c = grind (arith, common_steps)
