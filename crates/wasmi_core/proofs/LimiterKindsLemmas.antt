@@ -5,7 +5,6 @@ use Rattle.std.proofs.lemmas.Option.{same_Some}
 use Rattle.std.specs.Prelude.{All}
 use Rattle.wasmi_meter.specs.declared.any_limiter.AnyLimiter.{AnyLimiter}
 use Rattle.wasmi_meter.specs.declared.any_limiter.AnyLimiter.TheVariants as limiter
-use Rattle.wasmi_meter.specs.declared.quota.Quota.{Quota}
 use Rattle.wasmi_meter.specs.AnswerList.{AnswersAhead, answer_list_rules}
 use Rattle.wasmi_meter.specs.AnyLimiter.{any_limiter_rules, quota_of}
 use Rattle.wasmi_meter.specs.Attempt.{Request, Unasked, Denied, Met, Failed}

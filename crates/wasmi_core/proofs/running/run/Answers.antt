@@ -1,3 +1,4 @@
+use Rattle.std.proofs.lemmas.Grind.{common_steps}
 use Rattle.std.proofs.Common.{◌+◌, [], ◌∷◌, ◌++◌, ◌∙◌, refl, ap, arith, rules}
 use Rattle.std.proofs.lemmas.List.{map_push}
 use Rattle.wasmi_meter.specs.Limiter.{optional_rules}
@@ -10,19 +11,24 @@ pub loop-call-preserved : goal.loop-call-preserved
 loop-call-preserved g c =
     let ran = c.loop-call.invariant.ran in
     let step = c.step-reply.ensures.step in
+    let turn : Turn =
+    record { call = c.call-item.result; reply = c.step-reply.result; charge = step.0; written = step.1 } in
     record {
       ran = (
-        ran.0 ++ record { call = _; reply = _; charge = step.0; written = step.1 } ∷ [],
-        calls_more ran.0 _ _ _ ran.1 c.loop-call-test.true c.call-item.is,
+        ran.0 ++ turn ∷ [],
+        calls_more ran.0 _ _ turn ran.1 c.loop-call-test.true c.call-item.is,
         rw (
-          map_push Turn.reply ran.0 (record { call = _; reply = _; charge = step.0; written = step.1 }),
+          map_push Turn.reply ran.0 turn,
           ran.2,
           c.push_reserved.ensures.items,
         ) refl,
-        Run-push (optional_rules g.L.ResourceLimiter.rules) _ _ _ ran.3 _ _ step.2,
+        Run-push (optional_rules g.L.ResourceLimiter.rules) _ _ _ ran.3 turn _ step.2,
       );
       loan = search rules;
       valid = c.step-reply.ensures.valid;
       count = c.push_reserved.ensures.len ∙ ap (λ n. n + 1) c.loop-call.invariant.count;
       room = omega (arith, c.push_reserved.ensures.capacity);
     }
+
+pub returns-clause-run : goal.returns-clause-run
+returns-clause-run g c = grind (arith, common_steps)
