@@ -132,9 +132,9 @@ fn run_answered(
     ensures { IfOk result (λ ran.
         IsListedReplay answers.now (start_of header.now) calls.now ran.replies.items ran.held) }
 {
+    let mut limiter = AnswerList::new(answers.to_vec(alloc)?);
     let mut region = region_of(alloc, header)?;
     let mut machine = machine_of(alloc, header, region.as_mut());
-    let mut limiter = AnswerList::new(answers.to_vec(alloc)?);
     let replies = run_lending(&mut machine, calls, &mut limiter)?;
     let held = Held::Nothing;
     Ok(Ran { replies, held })

@@ -1077,9 +1077,9 @@ mod running {
         calls: &[Call],
         answers: &[LimiterAnswer],
     ) -> Result<Ran, AllocError> {
+        let mut limiter = AnswerList::new(answers.try_to_vec()?);
         let mut region = region_of(header)?;
         let mut machine = machine_of(header, region.as_mut());
-        let mut limiter = AnswerList::new(answers.try_to_vec()?);
         let replies = run_lending(&mut machine, calls, &mut limiter)?;
         let held = Held::Nothing;
         Ok(Ran { replies, held })
