@@ -1,4 +1,5 @@
 //! The commands of a script, each of which is one call: what the words after its first say.
+#![tactic(auto, using(crate::proofs::CommandsLemmas::refused_form))]
 
 pub mod access;
 pub mod memory;

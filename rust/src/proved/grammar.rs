@@ -1,7 +1,6 @@
 //! The text of a script: what its lines say, and the script that they write.
 mod command {
     //! The commands of a script, each of which is one call: what the words after its first say.
-
     pub mod access {
         //! Commands that load from a memory or store to it.
 

@@ -1,5 +1,4 @@
 //! Commands of memories, and those that drop a memory or a table.
-#![tactic(auto, using(crate::proofs::CommandsLemmas::refused_form))]
 
 ghost use Rattle.std.specs.Prelude.{◌≡◌, codes, length};
 ghost use Rattle.wasmi_operands.specs.LineWords.{Accepts, AcceptsWithMemory, word_at};

@@ -1,5 +1,4 @@
 //! Commands of tables and element segments.
-#![tactic(auto, using(crate::proofs::CommandsLemmas::refused_form))]
 
 ghost use Rattle.std.specs.Prelude.{◌≡◌, ◌<◌, ◌^◌, codes, IfErr};
 ghost use Rattle.std.specs.Result.{OkIff};

@@ -1,5 +1,4 @@
 //! Commands of the meter, of globals and of registers.
-#![tactic(auto, using(crate::proofs::CommandsLemmas::refused_form))]
 
 ghost use Rattle.std.specs.Prelude.{codes};
 ghost use Rattle.wasmi_operands.specs.LineWords.{Accepts};

@@ -1,5 +1,4 @@
 //! Commands of vector instructions whose operands are registers and indices of lanes.
-#![tactic(auto, using(crate::proofs::CommandsLemmas::refused_form))]
 
 ghost use Rattle.std.specs.Prelude.{codes};
 ghost use Rattle.wasmi_operands.specs.LineWords.{Accepts};
