@@ -2,7 +2,6 @@
 ghost use Rattle.std.specs.Prelude.{◌≡◌, [], ℕ, ◌+◌, ◌-◌, ◌<◌, ◌≤◌, length, take, drop, codes, vec_len, IfOk, IfErr, OnOk, OnErr, ◌≢◌};
 ghost use Rattle.wasmi_operands.specs.LineWords.{Accepts, AcceptsWithMemory};
 ghost use Rattle.wasmi_grammar.specs.Commands.{NamesAfter};
-ghost use Rattle.wasmi_grammar.specs.Headers.{WritesTenant};
 ghost use Rattle.wasmi_grammar.specs.Lines.{WritesScript, NamesLine, calls_of, IsParseError};
 
 use crate::command::{access, memory, table, values, vector};
@@ -307,16 +306,9 @@ fn line_of(alloc: Global, name: &str, operands: &[&str]) -> Result<Line, LineErr
         "answers" => Ok(Line::Limiter(listed(alloc, operands)?)),
         "tenants" => Ok(Line::Limiter(tenants(operands)?)),
         "region" => Ok(Line::Region(region_line(operands)?)),
-        "as" => Ok(Line::As(tenant_named(operands)?)),
+        "as" => Ok(Line::As(operand::one(operands)?)),
         _ => Ok(Line::Call(command(alloc, name, operands)?)),
     }
-}
-
-/// The tenant that the words after `as` say.
-fn tenant_named(operands: &[&str]) -> Result<usize, LineError>
-    ensures { Accepts result (WritesTenant operands.now) }
-{
-    operand::one(operands)
 }
 
 /// The call of a command with this name and these operands.

@@ -1547,23 +1547,9 @@ mod script {
             "answers" => Ok(Line::Limiter(listed(operands)?)),
             "tenants" => Ok(Line::Limiter(tenants(operands)?)),
             "region" => Ok(Line::Region(region_line(operands)?)),
-            "as" => Ok(Line::As(tenant_named(operands)?)),
+            "as" => Ok(Line::As(operand::one(operands)?)),
             _ => Ok(Line::Call(command(name, operands)?)),
         }
-    }
-
-    /// The tenant that the words after `as` say.
-    ///
-    /// # Contract
-    ///
-    /// ```text
-    /// ensures: Accepts result (WritesTenant operands.now)
-    /// ```
-    ///
-    /// Definitions: [`Accepts`](crate::specs::operands::LineWords#Accepts), [`WritesTenant`](crate::specs::grammar::Headers#WritesTenant).
-    #[inline]
-    fn tenant_named(operands: &[&str]) -> Result<usize, LineError> {
-        operand::one(operands)
     }
 
     /// The call of a command with this name and these operands.
