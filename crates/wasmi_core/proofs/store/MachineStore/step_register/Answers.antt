@@ -18,6 +18,13 @@ returns-in-Unary g c = record { step = λ l. rw (c.in-Unary.is, ← c.self.view_
 pub returns-in-Binary : goal.returns-in-Binary
 returns-in-Binary g c = record { step = λ l. rw (c.in-Binary.is, ← c.self.view_is) (changes_part _ c.binary.ensures) }
 
+pub returns-in-Ternary : goal.returns-in-Ternary
+returns-in-Ternary g c =
+    record { step = λ l. rw (c.in-Ternary.is, ← c.self.view_is) (changes_part _ c.ternary.ensures) }
+
+pub returns-in-Shift : goal.returns-in-Shift
+returns-in-Shift g c = record { step = λ l. rw (c.in-Shift.is, ← c.self.view_is) (changes_part _ c.shift.ensures) }
+
 pub returns-in-Test : goal.returns-in-Test
 returns-in-Test g c = record { step = λ l. rw (c.in-Test.is, ← c.self.view_is) (only_replies c.test.ensures) }
 
@@ -27,3 +34,7 @@ returns-in-Extract g c = record { step = λ l. rw (c.in-Extract.is, ← c.self.v
 pub returns-in-Replace : goal.returns-in-Replace
 returns-in-Replace g c =
     record { step = λ l. rw (c.in-Replace.is, ← c.self.view_is) (changes_part _ c.replace.ensures) }
+
+pub returns-in-Shuffle : goal.returns-in-Shuffle
+returns-in-Shuffle g c =
+    record { step = λ l. rw (c.in-Shuffle.is, ← c.self.view_is) (changes_part _ c.shuffle.ensures) }
