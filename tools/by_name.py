@@ -16,7 +16,7 @@ C_TYPES = {
     "bool": "bool", "i32": "int32_t", "i64": "int64_t", "u32": "uint32_t", "u64": "uint64_t", "u8": "uint8_t", "V128": "wasmi_words",
     "RawVal": "wasmi_words",
 }
-FUNCTION = re.compile(r"((?:^///[^\n]*\n)+)(?:#\[[^\n]*\n)*^pub fn (\w+)\(([^)]*)\) -> ([^\n]*)\n    ensures \{ (.*?) \}\n\{", re.M | re.S)
+FUNCTION = re.compile(r"(?:^///[^\n]*\n)(?:#\[[^\n]*\n)*^pub fn (\w+)\(([^)]*)\) -> ([^\n]*)\n    ensures \{ (.*?) \}\n\{", re.M | re.S)
 # A module: what it has, the lists of its instructions, the files of the library's functions, and their crate and module.
 MODULES = {
     "scalar": ("The scalar instructions by name", ("SCALAR_UNARIES", "SCALAR_BINARIES"), "wasmi_scalar/src/wasm.rt", "wasmi_scalar", "wasm"),
@@ -37,11 +37,11 @@ def texts(files):
 
 
 def functions(files):
-    """The functions of some files: by name, the text above it, its parameters, what it gives, and its clause in one line."""
+    """The functions of some files: by name, its parameters, what it gives, and its clause in one line."""
     found = {}
-    for text_above, name, parameters, given, clause in FUNCTION.findall(texts(files)):
+    for name, parameters, given, clause in FUNCTION.findall(texts(files)):
         pairs = [tuple(it.split(": ")) for it in " ".join(parameters.split()).rstrip(",").split(", ")]
-        found[name] = (text_above, pairs, given, " ".join(clause.split()))
+        found[name] = (pairs, given, " ".join(clause.split()))
     return found
 
 
@@ -66,7 +66,7 @@ class Exported:
     """The function of C for a function of the library."""
 
     def __init__(self, name, function, module):
-        self.text, self.parameters, given, clause = function
+        self.parameters, given, clause = function
         self.name, self.given = f"wasm_{name}", given
         call = f"{module}::{name}({', '.join(it for it, _ in self.parameters)})"
         trapping = re.fullmatch(r"Result<(.*), TrapCode>", given)
@@ -101,7 +101,7 @@ class Exported:
         return textwrap.fill(line, WIDTH, subsequent_indent=" " * 8, break_on_hyphens=False).replace("\N{NO-BREAK SPACE}", " ") + "\n"
 
     def source(self):
-        return f"\n{self.text}#[unsafe(no_mangle)]\n{self.signature()}{self.clause()}{{\n    {self.body}\n}}\n"
+        return f"\n#[unsafe(no_mangle)]\n{self.signature()}{self.clause()}{{\n    {self.body}\n}}\n"
 
     def prototype(self):
         made = []
@@ -133,7 +133,8 @@ def source(key):
     uses += "use wasmi_raw::RawVal;\n" if any("RawVal" in kind for it in made for _, kind in it.parameters) else ""
     uses = "".join(sorted([*uses.splitlines(True), f"use {crate}::{module};\n"]))
     clauses = " ".join(" ".join(it.clauses) for it in made)
-    head = f"//! {text}. `tools/header` writes this file.\n//!\n//! A status is 0, or the number of the trap; then nothing is written.\n"
+    about = f"{text}, each described at the function of its name in `{crate}::{module}`. `tools/header` writes this file."
+    head = f"{textwrap.fill(about, WIDTH, initial_indent='//! ', subsequent_indent='//! ')}\n//!\n//! A status is 0, or the number of the trap; then nothing is written.\n"
     return f"{head}{imports(files, clauses)}\n{uses}" + "".join(it.source() for it in made)
 
 

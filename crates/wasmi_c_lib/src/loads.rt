@@ -1,4 +1,5 @@
-//! The loads by name. `tools/header` writes this file.
+//! The loads by name, each described at the function of its name in `wasmi_access::wasm`.
+//! `tools/header` writes this file.
 //!
 //! A status is 0, or the number of the trap; then nothing is written.
 ghost use Rattle.std.specs.Int.{w8, w16, w32, cast_signed};
@@ -9,7 +10,6 @@ ghost use Rattle.wasmi_c.specs.Instruction.{Gives};
 use wasmi_access::wasm;
 use wasmi_c::instruction::result::leave_item;
 
-/// `i32.load8_s`: 8 bits, read signed.
 #[unsafe(no_mangle)]
 pub extern "C" fn wasm_i32_load8_s(memory: &[u8], ptr: u64, offset: u64, value: &mut i32) -> u8
     ensures { Gives (loaded 1 (cast_signed w8) memory.now (ptr + offset)) value.old value.new
@@ -18,7 +18,6 @@ pub extern "C" fn wasm_i32_load8_s(memory: &[u8], ptr: u64, offset: u64, value: 
     leave_item(wasm::i32_load8_s(memory, ptr, offset), value)
 }
 
-/// `i32.load8_u`: 8 bits, read unsigned.
 #[unsafe(no_mangle)]
 pub extern "C" fn wasm_i32_load8_u(memory: &[u8], ptr: u64, offset: u64, value: &mut i32) -> u8
     ensures { Gives (loaded 1 pos memory.now (ptr + offset)) value.old value.new result }
@@ -26,7 +25,6 @@ pub extern "C" fn wasm_i32_load8_u(memory: &[u8], ptr: u64, offset: u64, value: 
     leave_item(wasm::i32_load8_u(memory, ptr, offset), value)
 }
 
-/// `i32.load16_s`: 16 bits, read signed.
 #[unsafe(no_mangle)]
 pub extern "C" fn wasm_i32_load16_s(memory: &[u8], ptr: u64, offset: u64, value: &mut i32) -> u8
     ensures { Gives (loaded 2 (cast_signed w16) memory.now (ptr + offset)) value.old value.new
@@ -35,7 +33,6 @@ pub extern "C" fn wasm_i32_load16_s(memory: &[u8], ptr: u64, offset: u64, value:
     leave_item(wasm::i32_load16_s(memory, ptr, offset), value)
 }
 
-/// `i32.load16_u`: 16 bits, read unsigned.
 #[unsafe(no_mangle)]
 pub extern "C" fn wasm_i32_load16_u(memory: &[u8], ptr: u64, offset: u64, value: &mut i32) -> u8
     ensures { Gives (loaded 2 pos memory.now (ptr + offset)) value.old value.new result }
@@ -43,7 +40,6 @@ pub extern "C" fn wasm_i32_load16_u(memory: &[u8], ptr: u64, offset: u64, value:
     leave_item(wasm::i32_load16_u(memory, ptr, offset), value)
 }
 
-/// `i64.load8_s`: 8 bits, read signed.
 #[unsafe(no_mangle)]
 pub extern "C" fn wasm_i64_load8_s(memory: &[u8], ptr: u64, offset: u64, value: &mut i64) -> u8
     ensures { Gives (loaded 1 (cast_signed w8) memory.now (ptr + offset)) value.old value.new
@@ -52,7 +48,6 @@ pub extern "C" fn wasm_i64_load8_s(memory: &[u8], ptr: u64, offset: u64, value: 
     leave_item(wasm::i64_load8_s(memory, ptr, offset), value)
 }
 
-/// `i64.load8_u`: 8 bits, read unsigned.
 #[unsafe(no_mangle)]
 pub extern "C" fn wasm_i64_load8_u(memory: &[u8], ptr: u64, offset: u64, value: &mut i64) -> u8
     ensures { Gives (loaded 1 pos memory.now (ptr + offset)) value.old value.new result }
@@ -60,7 +55,6 @@ pub extern "C" fn wasm_i64_load8_u(memory: &[u8], ptr: u64, offset: u64, value: 
     leave_item(wasm::i64_load8_u(memory, ptr, offset), value)
 }
 
-/// `i64.load16_s`: 16 bits, read signed.
 #[unsafe(no_mangle)]
 pub extern "C" fn wasm_i64_load16_s(memory: &[u8], ptr: u64, offset: u64, value: &mut i64) -> u8
     ensures { Gives (loaded 2 (cast_signed w16) memory.now (ptr + offset)) value.old value.new
@@ -69,7 +63,6 @@ pub extern "C" fn wasm_i64_load16_s(memory: &[u8], ptr: u64, offset: u64, value:
     leave_item(wasm::i64_load16_s(memory, ptr, offset), value)
 }
 
-/// `i64.load16_u`: 16 bits, read unsigned.
 #[unsafe(no_mangle)]
 pub extern "C" fn wasm_i64_load16_u(memory: &[u8], ptr: u64, offset: u64, value: &mut i64) -> u8
     ensures { Gives (loaded 2 pos memory.now (ptr + offset)) value.old value.new result }
@@ -77,7 +70,6 @@ pub extern "C" fn wasm_i64_load16_u(memory: &[u8], ptr: u64, offset: u64, value:
     leave_item(wasm::i64_load16_u(memory, ptr, offset), value)
 }
 
-/// `i64.load32_s`: 32 bits, read signed.
 #[unsafe(no_mangle)]
 pub extern "C" fn wasm_i64_load32_s(memory: &[u8], ptr: u64, offset: u64, value: &mut i64) -> u8
     ensures { Gives (loaded 4 (cast_signed w32) memory.now (ptr + offset)) value.old value.new
@@ -86,7 +78,6 @@ pub extern "C" fn wasm_i64_load32_s(memory: &[u8], ptr: u64, offset: u64, value:
     leave_item(wasm::i64_load32_s(memory, ptr, offset), value)
 }
 
-/// `i64.load32_u`: 32 bits, read unsigned.
 #[unsafe(no_mangle)]
 pub extern "C" fn wasm_i64_load32_u(memory: &[u8], ptr: u64, offset: u64, value: &mut i64) -> u8
     ensures { Gives (loaded 4 pos memory.now (ptr + offset)) value.old value.new result }
@@ -94,7 +85,6 @@ pub extern "C" fn wasm_i64_load32_u(memory: &[u8], ptr: u64, offset: u64, value:
     leave_item(wasm::i64_load32_u(memory, ptr, offset), value)
 }
 
-/// `i32.load`: 32 bits, read unsigned.
 #[unsafe(no_mangle)]
 pub extern "C" fn wasm_load_u32(memory: &[u8], ptr: u64, offset: u64, value: &mut u32) -> u8
     ensures { Gives (loaded 4 (λ n. n) memory.now (ptr + offset)) value.old value.new result }
@@ -102,7 +92,6 @@ pub extern "C" fn wasm_load_u32(memory: &[u8], ptr: u64, offset: u64, value: &mu
     leave_item(wasm::load_u32(memory, ptr, offset), value)
 }
 
-/// `i64.load`: 64 bits, read unsigned.
 #[unsafe(no_mangle)]
 pub extern "C" fn wasm_load_u64(memory: &[u8], ptr: u64, offset: u64, value: &mut u64) -> u8
     ensures { Gives (loaded 8 (λ n. n) memory.now (ptr + offset)) value.old value.new result }

@@ -1,4 +1,5 @@
-//! The scalar instructions by name. `tools/header` writes this file.
+//! The scalar instructions by name, each described at the function of its name in
+//! `wasmi_scalar::wasm`. `tools/header` writes this file.
 //!
 //! A status is 0, or the number of the trap; then nothing is written.
 ghost use Rattle.std.specs.Int.{w8, w16, w32, w64, cast_unsigned, int_wrap};
@@ -9,7 +10,6 @@ ghost use Rattle.wasmi_scalar.specs.Numerics.{iadd, isub, imul, idiv_s, idiv_u, 
 use wasmi_c::instruction::result::{leave_item, leave_pair};
 use wasmi_scalar::wasm;
 
-/// The zeros above the highest bit that is set, 32 for 0.
 #[unsafe(no_mangle)]
 pub extern "C" fn wasm_i32_clz(value: i32) -> i32
     ensures { result ≡ iclz w32 value }
@@ -17,7 +17,6 @@ pub extern "C" fn wasm_i32_clz(value: i32) -> i32
     wasm::i32_clz(value)
 }
 
-/// The zeros below the lowest bit that is set, 32 for 0.
 #[unsafe(no_mangle)]
 pub extern "C" fn wasm_i32_ctz(value: i32) -> i32
     ensures { result ≡ ictz w32 value }
@@ -25,7 +24,6 @@ pub extern "C" fn wasm_i32_ctz(value: i32) -> i32
     wasm::i32_ctz(value)
 }
 
-/// The bits that are set.
 #[unsafe(no_mangle)]
 pub extern "C" fn wasm_i32_popcnt(value: i32) -> i32
     ensures { result ≡ ipopcnt w32 value }
@@ -33,7 +31,6 @@ pub extern "C" fn wasm_i32_popcnt(value: i32) -> i32
     wasm::i32_popcnt(value)
 }
 
-/// Whether the number is 0.
 #[unsafe(no_mangle)]
 pub extern "C" fn wasm_i32_eqz(value: i32) -> bool
     ensures { result ≡ ieqz value }
@@ -41,7 +38,6 @@ pub extern "C" fn wasm_i32_eqz(value: i32) -> bool
     wasm::i32_eqz(value)
 }
 
-/// The zeros above the highest bit that is set, 64 for 0.
 #[unsafe(no_mangle)]
 pub extern "C" fn wasm_i64_clz(value: i64) -> i64
     ensures { result ≡ iclz w64 value }
@@ -49,7 +45,6 @@ pub extern "C" fn wasm_i64_clz(value: i64) -> i64
     wasm::i64_clz(value)
 }
 
-/// The zeros below the lowest bit that is set, 64 for 0.
 #[unsafe(no_mangle)]
 pub extern "C" fn wasm_i64_ctz(value: i64) -> i64
     ensures { result ≡ ictz w64 value }
@@ -57,7 +52,6 @@ pub extern "C" fn wasm_i64_ctz(value: i64) -> i64
     wasm::i64_ctz(value)
 }
 
-/// The bits that are set.
 #[unsafe(no_mangle)]
 pub extern "C" fn wasm_i64_popcnt(value: i64) -> i64
     ensures { result ≡ ipopcnt w64 value }
@@ -65,7 +59,6 @@ pub extern "C" fn wasm_i64_popcnt(value: i64) -> i64
     wasm::i64_popcnt(value)
 }
 
-/// Whether the number is 0.
 #[unsafe(no_mangle)]
 pub extern "C" fn wasm_i64_eqz(value: i64) -> bool
     ensures { result ≡ ieqz value }
@@ -73,7 +66,6 @@ pub extern "C" fn wasm_i64_eqz(value: i64) -> bool
     wasm::i64_eqz(value)
 }
 
-/// The low 32 bits.
 #[unsafe(no_mangle)]
 pub extern "C" fn wasm_i32_wrap_i64(value: i64) -> i32
     ensures { result ≡ int_wrap w32 value }
@@ -81,7 +73,6 @@ pub extern "C" fn wasm_i32_wrap_i64(value: i64) -> i32
     wasm::i32_wrap_i64(value)
 }
 
-/// The same number.
 #[unsafe(no_mangle)]
 pub extern "C" fn wasm_i64_extend_i32_s(value: i32) -> i64
     ensures { result ≡ value }
@@ -89,7 +80,6 @@ pub extern "C" fn wasm_i64_extend_i32_s(value: i32) -> i64
     wasm::i64_extend_i32_s(value)
 }
 
-/// The same number.
 #[unsafe(no_mangle)]
 pub extern "C" fn wasm_i64_extend_i32_u(value: u32) -> u64
     ensures { result ≡ value }
@@ -97,7 +87,6 @@ pub extern "C" fn wasm_i64_extend_i32_u(value: u32) -> u64
     wasm::i64_extend_i32_u(value)
 }
 
-/// The low 8 bits, extended by their sign.
 #[unsafe(no_mangle)]
 pub extern "C" fn wasm_i32_extend8_s(value: i32) -> i32
     ensures { result ≡ int_wrap w8 value }
@@ -105,7 +94,6 @@ pub extern "C" fn wasm_i32_extend8_s(value: i32) -> i32
     wasm::i32_extend8_s(value)
 }
 
-/// The low 16 bits, extended by their sign.
 #[unsafe(no_mangle)]
 pub extern "C" fn wasm_i32_extend16_s(value: i32) -> i32
     ensures { result ≡ int_wrap w16 value }
@@ -113,7 +101,6 @@ pub extern "C" fn wasm_i32_extend16_s(value: i32) -> i32
     wasm::i32_extend16_s(value)
 }
 
-/// The low 8 bits, extended by their sign.
 #[unsafe(no_mangle)]
 pub extern "C" fn wasm_i64_extend8_s(value: i64) -> i64
     ensures { result ≡ int_wrap w8 value }
@@ -121,7 +108,6 @@ pub extern "C" fn wasm_i64_extend8_s(value: i64) -> i64
     wasm::i64_extend8_s(value)
 }
 
-/// The low 16 bits, extended by their sign.
 #[unsafe(no_mangle)]
 pub extern "C" fn wasm_i64_extend16_s(value: i64) -> i64
     ensures { result ≡ int_wrap w16 value }
@@ -129,7 +115,6 @@ pub extern "C" fn wasm_i64_extend16_s(value: i64) -> i64
     wasm::i64_extend16_s(value)
 }
 
-/// The low 32 bits, extended by their sign.
 #[unsafe(no_mangle)]
 pub extern "C" fn wasm_i64_extend32_s(value: i64) -> i64
     ensures { result ≡ int_wrap w32 value }
@@ -137,7 +122,6 @@ pub extern "C" fn wasm_i64_extend32_s(value: i64) -> i64
     wasm::i64_extend32_s(value)
 }
 
-/// The sum modulo 2 to the power 32.
 #[unsafe(no_mangle)]
 pub extern "C" fn wasm_i32_add(lhs: i32, rhs: i32) -> i32
     ensures { result ≡ iadd w32 lhs rhs }
@@ -145,7 +129,6 @@ pub extern "C" fn wasm_i32_add(lhs: i32, rhs: i32) -> i32
     wasm::i32_add(lhs, rhs)
 }
 
-/// The difference modulo 2 to the power 32.
 #[unsafe(no_mangle)]
 pub extern "C" fn wasm_i32_sub(lhs: i32, rhs: i32) -> i32
     ensures { result ≡ isub w32 lhs rhs }
@@ -153,7 +136,6 @@ pub extern "C" fn wasm_i32_sub(lhs: i32, rhs: i32) -> i32
     wasm::i32_sub(lhs, rhs)
 }
 
-/// The product modulo 2 to the power 32.
 #[unsafe(no_mangle)]
 pub extern "C" fn wasm_i32_mul(lhs: i32, rhs: i32) -> i32
     ensures { result ≡ imul w32 lhs rhs }
@@ -161,7 +143,6 @@ pub extern "C" fn wasm_i32_mul(lhs: i32, rhs: i32) -> i32
     wasm::i32_mul(lhs, rhs)
 }
 
-/// Bitwise and.
 #[unsafe(no_mangle)]
 pub extern "C" fn wasm_i32_bitand(lhs: i32, rhs: i32) -> i32
     ensures { result ≡ iand w32 lhs rhs }
@@ -169,7 +150,6 @@ pub extern "C" fn wasm_i32_bitand(lhs: i32, rhs: i32) -> i32
     wasm::i32_bitand(lhs, rhs)
 }
 
-/// Bitwise or.
 #[unsafe(no_mangle)]
 pub extern "C" fn wasm_i32_bitor(lhs: i32, rhs: i32) -> i32
     ensures { result ≡ ior w32 lhs rhs }
@@ -177,7 +157,6 @@ pub extern "C" fn wasm_i32_bitor(lhs: i32, rhs: i32) -> i32
     wasm::i32_bitor(lhs, rhs)
 }
 
-/// Bitwise exclusive or.
 #[unsafe(no_mangle)]
 pub extern "C" fn wasm_i32_bitxor(lhs: i32, rhs: i32) -> i32
     ensures { result ≡ ixor w32 lhs rhs }
@@ -185,7 +164,6 @@ pub extern "C" fn wasm_i32_bitxor(lhs: i32, rhs: i32) -> i32
     wasm::i32_bitxor(lhs, rhs)
 }
 
-/// Shifts to the left; the amount is taken modulo 32.
 #[unsafe(no_mangle)]
 pub extern "C" fn wasm_i32_shl(lhs: i32, rhs: i32) -> i32
     ensures { result ≡ ishl w32 lhs rhs }
@@ -193,7 +171,6 @@ pub extern "C" fn wasm_i32_shl(lhs: i32, rhs: i32) -> i32
     wasm::i32_shl(lhs, rhs)
 }
 
-/// Shifts to the right and fills with the highest bit; the amount is taken modulo 32.
 #[unsafe(no_mangle)]
 pub extern "C" fn wasm_i32_shr_s(lhs: i32, rhs: i32) -> i32
     ensures { result ≡ ishr_s w32 lhs rhs }
@@ -201,7 +178,6 @@ pub extern "C" fn wasm_i32_shr_s(lhs: i32, rhs: i32) -> i32
     wasm::i32_shr_s(lhs, rhs)
 }
 
-/// Shifts to the right and fills with zeros; the amount is taken modulo 32.
 #[unsafe(no_mangle)]
 pub extern "C" fn wasm_i32_shr_u(lhs: u32, rhs: u32) -> u32
     ensures { result ≡ ishr_u w32 lhs rhs }
@@ -209,7 +185,6 @@ pub extern "C" fn wasm_i32_shr_u(lhs: u32, rhs: u32) -> u32
     wasm::i32_shr_u(lhs, rhs)
 }
 
-/// Rotates to the left; the amount is taken modulo 32.
 #[unsafe(no_mangle)]
 pub extern "C" fn wasm_i32_rotl(lhs: i32, rhs: i32) -> i32
     ensures { result ≡ irotl w32 lhs rhs }
@@ -217,7 +192,6 @@ pub extern "C" fn wasm_i32_rotl(lhs: i32, rhs: i32) -> i32
     wasm::i32_rotl(lhs, rhs)
 }
 
-/// Rotates to the right; the amount is taken modulo 32.
 #[unsafe(no_mangle)]
 pub extern "C" fn wasm_i32_rotr(lhs: i32, rhs: i32) -> i32
     ensures { result ≡ irotr w32 lhs rhs }
@@ -225,8 +199,6 @@ pub extern "C" fn wasm_i32_rotr(lhs: i32, rhs: i32) -> i32
     wasm::i32_rotr(lhs, rhs)
 }
 
-/// The quotient towards zero; `IntegerDivisionByZero` for a divisor of 0, then `IntegerOverflow` for
-/// the least number by -1.
 #[unsafe(no_mangle)]
 pub extern "C" fn wasm_i32_div_s(lhs: i32, rhs: i32, value: &mut i32) -> u8
     ensures { Gives (idiv_s w32 lhs rhs) value.old value.new result }
@@ -234,7 +206,6 @@ pub extern "C" fn wasm_i32_div_s(lhs: i32, rhs: i32, value: &mut i32) -> u8
     leave_item(wasm::i32_div_s(lhs, rhs), value)
 }
 
-/// The quotient, or `IntegerDivisionByZero` for a divisor of 0.
 #[unsafe(no_mangle)]
 pub extern "C" fn wasm_i32_div_u(lhs: u32, rhs: u32, value: &mut u32) -> u8
     ensures { Gives (idiv_u lhs rhs) value.old value.new result }
@@ -242,8 +213,6 @@ pub extern "C" fn wasm_i32_div_u(lhs: u32, rhs: u32, value: &mut u32) -> u8
     leave_item(wasm::i32_div_u(lhs, rhs), value)
 }
 
-/// The remainder, with the sign of `lhs`: 0 for the least number by -1; or `IntegerDivisionByZero`
-/// for a divisor of 0.
 #[unsafe(no_mangle)]
 pub extern "C" fn wasm_i32_rem_s(lhs: i32, rhs: i32, value: &mut i32) -> u8
     ensures { Gives (irem_s lhs rhs) value.old value.new result }
@@ -251,7 +220,6 @@ pub extern "C" fn wasm_i32_rem_s(lhs: i32, rhs: i32, value: &mut i32) -> u8
     leave_item(wasm::i32_rem_s(lhs, rhs), value)
 }
 
-/// The remainder, or `IntegerDivisionByZero` for a divisor of 0.
 #[unsafe(no_mangle)]
 pub extern "C" fn wasm_i32_rem_u(lhs: u32, rhs: u32, value: &mut u32) -> u8
     ensures { Gives (irem_u lhs rhs) value.old value.new result }
@@ -259,7 +227,6 @@ pub extern "C" fn wasm_i32_rem_u(lhs: u32, rhs: u32, value: &mut u32) -> u8
     leave_item(wasm::i32_rem_u(lhs, rhs), value)
 }
 
-/// Whether `lhs` is `rhs`.
 #[unsafe(no_mangle)]
 pub extern "C" fn wasm_i32_eq(lhs: i32, rhs: i32) -> bool
     ensures { result ≡ ieq lhs rhs }
@@ -267,7 +234,6 @@ pub extern "C" fn wasm_i32_eq(lhs: i32, rhs: i32) -> bool
     wasm::i32_eq(lhs, rhs)
 }
 
-/// Whether `lhs` isn't `rhs`.
 #[unsafe(no_mangle)]
 pub extern "C" fn wasm_i32_ne(lhs: i32, rhs: i32) -> bool
     ensures { result ≡ ine lhs rhs }
@@ -275,7 +241,6 @@ pub extern "C" fn wasm_i32_ne(lhs: i32, rhs: i32) -> bool
     wasm::i32_ne(lhs, rhs)
 }
 
-/// Whether `lhs` is below `rhs`, read signed.
 #[unsafe(no_mangle)]
 pub extern "C" fn wasm_i32_lt_s(lhs: i32, rhs: i32) -> bool
     ensures { result ≡ ilt_s lhs rhs }
@@ -283,7 +248,6 @@ pub extern "C" fn wasm_i32_lt_s(lhs: i32, rhs: i32) -> bool
     wasm::i32_lt_s(lhs, rhs)
 }
 
-/// Whether `lhs` is below `rhs`, read unsigned.
 #[unsafe(no_mangle)]
 pub extern "C" fn wasm_i32_lt_u(lhs: u32, rhs: u32) -> bool
     ensures { result ≡ ilt_u lhs rhs }
@@ -291,7 +255,6 @@ pub extern "C" fn wasm_i32_lt_u(lhs: u32, rhs: u32) -> bool
     wasm::i32_lt_u(lhs, rhs)
 }
 
-/// Whether `lhs` is at most `rhs`, read signed.
 #[unsafe(no_mangle)]
 pub extern "C" fn wasm_i32_le_s(lhs: i32, rhs: i32) -> bool
     ensures { result ≡ ile_s lhs rhs }
@@ -299,7 +262,6 @@ pub extern "C" fn wasm_i32_le_s(lhs: i32, rhs: i32) -> bool
     wasm::i32_le_s(lhs, rhs)
 }
 
-/// Whether `lhs` is at most `rhs`, read unsigned.
 #[unsafe(no_mangle)]
 pub extern "C" fn wasm_i32_le_u(lhs: u32, rhs: u32) -> bool
     ensures { result ≡ ile_u lhs rhs }
@@ -307,7 +269,6 @@ pub extern "C" fn wasm_i32_le_u(lhs: u32, rhs: u32) -> bool
     wasm::i32_le_u(lhs, rhs)
 }
 
-/// Whether `lhs` is above `rhs`, read signed.
 #[unsafe(no_mangle)]
 pub extern "C" fn wasm_i32_gt_s(lhs: i32, rhs: i32) -> bool
     ensures { result ≡ igt_s lhs rhs }
@@ -315,7 +276,6 @@ pub extern "C" fn wasm_i32_gt_s(lhs: i32, rhs: i32) -> bool
     wasm::i32_gt_s(lhs, rhs)
 }
 
-/// Whether `lhs` is above `rhs`, read unsigned.
 #[unsafe(no_mangle)]
 pub extern "C" fn wasm_i32_gt_u(lhs: u32, rhs: u32) -> bool
     ensures { result ≡ igt_u lhs rhs }
@@ -323,7 +283,6 @@ pub extern "C" fn wasm_i32_gt_u(lhs: u32, rhs: u32) -> bool
     wasm::i32_gt_u(lhs, rhs)
 }
 
-/// Whether `lhs` is at least `rhs`, read signed.
 #[unsafe(no_mangle)]
 pub extern "C" fn wasm_i32_ge_s(lhs: i32, rhs: i32) -> bool
     ensures { result ≡ ige_s lhs rhs }
@@ -331,7 +290,6 @@ pub extern "C" fn wasm_i32_ge_s(lhs: i32, rhs: i32) -> bool
     wasm::i32_ge_s(lhs, rhs)
 }
 
-/// Whether `lhs` is at least `rhs`, read unsigned.
 #[unsafe(no_mangle)]
 pub extern "C" fn wasm_i32_ge_u(lhs: u32, rhs: u32) -> bool
     ensures { result ≡ ige_u lhs rhs }
@@ -339,7 +297,6 @@ pub extern "C" fn wasm_i32_ge_u(lhs: u32, rhs: u32) -> bool
     wasm::i32_ge_u(lhs, rhs)
 }
 
-/// The sum modulo 2 to the power 64.
 #[unsafe(no_mangle)]
 pub extern "C" fn wasm_i64_add(lhs: i64, rhs: i64) -> i64
     ensures { result ≡ iadd w64 lhs rhs }
@@ -347,7 +304,6 @@ pub extern "C" fn wasm_i64_add(lhs: i64, rhs: i64) -> i64
     wasm::i64_add(lhs, rhs)
 }
 
-/// The difference modulo 2 to the power 64.
 #[unsafe(no_mangle)]
 pub extern "C" fn wasm_i64_sub(lhs: i64, rhs: i64) -> i64
     ensures { result ≡ isub w64 lhs rhs }
@@ -355,7 +311,6 @@ pub extern "C" fn wasm_i64_sub(lhs: i64, rhs: i64) -> i64
     wasm::i64_sub(lhs, rhs)
 }
 
-/// The product modulo 2 to the power 64.
 #[unsafe(no_mangle)]
 pub extern "C" fn wasm_i64_mul(lhs: i64, rhs: i64) -> i64
     ensures { result ≡ imul w64 lhs rhs }
@@ -363,7 +318,6 @@ pub extern "C" fn wasm_i64_mul(lhs: i64, rhs: i64) -> i64
     wasm::i64_mul(lhs, rhs)
 }
 
-/// Bitwise and.
 #[unsafe(no_mangle)]
 pub extern "C" fn wasm_i64_bitand(lhs: i64, rhs: i64) -> i64
     ensures { result ≡ iand w64 lhs rhs }
@@ -371,7 +325,6 @@ pub extern "C" fn wasm_i64_bitand(lhs: i64, rhs: i64) -> i64
     wasm::i64_bitand(lhs, rhs)
 }
 
-/// Bitwise or.
 #[unsafe(no_mangle)]
 pub extern "C" fn wasm_i64_bitor(lhs: i64, rhs: i64) -> i64
     ensures { result ≡ ior w64 lhs rhs }
@@ -379,7 +332,6 @@ pub extern "C" fn wasm_i64_bitor(lhs: i64, rhs: i64) -> i64
     wasm::i64_bitor(lhs, rhs)
 }
 
-/// Bitwise exclusive or.
 #[unsafe(no_mangle)]
 pub extern "C" fn wasm_i64_bitxor(lhs: i64, rhs: i64) -> i64
     ensures { result ≡ ixor w64 lhs rhs }
@@ -387,7 +339,6 @@ pub extern "C" fn wasm_i64_bitxor(lhs: i64, rhs: i64) -> i64
     wasm::i64_bitxor(lhs, rhs)
 }
 
-/// Shifts to the left; the amount is taken modulo 64.
 #[unsafe(no_mangle)]
 pub extern "C" fn wasm_i64_shl(lhs: i64, rhs: i64) -> i64
     ensures { result ≡ ishl w64 lhs rhs }
@@ -395,7 +346,6 @@ pub extern "C" fn wasm_i64_shl(lhs: i64, rhs: i64) -> i64
     wasm::i64_shl(lhs, rhs)
 }
 
-/// Shifts to the right and fills with the highest bit; the amount is taken modulo 64.
 #[unsafe(no_mangle)]
 pub extern "C" fn wasm_i64_shr_s(lhs: i64, rhs: i64) -> i64
     ensures { result ≡ ishr_s w64 lhs rhs }
@@ -403,7 +353,6 @@ pub extern "C" fn wasm_i64_shr_s(lhs: i64, rhs: i64) -> i64
     wasm::i64_shr_s(lhs, rhs)
 }
 
-/// Shifts to the right and fills with zeros; the amount is taken modulo 64.
 #[unsafe(no_mangle)]
 pub extern "C" fn wasm_i64_shr_u(lhs: u64, rhs: u64) -> u64
     ensures { result ≡ ishr_u w64 lhs rhs }
@@ -411,7 +360,6 @@ pub extern "C" fn wasm_i64_shr_u(lhs: u64, rhs: u64) -> u64
     wasm::i64_shr_u(lhs, rhs)
 }
 
-/// Rotates to the left; the amount is taken modulo 64.
 #[unsafe(no_mangle)]
 pub extern "C" fn wasm_i64_rotl(lhs: i64, rhs: i64) -> i64
     ensures { result ≡ irotl w64 lhs rhs }
@@ -419,7 +367,6 @@ pub extern "C" fn wasm_i64_rotl(lhs: i64, rhs: i64) -> i64
     wasm::i64_rotl(lhs, rhs)
 }
 
-/// Rotates to the right; the amount is taken modulo 64.
 #[unsafe(no_mangle)]
 pub extern "C" fn wasm_i64_rotr(lhs: i64, rhs: i64) -> i64
     ensures { result ≡ irotr w64 lhs rhs }
@@ -427,8 +374,6 @@ pub extern "C" fn wasm_i64_rotr(lhs: i64, rhs: i64) -> i64
     wasm::i64_rotr(lhs, rhs)
 }
 
-/// The quotient towards zero; `IntegerDivisionByZero` for a divisor of 0, then `IntegerOverflow` for
-/// the least number by -1.
 #[unsafe(no_mangle)]
 pub extern "C" fn wasm_i64_div_s(lhs: i64, rhs: i64, value: &mut i64) -> u8
     ensures { Gives (idiv_s w64 lhs rhs) value.old value.new result }
@@ -436,7 +381,6 @@ pub extern "C" fn wasm_i64_div_s(lhs: i64, rhs: i64, value: &mut i64) -> u8
     leave_item(wasm::i64_div_s(lhs, rhs), value)
 }
 
-/// The quotient, or `IntegerDivisionByZero` for a divisor of 0.
 #[unsafe(no_mangle)]
 pub extern "C" fn wasm_i64_div_u(lhs: u64, rhs: u64, value: &mut u64) -> u8
     ensures { Gives (idiv_u lhs rhs) value.old value.new result }
@@ -444,8 +388,6 @@ pub extern "C" fn wasm_i64_div_u(lhs: u64, rhs: u64, value: &mut u64) -> u8
     leave_item(wasm::i64_div_u(lhs, rhs), value)
 }
 
-/// The remainder, with the sign of `lhs`: 0 for the least number by -1; or `IntegerDivisionByZero`
-/// for a divisor of 0.
 #[unsafe(no_mangle)]
 pub extern "C" fn wasm_i64_rem_s(lhs: i64, rhs: i64, value: &mut i64) -> u8
     ensures { Gives (irem_s lhs rhs) value.old value.new result }
@@ -453,7 +395,6 @@ pub extern "C" fn wasm_i64_rem_s(lhs: i64, rhs: i64, value: &mut i64) -> u8
     leave_item(wasm::i64_rem_s(lhs, rhs), value)
 }
 
-/// The remainder, or `IntegerDivisionByZero` for a divisor of 0.
 #[unsafe(no_mangle)]
 pub extern "C" fn wasm_i64_rem_u(lhs: u64, rhs: u64, value: &mut u64) -> u8
     ensures { Gives (irem_u lhs rhs) value.old value.new result }
@@ -461,7 +402,6 @@ pub extern "C" fn wasm_i64_rem_u(lhs: u64, rhs: u64, value: &mut u64) -> u8
     leave_item(wasm::i64_rem_u(lhs, rhs), value)
 }
 
-/// Whether `lhs` is `rhs`.
 #[unsafe(no_mangle)]
 pub extern "C" fn wasm_i64_eq(lhs: i64, rhs: i64) -> bool
     ensures { result ≡ ieq lhs rhs }
@@ -469,7 +409,6 @@ pub extern "C" fn wasm_i64_eq(lhs: i64, rhs: i64) -> bool
     wasm::i64_eq(lhs, rhs)
 }
 
-/// Whether `lhs` isn't `rhs`.
 #[unsafe(no_mangle)]
 pub extern "C" fn wasm_i64_ne(lhs: i64, rhs: i64) -> bool
     ensures { result ≡ ine lhs rhs }
@@ -477,7 +416,6 @@ pub extern "C" fn wasm_i64_ne(lhs: i64, rhs: i64) -> bool
     wasm::i64_ne(lhs, rhs)
 }
 
-/// Whether `lhs` is below `rhs`, read signed.
 #[unsafe(no_mangle)]
 pub extern "C" fn wasm_i64_lt_s(lhs: i64, rhs: i64) -> bool
     ensures { result ≡ ilt_s lhs rhs }
@@ -485,7 +423,6 @@ pub extern "C" fn wasm_i64_lt_s(lhs: i64, rhs: i64) -> bool
     wasm::i64_lt_s(lhs, rhs)
 }
 
-/// Whether `lhs` is below `rhs`, read unsigned.
 #[unsafe(no_mangle)]
 pub extern "C" fn wasm_i64_lt_u(lhs: u64, rhs: u64) -> bool
     ensures { result ≡ ilt_u lhs rhs }
@@ -493,7 +430,6 @@ pub extern "C" fn wasm_i64_lt_u(lhs: u64, rhs: u64) -> bool
     wasm::i64_lt_u(lhs, rhs)
 }
 
-/// Whether `lhs` is at most `rhs`, read signed.
 #[unsafe(no_mangle)]
 pub extern "C" fn wasm_i64_le_s(lhs: i64, rhs: i64) -> bool
     ensures { result ≡ ile_s lhs rhs }
@@ -501,7 +437,6 @@ pub extern "C" fn wasm_i64_le_s(lhs: i64, rhs: i64) -> bool
     wasm::i64_le_s(lhs, rhs)
 }
 
-/// Whether `lhs` is at most `rhs`, read unsigned.
 #[unsafe(no_mangle)]
 pub extern "C" fn wasm_i64_le_u(lhs: u64, rhs: u64) -> bool
     ensures { result ≡ ile_u lhs rhs }
@@ -509,7 +444,6 @@ pub extern "C" fn wasm_i64_le_u(lhs: u64, rhs: u64) -> bool
     wasm::i64_le_u(lhs, rhs)
 }
 
-/// Whether `lhs` is above `rhs`, read signed.
 #[unsafe(no_mangle)]
 pub extern "C" fn wasm_i64_gt_s(lhs: i64, rhs: i64) -> bool
     ensures { result ≡ igt_s lhs rhs }
@@ -517,7 +451,6 @@ pub extern "C" fn wasm_i64_gt_s(lhs: i64, rhs: i64) -> bool
     wasm::i64_gt_s(lhs, rhs)
 }
 
-/// Whether `lhs` is above `rhs`, read unsigned.
 #[unsafe(no_mangle)]
 pub extern "C" fn wasm_i64_gt_u(lhs: u64, rhs: u64) -> bool
     ensures { result ≡ igt_u lhs rhs }
@@ -525,7 +458,6 @@ pub extern "C" fn wasm_i64_gt_u(lhs: u64, rhs: u64) -> bool
     wasm::i64_gt_u(lhs, rhs)
 }
 
-/// Whether `lhs` is at least `rhs`, read signed.
 #[unsafe(no_mangle)]
 pub extern "C" fn wasm_i64_ge_s(lhs: i64, rhs: i64) -> bool
     ensures { result ≡ ige_s lhs rhs }
@@ -533,7 +465,6 @@ pub extern "C" fn wasm_i64_ge_s(lhs: i64, rhs: i64) -> bool
     wasm::i64_ge_s(lhs, rhs)
 }
 
-/// Whether `lhs` is at least `rhs`, read unsigned.
 #[unsafe(no_mangle)]
 pub extern "C" fn wasm_i64_ge_u(lhs: u64, rhs: u64) -> bool
     ensures { result ≡ ige_u lhs rhs }
@@ -541,7 +472,6 @@ pub extern "C" fn wasm_i64_ge_u(lhs: u64, rhs: u64) -> bool
     wasm::i64_ge_u(lhs, rhs)
 }
 
-/// The sum of two numbers modulo 2 to the power 128, as the words `(lo, hi)`.
 #[unsafe(no_mangle)]
 pub extern "C" fn wasm_i64_add128(
     lhs_lo: i64,
@@ -557,7 +487,6 @@ pub extern "C" fn wasm_i64_add128(
     leave_pair(wasm::i64_add128(lhs_lo, lhs_hi, rhs_lo, rhs_hi), lo, hi)
 }
 
-/// The difference of two numbers modulo 2 to the power 128, as the words `(lo, hi)`.
 #[unsafe(no_mangle)]
 pub extern "C" fn wasm_i64_sub128(
     lhs_lo: i64,
@@ -573,7 +502,6 @@ pub extern "C" fn wasm_i64_sub128(
     leave_pair(wasm::i64_sub128(lhs_lo, lhs_hi, rhs_lo, rhs_hi), lo, hi)
 }
 
-/// The whole product of two numbers read signed, as the words `(lo, hi)` of a signed number.
 #[unsafe(no_mangle)]
 pub extern "C" fn wasm_i64_mul_wide_s(lhs: i64, rhs: i64, lo: &mut i64, hi: &mut i64)
     ensures { signed_of lo.new hi.new ≡ lhs *ℤ rhs }
@@ -581,7 +509,6 @@ pub extern "C" fn wasm_i64_mul_wide_s(lhs: i64, rhs: i64, lo: &mut i64, hi: &mut
     leave_pair(wasm::i64_mul_wide_s(lhs, rhs), lo, hi)
 }
 
-/// The whole product of two numbers read unsigned, as the words `(lo, hi)` of an unsigned number.
 #[unsafe(no_mangle)]
 pub extern "C" fn wasm_i64_mul_wide_u(lhs: i64, rhs: i64, lo: &mut i64, hi: &mut i64)
     ensures { unsigned_of lo.new hi.new ≡ cast_unsigned w64 lhs * cast_unsigned w64 rhs }

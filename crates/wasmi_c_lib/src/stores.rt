@@ -1,4 +1,5 @@
-//! The stores by name. `tools/header` writes this file.
+//! The stores by name, each described at the function of its name in `wasmi_access::wasm`.
+//! `tools/header` writes this file.
 //!
 //! A status is 0, or the number of the trap; then nothing is written.
 ghost use Rattle.std.specs.Int.{w32, w64, cast_unsigned};
@@ -9,7 +10,6 @@ ghost use Rattle.wasmi_types.specs.Numbers.{le_bytes};
 use wasmi_access::wasm;
 use wasmi_c::instruction::result::status_of;
 
-/// `i32.store8`: the value modulo 2 to the power 8.
 #[unsafe(no_mangle)]
 pub extern "C" fn wasm_i32_store8(memory: &mut [u8], ptr: u64, offset: u64, value: i32) -> u8
     ensures { StoresBytes memory.old (ptr + offset) (le_bytes 1 (cast_unsigned w32 value % 2 ^ 8))
@@ -18,7 +18,6 @@ pub extern "C" fn wasm_i32_store8(memory: &mut [u8], ptr: u64, offset: u64, valu
     status_of(wasm::i32_store8(memory, ptr, offset, value))
 }
 
-/// `i32.store16`: the value modulo 2 to the power 16.
 #[unsafe(no_mangle)]
 pub extern "C" fn wasm_i32_store16(memory: &mut [u8], ptr: u64, offset: u64, value: i32) -> u8
     ensures { StoresBytes memory.old (ptr + offset) (le_bytes 2 (cast_unsigned w32 value % 2 ^ 16))
@@ -27,7 +26,6 @@ pub extern "C" fn wasm_i32_store16(memory: &mut [u8], ptr: u64, offset: u64, val
     status_of(wasm::i32_store16(memory, ptr, offset, value))
 }
 
-/// `i64.store8`: the value modulo 2 to the power 8.
 #[unsafe(no_mangle)]
 pub extern "C" fn wasm_i64_store8(memory: &mut [u8], ptr: u64, offset: u64, value: i64) -> u8
     ensures { StoresBytes memory.old (ptr + offset) (le_bytes 1 (cast_unsigned w64 value % 2 ^ 8))
@@ -36,7 +34,6 @@ pub extern "C" fn wasm_i64_store8(memory: &mut [u8], ptr: u64, offset: u64, valu
     status_of(wasm::i64_store8(memory, ptr, offset, value))
 }
 
-/// `i64.store16`: the value modulo 2 to the power 16.
 #[unsafe(no_mangle)]
 pub extern "C" fn wasm_i64_store16(memory: &mut [u8], ptr: u64, offset: u64, value: i64) -> u8
     ensures { StoresBytes memory.old (ptr + offset) (le_bytes 2 (cast_unsigned w64 value % 2 ^ 16))
@@ -45,7 +42,6 @@ pub extern "C" fn wasm_i64_store16(memory: &mut [u8], ptr: u64, offset: u64, val
     status_of(wasm::i64_store16(memory, ptr, offset, value))
 }
 
-/// `i64.store32`: the value modulo 2 to the power 32.
 #[unsafe(no_mangle)]
 pub extern "C" fn wasm_i64_store32(memory: &mut [u8], ptr: u64, offset: u64, value: i64) -> u8
     ensures { StoresBytes memory.old (ptr + offset) (le_bytes 4 (cast_unsigned w64 value % 2 ^ 32))
@@ -54,7 +50,6 @@ pub extern "C" fn wasm_i64_store32(memory: &mut [u8], ptr: u64, offset: u64, val
     status_of(wasm::i64_store32(memory, ptr, offset, value))
 }
 
-/// `i32.store`: the 32 bits of the value.
 #[unsafe(no_mangle)]
 pub extern "C" fn wasm_store32(memory: &mut [u8], ptr: u64, offset: u64, value: u32) -> u8
     ensures { StoresBytes memory.old (ptr + offset) (le_bytes 4 value) memory.new result }
@@ -62,7 +57,6 @@ pub extern "C" fn wasm_store32(memory: &mut [u8], ptr: u64, offset: u64, value: 
     status_of(wasm::store32(memory, ptr, offset, value))
 }
 
-/// `i64.store`: the 64 bits of the value.
 #[unsafe(no_mangle)]
 pub extern "C" fn wasm_store64(memory: &mut [u8], ptr: u64, offset: u64, value: u64) -> u8
     ensures { StoresBytes memory.old (ptr + offset) (le_bytes 8 value) memory.new result }

@@ -1,4 +1,5 @@
-//! The loads of vectors by name. `tools/header` writes this file.
+//! The loads of vectors by name, each described at the function of its name in
+//! `wasmi_vector_access::simd`. `tools/header` writes this file.
 //!
 //! A status is 0, or the number of the trap; then nothing is written.
 ghost use Rattle.std.specs.Prelude.{◌+◌};
@@ -14,7 +15,6 @@ use wasmi_c::instruction::result::leave_vector;
 use wasmi_raw::RawVal;
 use wasmi_vector_access::simd;
 
-/// `v128.load`: 128 bits.
 #[unsafe(no_mangle)]
 pub extern "C" fn wasm_v128_load(memory: &[u8], ptr: u64, offset: u64, value: &mut RawVal) -> u8
     ensures { Gives (as_raw raw_of_vector (loaded 16 (λ n. n) memory.now (ptr + offset))) value.old
@@ -23,7 +23,6 @@ pub extern "C" fn wasm_v128_load(memory: &[u8], ptr: u64, offset: u64, value: &m
     leave_vector(simd::v128_load(memory, ptr, offset), value)
 }
 
-/// `v128.load8x8_s`: 8 lanes of 8 bits, read signed and extended to 16.
 #[unsafe(no_mangle)]
 pub extern "C" fn wasm_v128_load8x8_s(
     memory: &[u8],
@@ -37,7 +36,6 @@ pub extern "C" fn wasm_v128_load8x8_s(
     leave_vector(simd::v128_load8x8_s(memory, ptr, offset), value)
 }
 
-/// `v128.load8x8_u`: 8 lanes of 8 bits, read unsigned and extended to 16.
 #[unsafe(no_mangle)]
 pub extern "C" fn wasm_v128_load8x8_u(
     memory: &[u8],
@@ -51,7 +49,6 @@ pub extern "C" fn wasm_v128_load8x8_u(
     leave_vector(simd::v128_load8x8_u(memory, ptr, offset), value)
 }
 
-/// `v128.load16x4_s`: 4 lanes of 16 bits, read signed and extended to 32.
 #[unsafe(no_mangle)]
 pub extern "C" fn wasm_v128_load16x4_s(
     memory: &[u8],
@@ -65,7 +62,6 @@ pub extern "C" fn wasm_v128_load16x4_s(
     leave_vector(simd::v128_load16x4_s(memory, ptr, offset), value)
 }
 
-/// `v128.load16x4_u`: 4 lanes of 16 bits, read unsigned and extended to 32.
 #[unsafe(no_mangle)]
 pub extern "C" fn wasm_v128_load16x4_u(
     memory: &[u8],
@@ -79,7 +75,6 @@ pub extern "C" fn wasm_v128_load16x4_u(
     leave_vector(simd::v128_load16x4_u(memory, ptr, offset), value)
 }
 
-/// `v128.load32x2_s`: 2 lanes of 32 bits, read signed and extended to 64.
 #[unsafe(no_mangle)]
 pub extern "C" fn wasm_v128_load32x2_s(
     memory: &[u8],
@@ -93,7 +88,6 @@ pub extern "C" fn wasm_v128_load32x2_s(
     leave_vector(simd::v128_load32x2_s(memory, ptr, offset), value)
 }
 
-/// `v128.load32x2_u`: 2 lanes of 32 bits, read unsigned and extended to 64.
 #[unsafe(no_mangle)]
 pub extern "C" fn wasm_v128_load32x2_u(
     memory: &[u8],
@@ -107,7 +101,6 @@ pub extern "C" fn wasm_v128_load32x2_u(
     leave_vector(simd::v128_load32x2_u(memory, ptr, offset), value)
 }
 
-/// `v128.load8_splat`: 8 bits, in each lane.
 #[unsafe(no_mangle)]
 pub extern "C" fn wasm_v128_load8_splat(
     memory: &[u8],
@@ -121,7 +114,6 @@ pub extern "C" fn wasm_v128_load8_splat(
     leave_vector(simd::v128_load8_splat(memory, ptr, offset), value)
 }
 
-/// `v128.load16_splat`: 16 bits, in each lane.
 #[unsafe(no_mangle)]
 pub extern "C" fn wasm_v128_load16_splat(
     memory: &[u8],
@@ -135,7 +127,6 @@ pub extern "C" fn wasm_v128_load16_splat(
     leave_vector(simd::v128_load16_splat(memory, ptr, offset), value)
 }
 
-/// `v128.load32_splat`: 32 bits, in each lane.
 #[unsafe(no_mangle)]
 pub extern "C" fn wasm_v128_load32_splat(
     memory: &[u8],
@@ -149,7 +140,6 @@ pub extern "C" fn wasm_v128_load32_splat(
     leave_vector(simd::v128_load32_splat(memory, ptr, offset), value)
 }
 
-/// `v128.load64_splat`: 64 bits, in each lane.
 #[unsafe(no_mangle)]
 pub extern "C" fn wasm_v128_load64_splat(
     memory: &[u8],
@@ -163,7 +153,6 @@ pub extern "C" fn wasm_v128_load64_splat(
     leave_vector(simd::v128_load64_splat(memory, ptr, offset), value)
 }
 
-/// `v128.load32_zero`: 32 bits in lane 0, and 0 in the others.
 #[unsafe(no_mangle)]
 pub extern "C" fn wasm_v128_load32_zero(
     memory: &[u8],
@@ -177,7 +166,6 @@ pub extern "C" fn wasm_v128_load32_zero(
     leave_vector(simd::v128_load32_zero(memory, ptr, offset), value)
 }
 
-/// `v128.load64_zero`: 64 bits in lane 0, and 0 in the others.
 #[unsafe(no_mangle)]
 pub extern "C" fn wasm_v128_load64_zero(
     memory: &[u8],
