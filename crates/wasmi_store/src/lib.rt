@@ -13,7 +13,7 @@ pub use memory::{Buffer, ByteBuffer, LinearMemory, Memory, MemoryType, MemoryTyp
 pub use table::{ElementSegment, ElementSegmentRef, SegmentError, Table, TableType};
 
 /// Makes a call with the meter of an option, or, if there is none, with one that is off. The call
-/// is of a function whose name ends in `_metered`, which takes a meter that isn't optional.
+/// is of a function that takes a meter which isn't optional.
 ///
 /// This is a macro because the prover knows what is left in the meter where the option is matched,
 /// and not where the option is passed on.

@@ -301,23 +301,7 @@ impl<R: Region> LinearMemory<R> {
             (metered self.new.bytes (meter_at_exit fuel.exit)) }
         ensures kept { KeepsPlace self.old self.new }
     {
-        with_meter!(fuel => self.fill_metered(dst, value, len, fuel))
-    }
-
-    /// As `fill`, with a meter that isn't optional.
-    pub fn fill_metered(
-        &mut self,
-        dst: u64,
-        value: u8,
-        len: u64,
-        fuel: &mut Fuel,
-    ) -> Result<(), MemoryError>
-        ensures written { BulkWrites (filled self.old.bytes dst value len) len
-            (metered self.old.bytes (Some fuel.old)) result
-            (metered self.new.bytes (Some fuel.new)) }
-        ensures kept { KeepsPlace self.old self.new }
-    {
-        fill_bytes(self.buffer.data_mut(), dst, value, len, fuel)
+        with_meter!(fuel => fill_bytes(self.buffer.data_mut(), dst, value, len, fuel))
     }
 
     /// Copies `len` bytes from `src` on over those from `dst` on. If the ranges overlap, the old
@@ -336,23 +320,7 @@ impl<R: Region> LinearMemory<R> {
             (metered self.new.bytes (meter_at_exit fuel.exit)) }
         ensures kept { KeepsPlace self.old self.new }
     {
-        with_meter!(fuel => self.copy_within_metered(dst, src, len, fuel))
-    }
-
-    /// As `copy_within`, with a meter that isn't optional.
-    pub fn copy_within_metered(
-        &mut self,
-        dst: u64,
-        src: u64,
-        len: u64,
-        fuel: &mut Fuel,
-    ) -> Result<(), MemoryError>
-        ensures written { BulkWrites (copied self.old.bytes dst self.old.bytes src len) len
-            (metered self.old.bytes (Some fuel.old)) result
-            (metered self.new.bytes (Some fuel.new)) }
-        ensures kept { KeepsPlace self.old self.new }
-    {
-        copy_bytes_within(self.buffer.data_mut(), dst, src, len, fuel)
+        with_meter!(fuel => copy_bytes_within(self.buffer.data_mut(), dst, src, len, fuel))
     }
 
     /// Copies `len` bytes of another memory, from `src` on, over the bytes of a memory from `dst`
@@ -373,31 +341,8 @@ impl<R: Region> LinearMemory<R> {
             (metered dst_memory.new.bytes (meter_at_exit fuel.exit)) }
         ensures kept { KeepsPlace dst_memory.old dst_memory.new }
     {
-        with_meter!(fuel => dst_memory.copy_metered(dst, src_memory, src, len, fuel))
-    }
-
-    /// As `copy`, with a meter that isn't optional.
-    pub fn copy_metered<S: Region>(
-        &mut self,
-        dst: u64,
-        src_memory: &LinearMemory<S>,
-        src: u64,
-        len: u64,
-        fuel: &mut Fuel,
-    ) -> Result<(), MemoryError>
-        ensures written { BulkWrites (copied self.old.bytes dst src_memory.now.bytes src len) len
-            (metered self.old.bytes (Some fuel.old)) result
-            (metered self.new.bytes (Some fuel.new)) }
-        ensures kept { KeepsPlace self.old self.new }
-    {
-        copy_bytes(
-            self.buffer.data_mut(),
-            dst,
-            src_memory.data(),
-            src,
-            len,
-            fuel,
-        )
+        let source = src_memory.data();
+        with_meter!(fuel => copy_bytes(dst_memory.buffer.data_mut(), dst, source, src, len, fuel))
     }
 
     /// Copies `len` bytes of a data segment, from `src` on, over the bytes from `dst` on. A segment
@@ -418,24 +363,7 @@ impl<R: Region> LinearMemory<R> {
             (metered self.new.bytes (meter_at_exit fuel.exit)) }
         ensures kept { KeepsPlace self.old self.new }
     {
-        with_meter!(fuel => self.init_metered(segment, dst, src, len, fuel))
-    }
-
-    /// As `init`, with a meter that isn't optional.
-    pub fn init_metered(
-        &mut self,
-        segment: &[u8],
-        dst: u64,
-        src: u32,
-        len: u32,
-        fuel: &mut Fuel,
-    ) -> Result<(), MemoryError>
-        ensures written { BulkWrites (copied self.old.bytes dst segment.now src len) len
-            (metered self.old.bytes (Some fuel.old)) result
-            (metered self.new.bytes (Some fuel.new)) }
-        ensures kept { KeepsPlace self.old self.new }
-    {
         let (src, len) = (u64::from(src), u64::from(len));
-        copy_bytes(self.buffer.data_mut(), dst, segment, src, len, fuel)
+        with_meter!(fuel => copy_bytes(self.buffer.data_mut(), dst, segment, src, len, fuel))
     }
 }

@@ -1643,30 +1643,7 @@ mod memory {
             len: u64,
             fuel: Option<&mut Fuel>,
         ) -> Result<(), MemoryError> {
-            with_meter!(fuel => self.fill_metered(dst, value, len, fuel))
-        }
-
-        /// As `fill`, with a meter that isn't optional.
-        ///
-        /// # Contract
-        ///
-        /// ```text
-        /// ensures written: BulkWrites (filled self.old.bytes dst value len) len
-        ///     (metered self.old.bytes (Some fuel.old)) result
-        ///     (metered self.new.bytes (Some fuel.new))
-        /// ensures kept: KeepsPlace self.old self.new
-        /// ```
-        ///
-        /// Definitions: [`BulkWrites`](crate::specs::store::Growth#BulkWrites), [`filled`](crate::specs::store::Growth#filled), [`metered`](crate::specs::store::Growth#metered), [`KeepsPlace`](crate::specs::store::Memory#KeepsPlace).
-        #[inline]
-        pub fn fill_metered(
-            &mut self,
-            dst: u64,
-            value: u8,
-            len: u64,
-            fuel: &mut Fuel,
-        ) -> Result<(), MemoryError> {
-            fill_bytes(self.buffer.data_mut(), dst, value, len, fuel)
+            with_meter!(fuel => fill_bytes(self.buffer.data_mut(), dst, value, len, fuel))
         }
 
         /// Copies `len` bytes from `src` on over those from `dst` on. If the ranges overlap, the old
@@ -1692,30 +1669,7 @@ mod memory {
             len: u64,
             fuel: Option<&mut Fuel>,
         ) -> Result<(), MemoryError> {
-            with_meter!(fuel => self.copy_within_metered(dst, src, len, fuel))
-        }
-
-        /// As `copy_within`, with a meter that isn't optional.
-        ///
-        /// # Contract
-        ///
-        /// ```text
-        /// ensures written: BulkWrites (copied self.old.bytes dst self.old.bytes src len) len
-        ///     (metered self.old.bytes (Some fuel.old)) result
-        ///     (metered self.new.bytes (Some fuel.new))
-        /// ensures kept: KeepsPlace self.old self.new
-        /// ```
-        ///
-        /// Definitions: [`BulkWrites`](crate::specs::store::Growth#BulkWrites), [`copied`](crate::specs::store::Growth#copied), [`metered`](crate::specs::store::Growth#metered), [`KeepsPlace`](crate::specs::store::Memory#KeepsPlace).
-        #[inline]
-        pub fn copy_within_metered(
-            &mut self,
-            dst: u64,
-            src: u64,
-            len: u64,
-            fuel: &mut Fuel,
-        ) -> Result<(), MemoryError> {
-            copy_bytes_within(self.buffer.data_mut(), dst, src, len, fuel)
+            with_meter!(fuel => copy_bytes_within(self.buffer.data_mut(), dst, src, len, fuel))
         }
 
         /// Copies `len` bytes of another memory, from `src` on, over the bytes of a memory from `dst`
@@ -1743,38 +1697,8 @@ mod memory {
             len: u64,
             fuel: Option<&mut Fuel>,
         ) -> Result<(), MemoryError> {
-            with_meter!(fuel => dst_memory.copy_metered(dst, src_memory, src, len, fuel))
-        }
-
-        /// As `copy`, with a meter that isn't optional.
-        ///
-        /// # Contract
-        ///
-        /// ```text
-        /// ensures written: BulkWrites (copied self.old.bytes dst src_memory.now.bytes src len) len
-        ///     (metered self.old.bytes (Some fuel.old)) result
-        ///     (metered self.new.bytes (Some fuel.new))
-        /// ensures kept: KeepsPlace self.old self.new
-        /// ```
-        ///
-        /// Definitions: [`BulkWrites`](crate::specs::store::Growth#BulkWrites), [`copied`](crate::specs::store::Growth#copied), [`metered`](crate::specs::store::Growth#metered), [`KeepsPlace`](crate::specs::store::Memory#KeepsPlace).
-        #[inline]
-        pub fn copy_metered<S: Region>(
-            &mut self,
-            dst: u64,
-            src_memory: &LinearMemory<S>,
-            src: u64,
-            len: u64,
-            fuel: &mut Fuel,
-        ) -> Result<(), MemoryError> {
-            copy_bytes(
-                self.buffer.data_mut(),
-                dst,
-                src_memory.data(),
-                src,
-                len,
-                fuel,
-            )
+            let source = src_memory.data();
+            with_meter!(fuel => copy_bytes(dst_memory.buffer.data_mut(), dst, source, src, len, fuel))
         }
 
         /// Copies `len` bytes of a data segment, from `src` on, over the bytes from `dst` on. A segment
@@ -1802,32 +1726,8 @@ mod memory {
             len: u32,
             fuel: Option<&mut Fuel>,
         ) -> Result<(), MemoryError> {
-            with_meter!(fuel => self.init_metered(segment, dst, src, len, fuel))
-        }
-
-        /// As `init`, with a meter that isn't optional.
-        ///
-        /// # Contract
-        ///
-        /// ```text
-        /// ensures written: BulkWrites (copied self.old.bytes dst segment.now src len) len
-        ///     (metered self.old.bytes (Some fuel.old)) result
-        ///     (metered self.new.bytes (Some fuel.new))
-        /// ensures kept: KeepsPlace self.old self.new
-        /// ```
-        ///
-        /// Definitions: [`BulkWrites`](crate::specs::store::Growth#BulkWrites), [`copied`](crate::specs::store::Growth#copied), [`metered`](crate::specs::store::Growth#metered), [`KeepsPlace`](crate::specs::store::Memory#KeepsPlace).
-        #[inline]
-        pub fn init_metered(
-            &mut self,
-            segment: &[u8],
-            dst: u64,
-            src: u32,
-            len: u32,
-            fuel: &mut Fuel,
-        ) -> Result<(), MemoryError> {
             let (src, len) = (u64::from(src), u64::from(len));
-            copy_bytes(self.buffer.data_mut(), dst, segment, src, len, fuel)
+            with_meter!(fuel => copy_bytes(self.buffer.data_mut(), dst, segment, src, len, fuel))
         }
     }
 }
@@ -3244,7 +3144,7 @@ pub use memory::{Buffer, ByteBuffer, LinearMemory, Memory, MemoryType, MemoryTyp
 pub use table::{ElementSegment, ElementSegmentRef, SegmentError, Table, TableType};
 
 /// Makes a call with the meter of an option, or, if there is none, with one that is off. The call
-/// is of a function whose name ends in `_metered`, which takes a meter that isn't optional.
+/// is of a function that takes a meter which isn't optional.
 ///
 /// This is a macro because the prover knows what is left in the meter where the option is matched,
 /// and not where the option is passed on.
