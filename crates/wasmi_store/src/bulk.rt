@@ -6,7 +6,7 @@
 ghost use Rattle.std.specs.Prelude.{◌≡◌, length, Some};
 ghost use Rattle.wasmi_store.specs.Growth.{filled, copied, BulkWrites, metered};
 
-use crate::range::{copy_range, fill_range, lies_within, write_range};
+use crate::range::{copy_overlapping, fill_range, lies_within, write_range};
 use wasmi_meter::growth::charge;
 use wasmi_meter::{Fuel, MemoryError};
 
@@ -52,7 +52,7 @@ pub fn copy_bytes_within(
     if let Err(required_fuel) = charge::<u8>(fuel, len) {
         return Err(MemoryError::OutOfFuel { required_fuel });
     }
-    copy_range(bytes, dst as usize, src as usize, len as usize);
+    copy_overlapping(bytes, dst as usize, src as usize, len as usize);
     Ok(())
 }
 

@@ -1,11 +1,13 @@
-//! Ranges of lists: whether one lies within its list, and how one is read and written over.
+//! Ranges of lists: whether one lies within its list, and how one is read, written over, and copied
+//! over another.
 ghost use Rattle.std.specs.Prelude.{◌≡◌, ◌+◌, ◌-◌, ◌≤◌, ◌++◌, length, take, drop, replicate, Some, None, OnOk, IfErr, nat_le};
 ghost use Rattle.wasmi_types.specs.Access.{at, overwrite};
 
-mod copy;
-
-pub use copy::{CHUNK, Chunk, copy_overlapping, copy_range};
 use wasmi_meter::MemoryError;
+use wasmi_raw::RawRef;
+
+/// How many items are copied at once.
+pub const CHUNK: usize = 4096;
 
 /// Whether `len` items from an index on lie within a list.
 pub fn lies_within<T>(items: &[T], index: u64, len: u64) -> bool
@@ -70,4 +72,69 @@ pub fn fill_range<T: Copy>(elements: &mut [T], start: usize, end: usize, value: 
 {
     let part = &mut elements[start..end];
     part.fill(value);
+}
+
+/// An item of a list of which a part can be copied over another part.
+pub trait Chunk: Copy {
+    /// Copies `len` items, at most `CHUNK`, from `src` on over those from `dst` on. Each
+    /// implementation has a buffer of its own type. LLVM drops it: the two copies become one
+    /// `memmove`.
+    fn copy_chunk(elements: &mut [Self], dst: usize, src: usize, len: usize)
+        requires few { len ≤ 4096 }
+        requires dst { dst + len ≤ length elements.old }
+        requires src { src + len ≤ length elements.old }
+        ensures copied { elements.new
+            ≡ take dst elements.old ++ take len (drop src elements.old) ++ drop
+            (dst + len) elements.old };
+}
+
+impl Chunk for RawRef {
+    fn copy_chunk(elements: &mut [RawRef], dst: usize, src: usize, len: usize) {
+        let mut few = [RawRef::null(); CHUNK];
+        few[..len].copy_from_slice(&elements[src..src + len]);
+        elements[dst..dst + len].copy_from_slice(&few[..len]);
+    }
+}
+
+impl Chunk for u8 {
+    fn copy_chunk(elements: &mut [u8], dst: usize, src: usize, len: usize) {
+        let mut few = [0; CHUNK];
+        few[..len].copy_from_slice(&elements[src..src + len]);
+        elements[dst..dst + len].copy_from_slice(&few[..len]);
+    }
+}
+
+impl Chunk for u32 {
+    fn copy_chunk(elements: &mut [u32], dst: usize, src: usize, len: usize) {
+        let mut few = [0; CHUNK];
+        few[..len].copy_from_slice(&elements[src..src + len]);
+        elements[dst..dst + len].copy_from_slice(&few[..len]);
+    }
+}
+
+/// Copies `len` items from `src` on over those from `dst` on. Items that move up are copied from
+/// the last part on, so that each is read before it is written over.
+pub fn copy_overlapping<T: Chunk>(elements: &mut [T], dst: usize, src: usize, len: usize)
+    requires dst { dst + len ≤ length elements.old }
+    requires src { src + len ≤ length elements.old }
+    ensures copied { overwrite elements.old dst (take len (drop src elements.old))
+        ≡ Some elements.new }
+{
+    if len <= CHUNK {
+        T::copy_chunk(elements, dst, src, len);
+    } else if dst <= src {
+        let mut done = 0;
+        while done < len {
+            let count = CHUNK.min(len - done);
+            T::copy_chunk(elements, dst + done, src + done, count);
+            done += count;
+        }
+    } else {
+        let mut left = len;
+        while 0 < left {
+            let count = CHUNK.min(left);
+            left -= count;
+            T::copy_chunk(elements, dst + left, src + left, count);
+        }
+    }
 }

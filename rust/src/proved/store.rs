@@ -8,7 +8,7 @@ pub mod bulk {
 
     use crate::proved::meter::growth::charge;
     use crate::proved::meter::{Fuel, MemoryError};
-    use crate::proved::store::range::{copy_range, fill_range, lies_within, write_range};
+    use crate::proved::store::range::{copy_overlapping, fill_range, lies_within, write_range};
 
     /// Fills `len` bytes from `dst` on with a value (core specification, memory.fill).
     ///
@@ -66,7 +66,7 @@ pub mod bulk {
         if let Err(required_fuel) = charge::<u8>(fuel, len) {
             return Err(MemoryError::OutOfFuel { required_fuel });
         }
-        copy_range(bytes, dst as usize, src as usize, len as usize);
+        copy_overlapping(bytes, dst as usize, src as usize, len as usize);
         Ok(())
     }
 
@@ -1732,126 +1732,14 @@ mod memory {
     }
 }
 pub mod range {
-    //! Ranges of lists: whether one lies within its list, and how one is read and written over.
-
-    mod copy {
-        //! Copies of a range of a list over another range of it.
-
-        use super::write_range;
-        use crate::proved::raw::RawRef;
-
-        /// How many items are copied at once.
-        pub const CHUNK: usize = 4096;
-
-        /// An item of a list of which a part can be copied over another part.
-        pub trait Chunk: Copy {
-            /// Copies `len` items, at most `CHUNK`, from `src` on over those from `dst` on. Each
-            /// implementation has a buffer of its own type. LLVM drops it: the two copies become one
-            /// `memmove`.
-            ///
-            /// # Contract
-            ///
-            /// ```text
-            /// requires few: len ≤ 4096
-            /// requires dst: dst + len ≤ length elements.old
-            /// requires src: src + len ≤ length elements.old
-            /// ensures copied: elements.new
-            ///     ≡ take dst elements.old ++ take len (drop src elements.old) ++ drop
-            ///     (dst + len) elements.old
-            /// ```
-            fn copy_chunk(elements: &mut [Self], dst: usize, src: usize, len: usize);
-        }
-
-        impl Chunk for RawRef {
-            #[inline]
-            fn copy_chunk(elements: &mut [RawRef], dst: usize, src: usize, len: usize) {
-                let mut few = [RawRef::null(); CHUNK];
-                few[..len].copy_from_slice(&elements[src..src + len]);
-                elements[dst..dst + len].copy_from_slice(&few[..len]);
-            }
-        }
-
-        impl Chunk for u8 {
-            #[inline]
-            fn copy_chunk(elements: &mut [u8], dst: usize, src: usize, len: usize) {
-                let mut few = [0; CHUNK];
-                few[..len].copy_from_slice(&elements[src..src + len]);
-                elements[dst..dst + len].copy_from_slice(&few[..len]);
-            }
-        }
-
-        impl Chunk for u32 {
-            #[inline]
-            fn copy_chunk(elements: &mut [u32], dst: usize, src: usize, len: usize) {
-                let mut few = [0; CHUNK];
-                few[..len].copy_from_slice(&elements[src..src + len]);
-                elements[dst..dst + len].copy_from_slice(&few[..len]);
-            }
-        }
-
-        /// Copies `len` items from `src` on over those from `dst` on. Items that move up are copied from
-        /// the last part on, so that each is read before it is written over.
-        ///
-        /// # Contract
-        ///
-        /// ```text
-        /// requires dst: dst + len ≤ length elements.old
-        /// requires src: src + len ≤ length elements.old
-        /// ensures copied: overwrite elements.old dst (take len (drop src elements.old))
-        ///     ≡ Some elements.new
-        /// ```
-        ///
-        /// Definitions: [`overwrite`](crate::specs::types::Access#overwrite).
-        #[inline]
-        pub fn copy_overlapping<T: Chunk>(elements: &mut [T], dst: usize, src: usize, len: usize) {
-            if len <= CHUNK {
-                T::copy_chunk(elements, dst, src, len);
-            } else if dst <= src {
-                let mut done = 0;
-                while done < len {
-                    let count = CHUNK.min(len - done);
-                    T::copy_chunk(elements, dst + done, src + done, count);
-                    done += count;
-                }
-            } else {
-                let mut left = len;
-                while 0 < left {
-                    let count = CHUNK.min(left);
-                    left -= count;
-                    T::copy_chunk(elements, dst + left, src + left, count);
-                }
-            }
-        }
-
-        /// Copies `len` items from `src` on over those from `dst` on: at once if the ranges are apart, and
-        /// in parts if they overlap.
-        ///
-        /// # Contract
-        ///
-        /// ```text
-        /// requires dst: dst + len ≤ length elements.old
-        /// requires src: src + len ≤ length elements.old
-        /// ensures copied: overwrite elements.old dst (take len (drop src elements.old))
-        ///     ≡ Some elements.new
-        /// ```
-        ///
-        /// Definitions: [`overwrite`](crate::specs::types::Access#overwrite).
-        #[inline]
-        pub fn copy_range<T: Chunk>(elements: &mut [T], dst: usize, src: usize, len: usize) {
-            if src + len <= dst {
-                let (front, back) = elements.split_at_mut(dst);
-                write_range(back, 0, &front[src..src + len]);
-            } else if dst + len <= src {
-                let (front, back) = elements.split_at_mut(src);
-                write_range(front, dst, &back[..len]);
-            } else {
-                copy_overlapping(elements, dst, src, len);
-            }
-        }
-    }
+    //! Ranges of lists: whether one lies within its list, and how one is read, written over, and copied
+    //! over another.
 
     use crate::proved::meter::MemoryError;
-    pub use copy::{CHUNK, Chunk, copy_overlapping, copy_range};
+    use crate::proved::raw::RawRef;
+
+    /// How many items are copied at once.
+    pub const CHUNK: usize = 4096;
 
     /// Whether `len` items from an index on lie within a list.
     ///
@@ -1947,6 +1835,86 @@ pub mod range {
     pub fn fill_range<T: Copy>(elements: &mut [T], start: usize, end: usize, value: T) {
         let part = &mut elements[start..end];
         part.fill(value);
+    }
+
+    /// An item of a list of which a part can be copied over another part.
+    pub trait Chunk: Copy {
+        /// Copies `len` items, at most `CHUNK`, from `src` on over those from `dst` on. Each
+        /// implementation has a buffer of its own type. LLVM drops it: the two copies become one
+        /// `memmove`.
+        ///
+        /// # Contract
+        ///
+        /// ```text
+        /// requires few: len ≤ 4096
+        /// requires dst: dst + len ≤ length elements.old
+        /// requires src: src + len ≤ length elements.old
+        /// ensures copied: elements.new
+        ///     ≡ take dst elements.old ++ take len (drop src elements.old) ++ drop
+        ///     (dst + len) elements.old
+        /// ```
+        fn copy_chunk(elements: &mut [Self], dst: usize, src: usize, len: usize);
+    }
+
+    impl Chunk for RawRef {
+        #[inline]
+        fn copy_chunk(elements: &mut [RawRef], dst: usize, src: usize, len: usize) {
+            let mut few = [RawRef::null(); CHUNK];
+            few[..len].copy_from_slice(&elements[src..src + len]);
+            elements[dst..dst + len].copy_from_slice(&few[..len]);
+        }
+    }
+
+    impl Chunk for u8 {
+        #[inline]
+        fn copy_chunk(elements: &mut [u8], dst: usize, src: usize, len: usize) {
+            let mut few = [0; CHUNK];
+            few[..len].copy_from_slice(&elements[src..src + len]);
+            elements[dst..dst + len].copy_from_slice(&few[..len]);
+        }
+    }
+
+    impl Chunk for u32 {
+        #[inline]
+        fn copy_chunk(elements: &mut [u32], dst: usize, src: usize, len: usize) {
+            let mut few = [0; CHUNK];
+            few[..len].copy_from_slice(&elements[src..src + len]);
+            elements[dst..dst + len].copy_from_slice(&few[..len]);
+        }
+    }
+
+    /// Copies `len` items from `src` on over those from `dst` on. Items that move up are copied from
+    /// the last part on, so that each is read before it is written over.
+    ///
+    /// # Contract
+    ///
+    /// ```text
+    /// requires dst: dst + len ≤ length elements.old
+    /// requires src: src + len ≤ length elements.old
+    /// ensures copied: overwrite elements.old dst (take len (drop src elements.old))
+    ///     ≡ Some elements.new
+    /// ```
+    ///
+    /// Definitions: [`overwrite`](crate::specs::types::Access#overwrite).
+    #[inline]
+    pub fn copy_overlapping<T: Chunk>(elements: &mut [T], dst: usize, src: usize, len: usize) {
+        if len <= CHUNK {
+            T::copy_chunk(elements, dst, src, len);
+        } else if dst <= src {
+            let mut done = 0;
+            while done < len {
+                let count = CHUNK.min(len - done);
+                T::copy_chunk(elements, dst + done, src + done, count);
+                done += count;
+            }
+        } else {
+            let mut left = len;
+            while 0 < left {
+                let count = CHUNK.min(left);
+                left -= count;
+                T::copy_chunk(elements, dst + left, src + left, count);
+            }
+        }
     }
 }
 mod table {

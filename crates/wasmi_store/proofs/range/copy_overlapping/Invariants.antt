@@ -1,6 +1,6 @@
 use Rattle.std.proofs.Common.{◌-◌, ◌≡◌, ◌+◌, ◌≤◌, drop}
 use lib.Seq.{paste}
-use Rattle.wasmi_store.proofs.range.copy.copy_overlapping.Given as goal
+use Rattle.wasmi_store.proofs.range.copy_overlapping.Given as goal
 
 abbrev pub invariant-loop-done : goal.invariant-loop-done
 invariant-loop-done g l = record {

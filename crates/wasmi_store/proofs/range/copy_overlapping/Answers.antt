@@ -1,7 +1,7 @@
 use Rattle.std.proofs.lemmas.Grind.{common_steps}
 use Rattle.std.proofs.Common.{◌+◌, ◌≤◌, ◌∙◌, arith}
 use Rattle.wasmi_store.proofs.WriteLemmas.{copied_down, copied_up}
-use Rattle.wasmi_store.proofs.range.copy.copy_overlapping.Goals as goal
+use Rattle.wasmi_store.proofs.range.copy_overlapping.Goals as goal
 
 pub returns-then-len-le-CHUNK : goal.returns-then-len-le-CHUNK
 returns-then-len-le-CHUNK g c = grind (arith, common_steps)
