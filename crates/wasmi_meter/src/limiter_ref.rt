@@ -65,8 +65,8 @@ impl<R> fmt::Debug for LimiterRef<R> {
 ///
 /// If this reference goes out of scope or is dropped, nothing is known of the limiter afterwards.
 /// To know its state, end the loan by [`LimiterRef::into_resource_limiter`], or use a function that
-/// borrows the limiter for one call: `new_lending`, `new_static_lending`, `grow_lending` and
-/// `grow_raw_lending` of memories and tables, `step_lending` and `run_lending` of machines.
+/// borrows the limiter for one call: `new_lending` and `grow_lending` of memories and tables,
+/// `step_lending` and `run_lending` of machines.
 ///
 /// Upstream: `wasmi_core::ResourceLimiterRef`.
 pub type ResourceLimiterRef<'a, L> = LimiterRef<&'a mut L>;

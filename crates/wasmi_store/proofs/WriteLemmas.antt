@@ -1,11 +1,8 @@
 -- The calls that write over a part of a list of elements: by what was tested on the way, and a copy a part at a time.
-use Rattle.std.proofs.Common.{◌≡◌, ℕ, suc, ◌+◌, ◌<◌, Bool, true, Option, Some, None, Err, inl, inr, List, [], ◌∷◌, ◌++◌, length, take, drop, refl, sym, ap, ◌∙◌, arith, append_assoc, ◌-◌, ◌≤◌, length-drop}
+use Rattle.std.proofs.Common.{◌≡◌, ℕ, ◌+◌, Bool, true, Option, Some, None, Err, inl, inr, List, ◌++◌, length, take, drop, refl, sym, ap, ◌∙◌, arith, append_assoc, ◌-◌, ◌≤◌, length-drop}
 use Rattle.std.proofs.lemmas.Bool.{cases_Bool}
-use Rattle.std.proofs.lemmas.Bool.Decides.{nat_tests}
-use lib.ListN.{set}
-use lib.Seq.{set_split, paste, take-add, take-paste, drop-paste}
-use Rattle.std.specs.Prelude.{nat_le, Result}
-use Rattle.wasmi_types.specs.Access.{overwrite}
+use lib.Seq.{paste, take-add, take-paste, drop-paste}
+use Rattle.std.specs.Prelude.{Result}
 use Rattle.wasmi_meter.specs.declared.error.MemoryError.{MemoryError}
 use Rattle.wasmi_meter.specs.declared.error.TableError.{TableError}
 use Rattle.wasmi_meter.specs.declared.fuel.CustomFuelCosts.{CustomFuelCosts}
@@ -107,15 +104,6 @@ table_unmetered write x x' costs m' result (charge, writes) = (
 pub same_as_itself : (ty : RefType) → same_type ty ty ≡ true
 same_as_itself Func = refl
 same_as_itself Extern = refl
-
--- one item of a list, written over
-pub overwritten_item : (xs : List ℕ) (i x : ℕ) → i < length xs → overwrite xs i (x ∷ []) ≡ Some (set xs i x)
-overwritten_item xs i x within =
-    let fits : nat_le (i + 1) (length xs) ≡ true = grind (arith, nat_tests) in
-    let next : i + 1 ≡ suc i = omega arith in
-    rw fits (ap Some
-    (append_assoc (take i xs) (x ∷ []) (drop (i + 1) xs) ∙ ap (λ (k : ℕ). take i xs ++ x ∷ drop k xs) next
-    ∙ sym (set_split xs i x within)))
 
 -- a part copied behind what was copied downwards
 pub copied_down : {A : Type 0} (xs ys : List A) (dst src done n : ℕ) → dst ≤ src → src + done + n ≤ length xs

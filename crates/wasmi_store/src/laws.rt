@@ -14,7 +14,8 @@ use crate::table::Table;
 pub fn memories_are_valid<R: Region>(memory: &LinearMemory<R>)
     ensures { IsValidMemory memory.now }
 {
-    memory.tell_valid();
+    let _minimum = memory.ty().minimum();
+    let _size = memory.data_size();
 }
 
 /// Every table is valid, also one that was written to or has grown: its type is valid, and it has
@@ -24,7 +25,8 @@ pub fn memories_are_valid<R: Region>(memory: &LinearMemory<R>)
 pub fn tables_are_valid(table: &Table)
     ensures { IsValidTable table.now }
 {
-    table.tell_valid();
+    let _minimum = table.ty().minimum();
+    let _size = table.size();
 }
 
 /// Each memory type is a subtype of itself.

@@ -6,7 +6,7 @@ ghost use Rattle.wasmi_meter.specs.Limiter.{optional_rules, lent_limiter, KeepsL
 ghost use Rattle.wasmi_meter.specs.Meter.{copy_cost, Charges, due, meter_at_entry, meter_at_exit};
 ghost use Rattle.wasmi_store.specs.Buffer.{fits_room};
 ghost use Rattle.wasmi_store.specs.Growth.{filled, copied, BulkWrites, metered_value, metered, IsAsked};
-ghost use Rattle.wasmi_store.specs.Memory.{MemoryValue, PermitsMinimum, GrowsMemory, IsSized, IsValidMemory, size_question, growth_of, in_bounds};
+ghost use Rattle.wasmi_store.specs.Memory.{MemoryValue, PermitsMinimum, GrowsMemory, IsSized, size_question, growth_of, in_bounds};
 
 mod buffer;
 mod ty;
@@ -111,22 +111,6 @@ impl<'r> LinearMemory<&'r mut [u8]> {
         let _limiter = lent.into_limiter();
         made
     }
-
-    /// As `new_static`, but borrows the limiter for this call alone, so that its state afterwards
-    /// is known.
-    pub fn new_static_lending<L: ResourceLimiter>(
-        ty: MemoryType,
-        limiter: &mut L,
-        region: &'r mut [u8],
-    ) -> Result<Memory<'r>, MemoryError>
-        ensures { MakesMemory (optional_rules L.rules) (Lent region.entry.now) ty
-            (Some limiter.old) result (Some limiter.new) }
-    {
-        let mut lent = ResourceLimiterRef::from(limiter);
-        let made = Memory::new_static(ty, &mut lent, region);
-        let _limiter = lent.into_limiter();
-        made
-    }
 }
 
 impl<R: Region> LinearMemory<R> {
@@ -139,15 +123,6 @@ impl<R: Region> LinearMemory<R> {
         ensures { result ≡ self.now.ty }
     {
         self.ty
-    }
-
-    /// Does nothing: its contract says what holds of each memory.
-    #[inline(always)]
-    pub(crate) fn tell_valid(&self)
-        ensures { IsValidMemory self.now }
-    {
-        let _minimum = self.ty.minimum();
-        let _len = self.buffer.len();
     }
 
     /// The type that it was made with, with the present size as its minimum: a subtype of that

@@ -11,6 +11,7 @@ mod ty;
 
 use crate::elements::{copy_elements, copy_elements_within, fill_elements, init_elements};
 use crate::growth::TABLE_DENIED as DENIED;
+use crate::range::write_range;
 use crate::with_meter;
 pub use element::{ElementSegment, ElementSegmentRef, SegmentError};
 use std::alloc::Global;
@@ -48,7 +49,7 @@ impl Model for Table {
 }
 
 impl Table {
-    ghost use Rattle.wasmi_store.specs.Table.{IsSubtype, TableValue, IsSized, IsValidTable, size_of, dynamic_type, element_at, element_price, MakesTable, GrowsTableRaw, GrowsTable, SetsTable, SetsTableRaw, WritesTable, filling_of, raw_filling_of, copy_of, initialization_of};
+    ghost use Rattle.wasmi_store.specs.Table.{IsSubtype, TableValue, IsSized, size_of, dynamic_type, element_at, element_price, MakesTable, GrowsTableRaw, GrowsTable, SetsTable, SetsTableRaw, WritesTable, filling_of, raw_filling_of, copy_of, initialization_of};
 
     /// A table at the minimum of its type, each element of which is the given reference. It takes
     /// no fuel.
@@ -97,15 +98,6 @@ impl Table {
         ensures { result ≡ self.now.ty }
     {
         self.ty
-    }
-
-    /// Does nothing: its contract says what holds of each table.
-    #[inline(always)]
-    pub(crate) fn tell_valid(&self)
-        ensures { IsValidTable self.now }
-    {
-        let _minimum = self.ty.minimum();
-        let _len = self.elements.len();
     }
 
     /// The type that it was made with, with the present size as its minimum: a subtype of that
@@ -236,25 +228,6 @@ impl Table {
         Ok(size)
     }
 
-    /// As `grow_raw` with a meter that isn't optional, but borrows the limiter for this call alone,
-    /// so that its state afterwards is known.
-    pub fn grow_raw_lending<L: ResourceLimiter>(
-        &mut self,
-        delta: u64,
-        init: RawRef,
-        fuel: &mut Fuel,
-        limiter: &mut L,
-    ) -> Result<u64, TableError>
-        ensures { GrowsTableRaw (optional_rules L.rules) delta init
-            (metered_value self.old (Some fuel.old) (Some limiter.old)) result
-            (metered_value self.new (Some fuel.new) (Some limiter.new)) }
-    {
-        let mut lent = ResourceLimiterRef::from(limiter);
-        let grown = self.grow_raw_metered(delta, init, fuel, &mut lent);
-        let _limiter = lent.into_limiter();
-        grown
-    }
-
     /// The element at an index with its type, or `None` past the end.
     pub fn get(&self, index: u64) -> Option<TypedRawRef>
         ensures { result ≡ element_at self.now index }
@@ -281,7 +254,7 @@ impl Table {
         if index >= self.elements.len() {
             return Err(TableError::SetOutOfBounds);
         }
-        set_item(self.elements.as_mut_slice(), index, value);
+        write_range(self.elements.as_mut_slice(), index, &[value]);
         Ok(())
     }
 
@@ -460,13 +433,4 @@ impl Table {
     {
         fill_elements(self.elements.as_mut_slice(), dst, val, len, fuel)
     }
-}
-
-/// Sets one item.
-#[tactic(auto, using(crate::proofs::WriteLemmas::overwritten_item))]
-fn set_item(elements: &mut [RawRef], index: usize, value: RawRef)
-    requires inside { index < length elements.old }
-    ensures written { overwrite elements.old index (value ∷ []) ≡ Some elements.new }
-{
-    elements[index] = value;
 }

@@ -370,7 +370,8 @@ pub mod laws {
     /// Definitions: [`IsValidMemory`](crate::specs::store::Memory#IsValidMemory).
     #[inline]
     pub fn memories_are_valid<R: Region>(memory: &LinearMemory<R>) {
-        memory.tell_valid();
+        let _minimum = memory.ty().minimum();
+        let _size = memory.data_size();
     }
 
     /// Every table is valid, also one that was written to or has grown: its type is valid, and it has
@@ -387,7 +388,8 @@ pub mod laws {
     /// Definitions: [`IsValidTable`](crate::specs::store::Table#IsValidTable).
     #[inline]
     pub fn tables_are_valid(table: &Table) {
-        table.tell_valid();
+        let _minimum = table.ty().minimum();
+        let _size = table.size();
     }
 
     /// Each memory type is a subtype of itself.
@@ -1364,29 +1366,6 @@ mod memory {
             let _limiter = lent.into_limiter();
             made
         }
-
-        /// As `new_static`, but borrows the limiter for this call alone, so that its state afterwards
-        /// is known.
-        ///
-        /// # Contract
-        ///
-        /// ```text
-        /// ensures: MakesMemory (optional_rules L.rules) (Lent region.entry.now) ty
-        ///     (Some limiter.old) result (Some limiter.new)
-        /// ```
-        ///
-        /// Definitions: [`MakesMemory`](crate::specs::store::Memory#MakesMemory), [`optional_rules`](crate::specs::meter::Limiter#optional_rules), [`Lent`](crate::specs::store::Buffer#Lent).
-        #[inline]
-        pub fn new_static_lending<L: ResourceLimiter>(
-            ty: MemoryType,
-            limiter: &mut L,
-            region: &'r mut [u8],
-        ) -> Result<Memory<'r>, MemoryError> {
-            let mut lent = ResourceLimiterRef::from(limiter);
-            let made = Memory::new_static(ty, &mut lent, region);
-            let _limiter = lent.into_limiter();
-            made
-        }
     }
 
     impl<R: Region> LinearMemory<R> {
@@ -1400,21 +1379,6 @@ mod memory {
         #[inline]
         pub fn ty(&self) -> MemoryType {
             self.ty
-        }
-
-        /// Does nothing: its contract says what holds of each memory.
-        ///
-        /// # Contract
-        ///
-        /// ```text
-        /// ensures: IsValidMemory self.now
-        /// ```
-        ///
-        /// Definitions: [`IsValidMemory`](crate::specs::store::Memory#IsValidMemory).
-        #[inline(always)]
-        pub(crate) fn tell_valid(&self) {
-            let _minimum = self.ty.minimum();
-            let _len = self.buffer.len();
         }
 
         /// The type that it was made with, with the present size as its minimum: a subtype of that
@@ -2476,6 +2440,7 @@ mod table {
         copy_elements, copy_elements_within, fill_elements, init_elements,
     };
     use crate::proved::store::growth::TABLE_DENIED as DENIED;
+    use crate::proved::store::range::write_range;
     use crate::proved::store::with_meter;
     use crate::proved::typed::TypedRawRef;
     pub use element::{ElementSegment, ElementSegmentRef, SegmentError};
@@ -2571,21 +2536,6 @@ mod table {
         #[inline]
         pub fn ty(&self) -> TableType {
             self.ty
-        }
-
-        /// Does nothing: its contract says what holds of each table.
-        ///
-        /// # Contract
-        ///
-        /// ```text
-        /// ensures: IsValidTable self.now
-        /// ```
-        ///
-        /// Definitions: [`IsValidTable`](crate::specs::store::Table#IsValidTable).
-        #[inline(always)]
-        pub(crate) fn tell_valid(&self) {
-            let _minimum = self.ty.minimum();
-            let _len = self.elements.len();
         }
 
         /// The type that it was made with, with the present size as its minimum: a subtype of that
@@ -2768,32 +2718,6 @@ mod table {
             Ok(size)
         }
 
-        /// As `grow_raw` with a meter that isn't optional, but borrows the limiter for this call alone,
-        /// so that its state afterwards is known.
-        ///
-        /// # Contract
-        ///
-        /// ```text
-        /// ensures: GrowsTableRaw (optional_rules L.rules) delta init
-        ///     (metered_value self.old (Some fuel.old) (Some limiter.old)) result
-        ///     (metered_value self.new (Some fuel.new) (Some limiter.new))
-        /// ```
-        ///
-        /// Definitions: [`GrowsTableRaw`](crate::specs::store::Table#GrowsTableRaw), [`optional_rules`](crate::specs::meter::Limiter#optional_rules), [`metered_value`](crate::specs::store::Growth#metered_value).
-        #[inline]
-        pub fn grow_raw_lending<L: ResourceLimiter>(
-            &mut self,
-            delta: u64,
-            init: RawRef,
-            fuel: &mut Fuel,
-            limiter: &mut L,
-        ) -> Result<u64, TableError> {
-            let mut lent = ResourceLimiterRef::from(limiter);
-            let grown = self.grow_raw_metered(delta, init, fuel, &mut lent);
-            let _limiter = lent.into_limiter();
-            grown
-        }
-
         /// The element at an index with its type, or `None` past the end.
         ///
         /// # Contract
@@ -2841,7 +2765,7 @@ mod table {
             if index >= self.elements.len() {
                 return Err(TableError::SetOutOfBounds);
             }
-            set_item(self.elements.as_mut_slice(), index, value);
+            write_range(self.elements.as_mut_slice(), index, &[value]);
             Ok(())
         }
 
@@ -3090,21 +3014,6 @@ mod table {
         ) -> Result<(), TableError> {
             fill_elements(self.elements.as_mut_slice(), dst, val, len, fuel)
         }
-    }
-
-    /// Sets one item.
-    ///
-    /// # Contract
-    ///
-    /// ```text
-    /// requires inside: index < length elements.old
-    /// ensures written: overwrite elements.old index (value ∷ []) ≡ Some elements.new
-    /// ```
-    ///
-    /// Definitions: [`overwrite`](crate::specs::types::Access#overwrite).
-    #[inline]
-    fn set_item(elements: &mut [RawRef], index: usize, value: RawRef) {
-        elements[index] = value;
     }
 }
 

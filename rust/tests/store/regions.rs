@@ -5,7 +5,7 @@ use super::limiters::{COMPLAINT, Failure, Recorder, memory_question, same_record
 use super::{func, grow, lent_memory, memory_type, metered, metered_at, wide_type};
 use wasmi_core_proved::machine::{
     Fuel, FuelCostsProvider, LimiterError, Memory, MemoryError, MemoryType, NoLimits, Quota,
-    RawRef, RefType, Table, TableError, TableType,
+    RawRef, RefType, ResourceLimiterRef, Table, TableError, TableType,
 };
 
 const DENIED: Failure = Failure::Memory(MemoryError::ResourceLimiterDeniedAllocation);
@@ -298,7 +298,8 @@ fn lends_quotas_to_memories() {
         compare_memory(made, &mut quota, row);
         let mut quota = Quota::new(row.cap, 0);
         let mut region = [0xEEu8; 128];
-        let made = Memory::new_static_lending(ty, &mut quota, &mut region);
+        let mut lent = ResourceLimiterRef::from(&mut quota);
+        let made = Memory::new_static(ty, &mut lent, &mut region);
         compare_memory(made, &mut quota, row);
     }
 }
@@ -359,7 +360,8 @@ fn compare_table(row: &TableLoan) {
             let size = table.size();
             let mut off = Fuel::new(false, FuelCostsProvider::default());
             let grown = table.grow_lending(1, func(2), &mut off, &mut quota);
-            let grown_raw = table.grow_raw_lending(1, RawRef::from(3), &mut off, &mut quota);
+            let mut lent = ResourceLimiterRef::from(&mut quota);
+            let grown_raw = table.grow_raw(1, RawRef::from(3), Some(&mut off), &mut lent);
             (Ok(size), Some(grown), Some(grown_raw))
         }
         Err(error) => (Err(error), None, None),
