@@ -9,6 +9,7 @@ use Rattle.std.proofs.lemmas.Simd.{length-zip2, get_or-zip2, length-sel_l, Each1
 use Rattle.wasmi_types.specs.Numbers.{Width, bits, clamp_unsigned, w16, w32, signed, wrap, clamp_signed}
 use Rattle.wasmi_lanes.specs.Vector.{lane, lane_count, signed_fits, binary_of_lanes}
 use Rattle.wasmi_lanes.proofs.SimdLaneLemmas.{chosen_where_less}
+use Rattle.wasmi_lanes.proofs.VectorLemmas.{lane_below}
 use Rattle.wasmi_lanewise.specs.VectorTable.{add_sat_u, sub_sat_u, q15mulr}
 use Rattle.wasmi_lanewise.proofs.OrderLemmas.{rows_make_vector}
 use lib.Lanes.{top}
@@ -55,27 +56,26 @@ length_chosen w n ps qs chosen other long_p long_q long_chosen long_other =
     length-map _ _ ∙ length-zip2 _ ps qs (long_p ∙ sym long_q) ∙ long_p in
     length-sel_l (tests w ps qs) chosen other (long ∙ sym long_chosen) (long ∙ sym long_other) ∙ long
 
-module _ (w : Width) (n : ℕ) (xs ys : List ℕ) (long_x : length xs ≡ n) (long_y : length ys ≡ n)
-    (fits_x : Each1 (Fits w) xs) (fits_y : Each1 (Fits w) ys) (i : ℕ) (inside : i < n) where
+module _ (w : Width) (n : ℕ) (xs ys : List ℕ) (long_x : length xs ≡ n) (long_y : length ys ≡ n) (i : ℕ) (inside : i < n)
+    (fits_x : get_or xs i 0 < 2 ^ bits w) where
   -- a list of as many lanes has one at i
   within : (zs : List ℕ) → length zs ≡ n → i < length zs
   within zs long = subst (λ m. i < m) (sym long) inside
 
   -- lane i of the differences
-  pub difference_at :
-      get_or (zip2 (λ x y. (x + (2 ^ bits w - y)) % 2 ^ bits w) (sel_l (tests w xs ys) ys xs) ys) i 0
+  difference_at : get_or ys i 0 < 2 ^ bits w
+      → get_or (zip2 (λ x y. (x + (2 ^ bits w - y)) % 2 ^ bits w) (sel_l (tests w xs ys) ys xs) ys) i 0
       ≡ get_or xs i 0 - get_or ys i 0
-  difference_at =
+  difference_at fits_y =
       let greater = sel_l (tests w xs ys) ys xs in
       get_or-zip2 _ greater ys i 0 0 0 (within greater (length_chosen w n xs ys ys xs long_x long_y long_y long_x))
       (within ys long_y)
       ∙ ap (λ k. (k + (2 ^ bits w - get_or ys i 0)) % 2 ^ bits w)
       (chosen_where_less w n xs ys ys xs long_x long_y long_y long_x i inside)
-      ∙ difference_is w (get_or xs i 0) (get_or ys i 0) (Each1-get_or (Fits w) xs i 0 (within xs long_x) fits_x).fits
-      (Each1-get_or (Fits w) ys i 0 (within ys long_y) fits_y).fits _ refl
+      ∙ difference_is w (get_or xs i 0) (get_or ys i 0) fits_x fits_y _ refl
 
   -- lane i of the sums
-  pub sum_at :
+  sum_at :
       get_or (zip2 (λ x y. (x + y) % 2 ^ bits w) xs (sel_l (tests w ys (inverted w xs)) ys (inverted w xs))) i 0
       ≡ min (get_or xs i 0 + get_or ys i 0) (2 ^ bits w - 1)
   sum_at =
@@ -87,23 +87,35 @@ module _ (w : Width) (n : ℕ) (xs ys : List ℕ) (long_x : length xs ≡ n) (lo
       ∙ ap (λ k. (get_or xs i 0 + k) % 2 ^ bits w)
       (chosen_where_less w n ys left ys left long_y long long_y long i inside
       ∙ ap (λ k. cond (ltb (get_or ys i 0) k) (get_or ys i 0) k) (get_or-map _ xs i 0 0 (within xs long_x)))
-      ∙ sum_is w (get_or xs i 0) (get_or ys i 0) (Each1-get_or (Fits w) xs i 0 (within xs long_x) fits_x).fits _ refl
+      ∙ sum_is w (get_or xs i 0) (get_or ys i 0) fits_x _ refl
 
-module _ (w : Width) (a b : ℕ) {r : ℕ} (below : r < 2 ^ 128) {x y : ℕ → ℕ}
-    (is_x : (i : ℕ) → i < lane_count w → x i ≡ lane w a i) (is_y : (i : ℕ) → i < lane_count w → y i ≡ lane w b i) where
+module _ (w : Width) (xs ys : List ℕ) (long_x : length xs ≡ lane_count w) (long_y : length ys ≡ lane_count w) (a b : ℕ)
+    {r : ℕ} (below : r < 2 ^ 128) (is_x : (i : ℕ) → i < lane_count w → get_or xs i 0 ≡ lane w a i)
+    (is_y : (i : ℕ) → i < lane_count w → get_or ys i 0 ≡ lane w b i) where
+  -- a number that is a lane fits
+  fits_at : (v i : ℕ) {x : ℕ} → x ≡ lane w v i → x < 2 ^ bits w
+  fits_at v i is = subst (λ k. k < 2 ^ bits w) (sym is) (lane_below w v i)
+
   -- the vector of the sums
-  pub sums_u_make_vector : ((i : ℕ) → i < lane_count w → lane w r i ≡ min (x i + y i) (2 ^ bits w - 1))
+  pub sums_u_make_vector : ((i : ℕ) → i < lane_count w → lane w r i
+      ≡ get_or (zip2 (λ x y. (x + y) % 2 ^ bits w) xs (sel_l (tests w ys (inverted w xs)) ys (inverted w xs))) i 0)
       → r ≡ add_sat_u w a b
   unfolding binary_of_lanes
   sums_u_make_vector is =
       rows_make_vector w a b below is_x is_y (λ p q. min (p + q) (2 ^ bits w - 1))
-      (λ p q. clamp_unsigned w (pos p +ℤ pos q)) is (λ p q _ _. omega arith)
+      (λ p q. clamp_unsigned w (pos p +ℤ pos q))
+      (λ i inside. is i inside ∙ sum_at w (lane_count w) xs ys long_x long_y i inside (fits_at a i (is_x i inside))) (λ p q _ _. omega arith)
 
   -- the vector of the differences
-  pub differences_u_make_vector : ((i : ℕ) → i < lane_count w → lane w r i ≡ x i - y i) → r ≡ sub_sat_u w a b
+  pub differences_u_make_vector : ((i : ℕ) → i < lane_count w → lane w r i
+      ≡ get_or (zip2 (λ x y. (x + (2 ^ bits w - y)) % 2 ^ bits w) (sel_l (tests w xs ys) ys xs) ys) i 0)
+      → r ≡ sub_sat_u w a b
   unfolding binary_of_lanes
   differences_u_make_vector is =
-      rows_make_vector w a b below is_x is_y (λ p q. p - q) (λ p q. clamp_unsigned w (pos p -ℤ pos q)) is
+      rows_make_vector w a b below is_x is_y (λ p q. p - q) (λ p q. clamp_unsigned w (pos p -ℤ pos q))
+      (λ i inside.
+      is i inside ∙ difference_at w (lane_count w) xs ys long_x long_y i inside (fits_at a i (is_x i inside))
+      (fits_at b i (is_y i inside)))
       (λ p q fits _. omega (arith, ints))
 
 -- ---- a product of two lanes, at 32 bits

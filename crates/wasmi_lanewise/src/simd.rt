@@ -8,7 +8,6 @@ mod binary;
 mod comparison;
 mod lane_access;
 mod order;
-mod saturation;
 mod unary;
 mod words;
 

@@ -8,7 +8,7 @@ macro_rules! docs {
 ensures: result ≡ vector.extract_lane_s w16 v lane
 ```
 
-Definitions: [`extract_lane_s`](crate::specs::lanewise::VectorTable#extract_lane_s), [`lane`](crate::specs::lanes::Vector#lane).
+Definitions: [`extract_lane_s`](crate::specs::lanewise::VectorTable#extract_lane_s).
 "#### };
     (lanewise i16x8_extract_lane_u) => { r####"One lane, read unsigned.
 
@@ -18,7 +18,7 @@ Definitions: [`extract_lane_s`](crate::specs::lanewise::VectorTable#extract_lane
 ensures: result ≡ vector.extract_lane_u w16 v lane
 ```
 
-Definitions: [`extract_lane_u`](crate::specs::lanewise::VectorTable#extract_lane_u), [`lane`](crate::specs::lanes::Vector#lane).
+Definitions: [`extract_lane_u`](crate::specs::lanewise::VectorTable#extract_lane_u).
 "#### };
     (lanewise i16x8_replace_lane) => { r####"`v` with the item in one lane.
 
@@ -28,7 +28,7 @@ Definitions: [`extract_lane_u`](crate::specs::lanewise::VectorTable#extract_lane
 ensures: result ≡ vector.replace_lane w16 v lane item
 ```
 
-Definitions: [`replace_lane`](crate::specs::lanewise::VectorTable#replace_lane), [`lane`](crate::specs::lanes::Vector#lane).
+Definitions: [`replace_lane`](crate::specs::lanewise::VectorTable#replace_lane).
 "#### };
     (lanewise i32x4_extract_lane) => { r####"One lane, read signed.
 
@@ -38,7 +38,7 @@ Definitions: [`replace_lane`](crate::specs::lanewise::VectorTable#replace_lane),
 ensures: result ≡ vector.extract_lane_s w32 v lane
 ```
 
-Definitions: [`extract_lane_s`](crate::specs::lanewise::VectorTable#extract_lane_s), [`lane`](crate::specs::lanes::Vector#lane).
+Definitions: [`extract_lane_s`](crate::specs::lanewise::VectorTable#extract_lane_s).
 "#### };
     (lanewise i32x4_replace_lane) => { r####"`v` with the item in one lane.
 
@@ -48,7 +48,7 @@ Definitions: [`extract_lane_s`](crate::specs::lanewise::VectorTable#extract_lane
 ensures: result ≡ vector.replace_lane w32 v lane item
 ```
 
-Definitions: [`replace_lane`](crate::specs::lanewise::VectorTable#replace_lane), [`lane`](crate::specs::lanes::Vector#lane).
+Definitions: [`replace_lane`](crate::specs::lanewise::VectorTable#replace_lane).
 "#### };
     (lanewise i64x2_extract_lane) => { r####"One lane, read signed.
 
@@ -58,7 +58,7 @@ Definitions: [`replace_lane`](crate::specs::lanewise::VectorTable#replace_lane),
 ensures: result ≡ vector.extract_lane_s w64 v lane
 ```
 
-Definitions: [`extract_lane_s`](crate::specs::lanewise::VectorTable#extract_lane_s), [`lane`](crate::specs::lanes::Vector#lane).
+Definitions: [`extract_lane_s`](crate::specs::lanewise::VectorTable#extract_lane_s).
 "#### };
     (lanewise i64x2_replace_lane) => { r####"`v` with the item in one lane.
 
@@ -68,7 +68,7 @@ Definitions: [`extract_lane_s`](crate::specs::lanewise::VectorTable#extract_lane
 ensures: result ≡ vector.replace_lane w64 v lane item
 ```
 
-Definitions: [`replace_lane`](crate::specs::lanewise::VectorTable#replace_lane), [`lane`](crate::specs::lanes::Vector#lane).
+Definitions: [`replace_lane`](crate::specs::lanewise::VectorTable#replace_lane).
 "#### };
     (lanewise i8x16_extract_lane_s) => { r####"One lane, read signed.
 
@@ -78,7 +78,7 @@ Definitions: [`replace_lane`](crate::specs::lanewise::VectorTable#replace_lane),
 ensures: result ≡ vector.extract_lane_s w8 v lane
 ```
 
-Definitions: [`extract_lane_s`](crate::specs::lanewise::VectorTable#extract_lane_s), [`lane`](crate::specs::lanes::Vector#lane).
+Definitions: [`extract_lane_s`](crate::specs::lanewise::VectorTable#extract_lane_s).
 "#### };
     (lanewise i8x16_extract_lane_u) => { r####"One lane, read unsigned.
 
@@ -88,7 +88,7 @@ Definitions: [`extract_lane_s`](crate::specs::lanewise::VectorTable#extract_lane
 ensures: result ≡ vector.extract_lane_u w8 v lane
 ```
 
-Definitions: [`extract_lane_u`](crate::specs::lanewise::VectorTable#extract_lane_u), [`lane`](crate::specs::lanes::Vector#lane).
+Definitions: [`extract_lane_u`](crate::specs::lanewise::VectorTable#extract_lane_u).
 "#### };
     (lanewise i8x16_replace_lane) => { r####"`v` with the item in one lane.
 
@@ -98,7 +98,7 @@ Definitions: [`extract_lane_u`](crate::specs::lanewise::VectorTable#extract_lane
 ensures: result ≡ vector.replace_lane w8 v lane item
 ```
 
-Definitions: [`replace_lane`](crate::specs::lanewise::VectorTable#replace_lane), [`lane`](crate::specs::lanes::Vector#lane).
+Definitions: [`replace_lane`](crate::specs::lanewise::VectorTable#replace_lane).
 "#### };
     (lanewise i8x16_shuffle) => { r####"Lane i is lane `s[i]` of `a`, or lane `s[i] - 16` of `b` where `s[i]` is above 15.
 

@@ -10,10 +10,11 @@ pub mod simd {
         //! Binary instructions.
 
         use crate::proved::lanes::{
-            I8x16, I16x8, U8x16, U16x8, U32x4, clamped_i8, clamped_i16, on_vectors,
+            I8x16, I16x8, SimdLane, U8x16, U16x8, U32x4, clamped_i8, clamped_i16, on_vectors,
         };
-        use crate::proved::lanewise::simd::{order, saturation, words};
+        use crate::proved::lanewise::simd::{order, words};
         use crate::proved::raw::V128;
+        use crate::rattle::simd::prelude::*;
 
         /// The sums of the lanes, modulo 2 to the power 8.
         ///
@@ -224,7 +225,7 @@ pub mod simd {
         /// Definitions: [`add_sat_u`](crate::specs::lanewise::VectorTable#add_sat_u).
         #[inline]
         pub fn i8x16_add_sat_u(lhs: V128, rhs: V128) -> V128 {
-            saturation::sums_u::<u8>(lhs, rhs)
+            u8::vector_of(u8::lanes_of(lhs).saturating_add(u8::lanes_of(rhs)))
         }
 
         /// The sums of the lanes, read signed and clamped to the signed range of 16 bits.
@@ -252,7 +253,7 @@ pub mod simd {
         /// Definitions: [`add_sat_u`](crate::specs::lanewise::VectorTable#add_sat_u).
         #[inline]
         pub fn i16x8_add_sat_u(lhs: V128, rhs: V128) -> V128 {
-            saturation::sums_u::<u16>(lhs, rhs)
+            u16::vector_of(u16::lanes_of(lhs).saturating_add(u16::lanes_of(rhs)))
         }
 
         /// The differences of the lanes, read signed and clamped to the signed range of 8 bits.
@@ -280,7 +281,7 @@ pub mod simd {
         /// Definitions: [`sub_sat_u`](crate::specs::lanewise::VectorTable#sub_sat_u).
         #[inline]
         pub fn i8x16_sub_sat_u(lhs: V128, rhs: V128) -> V128 {
-            saturation::differences_u::<u8>(lhs, rhs)
+            u8::vector_of(u8::lanes_of(lhs).saturating_sub(u8::lanes_of(rhs)))
         }
 
         /// The differences of the lanes, read signed and clamped to the signed range of 16 bits.
@@ -308,11 +309,13 @@ pub mod simd {
         /// Definitions: [`sub_sat_u`](crate::specs::lanewise::VectorTable#sub_sat_u).
         #[inline]
         pub fn i16x8_sub_sat_u(lhs: V128, rhs: V128) -> V128 {
-            saturation::differences_u::<u16>(lhs, rhs)
+            u16::vector_of(u16::lanes_of(lhs).saturating_sub(u16::lanes_of(rhs)))
         }
 
         /// The products of the lanes as q15 numbers (signed, over 2 to the power 15), rounded and clamped
         /// to the signed range.
+        ///
+        /// Twice the upper half of a product and its rounded lower half: each half is one instruction.
         ///
         /// # Contract
         ///
@@ -323,7 +326,64 @@ pub mod simd {
         /// Definitions: [`q15mulr_sat_s`](crate::specs::lanewise::VectorTable#q15mulr_sat_s).
         #[inline]
         pub fn i16x8_q15mulr_sat_s(lhs: V128, rhs: V128) -> V128 {
-            saturation::rounded_products(lhs, rhs)
+            let x = u16::lanes_of(lhs);
+            let y = u16::lanes_of(rhs);
+            u16::vector_of(twice(upper_halves(x, y)) + rounded_quotients(x * y))
+        }
+
+        // The lanes, read signed, at twice their width.
+        /// # Contract
+        ///
+        /// ```text
+        /// ensures lanes: (i : ℕ) → i < 8
+        ///     → slice_index result i ≡ cast_unsigned w32 (signed w16 (slice_index items i))
+        /// ```
+        #[inline(always)]
+        fn sign_copied(items: u16x8) -> u32x8 {
+            let tops = u32x8::splat(0x8000);
+            (items.cast::<u32>() ^ tops) - tops
+        }
+
+        // The upper halves of the products of lanes that are read signed.
+        /// # Contract
+        ///
+        /// ```text
+        /// ensures lanes: (i : ℕ) → i < 8 → slice_index result i
+        ///     ≡ cast_unsigned w32 (signed w16 (slice_index x i)) * cast_unsigned w32
+        ///     (signed w16 (slice_index y i)) % 2 ^ 32 / 2 ^ 16
+        /// ```
+        #[inline(always)]
+        fn upper_halves(x: u16x8, y: u16x8) -> u16x8 {
+            let products = sign_copied(x) * sign_copied(y);
+            (products >> u32x8::splat(16)).cast::<u16>()
+        }
+
+        // Twice the lanes, read signed, and the largest number in the place of the one double that doesn't
+        // fit, that of 2 to the power 14.
+        /// # Contract
+        ///
+        /// ```text
+        /// ensures lanes: (i : ℕ) → i < 8 → slice_index result i
+        ///     ≡ (slice_index items i +
+        ///     (if nat_lt ((slice_index items i + 0x8000) % 2 ^ 16) 0xbfff then slice_index items i
+        ///     else 0x3fff)) % 2 ^ 16
+        /// ```
+        #[inline(always)]
+        fn twice(items: u16x8) -> u16x8 {
+            let most = u16::splat(0x3fff);
+            items + u16::choose_if_less(u16::biased(items), u16::biased(most), items, most)
+        }
+
+        // The lanes divided by 2 to the power 15, halves rounded up.
+        /// # Contract
+        ///
+        /// ```text
+        /// ensures lanes: (i : ℕ) → i < 8
+        ///     → slice_index result i ≡ (slice_index items i / 2 + 0x2000) % 2 ^ 16 / 2 ^ 14
+        /// ```
+        #[inline(always)]
+        fn rounded_quotients(items: u16x8) -> u16x8 {
+            ((items >> u16x8::splat(1)) + u16x8::splat(0x2000)) >> u16x8::splat(14)
         }
 
         /// The smaller ones of the lanes, read signed.
@@ -565,6 +625,7 @@ pub mod simd {
     mod comparison {
         //! Comparisons.
 
+        use crate::proved::lanes::words::word_differ;
         use crate::proved::lanewise::simd::{order, words};
         use crate::proved::raw::V128;
 
@@ -621,7 +682,9 @@ pub mod simd {
         /// Definitions: [`eq`](crate::specs::lanewise::VectorTable#eq).
         #[inline]
         pub fn i64x2_eq(lhs: V128, rhs: V128) -> V128 {
-            words::equal_words(lhs, rhs)
+            let (a_low, a_high) = lhs.words();
+            let (b_low, b_high) = rhs.words();
+            V128::from_word_pair(ones_if_equal(a_low, b_low), ones_if_equal(a_high, b_high))
         }
 
         /// All ones in the lanes that are different, else all zeros.
@@ -677,7 +740,25 @@ pub mod simd {
         /// Definitions: [`ne`](crate::specs::lanewise::VectorTable#ne).
         #[inline]
         pub fn i64x2_ne(lhs: V128, rhs: V128) -> V128 {
-            words::different_words(lhs, rhs)
+            let (a_low, a_high) = lhs.words();
+            let (b_low, b_high) = rhs.words();
+            V128::from_word_pair(!ones_if_equal(a_low, b_low), !ones_if_equal(a_high, b_high))
+        }
+
+        // All ones if two words are equal, else 0. They are compared as lanes of one bit, of which
+        // `word_differ` masks nothing.
+        /// # Contract
+        ///
+        /// ```text
+        /// ensures: result ≡ (if a == b then 2 ^ 64 - 1 else 0)
+        /// ```
+        #[inline(always)]
+        fn ones_if_equal(a: u64, b: u64) -> u64 {
+            if word_differ(a, b, u64::MAX) == 0 {
+                u64::MAX
+            } else {
+                0
+            }
         }
 
         /// All ones where the lane of `lhs` is less than that of `rhs`, both read signed, else all zeros.
@@ -887,7 +968,7 @@ pub mod simd {
         /// Definitions: [`gt_s`](crate::specs::lanewise::VectorTable#gt_s).
         #[inline]
         pub fn i8x16_gt_s(lhs: V128, rhs: V128) -> V128 {
-            order::greater_s::<u8>(lhs, rhs)
+            order::less_s::<u8>(rhs, lhs)
         }
 
         /// All ones where the lane of `lhs` is the greater one, both read signed, else all zeros.
@@ -901,7 +982,7 @@ pub mod simd {
         /// Definitions: [`gt_s`](crate::specs::lanewise::VectorTable#gt_s).
         #[inline]
         pub fn i16x8_gt_s(lhs: V128, rhs: V128) -> V128 {
-            order::greater_s::<u16>(lhs, rhs)
+            order::less_s::<u16>(rhs, lhs)
         }
 
         /// All ones where the lane of `lhs` is the greater one, both read signed, else all zeros.
@@ -915,7 +996,7 @@ pub mod simd {
         /// Definitions: [`gt_s`](crate::specs::lanewise::VectorTable#gt_s).
         #[inline]
         pub fn i32x4_gt_s(lhs: V128, rhs: V128) -> V128 {
-            order::greater_s::<u32>(lhs, rhs)
+            order::less_s::<u32>(rhs, lhs)
         }
 
         /// All ones where the lane of `lhs` is the greater one, both read signed, else all zeros.
@@ -929,7 +1010,7 @@ pub mod simd {
         /// Definitions: [`gt_s`](crate::specs::lanewise::VectorTable#gt_s).
         #[inline]
         pub fn i64x2_gt_s(lhs: V128, rhs: V128) -> V128 {
-            order::greater_s::<u64>(lhs, rhs)
+            order::less_s::<u64>(rhs, lhs)
         }
 
         /// All ones where the lane of `lhs` is the greater one, both read unsigned, else all zeros.
@@ -943,7 +1024,7 @@ pub mod simd {
         /// Definitions: [`gt_u`](crate::specs::lanewise::VectorTable#gt_u).
         #[inline]
         pub fn i8x16_gt_u(lhs: V128, rhs: V128) -> V128 {
-            order::greater_u::<u8>(lhs, rhs)
+            order::less_u::<u8>(rhs, lhs)
         }
 
         /// All ones where the lane of `lhs` is the greater one, both read unsigned, else all zeros.
@@ -957,7 +1038,7 @@ pub mod simd {
         /// Definitions: [`gt_u`](crate::specs::lanewise::VectorTable#gt_u).
         #[inline]
         pub fn i16x8_gt_u(lhs: V128, rhs: V128) -> V128 {
-            order::greater_u::<u16>(lhs, rhs)
+            order::less_u::<u16>(rhs, lhs)
         }
 
         /// All ones where the lane of `lhs` is the greater one, both read unsigned, else all zeros.
@@ -971,7 +1052,7 @@ pub mod simd {
         /// Definitions: [`gt_u`](crate::specs::lanewise::VectorTable#gt_u).
         #[inline]
         pub fn i32x4_gt_u(lhs: V128, rhs: V128) -> V128 {
-            order::greater_u::<u32>(lhs, rhs)
+            order::less_u::<u32>(rhs, lhs)
         }
 
         /// All ones where the lane of `lhs` is at least that of `rhs`, both read signed, else all zeros.
@@ -985,7 +1066,7 @@ pub mod simd {
         /// Definitions: [`ge_s`](crate::specs::lanewise::VectorTable#ge_s).
         #[inline]
         pub fn i8x16_ge_s(lhs: V128, rhs: V128) -> V128 {
-            order::at_least_s::<u8>(lhs, rhs)
+            order::at_most_s::<u8>(rhs, lhs)
         }
 
         /// All ones where the lane of `lhs` is at least that of `rhs`, both read signed, else all zeros.
@@ -999,7 +1080,7 @@ pub mod simd {
         /// Definitions: [`ge_s`](crate::specs::lanewise::VectorTable#ge_s).
         #[inline]
         pub fn i16x8_ge_s(lhs: V128, rhs: V128) -> V128 {
-            order::at_least_s::<u16>(lhs, rhs)
+            order::at_most_s::<u16>(rhs, lhs)
         }
 
         /// All ones where the lane of `lhs` is at least that of `rhs`, both read signed, else all zeros.
@@ -1013,7 +1094,7 @@ pub mod simd {
         /// Definitions: [`ge_s`](crate::specs::lanewise::VectorTable#ge_s).
         #[inline]
         pub fn i32x4_ge_s(lhs: V128, rhs: V128) -> V128 {
-            order::at_least_s::<u32>(lhs, rhs)
+            order::at_most_s::<u32>(rhs, lhs)
         }
 
         /// All ones where the lane of `lhs` is at least that of `rhs`, both read signed, else all zeros.
@@ -1027,7 +1108,7 @@ pub mod simd {
         /// Definitions: [`ge_s`](crate::specs::lanewise::VectorTable#ge_s).
         #[inline]
         pub fn i64x2_ge_s(lhs: V128, rhs: V128) -> V128 {
-            order::at_least_s::<u64>(lhs, rhs)
+            order::at_most_s::<u64>(rhs, lhs)
         }
 
         /// All ones where the lane of `lhs` is at least that of `rhs`, both read unsigned, else all zeros.
@@ -1041,7 +1122,7 @@ pub mod simd {
         /// Definitions: [`ge_u`](crate::specs::lanewise::VectorTable#ge_u).
         #[inline]
         pub fn i8x16_ge_u(lhs: V128, rhs: V128) -> V128 {
-            order::at_least_u::<u8>(lhs, rhs)
+            order::at_most_u::<u8>(rhs, lhs)
         }
 
         /// All ones where the lane of `lhs` is at least that of `rhs`, both read unsigned, else all zeros.
@@ -1055,7 +1136,7 @@ pub mod simd {
         /// Definitions: [`ge_u`](crate::specs::lanewise::VectorTable#ge_u).
         #[inline]
         pub fn i16x8_ge_u(lhs: V128, rhs: V128) -> V128 {
-            order::at_least_u::<u16>(lhs, rhs)
+            order::at_most_u::<u16>(rhs, lhs)
         }
 
         /// All ones where the lane of `lhs` is at least that of `rhs`, both read unsigned, else all zeros.
@@ -1069,7 +1150,7 @@ pub mod simd {
         /// Definitions: [`ge_u`](crate::specs::lanewise::VectorTable#ge_u).
         #[inline]
         pub fn i32x4_ge_u(lhs: V128, rhs: V128) -> V128 {
-            order::at_least_u::<u32>(lhs, rhs)
+            order::at_most_u::<u32>(rhs, lhs)
         }
     }
     mod lane_access {
@@ -1108,20 +1189,8 @@ pub mod simd {
         /// Definitions: [`splat`](crate::specs::lanewise::VectorTable#splat).
         #[inline]
         pub fn i16x8_splat(item: i16) -> V128 {
-            same_lanes(item.cast_unsigned())
-        }
-
-        // By a `core::simd` vector: LLVM puts eight plain lanes together by shifts.
-        /// # Contract
-        ///
-        /// ```text
-        /// ensures: result ≡ splat_of w16 item
-        /// ```
-        ///
-        /// Definitions: [`splat_of`](crate::specs::lanes::Vector#splat_of).
-        #[inline(always)]
-        fn same_lanes(item: u16) -> V128 {
-            u16::vector_of(u16::splat(item))
+            // By a `core::simd` vector: LLVM puts eight plain lanes together by shifts.
+            u16::vector_of(u16::splat(item.cast_unsigned()))
         }
 
         /// The item in every lane.
@@ -1149,34 +1218,9 @@ pub mod simd {
         /// Definitions: [`splat`](crate::specs::lanewise::VectorTable#splat).
         #[inline]
         pub fn i64x2_splat(item: i64) -> V128 {
-            same_words(item.cast_unsigned())
-        }
-
-        // Both words the same, by lanes of 32 bits: of one word in two places LLVM makes two stores.
-        /// # Contract
-        ///
-        /// ```text
-        /// ensures: result ≡ splat_of w64 word
-        /// ```
-        ///
-        /// Definitions: [`splat_of`](crate::specs::lanes::Vector#splat_of).
-        #[inline(always)]
-        fn same_words(word: u64) -> V128 {
-            from_bytes(lower_half_twice(V128::from_word_pair(word, 0)).to_le_bytes())
-        }
-
-        // The lanes of 32 bits of the lower half, twice.
-        /// # Contract
-        ///
-        /// ```text
-        /// ensures: result ≡ lane w32 v 0 ∷ lane w32 v 1 ∷ lane w32 v 0 ∷ lane w32 v 1 ∷ []
-        /// ```
-        ///
-        /// Definitions: [`lane`](crate::specs::lanes::Vector#lane).
-        #[inline(always)]
-        fn lower_half_twice(v: V128) -> u32x4 {
-            let items = u32::lanes_of(v);
-            items.shuffle(items, [0, 1, 0, 1])
+            // By lanes of 32 bits: of one word in two places LLVM makes two stores.
+            let items = u32::lanes_of(V128::from_word_pair(item.cast_unsigned(), 0));
+            from_bytes(items.shuffle(items, [0, 1, 0, 1]).to_le_bytes())
         }
 
         /// One lane, read signed.
@@ -1187,7 +1231,7 @@ pub mod simd {
         /// ensures: result ≡ vector.extract_lane_s w8 v lane
         /// ```
         ///
-        /// Definitions: [`extract_lane_s`](crate::specs::lanewise::VectorTable#extract_lane_s), [`lane`](crate::specs::lanes::Vector#lane).
+        /// Definitions: [`extract_lane_s`](crate::specs::lanewise::VectorTable#extract_lane_s).
         #[inline]
         pub fn i8x16_extract_lane_s(v: V128, lane: ImmLaneIdx16) -> i32 {
             i32::from(u8::lane_at(v, lane).cast_signed())
@@ -1201,7 +1245,7 @@ pub mod simd {
         /// ensures: result ≡ vector.extract_lane_u w8 v lane
         /// ```
         ///
-        /// Definitions: [`extract_lane_u`](crate::specs::lanewise::VectorTable#extract_lane_u), [`lane`](crate::specs::lanes::Vector#lane).
+        /// Definitions: [`extract_lane_u`](crate::specs::lanewise::VectorTable#extract_lane_u).
         #[inline]
         pub fn i8x16_extract_lane_u(v: V128, lane: ImmLaneIdx16) -> u32 {
             u32::from(u8::lane_at(v, lane))
@@ -1215,7 +1259,7 @@ pub mod simd {
         /// ensures: result ≡ vector.extract_lane_s w16 v lane
         /// ```
         ///
-        /// Definitions: [`extract_lane_s`](crate::specs::lanewise::VectorTable#extract_lane_s), [`lane`](crate::specs::lanes::Vector#lane).
+        /// Definitions: [`extract_lane_s`](crate::specs::lanewise::VectorTable#extract_lane_s).
         #[inline]
         pub fn i16x8_extract_lane_s(v: V128, lane: ImmLaneIdx8) -> i32 {
             i32::from(u16::lane_at(v, lane).cast_signed())
@@ -1229,7 +1273,7 @@ pub mod simd {
         /// ensures: result ≡ vector.extract_lane_u w16 v lane
         /// ```
         ///
-        /// Definitions: [`extract_lane_u`](crate::specs::lanewise::VectorTable#extract_lane_u), [`lane`](crate::specs::lanes::Vector#lane).
+        /// Definitions: [`extract_lane_u`](crate::specs::lanewise::VectorTable#extract_lane_u).
         #[inline]
         pub fn i16x8_extract_lane_u(v: V128, lane: ImmLaneIdx8) -> u32 {
             u32::from(u16::lane_at(v, lane))
@@ -1243,7 +1287,7 @@ pub mod simd {
         /// ensures: result ≡ vector.extract_lane_s w32 v lane
         /// ```
         ///
-        /// Definitions: [`extract_lane_s`](crate::specs::lanewise::VectorTable#extract_lane_s), [`lane`](crate::specs::lanes::Vector#lane).
+        /// Definitions: [`extract_lane_s`](crate::specs::lanewise::VectorTable#extract_lane_s).
         #[inline]
         pub fn i32x4_extract_lane(v: V128, lane: ImmLaneIdx4) -> i32 {
             u32::lane_at(v, lane).cast_signed()
@@ -1257,7 +1301,7 @@ pub mod simd {
         /// ensures: result ≡ vector.extract_lane_s w64 v lane
         /// ```
         ///
-        /// Definitions: [`extract_lane_s`](crate::specs::lanewise::VectorTable#extract_lane_s), [`lane`](crate::specs::lanes::Vector#lane).
+        /// Definitions: [`extract_lane_s`](crate::specs::lanewise::VectorTable#extract_lane_s).
         #[inline]
         pub fn i64x2_extract_lane(v: V128, lane: ImmLaneIdx2) -> i64 {
             u64::lane_at(v, lane).cast_signed()
@@ -1271,7 +1315,7 @@ pub mod simd {
         /// ensures: result ≡ vector.replace_lane w8 v lane item
         /// ```
         ///
-        /// Definitions: [`replace_lane`](crate::specs::lanewise::VectorTable#replace_lane), [`lane`](crate::specs::lanes::Vector#lane).
+        /// Definitions: [`replace_lane`](crate::specs::lanewise::VectorTable#replace_lane).
         #[inline]
         pub fn i8x16_replace_lane(v: V128, lane: ImmLaneIdx16, item: i8) -> V128 {
             u8::with_lane(v, lane, item.cast_unsigned())
@@ -1285,7 +1329,7 @@ pub mod simd {
         /// ensures: result ≡ vector.replace_lane w16 v lane item
         /// ```
         ///
-        /// Definitions: [`replace_lane`](crate::specs::lanewise::VectorTable#replace_lane), [`lane`](crate::specs::lanes::Vector#lane).
+        /// Definitions: [`replace_lane`](crate::specs::lanewise::VectorTable#replace_lane).
         #[inline]
         pub fn i16x8_replace_lane(v: V128, lane: ImmLaneIdx8, item: i16) -> V128 {
             u16::with_lane(v, lane, item.cast_unsigned())
@@ -1299,7 +1343,7 @@ pub mod simd {
         /// ensures: result ≡ vector.replace_lane w32 v lane item
         /// ```
         ///
-        /// Definitions: [`replace_lane`](crate::specs::lanewise::VectorTable#replace_lane), [`lane`](crate::specs::lanes::Vector#lane).
+        /// Definitions: [`replace_lane`](crate::specs::lanewise::VectorTable#replace_lane).
         #[inline]
         pub fn i32x4_replace_lane(v: V128, lane: ImmLaneIdx4, item: i32) -> V128 {
             u32::with_lane(v, lane, item.cast_unsigned())
@@ -1313,7 +1357,7 @@ pub mod simd {
         /// ensures: result ≡ vector.replace_lane w64 v lane item
         /// ```
         ///
-        /// Definitions: [`replace_lane`](crate::specs::lanewise::VectorTable#replace_lane), [`lane`](crate::specs::lanes::Vector#lane).
+        /// Definitions: [`replace_lane`](crate::specs::lanewise::VectorTable#replace_lane).
         #[inline]
         pub fn i64x2_replace_lane(v: V128, lane: ImmLaneIdx2, item: i64) -> V128 {
             u64::with_lane(v, lane, item.cast_unsigned())
@@ -1427,20 +1471,6 @@ pub mod simd {
             ones_if_less::<T>(T::lanes_of(lhs), T::lanes_of(rhs))
         }
 
-        /// All ones where the lane of `lhs` is greater than that of `rhs`, read unsigned, else all zeros.
-        ///
-        /// # Contract
-        ///
-        /// ```text
-        /// ensures: result ≡ vector.gt_u T.width lhs rhs
-        /// ```
-        ///
-        /// Definitions: [`gt_u`](crate::specs::lanewise::VectorTable#gt_u).
-        #[inline(always)]
-        pub(super) fn greater_u<T: SimdLane>(lhs: V128, rhs: V128) -> V128 {
-            less_u::<T>(rhs, lhs)
-        }
-
         /// All ones where the lane of `lhs` is at most that of `rhs`, read unsigned, else all zeros.
         ///
         /// # Contract
@@ -1453,20 +1483,6 @@ pub mod simd {
         #[inline(always)]
         pub(super) fn at_most_u<T: SimdLane>(lhs: V128, rhs: V128) -> V128 {
             zeros_if_less::<T>(T::lanes_of(rhs), T::lanes_of(lhs))
-        }
-
-        /// All ones where the lane of `lhs` is at least that of `rhs`, read unsigned, else all zeros.
-        ///
-        /// # Contract
-        ///
-        /// ```text
-        /// ensures: result ≡ vector.ge_u T.width lhs rhs
-        /// ```
-        ///
-        /// Definitions: [`ge_u`](crate::specs::lanewise::VectorTable#ge_u).
-        #[inline(always)]
-        pub(super) fn at_least_u<T: SimdLane>(lhs: V128, rhs: V128) -> V128 {
-            at_most_u::<T>(rhs, lhs)
         }
 
         /// All ones where the lane of `lhs` is less than that of `rhs`, read signed, else all zeros.
@@ -1483,20 +1499,6 @@ pub mod simd {
             ones_if_less::<T>(T::biased(T::lanes_of(lhs)), T::biased(T::lanes_of(rhs)))
         }
 
-        /// All ones where the lane of `lhs` is greater than that of `rhs`, read signed, else all zeros.
-        ///
-        /// # Contract
-        ///
-        /// ```text
-        /// ensures: result ≡ vector.gt_s T.width lhs rhs
-        /// ```
-        ///
-        /// Definitions: [`gt_s`](crate::specs::lanewise::VectorTable#gt_s).
-        #[inline(always)]
-        pub(super) fn greater_s<T: SimdLane>(lhs: V128, rhs: V128) -> V128 {
-            less_s::<T>(rhs, lhs)
-        }
-
         /// All ones where the lane of `lhs` is at most that of `rhs`, read signed, else all zeros.
         ///
         /// # Contract
@@ -1509,20 +1511,6 @@ pub mod simd {
         #[inline(always)]
         pub(super) fn at_most_s<T: SimdLane>(lhs: V128, rhs: V128) -> V128 {
             zeros_if_less::<T>(T::biased(T::lanes_of(rhs)), T::biased(T::lanes_of(lhs)))
-        }
-
-        /// All ones where the lane of `lhs` is at least that of `rhs`, read signed, else all zeros.
-        ///
-        /// # Contract
-        ///
-        /// ```text
-        /// ensures: result ≡ vector.ge_s T.width lhs rhs
-        /// ```
-        ///
-        /// Definitions: [`ge_s`](crate::specs::lanewise::VectorTable#ge_s).
-        #[inline(always)]
-        pub(super) fn at_least_s<T: SimdLane>(lhs: V128, rhs: V128) -> V128 {
-            at_most_s::<T>(rhs, lhs)
         }
 
         /// The smaller ones of the lanes, read unsigned.
@@ -1625,196 +1613,13 @@ pub mod simd {
             ))
         }
     }
-    mod saturation {
-        //! Sums, differences and q15 products (signed, over 2 to the power 15) that are clamped, on vectors
-        //! of `core::simd`.
-
-        use crate::proved::lanes::SimdLane;
-        use crate::proved::raw::V128;
-        use crate::rattle::simd::prelude::*;
-
-        /// A lane for whose vectors a processor has such sums and differences.
-        pub(super) trait SaturatingLane: SimdLane {
-            /// The sums, at most the greatest number of a lane.
-            ///
-            /// # Contract
-            ///
-            /// ```text
-            /// ensures lanes: (i : ℕ) → i < lane_count Self.width → Self.at result i
-            ///     ≡ min (Self.at a i + Self.at b i) (2 ^ bits Self.width - 1)
-            /// ```
-            ///
-            /// Definitions: [`lane_count`](crate::specs::lanes::Vector#lane_count).
-            fn clamped_sums(a: Self::Vector, b: Self::Vector) -> Self::Vector;
-
-            /// The differences, 0 where that of `b` is greater.
-            ///
-            /// # Contract
-            ///
-            /// ```text
-            /// ensures lanes: (i : ℕ) → i < lane_count Self.width → Self.at result i
-            ///     ≡ Self.at a i - Self.at b i
-            /// ```
-            ///
-            /// Definitions: [`lane_count`](crate::specs::lanes::Vector#lane_count).
-            fn clamped_differences(a: Self::Vector, b: Self::Vector) -> Self::Vector;
-        }
-
-        impl SaturatingLane for u8 {
-            #[inline(always)]
-            fn clamped_sums(a: u8x16, b: u8x16) -> u8x16 {
-                a.saturating_add(b)
-            }
-
-            #[inline(always)]
-            fn clamped_differences(a: u8x16, b: u8x16) -> u8x16 {
-                a.saturating_sub(b)
-            }
-        }
-
-        impl SaturatingLane for u16 {
-            #[inline(always)]
-            fn clamped_sums(a: u16x8, b: u16x8) -> u16x8 {
-                a.saturating_add(b)
-            }
-
-            #[inline(always)]
-            fn clamped_differences(a: u16x8, b: u16x8) -> u16x8 {
-                a.saturating_sub(b)
-            }
-        }
-
-        /// The sums of the lanes, clamped to the unsigned range.
-        ///
-        /// # Contract
-        ///
-        /// ```text
-        /// ensures: result ≡ vector.add_sat_u T.width lhs rhs
-        /// ```
-        ///
-        /// Definitions: [`add_sat_u`](crate::specs::lanewise::VectorTable#add_sat_u).
-        #[inline(always)]
-        pub(super) fn sums_u<T: SaturatingLane>(lhs: V128, rhs: V128) -> V128 {
-            T::vector_of(T::clamped_sums(T::lanes_of(lhs), T::lanes_of(rhs)))
-        }
-
-        /// The differences of the lanes, clamped to the unsigned range.
-        ///
-        /// # Contract
-        ///
-        /// ```text
-        /// ensures: result ≡ vector.sub_sat_u T.width lhs rhs
-        /// ```
-        ///
-        /// Definitions: [`sub_sat_u`](crate::specs::lanewise::VectorTable#sub_sat_u).
-        #[inline(always)]
-        pub(super) fn differences_u<T: SaturatingLane>(lhs: V128, rhs: V128) -> V128 {
-            T::vector_of(T::clamped_differences(T::lanes_of(lhs), T::lanes_of(rhs)))
-        }
-
-        /// The products of the lanes, halves rounded up, clamped to the signed range.
-        ///
-        /// Twice the upper half of a product and its rounded lower half: each half is one instruction.
-        ///
-        /// # Contract
-        ///
-        /// ```text
-        /// ensures: result ≡ vector.q15mulr_sat_s a b
-        /// ```
-        ///
-        /// Definitions: [`q15mulr_sat_s`](crate::specs::lanewise::VectorTable#q15mulr_sat_s).
-        #[inline(always)]
-        pub(super) fn rounded_products(a: V128, b: V128) -> V128 {
-            let x = u16::lanes_of(a);
-            let y = u16::lanes_of(b);
-            let upper = upper_halves(x, y);
-            u16::vector_of(sums(twice(upper), rounded_quotients(lower_halves(x, y))))
-        }
-
-        // The lanes, read signed, at twice their width.
-        /// # Contract
-        ///
-        /// ```text
-        /// ensures lanes: (i : ℕ) → i < 8
-        ///     → slice_index result i ≡ cast_unsigned w32 (signed w16 (slice_index items i))
-        /// ```
-        #[inline(always)]
-        fn sign_copied(items: u16x8) -> u32x8 {
-            let tops = u32x8::splat(0x8000);
-            (items.cast::<u32>() ^ tops) - tops
-        }
-
-        // The upper halves of the products of lanes that are read signed.
-        /// # Contract
-        ///
-        /// ```text
-        /// ensures lanes: (i : ℕ) → i < 8 → slice_index result i
-        ///     ≡ cast_unsigned w32 (signed w16 (slice_index x i)) * cast_unsigned w32
-        ///     (signed w16 (slice_index y i)) % 2 ^ 32 / 2 ^ 16
-        /// ```
-        #[inline(always)]
-        fn upper_halves(x: u16x8, y: u16x8) -> u16x8 {
-            let products = sign_copied(x) * sign_copied(y);
-            (products >> u32x8::splat(16)).cast::<u16>()
-        }
-
-        // The lower halves of the products of lanes, the same for signed and unsigned ones.
-        /// # Contract
-        ///
-        /// ```text
-        /// ensures lanes: (i : ℕ) → i < 8
-        ///     → slice_index result i ≡ slice_index x i * slice_index y i % 2 ^ 16
-        /// ```
-        #[inline(always)]
-        fn lower_halves(x: u16x8, y: u16x8) -> u16x8 {
-            x * y
-        }
-
-        // Twice the lanes, read signed, and the largest number in the place of the one double that doesn't
-        // fit, that of 2 to the power 14.
-        /// # Contract
-        ///
-        /// ```text
-        /// ensures lanes: (i : ℕ) → i < 8 → slice_index result i
-        ///     ≡ (slice_index items i +
-        ///     (if nat_lt ((slice_index items i + 0x8000) % 2 ^ 16) 0xbfff then slice_index items i
-        ///     else 0x3fff)) % 2 ^ 16
-        /// ```
-        #[inline(always)]
-        fn twice(items: u16x8) -> u16x8 {
-            let most = u16::splat(0x3fff);
-            items + u16::choose_if_less(u16::biased(items), u16::biased(most), items, most)
-        }
-
-        // The lanes divided by 2 to the power 15, halves rounded up.
-        /// # Contract
-        ///
-        /// ```text
-        /// ensures lanes: (i : ℕ) → i < 8
-        ///     → slice_index result i ≡ (slice_index items i / 2 + 0x2000) % 2 ^ 16 / 2 ^ 14
-        /// ```
-        #[inline(always)]
-        fn rounded_quotients(items: u16x8) -> u16x8 {
-            ((items >> u16x8::splat(1)) + u16x8::splat(0x2000)) >> u16x8::splat(14)
-        }
-
-        /// # Contract
-        ///
-        /// ```text
-        /// ensures lanes: (i : ℕ) → i < 8
-        ///     → slice_index result i ≡ (slice_index x i + slice_index y i) % 2 ^ 16
-        /// ```
-        #[inline(always)]
-        fn sums(x: u16x8, y: u16x8) -> u16x8 {
-            x + y
-        }
-    }
     mod unary {
         //! Unary instructions, and those that work bit by bit on whole vectors.
 
         use crate::proved::lanes::{I8x16, I16x8, I32x4, I64x2, from_u64x2, on_vectors, u64x2_of};
         use crate::proved::lanewise::simd::words;
         use crate::proved::raw::V128;
+        use crate::rattle::simd::prelude::*;
 
         /// The lanes negated, modulo 2 to the power 8.
         ///
@@ -1930,6 +1735,9 @@ pub mod simd {
 
         /// How many bits of each lane are one.
         ///
+        /// Counted in lanes of 2, 4 and 8 bits in turn, each the sum of its halves. Both words are one
+        /// value of the processor's, for the reason at `words::filled`.
+        ///
         /// # Contract
         ///
         /// ```text
@@ -1939,7 +1747,13 @@ pub mod simd {
         /// Definitions: [`popcnt`](crate::specs::lanewise::VectorTable#popcnt).
         #[inline]
         pub fn i8x16_popcnt(v: V128) -> V128 {
-            words::counts_of_ones(v)
+            let words = u64x2_of(v);
+            let ones = u64x2::splat(0x5555_5555_5555_5555);
+            let pairs = words - ((words >> u64x2::splat(1)) & ones);
+            let twos = u64x2::splat(0x3333_3333_3333_3333);
+            let nibbles = (pairs & twos) + ((pairs >> u64x2::splat(2)) & twos);
+            let fours = u64x2::splat(0x0f0f_0f0f_0f0f_0f0f);
+            from_u64x2((nibbles + (nibbles >> u64x2::splat(4))) & fours)
         }
 
         /// Bitwise and.
@@ -2035,8 +1849,8 @@ pub mod simd {
         }
     }
     mod words {
-        //! Sums, differences, equality, averages and counted bits on the two words of a vector, whose lanes
-        //! stay where they are.
+        //! Sums, differences, equality and averages on the two words of a vector, whose lanes stay where they
+        //! are.
         //!
         //! What is generic in a lane type takes the highest bits of a word's lanes from it.
 
@@ -2173,54 +1987,6 @@ pub mod simd {
             )
         }
 
-        /// All ones in the lanes of 64 bits that are equal, else all zeros.
-        ///
-        /// # Contract
-        ///
-        /// ```text
-        /// ensures: result ≡ vector.eq w64 lhs rhs
-        /// ```
-        ///
-        /// Definitions: [`eq`](crate::specs::lanewise::VectorTable#eq).
-        #[inline(always)]
-        pub(super) fn equal_words(lhs: V128, rhs: V128) -> V128 {
-            let (a_low, a_high) = lhs.words();
-            let (b_low, b_high) = rhs.words();
-            V128::from_word_pair(ones_if_equal(a_low, b_low), ones_if_equal(a_high, b_high))
-        }
-
-        /// All ones in the lanes of 64 bits that are different, else all zeros.
-        ///
-        /// # Contract
-        ///
-        /// ```text
-        /// ensures: result ≡ vector.ne w64 lhs rhs
-        /// ```
-        ///
-        /// Definitions: [`ne`](crate::specs::lanewise::VectorTable#ne).
-        #[inline(always)]
-        pub(super) fn different_words(lhs: V128, rhs: V128) -> V128 {
-            let (a_low, a_high) = lhs.words();
-            let (b_low, b_high) = rhs.words();
-            V128::from_word_pair(!ones_if_equal(a_low, b_low), !ones_if_equal(a_high, b_high))
-        }
-
-        // All ones if two words are equal, else 0. They are compared as lanes of one bit, of which
-        // `word_differ` masks nothing.
-        /// # Contract
-        ///
-        /// ```text
-        /// ensures: result ≡ (if a == b then 2 ^ 64 - 1 else 0)
-        /// ```
-        #[inline(always)]
-        fn ones_if_equal(a: u64, b: u64) -> u64 {
-            if word_differ(a, b, u64::MAX) == 0 {
-                u64::MAX
-            } else {
-                0
-            }
-        }
-
         // The vector of two words of which each lane is 0 or its highest bit alone, those with the bit
         // filled with ones: twice the bit, which is the bit above the lane, less the lane's lowest. Of
         // plain words LLVM would take two vectors a turn of a loop, and regroup their words before and
@@ -2274,30 +2040,6 @@ pub mod simd {
         #[inline(always)]
         fn word_averages(a: u64, b: u64, tops: u64) -> u64 {
             (a | b) - (((a ^ b) >> 1) & !tops)
-        }
-
-        /// How many bits of each lane of 8 bits are one.
-        ///
-        /// Counted in lanes of 2, 4 and 8 bits in turn, each the sum of its halves. Both words are one
-        /// value of the processor's, for the reason at `filled`.
-        ///
-        /// # Contract
-        ///
-        /// ```text
-        /// ensures: result ≡ vector.popcnt w8 v
-        /// ```
-        ///
-        /// Definitions: [`popcnt`](crate::specs::lanewise::VectorTable#popcnt).
-        #[inline(always)]
-        pub(super) fn counts_of_ones(v: V128) -> V128 {
-            let (low, high) = v.words();
-            let words = u64x2::from_array([low, high]);
-            let ones = u64x2::splat(0x5555_5555_5555_5555);
-            let pairs = words - ((words >> u64x2::splat(1)) & ones);
-            let twos = u64x2::splat(0x3333_3333_3333_3333);
-            let nibbles = (pairs & twos) + ((pairs >> u64x2::splat(2)) & twos);
-            let fours = u64x2::splat(0x0f0f_0f0f_0f0f_0f0f);
-            from_u64x2((nibbles + (nibbles >> u64x2::splat(4))) & fours)
         }
     }
 

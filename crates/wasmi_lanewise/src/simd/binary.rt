@@ -1,11 +1,15 @@
 //! Binary instructions.
 
-ghost use Rattle.std.specs.Prelude.{◌≡◌, ◌*◌, ◌%◌, ◌^◌, ◌+ℤ◌, ◌-ℤ◌};
-ghost use Rattle.wasmi_types.specs.Numbers.{w8, w16, w32, w64};
+ghost use Rattle.std.specs.Prelude.{◌≡◌, ℕ, ◌+◌, ◌*◌, ◌/◌, ◌%◌, ◌^◌, ◌<◌, ◌+ℤ◌, ◌-ℤ◌, nat_lt, slice_index, if◌then◌else◌};
+ghost use Rattle.std.specs.Int.{cast_unsigned};
+ghost use Rattle.wasmi_types.specs.Numbers.{w8, w16, w32, w64, signed};
 ghost use Rattle.wasmi_lanewise.specs.VectorTable as vector;
 
-use crate::simd::{order, saturation, words};
-use wasmi_lanes::{I8x16, I16x8, U8x16, U16x8, U32x4, clamped_i8, clamped_i16, on_vectors};
+use crate::simd::{order, words};
+use std::simd::prelude::*;
+use wasmi_lanes::{
+    I8x16, I16x8, SimdLane, U8x16, U16x8, U32x4, clamped_i8, clamped_i16, on_vectors,
+};
 use wasmi_raw::V128;
 
 /// The sums of the lanes, modulo 2 to the power 8.
@@ -116,7 +120,7 @@ pub fn i8x16_add_sat_s(lhs: V128, rhs: V128) -> V128
 pub fn i8x16_add_sat_u(lhs: V128, rhs: V128) -> V128
     ensures { result ≡ vector.add_sat_u w8 lhs rhs }
 {
-    saturation::sums_u::<u8>(lhs, rhs)
+    u8::vector_of(u8::lanes_of(lhs).saturating_add(u8::lanes_of(rhs)))
 }
 
 /// The sums of the lanes, read signed and clamped to the signed range of 16 bits.
@@ -130,7 +134,7 @@ pub fn i16x8_add_sat_s(lhs: V128, rhs: V128) -> V128
 pub fn i16x8_add_sat_u(lhs: V128, rhs: V128) -> V128
     ensures { result ≡ vector.add_sat_u w16 lhs rhs }
 {
-    saturation::sums_u::<u16>(lhs, rhs)
+    u16::vector_of(u16::lanes_of(lhs).saturating_add(u16::lanes_of(rhs)))
 }
 
 /// The differences of the lanes, read signed and clamped to the signed range of 8 bits.
@@ -144,7 +148,7 @@ pub fn i8x16_sub_sat_s(lhs: V128, rhs: V128) -> V128
 pub fn i8x16_sub_sat_u(lhs: V128, rhs: V128) -> V128
     ensures { result ≡ vector.sub_sat_u w8 lhs rhs }
 {
-    saturation::differences_u::<u8>(lhs, rhs)
+    u8::vector_of(u8::lanes_of(lhs).saturating_sub(u8::lanes_of(rhs)))
 }
 
 /// The differences of the lanes, read signed and clamped to the signed range of 16 bits.
@@ -158,15 +162,63 @@ pub fn i16x8_sub_sat_s(lhs: V128, rhs: V128) -> V128
 pub fn i16x8_sub_sat_u(lhs: V128, rhs: V128) -> V128
     ensures { result ≡ vector.sub_sat_u w16 lhs rhs }
 {
-    saturation::differences_u::<u16>(lhs, rhs)
+    u16::vector_of(u16::lanes_of(lhs).saturating_sub(u16::lanes_of(rhs)))
 }
 
 /// The products of the lanes as q15 numbers (signed, over 2 to the power 15), rounded and clamped
 /// to the signed range.
+///
+/// Twice the upper half of a product and its rounded lower half: each half is one instruction.
 pub fn i16x8_q15mulr_sat_s(lhs: V128, rhs: V128) -> V128
     ensures { result ≡ vector.q15mulr_sat_s lhs rhs }
 {
-    saturation::rounded_products(lhs, rhs)
+    let x = u16::lanes_of(lhs);
+    let y = u16::lanes_of(rhs);
+    u16::vector_of(twice(upper_halves(x, y)) + rounded_quotients(x * y))
+}
+
+// The lanes, read signed, at twice their width.
+#[tactic(auto, using(crate::proofs::SaturationLemmas::extended_at))]
+#[inline(always)]
+fn sign_copied(items: u16x8) -> u32x8
+    ensures lanes { (i : ℕ) → i < 8
+        → slice_index result i ≡ cast_unsigned w32 (signed w16 (slice_index items i)) }
+{
+    let tops = u32x8::splat(0x8000);
+    (items.cast::<u32>() ^ tops) - tops
+}
+
+// The upper halves of the products of lanes that are read signed.
+#[inline(always)]
+fn upper_halves(x: u16x8, y: u16x8) -> u16x8
+    ensures lanes { (i : ℕ) → i < 8 → slice_index result i
+        ≡ cast_unsigned w32 (signed w16 (slice_index x i)) * cast_unsigned w32
+        (signed w16 (slice_index y i)) % 2 ^ 32 / 2 ^ 16 }
+{
+    let products = sign_copied(x) * sign_copied(y);
+    (products >> u32x8::splat(16)).cast::<u16>()
+}
+
+// Twice the lanes, read signed, and the largest number in the place of the one double that doesn't
+// fit, that of 2 to the power 14.
+#[inline(always)]
+fn twice(items: u16x8) -> u16x8
+    ensures lanes { (i : ℕ) → i < 8 → slice_index result i
+        ≡ (slice_index items i +
+        (if nat_lt ((slice_index items i + 0x8000) % 2 ^ 16) 0xbfff then slice_index items i
+        else 0x3fff)) % 2 ^ 16 }
+{
+    let most = u16::splat(0x3fff);
+    items + u16::choose_if_less(u16::biased(items), u16::biased(most), items, most)
+}
+
+// The lanes divided by 2 to the power 15, halves rounded up.
+#[inline(always)]
+fn rounded_quotients(items: u16x8) -> u16x8
+    ensures lanes { (i : ℕ) → i < 8
+        → slice_index result i ≡ (slice_index items i / 2 + 0x2000) % 2 ^ 16 / 2 ^ 14 }
+{
+    ((items >> u16x8::splat(1)) + u16x8::splat(0x2000)) >> u16x8::splat(14)
 }
 
 /// The smaller ones of the lanes, read signed.

@@ -1,9 +1,8 @@
 //! Vectors of one item, one lane of a vector, and bytes chosen by their indices, for which an array
 //! is slower than `std::simd` (docs/SPEED.md).
 
-ghost use Rattle.std.specs.Prelude.{◌≡◌, ◌∷◌, [], ℕ, ◌%◌, ◌<◌, slice_index, length, nat_lt, if◌then◌else◌};
+ghost use Rattle.std.specs.Prelude.{◌≡◌, ℕ, ◌%◌, ◌<◌, slice_index, length, nat_lt, if◌then◌else◌};
 ghost use Rattle.wasmi_types.specs.Numbers.{w8, w16, w32, w64};
-ghost use Rattle.wasmi_lanes.specs.Vector.{lane, splat_of};
 ghost use Rattle.wasmi_lanewise.specs.VectorTable as vector;
 
 use std::simd::prelude::*;
@@ -24,15 +23,8 @@ pub fn i8x16_splat(item: i8) -> V128
 pub fn i16x8_splat(item: i16) -> V128
     ensures { result ≡ vector.splat w16 item }
 {
-    same_lanes(item.cast_unsigned())
-}
-
-// By a `std::simd` vector: LLVM puts eight plain lanes together by shifts.
-#[inline(always)]
-fn same_lanes(item: u16) -> V128
-    ensures { result ≡ splat_of w16 item }
-{
-    u16::vector_of(u16::splat(item))
+    // By a `std::simd` vector: LLVM puts eight plain lanes together by shifts.
+    u16::vector_of(u16::splat(item.cast_unsigned()))
 }
 
 /// The item in every lane.
@@ -46,24 +38,9 @@ pub fn i32x4_splat(item: i32) -> V128
 pub fn i64x2_splat(item: i64) -> V128
     ensures { result ≡ vector.splat w64 item }
 {
-    same_words(item.cast_unsigned())
-}
-
-// Both words the same, by lanes of 32 bits: of one word in two places LLVM makes two stores.
-#[inline(always)]
-fn same_words(word: u64) -> V128
-    ensures { result ≡ splat_of w64 word }
-{
-    from_bytes(lower_half_twice(V128::from_word_pair(word, 0)).to_le_bytes())
-}
-
-// The lanes of 32 bits of the lower half, twice.
-#[inline(always)]
-fn lower_half_twice(v: V128) -> u32x4
-    ensures { result ≡ lane w32 v 0 ∷ lane w32 v 1 ∷ lane w32 v 0 ∷ lane w32 v 1 ∷ [] }
-{
-    let items = u32::lanes_of(v);
-    items.shuffle(items, [0, 1, 0, 1])
+    // By lanes of 32 bits: of one word in two places LLVM makes two stores.
+    let items = u32::lanes_of(V128::from_word_pair(item.cast_unsigned(), 0));
+    from_bytes(items.shuffle(items, [0, 1, 0, 1]).to_le_bytes())
 }
 
 /// One lane, read signed.

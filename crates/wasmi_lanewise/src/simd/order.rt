@@ -18,28 +18,12 @@ pub(super) fn less_u<T: SimdLane>(lhs: V128, rhs: V128) -> V128
     ones_if_less::<T>(T::lanes_of(lhs), T::lanes_of(rhs))
 }
 
-/// All ones where the lane of `lhs` is greater than that of `rhs`, read unsigned, else all zeros.
-#[inline(always)]
-pub(super) fn greater_u<T: SimdLane>(lhs: V128, rhs: V128) -> V128
-    ensures { result ≡ vector.gt_u T.width lhs rhs }
-{
-    less_u::<T>(rhs, lhs)
-}
-
 /// All ones where the lane of `lhs` is at most that of `rhs`, read unsigned, else all zeros.
 #[inline(always)]
 pub(super) fn at_most_u<T: SimdLane>(lhs: V128, rhs: V128) -> V128
     ensures { result ≡ vector.le_u T.width lhs rhs }
 {
     zeros_if_less::<T>(T::lanes_of(rhs), T::lanes_of(lhs))
-}
-
-/// All ones where the lane of `lhs` is at least that of `rhs`, read unsigned, else all zeros.
-#[inline(always)]
-pub(super) fn at_least_u<T: SimdLane>(lhs: V128, rhs: V128) -> V128
-    ensures { result ≡ vector.ge_u T.width lhs rhs }
-{
-    at_most_u::<T>(rhs, lhs)
 }
 
 /// All ones where the lane of `lhs` is less than that of `rhs`, read signed, else all zeros.
@@ -50,28 +34,12 @@ pub(super) fn less_s<T: SimdLane>(lhs: V128, rhs: V128) -> V128
     ones_if_less::<T>(T::biased(T::lanes_of(lhs)), T::biased(T::lanes_of(rhs)))
 }
 
-/// All ones where the lane of `lhs` is greater than that of `rhs`, read signed, else all zeros.
-#[inline(always)]
-pub(super) fn greater_s<T: SimdLane>(lhs: V128, rhs: V128) -> V128
-    ensures { result ≡ vector.gt_s T.width lhs rhs }
-{
-    less_s::<T>(rhs, lhs)
-}
-
 /// All ones where the lane of `lhs` is at most that of `rhs`, read signed, else all zeros.
 #[inline(always)]
 pub(super) fn at_most_s<T: SimdLane>(lhs: V128, rhs: V128) -> V128
     ensures { result ≡ vector.le_s T.width lhs rhs }
 {
     zeros_if_less::<T>(T::biased(T::lanes_of(rhs)), T::biased(T::lanes_of(lhs)))
-}
-
-/// All ones where the lane of `lhs` is at least that of `rhs`, read signed, else all zeros.
-#[inline(always)]
-pub(super) fn at_least_s<T: SimdLane>(lhs: V128, rhs: V128) -> V128
-    ensures { result ≡ vector.ge_s T.width lhs rhs }
-{
-    at_most_s::<T>(rhs, lhs)
 }
 
 /// The smaller ones of the lanes, read unsigned.

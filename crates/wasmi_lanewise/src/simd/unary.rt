@@ -5,6 +5,7 @@ ghost use Rattle.wasmi_types.specs.Numbers.{w8, w16, w32, w64};
 ghost use Rattle.wasmi_lanewise.specs.VectorTable as vector;
 
 use crate::simd::words;
+use std::simd::prelude::*;
 use wasmi_lanes::{I8x16, I16x8, I32x4, I64x2, from_u64x2, on_vectors, u64x2_of};
 use wasmi_raw::V128;
 
@@ -65,10 +66,19 @@ pub fn i64x2_abs(v: V128) -> V128
 }
 
 /// How many bits of each lane are one.
+///
+/// Counted in lanes of 2, 4 and 8 bits in turn, each the sum of its halves. Both words are one
+/// value of the processor's, for the reason at `words::filled`.
 pub fn i8x16_popcnt(v: V128) -> V128
     ensures { result ≡ vector.popcnt w8 v }
 {
-    words::counts_of_ones(v)
+    let words = u64x2_of(v);
+    let ones = u64x2::splat(0x5555_5555_5555_5555);
+    let pairs = words - ((words >> u64x2::splat(1)) & ones);
+    let twos = u64x2::splat(0x3333_3333_3333_3333);
+    let nibbles = (pairs & twos) + ((pairs >> u64x2::splat(2)) & twos);
+    let fours = u64x2::splat(0x0f0f_0f0f_0f0f_0f0f);
+    from_u64x2((nibbles + (nibbles >> u64x2::splat(4))) & fours)
 }
 
 /// Bitwise and.

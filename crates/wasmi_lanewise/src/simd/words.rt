@@ -1,11 +1,11 @@
-//! Sums, differences, equality, averages and counted bits on the two words of a vector, whose lanes
-//! stay where they are.
+//! Sums, differences, equality and averages on the two words of a vector, whose lanes stay where they
+//! are.
 //!
 //! What is generic in a lane type takes the highest bits of a word's lanes from it.
 
-ghost use Rattle.std.specs.Prelude.{◌≡◌, ℕ, ◌-◌, ◌%◌, ◌^◌, ◌<◌, ◌==◌, if◌then◌else◌};
+ghost use Rattle.std.specs.Prelude.{◌≡◌, ℕ, ◌-◌, ◌%◌, ◌^◌, ◌<◌};
 ghost use Rattle.wasmi_raw.specs.RawVal.{vector_of};
-ghost use Rattle.wasmi_types.specs.Numbers.{bits, w8, w64};
+ghost use Rattle.wasmi_types.specs.Numbers.{bits};
 ghost use Rattle.wasmi_lanes.specs.Words.{field, IsLane, AreMarks, AreFilled, in_each_lane};
 ghost use Rattle.wasmi_lanewise.specs.VectorTable as vector;
 
@@ -102,39 +102,6 @@ pub(super) fn different<T: WordLane>(lhs: V128, rhs: V128) -> V128
     )
 }
 
-/// All ones in the lanes of 64 bits that are equal, else all zeros.
-#[inline(always)]
-pub(super) fn equal_words(lhs: V128, rhs: V128) -> V128
-    ensures { result ≡ vector.eq w64 lhs rhs }
-{
-    let (a_low, a_high) = lhs.words();
-    let (b_low, b_high) = rhs.words();
-    V128::from_word_pair(ones_if_equal(a_low, b_low), ones_if_equal(a_high, b_high))
-}
-
-/// All ones in the lanes of 64 bits that are different, else all zeros.
-#[inline(always)]
-pub(super) fn different_words(lhs: V128, rhs: V128) -> V128
-    ensures { result ≡ vector.ne w64 lhs rhs }
-{
-    let (a_low, a_high) = lhs.words();
-    let (b_low, b_high) = rhs.words();
-    V128::from_word_pair(!ones_if_equal(a_low, b_low), !ones_if_equal(a_high, b_high))
-}
-
-// All ones if two words are equal, else 0. They are compared as lanes of one bit, of which
-// `word_differ` masks nothing.
-#[inline(always)]
-fn ones_if_equal(a: u64, b: u64) -> u64
-    ensures { result ≡ (if a == b then 2 ^ 64 - 1 else 0) }
-{
-    if word_differ(a, b, u64::MAX) == 0 {
-        u64::MAX
-    } else {
-        0
-    }
-}
-
 // The vector of two words of which each lane is 0 or its highest bit alone, those with the bit
 // filled with ones: twice the bit, which is the bit above the lane, less the lane's lowest. Of
 // plain words LLVM would take two vectors a turn of a loop, and regroup their words before and
@@ -173,22 +140,4 @@ fn word_averages(a: u64, b: u64, tops: u64) -> u64
         → field start width result ≡ vector.average (field start width a) (field start width b) }
 {
     (a | b) - (((a ^ b) >> 1) & !tops)
-}
-
-/// How many bits of each lane of 8 bits are one.
-///
-/// Counted in lanes of 2, 4 and 8 bits in turn, each the sum of its halves. Both words are one
-/// value of the processor's, for the reason at `filled`.
-#[inline(always)]
-pub(super) fn counts_of_ones(v: V128) -> V128
-    ensures { result ≡ vector.popcnt w8 v }
-{
-    let (low, high) = v.words();
-    let words = u64x2::from_array([low, high]);
-    let ones = u64x2::splat(0x5555_5555_5555_5555);
-    let pairs = words - ((words >> u64x2::splat(1)) & ones);
-    let twos = u64x2::splat(0x3333_3333_3333_3333);
-    let nibbles = (pairs & twos) + ((pairs >> u64x2::splat(2)) & twos);
-    let fours = u64x2::splat(0x0f0f_0f0f_0f0f_0f0f);
-    from_u64x2((nibbles + (nibbles >> u64x2::splat(4))) & fours)
 }

@@ -1,5 +1,5 @@
 use Rattle.wasmi_lanewise.proofs.WordLemmas.{equal_where_zero, different_where_some}
-use Rattle.wasmi_lanewise.proofs.simd.words.ones_if_equal.Goals as goal
+use Rattle.wasmi_lanewise.proofs.simd.comparison.ones_if_equal.Goals as goal
 
 pub returns-then-word_differ-eq0 : goal.returns-then-word_differ-eq0
 returns-then-word_differ-eq0 c =

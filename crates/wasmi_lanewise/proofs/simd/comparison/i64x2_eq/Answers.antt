@@ -1,7 +1,7 @@
 use Rattle.std.proofs.Common.{ℕ, ◌-◌, ◌^◌, ◌∙◌, ap₂, nat_eq, if◌then◌else◌, arith}
 use Rattle.wasmi_lanes.specs.Vector.{binary_of_lanes, comparison_of_lanes}
 use Rattle.wasmi_lanewise.proofs.WordLemmas.{lanes_are_words}
-use Rattle.wasmi_lanewise.proofs.simd.words.equal_words.Goals as goal
+use Rattle.wasmi_lanewise.proofs.simd.comparison.i64x2_eq.Goals as goal
 
 pub returns : goal.returns
 unfolding binary_of_lanes comparison_of_lanes

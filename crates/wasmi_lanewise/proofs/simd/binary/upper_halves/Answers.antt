@@ -1,6 +1,6 @@
 use Rattle.std.proofs.Common.{◌≡◌, ◌*◌, ◌/◌, ◌%◌, ◌^◌, ◌∙◌, ap₂, length, rules}
 use Rattle.wasmi_lanewise.proofs.SaturationLemmas.{uppers_fit, upper_halves_at}
-use Rattle.wasmi_lanewise.proofs.simd.saturation.upper_halves.Goals as goal
+use Rattle.wasmi_lanewise.proofs.simd.binary.upper_halves.Goals as goal
 
 pub overflow_cast-result : goal.overflow_cast-result
 overflow_cast-result c =
