@@ -1767,9 +1767,7 @@ pub mod simd {
         /// Definitions: [`v128_and`](crate::specs::lanewise::VectorTable#v128_and).
         #[inline]
         pub fn v128_and(lhs: V128, rhs: V128) -> V128 {
-            let (a_low, a_high) = lhs.words();
-            let (b_low, b_high) = rhs.words();
-            V128::from_word_pair(a_low & b_low, a_high & b_high)
+            from_u64x2(u64x2_of(lhs) & u64x2_of(rhs))
         }
 
         /// Bitwise or.
@@ -1783,9 +1781,7 @@ pub mod simd {
         /// Definitions: [`v128_or`](crate::specs::lanewise::VectorTable#v128_or).
         #[inline]
         pub fn v128_or(lhs: V128, rhs: V128) -> V128 {
-            let (a_low, a_high) = lhs.words();
-            let (b_low, b_high) = rhs.words();
-            V128::from_word_pair(a_low | b_low, a_high | b_high)
+            from_u64x2(u64x2_of(lhs) | u64x2_of(rhs))
         }
 
         /// Bitwise exclusive or.
@@ -1799,9 +1795,7 @@ pub mod simd {
         /// Definitions: [`v128_xor`](crate::specs::lanewise::VectorTable#v128_xor).
         #[inline]
         pub fn v128_xor(lhs: V128, rhs: V128) -> V128 {
-            let (a_low, a_high) = lhs.words();
-            let (b_low, b_high) = rhs.words();
-            V128::from_word_pair(a_low ^ b_low, a_high ^ b_high)
+            from_u64x2(u64x2_of(lhs) ^ u64x2_of(rhs))
         }
 
         /// The bits of `v` inverted.
@@ -1815,8 +1809,7 @@ pub mod simd {
         /// Definitions: [`v128_not`](crate::specs::lanewise::VectorTable#v128_not).
         #[inline]
         pub fn v128_not(v: V128) -> V128 {
-            let (low, high) = v.words();
-            V128::from_word_pair(!low, !high)
+            from_u64x2(!u64x2_of(v))
         }
 
         /// The bits of `lhs` where `rhs` has zeros.
@@ -1855,7 +1848,8 @@ pub mod simd {
         //! What is generic in a lane type takes the highest bits of a word's lanes from it.
 
         use crate::proved::lanes::words::{word_add, word_differ, word_sub};
-        use crate::proved::lanes::{WordLane, from_u64x2, u64x2_of};
+        use crate::proved::lanes::{WordLane, from_u64x2};
+        use crate::proved::lanewise::simd::v128_not;
         use crate::proved::raw::V128;
         use crate::rattle::simd::prelude::*;
 
@@ -1905,25 +1899,12 @@ pub mod simd {
         #[inline(always)]
         pub(super) fn differences<T: WordLane>(lhs: V128, rhs: V128) -> V128 {
             let tops = inner_tops::<T>();
-            let (a_low, a_high) = inverted(lhs).words();
+            let (a_low, a_high) = v128_not(lhs).words();
             let (b_low, b_high) = rhs.words();
-            inverted(V128::from_word_pair(
+            v128_not(V128::from_word_pair(
                 !word_sub(!a_low, b_low, tops),
                 !word_sub(!a_high, b_high, tops),
             ))
-        }
-
-        // The bits of a vector inverted, both words as one value of the processor's.
-        /// # Contract
-        ///
-        /// ```text
-        /// ensures: result ≡ vector.v128_not v
-        /// ```
-        ///
-        /// Definitions: [`v128_not`](crate::specs::lanewise::VectorTable#v128_not).
-        #[inline(always)]
-        fn inverted(v: V128) -> V128 {
-            from_u64x2(!u64x2_of(v))
         }
 
         /// The lanes negated, modulo 2 to the power of their width.

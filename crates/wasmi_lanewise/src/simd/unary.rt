@@ -82,41 +82,31 @@ pub fn i8x16_popcnt(v: V128) -> V128
 }
 
 /// Bitwise and.
-#[tactic(auto, using(crate::proofs::WordLemmas::and_by_words))]
 pub fn v128_and(lhs: V128, rhs: V128) -> V128
     ensures { result ≡ vector.v128_and lhs rhs }
 {
-    let (a_low, a_high) = lhs.words();
-    let (b_low, b_high) = rhs.words();
-    V128::from_word_pair(a_low & b_low, a_high & b_high)
+    from_u64x2(u64x2_of(lhs) & u64x2_of(rhs))
 }
 
 /// Bitwise or.
-#[tactic(auto, using(crate::proofs::WordLemmas::or_by_words))]
 pub fn v128_or(lhs: V128, rhs: V128) -> V128
     ensures { result ≡ vector.v128_or lhs rhs }
 {
-    let (a_low, a_high) = lhs.words();
-    let (b_low, b_high) = rhs.words();
-    V128::from_word_pair(a_low | b_low, a_high | b_high)
+    from_u64x2(u64x2_of(lhs) | u64x2_of(rhs))
 }
 
 /// Bitwise exclusive or.
-#[tactic(auto, using(crate::proofs::WordLemmas::xor_by_words))]
 pub fn v128_xor(lhs: V128, rhs: V128) -> V128
     ensures { result ≡ vector.v128_xor lhs rhs }
 {
-    let (a_low, a_high) = lhs.words();
-    let (b_low, b_high) = rhs.words();
-    V128::from_word_pair(a_low ^ b_low, a_high ^ b_high)
+    from_u64x2(u64x2_of(lhs) ^ u64x2_of(rhs))
 }
 
 /// The bits of `v` inverted.
 pub fn v128_not(v: V128) -> V128
     ensures { result ≡ vector.v128_not v }
 {
-    let (low, high) = v.words();
-    V128::from_word_pair(!low, !high)
+    from_u64x2(!u64x2_of(v))
 }
 
 /// The bits of `lhs` where `rhs` has zeros.

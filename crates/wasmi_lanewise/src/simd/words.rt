@@ -9,9 +9,10 @@ ghost use Rattle.wasmi_types.specs.Numbers.{bits};
 ghost use Rattle.wasmi_lanes.specs.Words.{field, IsLane, AreMarks, AreFilled, in_each_lane};
 ghost use Rattle.wasmi_lanewise.specs.VectorTable as vector;
 
+use crate::simd::v128_not;
 use std::simd::prelude::*;
 use wasmi_lanes::words::{word_add, word_differ, word_sub};
-use wasmi_lanes::{WordLane, from_u64x2, u64x2_of};
+use wasmi_lanes::{WordLane, from_u64x2};
 use wasmi_raw::V128;
 
 // The highest bit of each lane of a word but the last: a sum or a difference needs no top at the
@@ -43,20 +44,12 @@ pub(super) fn differences<T: WordLane>(lhs: V128, rhs: V128) -> V128
     ensures { result ≡ vector.sub T.width lhs rhs }
 {
     let tops = inner_tops::<T>();
-    let (a_low, a_high) = inverted(lhs).words();
+    let (a_low, a_high) = v128_not(lhs).words();
     let (b_low, b_high) = rhs.words();
-    inverted(V128::from_word_pair(
+    v128_not(V128::from_word_pair(
         !word_sub(!a_low, b_low, tops),
         !word_sub(!a_high, b_high, tops),
     ))
-}
-
-// The bits of a vector inverted, both words as one value of the processor's.
-#[inline(always)]
-fn inverted(v: V128) -> V128
-    ensures { result ≡ vector.v128_not v }
-{
-    from_u64x2(!u64x2_of(v))
 }
 
 /// The lanes negated, modulo 2 to the power of their width.

@@ -10,10 +10,10 @@ returns g c =
     let law = g.met.T.WordLane.laws in
     binary_by_words g.T.LaneInteger.width (InnerLane c.inner_tops-tops.result) law.whole
     (inner_lanes _ _ law.whole c.inner_tops-tops.ensures) (λ w x y. (x + (2 ^ w - y)) % 2 ^ w)
-    (inverted_word_pair (omega arith) c.inverted.ensures
+    (inverted_word_pair (omega arith) c.v128_not.ensures
     (u64x2_of c.words-a_low.ensures.low c.words-a_low.ensures.high))
     (u64x2_of c.words-b_low.ensures.low c.words-b_low.ensures.high)
     c.word_sub.type_inv c.word_sub-2.type_inv
     (λ start width. of_either (c.word_sub.ensures.lanes start width) (c.word_sub.ensures.last start width))
     (λ start width. of_either (c.word_sub-2.ensures.lanes start width) (c.word_sub-2.ensures.last start width))
-    (inverted_words c.word_sub.type_inv c.word_sub-2.type_inv c.from_word_pair.ensures c.inverted-2.ensures)
+    (inverted_words c.word_sub.type_inv c.word_sub-2.type_inv c.from_word_pair.ensures c.v128_not-2.ensures)

@@ -1,6 +1,6 @@
 use Rattle.std.proofs.Common.{◌-◌, ◌/◌, ◌%◌, ◌^◌, refl, arith}
 use Rattle.wasmi_lanewise.proofs.WordLemmas.{inverted_is}
-use Rattle.wasmi_lanewise.proofs.simd.words.inverted.Goals as goal
+use Rattle.wasmi_lanewise.proofs.simd.unary.v128_not.Goals as goal
 
 pub returns : goal.returns
 returns c =
