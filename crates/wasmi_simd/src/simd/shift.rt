@@ -143,16 +143,16 @@ fn half_shifted(amount: u64) -> V128
     V128::from(HALVES_OF_8[amount as usize])
 }
 
-const HALVES_OF_8: [u128; 8] = [
-    0x8080_8080_8080_8080_8080_8080_8080_8080,
-    0x4040_4040_4040_4040_4040_4040_4040_4040,
-    0x2020_2020_2020_2020_2020_2020_2020_2020,
-    0x1010_1010_1010_1010_1010_1010_1010_1010,
-    0x0808_0808_0808_0808_0808_0808_0808_0808,
-    0x0404_0404_0404_0404_0404_0404_0404_0404,
-    0x0202_0202_0202_0202_0202_0202_0202_0202,
-    0x0101_0101_0101_0101_0101_0101_0101_0101,
-];
+/// In each lane, what is left of a number once so many bits are dropped. The first factor has the
+/// lowest bit of each lane.
+macro_rules! each_shifted {
+    ($ones:literal * $all:literal >> [$($dropped:literal)*]) => {
+        [$($ones * ($all >> $dropped)),*]
+    };
+}
+
+const HALVES_OF_8: [u128; 8] =
+    each_shifted!(0x0101_0101_0101_0101_0101_0101_0101_0101 * 0x80 >> [0 1 2 3 4 5 6 7]);
 
 /// A lane of which a word has more than one, so that a shifted word needs a mask.
 trait NarrowLane: WordLane {
@@ -186,67 +186,14 @@ impl NarrowLane for u32 {
     }
 }
 
-const LOW_BITS_OF_8: [u128; 8] = [
-    0xffff_ffff_ffff_ffff_ffff_ffff_ffff_ffff,
-    0x7f7f_7f7f_7f7f_7f7f_7f7f_7f7f_7f7f_7f7f,
-    0x3f3f_3f3f_3f3f_3f3f_3f3f_3f3f_3f3f_3f3f,
-    0x1f1f_1f1f_1f1f_1f1f_1f1f_1f1f_1f1f_1f1f,
-    0x0f0f_0f0f_0f0f_0f0f_0f0f_0f0f_0f0f_0f0f,
-    0x0707_0707_0707_0707_0707_0707_0707_0707,
-    0x0303_0303_0303_0303_0303_0303_0303_0303,
-    0x0101_0101_0101_0101_0101_0101_0101_0101,
-];
+const LOW_BITS_OF_8: [u128; 8] =
+    each_shifted!(0x0101_0101_0101_0101_0101_0101_0101_0101 * 0xff >> [0 1 2 3 4 5 6 7]);
 
-const LOW_BITS_OF_16: [u128; 16] = [
-    0xffff_ffff_ffff_ffff_ffff_ffff_ffff_ffff,
-    0x7fff_7fff_7fff_7fff_7fff_7fff_7fff_7fff,
-    0x3fff_3fff_3fff_3fff_3fff_3fff_3fff_3fff,
-    0x1fff_1fff_1fff_1fff_1fff_1fff_1fff_1fff,
-    0x0fff_0fff_0fff_0fff_0fff_0fff_0fff_0fff,
-    0x07ff_07ff_07ff_07ff_07ff_07ff_07ff_07ff,
-    0x03ff_03ff_03ff_03ff_03ff_03ff_03ff_03ff,
-    0x01ff_01ff_01ff_01ff_01ff_01ff_01ff_01ff,
-    0x00ff_00ff_00ff_00ff_00ff_00ff_00ff_00ff,
-    0x007f_007f_007f_007f_007f_007f_007f_007f,
-    0x003f_003f_003f_003f_003f_003f_003f_003f,
-    0x001f_001f_001f_001f_001f_001f_001f_001f,
-    0x000f_000f_000f_000f_000f_000f_000f_000f,
-    0x0007_0007_0007_0007_0007_0007_0007_0007,
-    0x0003_0003_0003_0003_0003_0003_0003_0003,
-    0x0001_0001_0001_0001_0001_0001_0001_0001,
-];
+const LOW_BITS_OF_16: [u128; 16] = each_shifted!(
+    0x0001_0001_0001_0001_0001_0001_0001_0001 * 0xffff >> [0 1 2 3 4 5 6 7 8 9 10 11 12 13 14 15]
+);
 
-const LOW_BITS_OF_32: [u128; 32] = [
-    0xffff_ffff_ffff_ffff_ffff_ffff_ffff_ffff,
-    0x7fff_ffff_7fff_ffff_7fff_ffff_7fff_ffff,
-    0x3fff_ffff_3fff_ffff_3fff_ffff_3fff_ffff,
-    0x1fff_ffff_1fff_ffff_1fff_ffff_1fff_ffff,
-    0x0fff_ffff_0fff_ffff_0fff_ffff_0fff_ffff,
-    0x07ff_ffff_07ff_ffff_07ff_ffff_07ff_ffff,
-    0x03ff_ffff_03ff_ffff_03ff_ffff_03ff_ffff,
-    0x01ff_ffff_01ff_ffff_01ff_ffff_01ff_ffff,
-    0x00ff_ffff_00ff_ffff_00ff_ffff_00ff_ffff,
-    0x007f_ffff_007f_ffff_007f_ffff_007f_ffff,
-    0x003f_ffff_003f_ffff_003f_ffff_003f_ffff,
-    0x001f_ffff_001f_ffff_001f_ffff_001f_ffff,
-    0x000f_ffff_000f_ffff_000f_ffff_000f_ffff,
-    0x0007_ffff_0007_ffff_0007_ffff_0007_ffff,
-    0x0003_ffff_0003_ffff_0003_ffff_0003_ffff,
-    0x0001_ffff_0001_ffff_0001_ffff_0001_ffff,
-    0x0000_ffff_0000_ffff_0000_ffff_0000_ffff,
-    0x0000_7fff_0000_7fff_0000_7fff_0000_7fff,
-    0x0000_3fff_0000_3fff_0000_3fff_0000_3fff,
-    0x0000_1fff_0000_1fff_0000_1fff_0000_1fff,
-    0x0000_0fff_0000_0fff_0000_0fff_0000_0fff,
-    0x0000_07ff_0000_07ff_0000_07ff_0000_07ff,
-    0x0000_03ff_0000_03ff_0000_03ff_0000_03ff,
-    0x0000_01ff_0000_01ff_0000_01ff_0000_01ff,
-    0x0000_00ff_0000_00ff_0000_00ff_0000_00ff,
-    0x0000_007f_0000_007f_0000_007f_0000_007f,
-    0x0000_003f_0000_003f_0000_003f_0000_003f,
-    0x0000_001f_0000_001f_0000_001f_0000_001f,
-    0x0000_000f_0000_000f_0000_000f_0000_000f,
-    0x0000_0007_0000_0007_0000_0007_0000_0007,
-    0x0000_0003_0000_0003_0000_0003_0000_0003,
-    0x0000_0001_0000_0001_0000_0001_0000_0001,
-];
+const LOW_BITS_OF_32: [u128; 32] = each_shifted!(
+    0x0000_0001_0000_0001_0000_0001_0000_0001 * 0xffff_ffff >>
+    [0 1 2 3 4 5 6 7 8 9 10 11 12 13 14 15 16 17 18 19 20 21 22 23 24 25 26 27 28 29 30 31]
+);
