@@ -795,7 +795,9 @@ pub mod simd {
         /// Definitions: [`low_zero`](crate::specs::widening::WideningTable#low_zero).
         #[inline]
         pub fn v128_low64_zero(number: u64) -> V128 {
-            u32::vector_of(lower_half_alone(V128::from_word_pair(number, 0)))
+            // By lanes of 32 bits: of two words LLVM makes two stores.
+            let items = u32::lanes_of(V128::from_word_pair(number, 0));
+            u32::vector_of(items.shuffle(u32x4::splat(0), [0, 1, 4, 5]))
         }
 
         /// # Contract
@@ -844,20 +846,6 @@ pub mod simd {
         #[inline(always)]
         fn extended_high_u<T: ExtendedLane>(v: V128) -> V128 {
             T::Wide::vector_of(T::high(v))
-        }
-
-        // The lanes of 32 bits of the lower half, and zeros behind them: of two words LLVM makes two
-        // stores.
-        /// # Contract
-        ///
-        /// ```text
-        /// ensures: result ≡ lane w32 v 0 ∷ lane w32 v 1 ∷ 0 ∷ 0 ∷ []
-        /// ```
-        ///
-        /// Definitions: [`lane`](crate::specs::lanes::Vector#lane).
-        #[inline(always)]
-        fn lower_half_alone(v: V128) -> u32x4 {
-            u32::lanes_of(v).shuffle(u32x4::splat(0), [0, 1, 4, 5])
         }
     }
     mod narrow {
@@ -1105,7 +1093,7 @@ pub mod simd {
         #[inline]
         pub fn i64x2_bitmask(v: V128) -> u32 {
             let (low, high) = v.words();
-            tops_of_64(low) | (tops_of_64(high) << 1)
+            (low >> 63) as u32 | (((high >> 63) as u32) << 1)
         }
 
         /// # Contract
@@ -1149,18 +1137,6 @@ pub mod simd {
         #[inline(always)]
         fn tops_of_8(word: u64) -> u32 {
             ((word & u8::TOPS).wrapping_mul(0x0002_0408_1020_4081) >> 56) as u32
-        }
-
-        /// # Contract
-        ///
-        /// ```text
-        /// ensures: result ≡ first_bits 1 (λ i. nat_le (2 ^ 63) (field (64 * i) 64 word))
-        /// ```
-        ///
-        /// Definitions: [`first_bits`](crate::specs::widening::WideningTable#first_bits), [`field`](crate::specs::lanes::Words#field).
-        #[inline(always)]
-        fn tops_of_64(word: u64) -> u32 {
-            (word >> 63) as u32
         }
     }
     mod relaxed {
@@ -1316,10 +1292,8 @@ pub mod simd {
             // What the lanes were moved by is a multiple of what they are divided by.
             let biased = u8::vector_of(u8::biased(u8::lanes_of(v)));
             let shifted = i8x16_shr_u(biased, amount);
-            from_bytes(difference_of_u8x16(
-                bytes_of(shifted),
-                bytes_of(half_shifted(u64::from(amount % 8))),
-            ))
+            let half = V128::from(HALVES_OF_8[(amount % 8) as usize]);
+            from_bytes(bytes_of(shifted) - bytes_of(half))
         }
 
         /// The lanes shifted to the right, with zeros. `amount` is taken modulo 8.
@@ -1490,34 +1464,6 @@ pub mod simd {
             from_u64x2((u64x2_of(v) >> u64x2::splat(amount)) & kept)
         }
 
-        /// The differences of lanes of 8 bits, modulo 2 to the power 8.
-        ///
-        /// # Contract
-        ///
-        /// ```text
-        /// ensures lanes: (i : ℕ) → i < 16
-        ///     → slice_index result i ≡ (slice_index a i + (2 ^ 8 - slice_index b i)) % 2 ^ 8
-        /// ```
-        #[inline(always)]
-        fn difference_of_u8x16(a: u8x16, b: u8x16) -> u8x16 {
-            a - b
-        }
-
-        /// Half of the range of 8 bits in each lane, shifted to the right.
-        ///
-        /// # Contract
-        ///
-        /// ```text
-        /// requires amount: amount < 8
-        /// ensures lanes: (i : ℕ) → i < 16 → lane w8 result i ≡ 2 ^ (7 - amount)
-        /// ```
-        ///
-        /// Definitions: [`lane`](crate::specs::lanes::Vector#lane).
-        #[inline(always)]
-        fn half_shifted(amount: u64) -> V128 {
-            V128::from(HALVES_OF_8[amount as usize])
-        }
-
         /// In each lane, what is left of a number once so many bits are dropped. The first factor has the
         /// lowest bit of each lane.
         macro_rules! each_shifted {
@@ -1526,6 +1472,7 @@ pub mod simd {
     };
 }
 
+        /// Half of the range of 8 bits in each lane, shifted to the right.
         const HALVES_OF_8: [u128; 8] =
             each_shifted!(0x0101_0101_0101_0101_0101_0101_0101_0101 * 0x80 >> [0 1 2 3 4 5 6 7]);
 

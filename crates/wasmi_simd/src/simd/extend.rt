@@ -1,8 +1,7 @@
 //! Lanes extended to twice their width.
 
-ghost use Rattle.std.specs.Prelude.{◌≡◌, ◌∷◌, []};
+ghost use Rattle.std.specs.Prelude.{◌≡◌};
 ghost use Rattle.wasmi_types.specs.Numbers.{w8, w16, w32, w64};
-ghost use Rattle.wasmi_lanes.specs.Vector.{lane};
 ghost use Rattle.wasmi_simd.specs.WideningTable as vector;
 
 use super::wide::ExtendedLane;
@@ -163,7 +162,9 @@ pub fn v128_low32_zero(number: u32) -> V128
 pub fn v128_low64_zero(number: u64) -> V128
     ensures { result ≡ vector.low_zero w64 number }
 {
-    u32::vector_of(lower_half_alone(V128::from_word_pair(number, 0)))
+    // By lanes of 32 bits: of two words LLVM makes two stores.
+    let items = u32::lanes_of(V128::from_word_pair(number, 0));
+    u32::vector_of(items.shuffle(u32x4::splat(0), [0, 1, 4, 5]))
 }
 
 #[inline(always)]
@@ -192,13 +193,4 @@ fn extended_high_u<T: ExtendedLane>(v: V128) -> V128
     ensures { result ≡ vector.extend_high_u T.width T.Wide.width v }
 {
     T::Wide::vector_of(T::high(v))
-}
-
-// The lanes of 32 bits of the lower half, and zeros behind them: of two words LLVM makes two
-// stores.
-#[inline(always)]
-fn lower_half_alone(v: V128) -> u32x4
-    ensures { result ≡ lane w32 v 0 ∷ lane w32 v 1 ∷ 0 ∷ 0 ∷ [] }
-{
-    u32::lanes_of(v).shuffle(u32x4::splat(0), [0, 1, 4, 5])
 }

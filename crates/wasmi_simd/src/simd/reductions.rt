@@ -77,7 +77,7 @@ pub fn i64x2_bitmask(v: V128) -> u32
     ensures { result ≡ vector.bitmask w64 v }
 {
     let (low, high) = v.words();
-    tops_of_64(low) | (tops_of_64(high) << 1)
+    (low >> 63) as u32 | (((high >> 63) as u32) << 1)
 }
 
 #[inline(always)]
@@ -106,12 +106,4 @@ fn tops_of_8(word: u64) -> u32
     ensures { result ≡ first_bits 8 (λ i. nat_le (2 ^ 7) (field (8 * i) 8 word)) }
 {
     ((word & u8::TOPS).wrapping_mul(0x0002_0408_1020_4081) >> 56) as u32
-}
-
-#[tactic(auto, using(crate::proofs::GatherLemmas::one_top))]
-#[inline(always)]
-fn tops_of_64(word: u64) -> u32
-    ensures { result ≡ first_bits 1 (λ i. nat_le (2 ^ 63) (field (64 * i) 64 word)) }
-{
-    (word >> 63) as u32
 }

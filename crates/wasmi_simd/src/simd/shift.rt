@@ -4,9 +4,8 @@
 //! lane; with the sign it is done lane by lane, or for lanes of 8 bits by a shift without sign of
 //! lanes moved by half of their range.
 
-ghost use Rattle.std.specs.Prelude.{◌≡◌, ℕ, ◌+◌, ◌-◌, ◌%◌, ◌^◌, ◌<◌, slice_index, replicate};
+ghost use Rattle.std.specs.Prelude.{◌≡◌, ◌-◌, ◌^◌, ◌<◌, replicate};
 ghost use Rattle.wasmi_types.specs.Numbers.{w8, w16, w32, w64, bits};
-ghost use Rattle.wasmi_lanes.specs.Vector.{lane};
 ghost use Rattle.wasmi_lanes.specs.Words.{in_each_lane};
 ghost use Rattle.wasmi_simd.specs.WideningTable as vector;
 
@@ -30,10 +29,8 @@ pub fn i8x16_shr_s(v: V128, amount: u32) -> V128
     // What the lanes were moved by is a multiple of what they are divided by.
     let biased = u8::vector_of(u8::biased(u8::lanes_of(v)));
     let shifted = i8x16_shr_u(biased, amount);
-    from_bytes(difference_of_u8x16(
-        bytes_of(shifted),
-        bytes_of(half_shifted(u64::from(amount % 8))),
-    ))
+    let half = V128::from(HALVES_OF_8[(amount % 8) as usize]);
+    from_bytes(bytes_of(shifted) - bytes_of(half))
 }
 
 /// The lanes shifted to the right, with zeros. `amount` is taken modulo 8.
@@ -124,25 +121,6 @@ fn shifted_right<T: NarrowLane>(v: V128, amount: u32) -> V128
     from_u64x2((u64x2_of(v) >> u64x2::splat(amount)) & kept)
 }
 
-/// The differences of lanes of 8 bits, modulo 2 to the power 8.
-#[inline(always)]
-fn difference_of_u8x16(a: u8x16, b: u8x16) -> u8x16
-    ensures lanes { (i : ℕ) → i < 16
-        → slice_index result i ≡ (slice_index a i + (2 ^ 8 - slice_index b i)) % 2 ^ 8 }
-{
-    a - b
-}
-
-/// Half of the range of 8 bits in each lane, shifted to the right.
-#[tactic(auto, using(crate::proofs::ShiftLemmas::half_at))]
-#[inline(always)]
-fn half_shifted(amount: u64) -> V128
-    requires amount { amount < 8 }
-    ensures lanes { (i : ℕ) → i < 16 → lane w8 result i ≡ 2 ^ (7 - amount) }
-{
-    V128::from(HALVES_OF_8[amount as usize])
-}
-
 /// In each lane, what is left of a number once so many bits are dropped. The first factor has the
 /// lowest bit of each lane.
 macro_rules! each_shifted {
@@ -151,6 +129,7 @@ macro_rules! each_shifted {
     };
 }
 
+/// Half of the range of 8 bits in each lane, shifted to the right.
 const HALVES_OF_8: [u128; 8] =
     each_shifted!(0x0101_0101_0101_0101_0101_0101_0101_0101 * 0x80 >> [0 1 2 3 4 5 6 7]);
 
