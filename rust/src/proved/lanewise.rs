@@ -6,1449 +6,6 @@ pub mod simd {
     //! lane 0 is the lowest. `i8x16_mul` is no instruction of WebAssembly. Core specification: vector
     //! instructions; what each gives stands in `specs/VectorTable.antt`. Upstream: `wasmi_core::simd`.
 
-    mod binary {
-        //! Binary instructions.
-
-        use crate::proved::lanes::{
-            I8x16, I16x8, SimdLane, U8x16, U16x8, U32x4, clamped_i8, clamped_i16, on_vectors,
-        };
-        use crate::proved::lanewise::simd::{order, words};
-        use crate::proved::raw::V128;
-        use crate::rattle::simd::prelude::*;
-
-        /// The sums of the lanes, modulo 2 to the power 8.
-        ///
-        /// # Contract
-        ///
-        /// ```text
-        /// ensures: result ≡ vector.add w8 lhs rhs
-        /// ```
-        ///
-        /// Definitions: [`add`](crate::specs::lanewise::VectorTable#add).
-        #[inline]
-        pub fn i8x16_add(lhs: V128, rhs: V128) -> V128 {
-            words::sums::<u8>(lhs, rhs)
-        }
-
-        /// The sums of the lanes, modulo 2 to the power 16.
-        ///
-        /// # Contract
-        ///
-        /// ```text
-        /// ensures: result ≡ vector.add w16 lhs rhs
-        /// ```
-        ///
-        /// Definitions: [`add`](crate::specs::lanewise::VectorTable#add).
-        #[inline]
-        pub fn i16x8_add(lhs: V128, rhs: V128) -> V128 {
-            words::sums::<u16>(lhs, rhs)
-        }
-
-        /// The sums of the lanes, modulo 2 to the power 32.
-        ///
-        /// # Contract
-        ///
-        /// ```text
-        /// ensures: result ≡ vector.add w32 lhs rhs
-        /// ```
-        ///
-        /// Definitions: [`add`](crate::specs::lanewise::VectorTable#add).
-        #[inline]
-        pub fn i32x4_add(lhs: V128, rhs: V128) -> V128 {
-            words::sums::<u32>(lhs, rhs)
-        }
-
-        /// The sums of the lanes, modulo 2 to the power 64.
-        ///
-        /// # Contract
-        ///
-        /// ```text
-        /// ensures: result ≡ vector.add w64 lhs rhs
-        /// ```
-        ///
-        /// Definitions: [`add`](crate::specs::lanewise::VectorTable#add).
-        #[inline]
-        pub fn i64x2_add(lhs: V128, rhs: V128) -> V128 {
-            words::sums::<u64>(lhs, rhs)
-        }
-
-        /// The differences of the lanes, modulo 2 to the power 8.
-        ///
-        /// # Contract
-        ///
-        /// ```text
-        /// ensures: result ≡ vector.sub w8 lhs rhs
-        /// ```
-        ///
-        /// Definitions: [`sub`](crate::specs::lanewise::VectorTable#sub).
-        #[inline]
-        pub fn i8x16_sub(lhs: V128, rhs: V128) -> V128 {
-            words::differences::<u8>(lhs, rhs)
-        }
-
-        /// The differences of the lanes, modulo 2 to the power 16.
-        ///
-        /// # Contract
-        ///
-        /// ```text
-        /// ensures: result ≡ vector.sub w16 lhs rhs
-        /// ```
-        ///
-        /// Definitions: [`sub`](crate::specs::lanewise::VectorTable#sub).
-        #[inline]
-        pub fn i16x8_sub(lhs: V128, rhs: V128) -> V128 {
-            words::differences::<u16>(lhs, rhs)
-        }
-
-        /// The differences of the lanes, modulo 2 to the power 32.
-        ///
-        /// # Contract
-        ///
-        /// ```text
-        /// ensures: result ≡ vector.sub w32 lhs rhs
-        /// ```
-        ///
-        /// Definitions: [`sub`](crate::specs::lanewise::VectorTable#sub).
-        #[inline]
-        pub fn i32x4_sub(lhs: V128, rhs: V128) -> V128 {
-            words::differences::<u32>(lhs, rhs)
-        }
-
-        /// The differences of the lanes, modulo 2 to the power 64.
-        ///
-        /// # Contract
-        ///
-        /// ```text
-        /// ensures: result ≡ vector.sub w64 lhs rhs
-        /// ```
-        ///
-        /// Definitions: [`sub`](crate::specs::lanewise::VectorTable#sub).
-        #[inline]
-        pub fn i64x2_sub(lhs: V128, rhs: V128) -> V128 {
-            words::differences::<u64>(lhs, rhs)
-        }
-
-        /// The products of the lanes, modulo 2 to the power 8: upstream's alone, no instruction of
-        /// WebAssembly.
-        ///
-        /// # Contract
-        ///
-        /// ```text
-        /// ensures: result ≡ vector.mul w8 lhs rhs
-        /// ```
-        ///
-        /// Definitions: [`mul`](crate::specs::lanewise::VectorTable#mul).
-        #[inline]
-        pub fn i8x16_mul(lhs: V128, rhs: V128) -> V128 {
-            on_vectors::binary::<U8x16, _>(lhs, rhs, |x, y| x.wrapping_mul(y))
-        }
-
-        /// The products of the lanes, modulo 2 to the power 16.
-        ///
-        /// # Contract
-        ///
-        /// ```text
-        /// ensures: result ≡ vector.mul w16 lhs rhs
-        /// ```
-        ///
-        /// Definitions: [`mul`](crate::specs::lanewise::VectorTable#mul).
-        #[inline]
-        pub fn i16x8_mul(lhs: V128, rhs: V128) -> V128 {
-            on_vectors::binary::<U16x8, _>(lhs, rhs, |x, y| x.wrapping_mul(y))
-        }
-
-        /// The products of the lanes, modulo 2 to the power 32.
-        ///
-        /// # Contract
-        ///
-        /// ```text
-        /// ensures: result ≡ vector.mul w32 lhs rhs
-        /// ```
-        ///
-        /// Definitions: [`mul`](crate::specs::lanewise::VectorTable#mul).
-        #[inline]
-        pub fn i32x4_mul(lhs: V128, rhs: V128) -> V128 {
-            on_vectors::binary::<U32x4, _>(lhs, rhs, |x, y| x.wrapping_mul(y))
-        }
-
-        /// The products of the lanes, modulo 2 to the power 64.
-        ///
-        /// # Contract
-        ///
-        /// ```text
-        /// ensures: result ≡ vector.mul w64 lhs rhs
-        /// ```
-        ///
-        /// Definitions: [`mul`](crate::specs::lanewise::VectorTable#mul).
-        #[inline]
-        pub fn i64x2_mul(lhs: V128, rhs: V128) -> V128 {
-            let (a_low, a_high) = lhs.words();
-            let (b_low, b_high) = rhs.words();
-            V128::from_word_pair(a_low.wrapping_mul(b_low), product_by_u128(a_high, b_high))
-        }
-
-        // The product modulo 2 to the power 64, as the high word of one of 128 bits. Beside a product of
-        // two words LLVM doesn't take it for a lane of the same vector, whose product (three of `pmuludq`)
-        // is slower than two of words.
-        /// # Contract
-        ///
-        /// ```text
-        /// ensures: result ≡ x * y % 2 ^ 64
-        /// ```
-        #[inline(always)]
-        fn product_by_u128(x: u64, y: u64) -> u64 {
-            ((u128::from(x) << 64).wrapping_mul(u128::from(y)) >> 64) as u64
-        }
-
-        /// The sums of the lanes, read signed and clamped to the signed range of 8 bits.
-        ///
-        /// # Contract
-        ///
-        /// ```text
-        /// ensures: result ≡ vector.add_sat_s w8 lhs rhs
-        /// ```
-        ///
-        /// Definitions: [`add_sat_s`](crate::specs::lanewise::VectorTable#add_sat_s).
-        #[inline]
-        pub fn i8x16_add_sat_s(lhs: V128, rhs: V128) -> V128 {
-            on_vectors::binary::<I8x16, _>(lhs, rhs, |x, y| clamped_i8(sum_i8(x, y)))
-        }
-
-        /// The sums of the lanes, read unsigned and clamped to the unsigned range of 8 bits.
-        ///
-        /// # Contract
-        ///
-        /// ```text
-        /// ensures: result ≡ vector.add_sat_u w8 lhs rhs
-        /// ```
-        ///
-        /// Definitions: [`add_sat_u`](crate::specs::lanewise::VectorTable#add_sat_u).
-        #[inline]
-        pub fn i8x16_add_sat_u(lhs: V128, rhs: V128) -> V128 {
-            u8::vector_of(u8::lanes_of(lhs).saturating_add(u8::lanes_of(rhs)))
-        }
-
-        /// The sums of the lanes, read signed and clamped to the signed range of 16 bits.
-        ///
-        /// # Contract
-        ///
-        /// ```text
-        /// ensures: result ≡ vector.add_sat_s w16 lhs rhs
-        /// ```
-        ///
-        /// Definitions: [`add_sat_s`](crate::specs::lanewise::VectorTable#add_sat_s).
-        #[inline]
-        pub fn i16x8_add_sat_s(lhs: V128, rhs: V128) -> V128 {
-            on_vectors::binary::<I16x8, _>(lhs, rhs, |x, y| clamped_i16(sum_i16(x, y)))
-        }
-
-        /// The sums of the lanes, read unsigned and clamped to the unsigned range of 16 bits.
-        ///
-        /// # Contract
-        ///
-        /// ```text
-        /// ensures: result ≡ vector.add_sat_u w16 lhs rhs
-        /// ```
-        ///
-        /// Definitions: [`add_sat_u`](crate::specs::lanewise::VectorTable#add_sat_u).
-        #[inline]
-        pub fn i16x8_add_sat_u(lhs: V128, rhs: V128) -> V128 {
-            u16::vector_of(u16::lanes_of(lhs).saturating_add(u16::lanes_of(rhs)))
-        }
-
-        /// The differences of the lanes, read signed and clamped to the signed range of 8 bits.
-        ///
-        /// # Contract
-        ///
-        /// ```text
-        /// ensures: result ≡ vector.sub_sat_s w8 lhs rhs
-        /// ```
-        ///
-        /// Definitions: [`sub_sat_s`](crate::specs::lanewise::VectorTable#sub_sat_s).
-        #[inline]
-        pub fn i8x16_sub_sat_s(lhs: V128, rhs: V128) -> V128 {
-            on_vectors::binary::<I8x16, _>(lhs, rhs, |x, y| clamped_i8(difference_i8(x, y)))
-        }
-
-        /// The differences of the lanes, read unsigned and clamped to the unsigned range of 8 bits.
-        ///
-        /// # Contract
-        ///
-        /// ```text
-        /// ensures: result ≡ vector.sub_sat_u w8 lhs rhs
-        /// ```
-        ///
-        /// Definitions: [`sub_sat_u`](crate::specs::lanewise::VectorTable#sub_sat_u).
-        #[inline]
-        pub fn i8x16_sub_sat_u(lhs: V128, rhs: V128) -> V128 {
-            u8::vector_of(u8::lanes_of(lhs).saturating_sub(u8::lanes_of(rhs)))
-        }
-
-        /// The differences of the lanes, read signed and clamped to the signed range of 16 bits.
-        ///
-        /// # Contract
-        ///
-        /// ```text
-        /// ensures: result ≡ vector.sub_sat_s w16 lhs rhs
-        /// ```
-        ///
-        /// Definitions: [`sub_sat_s`](crate::specs::lanewise::VectorTable#sub_sat_s).
-        #[inline]
-        pub fn i16x8_sub_sat_s(lhs: V128, rhs: V128) -> V128 {
-            on_vectors::binary::<I16x8, _>(lhs, rhs, |x, y| clamped_i16(difference_i16(x, y)))
-        }
-
-        /// The differences of the lanes, read unsigned and clamped to the unsigned range of 16 bits.
-        ///
-        /// # Contract
-        ///
-        /// ```text
-        /// ensures: result ≡ vector.sub_sat_u w16 lhs rhs
-        /// ```
-        ///
-        /// Definitions: [`sub_sat_u`](crate::specs::lanewise::VectorTable#sub_sat_u).
-        #[inline]
-        pub fn i16x8_sub_sat_u(lhs: V128, rhs: V128) -> V128 {
-            u16::vector_of(u16::lanes_of(lhs).saturating_sub(u16::lanes_of(rhs)))
-        }
-
-        /// The products of the lanes as q15 numbers (signed, over 2 to the power 15), rounded and clamped
-        /// to the signed range.
-        ///
-        /// Twice the upper half of a product and its rounded lower half: each half is one instruction.
-        ///
-        /// # Contract
-        ///
-        /// ```text
-        /// ensures: result ≡ vector.q15mulr_sat_s lhs rhs
-        /// ```
-        ///
-        /// Definitions: [`q15mulr_sat_s`](crate::specs::lanewise::VectorTable#q15mulr_sat_s).
-        #[inline]
-        pub fn i16x8_q15mulr_sat_s(lhs: V128, rhs: V128) -> V128 {
-            let x = u16::lanes_of(lhs);
-            let y = u16::lanes_of(rhs);
-            u16::vector_of(twice(upper_halves(x, y)) + rounded_quotients(x * y))
-        }
-
-        // The lanes, read signed, at twice their width.
-        /// # Contract
-        ///
-        /// ```text
-        /// ensures lanes: (i : ℕ) → i < 8
-        ///     → slice_index result i ≡ cast_unsigned w32 (signed w16 (slice_index items i))
-        /// ```
-        #[inline(always)]
-        fn sign_copied(items: u16x8) -> u32x8 {
-            let tops = u32x8::splat(0x8000);
-            (items.cast::<u32>() ^ tops) - tops
-        }
-
-        // The upper halves of the products of lanes that are read signed.
-        /// # Contract
-        ///
-        /// ```text
-        /// ensures lanes: (i : ℕ) → i < 8 → slice_index result i
-        ///     ≡ cast_unsigned w32 (signed w16 (slice_index x i)) * cast_unsigned w32
-        ///     (signed w16 (slice_index y i)) % 2 ^ 32 / 2 ^ 16
-        /// ```
-        #[inline(always)]
-        fn upper_halves(x: u16x8, y: u16x8) -> u16x8 {
-            let products = sign_copied(x) * sign_copied(y);
-            (products >> u32x8::splat(16)).cast::<u16>()
-        }
-
-        // Twice the lanes, read signed, and the largest number in the place of the one double that doesn't
-        // fit, that of 2 to the power 14.
-        /// # Contract
-        ///
-        /// ```text
-        /// ensures lanes: (i : ℕ) → i < 8 → slice_index result i
-        ///     ≡ (slice_index items i +
-        ///     (if nat_lt ((slice_index items i + 0x8000) % 2 ^ 16) 0xbfff then slice_index items i
-        ///     else 0x3fff)) % 2 ^ 16
-        /// ```
-        #[inline(always)]
-        fn twice(items: u16x8) -> u16x8 {
-            let most = u16::splat(0x3fff);
-            items + u16::choose_if_less(u16::biased(items), u16::biased(most), items, most)
-        }
-
-        // The lanes divided by 2 to the power 15, halves rounded up.
-        /// # Contract
-        ///
-        /// ```text
-        /// ensures lanes: (i : ℕ) → i < 8
-        ///     → slice_index result i ≡ (slice_index items i / 2 + 0x2000) % 2 ^ 16 / 2 ^ 14
-        /// ```
-        #[inline(always)]
-        fn rounded_quotients(items: u16x8) -> u16x8 {
-            ((items >> u16x8::splat(1)) + u16x8::splat(0x2000)) >> u16x8::splat(14)
-        }
-
-        /// The smaller ones of the lanes, read signed.
-        ///
-        /// # Contract
-        ///
-        /// ```text
-        /// ensures: result ≡ vector.min_s w8 lhs rhs
-        /// ```
-        ///
-        /// Definitions: [`min_s`](crate::specs::lanewise::VectorTable#min_s).
-        #[inline]
-        pub fn i8x16_min_s(lhs: V128, rhs: V128) -> V128 {
-            order::smaller_s::<u8>(lhs, rhs)
-        }
-
-        /// The smaller ones of the lanes, read unsigned.
-        ///
-        /// # Contract
-        ///
-        /// ```text
-        /// ensures: result ≡ vector.min_u w8 lhs rhs
-        /// ```
-        ///
-        /// Definitions: [`min_u`](crate::specs::lanewise::VectorTable#min_u).
-        #[inline]
-        pub fn i8x16_min_u(lhs: V128, rhs: V128) -> V128 {
-            order::smaller_u::<u8>(lhs, rhs)
-        }
-
-        /// The smaller ones of the lanes, read signed.
-        ///
-        /// # Contract
-        ///
-        /// ```text
-        /// ensures: result ≡ vector.min_s w16 lhs rhs
-        /// ```
-        ///
-        /// Definitions: [`min_s`](crate::specs::lanewise::VectorTable#min_s).
-        #[inline]
-        pub fn i16x8_min_s(lhs: V128, rhs: V128) -> V128 {
-            order::smaller_s::<u16>(lhs, rhs)
-        }
-
-        /// The smaller ones of the lanes, read unsigned.
-        ///
-        /// # Contract
-        ///
-        /// ```text
-        /// ensures: result ≡ vector.min_u w16 lhs rhs
-        /// ```
-        ///
-        /// Definitions: [`min_u`](crate::specs::lanewise::VectorTable#min_u).
-        #[inline]
-        pub fn i16x8_min_u(lhs: V128, rhs: V128) -> V128 {
-            order::smaller_u::<u16>(lhs, rhs)
-        }
-
-        /// The smaller ones of the lanes, read signed.
-        ///
-        /// # Contract
-        ///
-        /// ```text
-        /// ensures: result ≡ vector.min_s w32 lhs rhs
-        /// ```
-        ///
-        /// Definitions: [`min_s`](crate::specs::lanewise::VectorTable#min_s).
-        #[inline]
-        pub fn i32x4_min_s(lhs: V128, rhs: V128) -> V128 {
-            order::smaller_s::<u32>(lhs, rhs)
-        }
-
-        /// The smaller ones of the lanes, read unsigned.
-        ///
-        /// # Contract
-        ///
-        /// ```text
-        /// ensures: result ≡ vector.min_u w32 lhs rhs
-        /// ```
-        ///
-        /// Definitions: [`min_u`](crate::specs::lanewise::VectorTable#min_u).
-        #[inline]
-        pub fn i32x4_min_u(lhs: V128, rhs: V128) -> V128 {
-            order::smaller_u::<u32>(lhs, rhs)
-        }
-
-        /// The larger ones of the lanes, read signed.
-        ///
-        /// # Contract
-        ///
-        /// ```text
-        /// ensures: result ≡ vector.max_s w8 lhs rhs
-        /// ```
-        ///
-        /// Definitions: [`max_s`](crate::specs::lanewise::VectorTable#max_s).
-        #[inline]
-        pub fn i8x16_max_s(lhs: V128, rhs: V128) -> V128 {
-            order::larger_s::<u8>(lhs, rhs)
-        }
-
-        /// The larger ones of the lanes, read unsigned.
-        ///
-        /// # Contract
-        ///
-        /// ```text
-        /// ensures: result ≡ vector.max_u w8 lhs rhs
-        /// ```
-        ///
-        /// Definitions: [`max_u`](crate::specs::lanewise::VectorTable#max_u).
-        #[inline]
-        pub fn i8x16_max_u(lhs: V128, rhs: V128) -> V128 {
-            order::larger_u::<u8>(lhs, rhs)
-        }
-
-        /// The larger ones of the lanes, read signed.
-        ///
-        /// # Contract
-        ///
-        /// ```text
-        /// ensures: result ≡ vector.max_s w16 lhs rhs
-        /// ```
-        ///
-        /// Definitions: [`max_s`](crate::specs::lanewise::VectorTable#max_s).
-        #[inline]
-        pub fn i16x8_max_s(lhs: V128, rhs: V128) -> V128 {
-            order::larger_s::<u16>(lhs, rhs)
-        }
-
-        /// The larger ones of the lanes, read unsigned.
-        ///
-        /// # Contract
-        ///
-        /// ```text
-        /// ensures: result ≡ vector.max_u w16 lhs rhs
-        /// ```
-        ///
-        /// Definitions: [`max_u`](crate::specs::lanewise::VectorTable#max_u).
-        #[inline]
-        pub fn i16x8_max_u(lhs: V128, rhs: V128) -> V128 {
-            order::larger_u::<u16>(lhs, rhs)
-        }
-
-        /// The larger ones of the lanes, read signed.
-        ///
-        /// # Contract
-        ///
-        /// ```text
-        /// ensures: result ≡ vector.max_s w32 lhs rhs
-        /// ```
-        ///
-        /// Definitions: [`max_s`](crate::specs::lanewise::VectorTable#max_s).
-        #[inline]
-        pub fn i32x4_max_s(lhs: V128, rhs: V128) -> V128 {
-            order::larger_s::<u32>(lhs, rhs)
-        }
-
-        /// The larger ones of the lanes, read unsigned.
-        ///
-        /// # Contract
-        ///
-        /// ```text
-        /// ensures: result ≡ vector.max_u w32 lhs rhs
-        /// ```
-        ///
-        /// Definitions: [`max_u`](crate::specs::lanewise::VectorTable#max_u).
-        #[inline]
-        pub fn i32x4_max_u(lhs: V128, rhs: V128) -> V128 {
-            order::larger_u::<u32>(lhs, rhs)
-        }
-
-        /// The averages of the lanes, read unsigned, halves rounded up.
-        ///
-        /// # Contract
-        ///
-        /// ```text
-        /// ensures: result ≡ vector.avgr_u w8 lhs rhs
-        /// ```
-        ///
-        /// Definitions: [`avgr_u`](crate::specs::lanewise::VectorTable#avgr_u).
-        #[inline]
-        pub fn i8x16_avgr_u(lhs: V128, rhs: V128) -> V128 {
-            words::averages::<u8>(lhs, rhs)
-        }
-
-        /// The averages of the lanes, read unsigned, halves rounded up.
-        ///
-        /// # Contract
-        ///
-        /// ```text
-        /// ensures: result ≡ vector.avgr_u w16 lhs rhs
-        /// ```
-        ///
-        /// Definitions: [`avgr_u`](crate::specs::lanewise::VectorTable#avgr_u).
-        #[inline]
-        pub fn i16x8_avgr_u(lhs: V128, rhs: V128) -> V128 {
-            words::averages::<u16>(lhs, rhs)
-        }
-
-        /// # Contract
-        ///
-        /// ```text
-        /// ensures: result ≡ x +ℤ y
-        /// ```
-        #[inline]
-        fn sum_i8(x: i8, y: i8) -> i16 {
-            i16::from(x) + i16::from(y)
-        }
-
-        /// # Contract
-        ///
-        /// ```text
-        /// ensures: result ≡ x -ℤ y
-        /// ```
-        #[inline]
-        fn difference_i8(x: i8, y: i8) -> i16 {
-            i16::from(x) - i16::from(y)
-        }
-
-        /// # Contract
-        ///
-        /// ```text
-        /// ensures: result ≡ x +ℤ y
-        /// ```
-        #[inline]
-        fn sum_i16(x: i16, y: i16) -> i32 {
-            i32::from(x) + i32::from(y)
-        }
-
-        /// # Contract
-        ///
-        /// ```text
-        /// ensures: result ≡ x -ℤ y
-        /// ```
-        #[inline]
-        fn difference_i16(x: i16, y: i16) -> i32 {
-            i32::from(x) - i32::from(y)
-        }
-    }
-    mod comparison {
-        //! Comparisons.
-
-        use crate::proved::lanes::words::word_differ;
-        use crate::proved::lanewise::simd::{order, words};
-        use crate::proved::raw::V128;
-
-        /// All ones in the lanes that are equal, else all zeros.
-        ///
-        /// # Contract
-        ///
-        /// ```text
-        /// ensures: result ≡ vector.eq w8 lhs rhs
-        /// ```
-        ///
-        /// Definitions: [`eq`](crate::specs::lanewise::VectorTable#eq).
-        #[inline]
-        pub fn i8x16_eq(lhs: V128, rhs: V128) -> V128 {
-            words::equal::<u8>(lhs, rhs)
-        }
-
-        /// All ones in the lanes that are equal, else all zeros.
-        ///
-        /// # Contract
-        ///
-        /// ```text
-        /// ensures: result ≡ vector.eq w16 lhs rhs
-        /// ```
-        ///
-        /// Definitions: [`eq`](crate::specs::lanewise::VectorTable#eq).
-        #[inline]
-        pub fn i16x8_eq(lhs: V128, rhs: V128) -> V128 {
-            words::equal::<u16>(lhs, rhs)
-        }
-
-        /// All ones in the lanes that are equal, else all zeros.
-        ///
-        /// # Contract
-        ///
-        /// ```text
-        /// ensures: result ≡ vector.eq w32 lhs rhs
-        /// ```
-        ///
-        /// Definitions: [`eq`](crate::specs::lanewise::VectorTable#eq).
-        #[inline]
-        pub fn i32x4_eq(lhs: V128, rhs: V128) -> V128 {
-            words::equal::<u32>(lhs, rhs)
-        }
-
-        /// All ones in the lanes that are equal, else all zeros.
-        ///
-        /// # Contract
-        ///
-        /// ```text
-        /// ensures: result ≡ vector.eq w64 lhs rhs
-        /// ```
-        ///
-        /// Definitions: [`eq`](crate::specs::lanewise::VectorTable#eq).
-        #[inline]
-        pub fn i64x2_eq(lhs: V128, rhs: V128) -> V128 {
-            let (a_low, a_high) = lhs.words();
-            let (b_low, b_high) = rhs.words();
-            V128::from_word_pair(ones_if_equal(a_low, b_low), ones_if_equal(a_high, b_high))
-        }
-
-        /// All ones in the lanes that are different, else all zeros.
-        ///
-        /// # Contract
-        ///
-        /// ```text
-        /// ensures: result ≡ vector.ne w8 lhs rhs
-        /// ```
-        ///
-        /// Definitions: [`ne`](crate::specs::lanewise::VectorTable#ne).
-        #[inline]
-        pub fn i8x16_ne(lhs: V128, rhs: V128) -> V128 {
-            words::different::<u8>(lhs, rhs)
-        }
-
-        /// All ones in the lanes that are different, else all zeros.
-        ///
-        /// # Contract
-        ///
-        /// ```text
-        /// ensures: result ≡ vector.ne w16 lhs rhs
-        /// ```
-        ///
-        /// Definitions: [`ne`](crate::specs::lanewise::VectorTable#ne).
-        #[inline]
-        pub fn i16x8_ne(lhs: V128, rhs: V128) -> V128 {
-            words::different::<u16>(lhs, rhs)
-        }
-
-        /// All ones in the lanes that are different, else all zeros.
-        ///
-        /// # Contract
-        ///
-        /// ```text
-        /// ensures: result ≡ vector.ne w32 lhs rhs
-        /// ```
-        ///
-        /// Definitions: [`ne`](crate::specs::lanewise::VectorTable#ne).
-        #[inline]
-        pub fn i32x4_ne(lhs: V128, rhs: V128) -> V128 {
-            words::different::<u32>(lhs, rhs)
-        }
-
-        /// All ones in the lanes that are different, else all zeros.
-        ///
-        /// # Contract
-        ///
-        /// ```text
-        /// ensures: result ≡ vector.ne w64 lhs rhs
-        /// ```
-        ///
-        /// Definitions: [`ne`](crate::specs::lanewise::VectorTable#ne).
-        #[inline]
-        pub fn i64x2_ne(lhs: V128, rhs: V128) -> V128 {
-            let (a_low, a_high) = lhs.words();
-            let (b_low, b_high) = rhs.words();
-            V128::from_word_pair(!ones_if_equal(a_low, b_low), !ones_if_equal(a_high, b_high))
-        }
-
-        // All ones if two words are equal, else 0. They are compared as lanes of one bit, of which
-        // `word_differ` masks nothing.
-        /// # Contract
-        ///
-        /// ```text
-        /// ensures: result ≡ (if a == b then 2 ^ 64 - 1 else 0)
-        /// ```
-        #[inline(always)]
-        fn ones_if_equal(a: u64, b: u64) -> u64 {
-            if word_differ(a, b, u64::MAX) == 0 {
-                u64::MAX
-            } else {
-                0
-            }
-        }
-
-        /// All ones where the lane of `lhs` is less than that of `rhs`, both read signed, else all zeros.
-        ///
-        /// # Contract
-        ///
-        /// ```text
-        /// ensures: result ≡ vector.lt_s w8 lhs rhs
-        /// ```
-        ///
-        /// Definitions: [`lt_s`](crate::specs::lanewise::VectorTable#lt_s).
-        #[inline]
-        pub fn i8x16_lt_s(lhs: V128, rhs: V128) -> V128 {
-            order::less_s::<u8>(lhs, rhs)
-        }
-
-        /// All ones where the lane of `lhs` is less than that of `rhs`, both read signed, else all zeros.
-        ///
-        /// # Contract
-        ///
-        /// ```text
-        /// ensures: result ≡ vector.lt_s w16 lhs rhs
-        /// ```
-        ///
-        /// Definitions: [`lt_s`](crate::specs::lanewise::VectorTable#lt_s).
-        #[inline]
-        pub fn i16x8_lt_s(lhs: V128, rhs: V128) -> V128 {
-            order::less_s::<u16>(lhs, rhs)
-        }
-
-        /// All ones where the lane of `lhs` is less than that of `rhs`, both read signed, else all zeros.
-        ///
-        /// # Contract
-        ///
-        /// ```text
-        /// ensures: result ≡ vector.lt_s w32 lhs rhs
-        /// ```
-        ///
-        /// Definitions: [`lt_s`](crate::specs::lanewise::VectorTable#lt_s).
-        #[inline]
-        pub fn i32x4_lt_s(lhs: V128, rhs: V128) -> V128 {
-            order::less_s::<u32>(lhs, rhs)
-        }
-
-        /// All ones where the lane of `lhs` is less than that of `rhs`, both read signed, else all zeros.
-        ///
-        /// # Contract
-        ///
-        /// ```text
-        /// ensures: result ≡ vector.lt_s w64 lhs rhs
-        /// ```
-        ///
-        /// Definitions: [`lt_s`](crate::specs::lanewise::VectorTable#lt_s).
-        #[inline]
-        pub fn i64x2_lt_s(lhs: V128, rhs: V128) -> V128 {
-            order::less_s::<u64>(lhs, rhs)
-        }
-
-        /// All ones where the lane of `lhs` is less than that of `rhs`, both read unsigned, else all zeros.
-        ///
-        /// # Contract
-        ///
-        /// ```text
-        /// ensures: result ≡ vector.lt_u w8 lhs rhs
-        /// ```
-        ///
-        /// Definitions: [`lt_u`](crate::specs::lanewise::VectorTable#lt_u).
-        #[inline]
-        pub fn i8x16_lt_u(lhs: V128, rhs: V128) -> V128 {
-            order::less_u::<u8>(lhs, rhs)
-        }
-
-        /// All ones where the lane of `lhs` is less than that of `rhs`, both read unsigned, else all zeros.
-        ///
-        /// # Contract
-        ///
-        /// ```text
-        /// ensures: result ≡ vector.lt_u w16 lhs rhs
-        /// ```
-        ///
-        /// Definitions: [`lt_u`](crate::specs::lanewise::VectorTable#lt_u).
-        #[inline]
-        pub fn i16x8_lt_u(lhs: V128, rhs: V128) -> V128 {
-            order::less_u::<u16>(lhs, rhs)
-        }
-
-        /// All ones where the lane of `lhs` is less than that of `rhs`, both read unsigned, else all zeros.
-        ///
-        /// # Contract
-        ///
-        /// ```text
-        /// ensures: result ≡ vector.lt_u w32 lhs rhs
-        /// ```
-        ///
-        /// Definitions: [`lt_u`](crate::specs::lanewise::VectorTable#lt_u).
-        #[inline]
-        pub fn i32x4_lt_u(lhs: V128, rhs: V128) -> V128 {
-            order::less_u::<u32>(lhs, rhs)
-        }
-
-        /// All ones where the lane of `lhs` is at most that of `rhs`, both read signed, else all zeros.
-        ///
-        /// # Contract
-        ///
-        /// ```text
-        /// ensures: result ≡ vector.le_s w8 lhs rhs
-        /// ```
-        ///
-        /// Definitions: [`le_s`](crate::specs::lanewise::VectorTable#le_s).
-        #[inline]
-        pub fn i8x16_le_s(lhs: V128, rhs: V128) -> V128 {
-            order::at_most_s::<u8>(lhs, rhs)
-        }
-
-        /// All ones where the lane of `lhs` is at most that of `rhs`, both read signed, else all zeros.
-        ///
-        /// # Contract
-        ///
-        /// ```text
-        /// ensures: result ≡ vector.le_s w16 lhs rhs
-        /// ```
-        ///
-        /// Definitions: [`le_s`](crate::specs::lanewise::VectorTable#le_s).
-        #[inline]
-        pub fn i16x8_le_s(lhs: V128, rhs: V128) -> V128 {
-            order::at_most_s::<u16>(lhs, rhs)
-        }
-
-        /// All ones where the lane of `lhs` is at most that of `rhs`, both read signed, else all zeros.
-        ///
-        /// # Contract
-        ///
-        /// ```text
-        /// ensures: result ≡ vector.le_s w32 lhs rhs
-        /// ```
-        ///
-        /// Definitions: [`le_s`](crate::specs::lanewise::VectorTable#le_s).
-        #[inline]
-        pub fn i32x4_le_s(lhs: V128, rhs: V128) -> V128 {
-            order::at_most_s::<u32>(lhs, rhs)
-        }
-
-        /// All ones where the lane of `lhs` is at most that of `rhs`, both read signed, else all zeros.
-        ///
-        /// # Contract
-        ///
-        /// ```text
-        /// ensures: result ≡ vector.le_s w64 lhs rhs
-        /// ```
-        ///
-        /// Definitions: [`le_s`](crate::specs::lanewise::VectorTable#le_s).
-        #[inline]
-        pub fn i64x2_le_s(lhs: V128, rhs: V128) -> V128 {
-            order::at_most_s::<u64>(lhs, rhs)
-        }
-
-        /// All ones where the lane of `lhs` is at most that of `rhs`, both read unsigned, else all zeros.
-        ///
-        /// # Contract
-        ///
-        /// ```text
-        /// ensures: result ≡ vector.le_u w8 lhs rhs
-        /// ```
-        ///
-        /// Definitions: [`le_u`](crate::specs::lanewise::VectorTable#le_u).
-        #[inline]
-        pub fn i8x16_le_u(lhs: V128, rhs: V128) -> V128 {
-            order::at_most_u::<u8>(lhs, rhs)
-        }
-
-        /// All ones where the lane of `lhs` is at most that of `rhs`, both read unsigned, else all zeros.
-        ///
-        /// # Contract
-        ///
-        /// ```text
-        /// ensures: result ≡ vector.le_u w16 lhs rhs
-        /// ```
-        ///
-        /// Definitions: [`le_u`](crate::specs::lanewise::VectorTable#le_u).
-        #[inline]
-        pub fn i16x8_le_u(lhs: V128, rhs: V128) -> V128 {
-            order::at_most_u::<u16>(lhs, rhs)
-        }
-
-        /// All ones where the lane of `lhs` is at most that of `rhs`, both read unsigned, else all zeros.
-        ///
-        /// # Contract
-        ///
-        /// ```text
-        /// ensures: result ≡ vector.le_u w32 lhs rhs
-        /// ```
-        ///
-        /// Definitions: [`le_u`](crate::specs::lanewise::VectorTable#le_u).
-        #[inline]
-        pub fn i32x4_le_u(lhs: V128, rhs: V128) -> V128 {
-            order::at_most_u::<u32>(lhs, rhs)
-        }
-
-        /// All ones where the lane of `lhs` is the greater one, both read signed, else all zeros.
-        ///
-        /// # Contract
-        ///
-        /// ```text
-        /// ensures: result ≡ vector.gt_s w8 lhs rhs
-        /// ```
-        ///
-        /// Definitions: [`gt_s`](crate::specs::lanewise::VectorTable#gt_s).
-        #[inline]
-        pub fn i8x16_gt_s(lhs: V128, rhs: V128) -> V128 {
-            order::less_s::<u8>(rhs, lhs)
-        }
-
-        /// All ones where the lane of `lhs` is the greater one, both read signed, else all zeros.
-        ///
-        /// # Contract
-        ///
-        /// ```text
-        /// ensures: result ≡ vector.gt_s w16 lhs rhs
-        /// ```
-        ///
-        /// Definitions: [`gt_s`](crate::specs::lanewise::VectorTable#gt_s).
-        #[inline]
-        pub fn i16x8_gt_s(lhs: V128, rhs: V128) -> V128 {
-            order::less_s::<u16>(rhs, lhs)
-        }
-
-        /// All ones where the lane of `lhs` is the greater one, both read signed, else all zeros.
-        ///
-        /// # Contract
-        ///
-        /// ```text
-        /// ensures: result ≡ vector.gt_s w32 lhs rhs
-        /// ```
-        ///
-        /// Definitions: [`gt_s`](crate::specs::lanewise::VectorTable#gt_s).
-        #[inline]
-        pub fn i32x4_gt_s(lhs: V128, rhs: V128) -> V128 {
-            order::less_s::<u32>(rhs, lhs)
-        }
-
-        /// All ones where the lane of `lhs` is the greater one, both read signed, else all zeros.
-        ///
-        /// # Contract
-        ///
-        /// ```text
-        /// ensures: result ≡ vector.gt_s w64 lhs rhs
-        /// ```
-        ///
-        /// Definitions: [`gt_s`](crate::specs::lanewise::VectorTable#gt_s).
-        #[inline]
-        pub fn i64x2_gt_s(lhs: V128, rhs: V128) -> V128 {
-            order::less_s::<u64>(rhs, lhs)
-        }
-
-        /// All ones where the lane of `lhs` is the greater one, both read unsigned, else all zeros.
-        ///
-        /// # Contract
-        ///
-        /// ```text
-        /// ensures: result ≡ vector.gt_u w8 lhs rhs
-        /// ```
-        ///
-        /// Definitions: [`gt_u`](crate::specs::lanewise::VectorTable#gt_u).
-        #[inline]
-        pub fn i8x16_gt_u(lhs: V128, rhs: V128) -> V128 {
-            order::less_u::<u8>(rhs, lhs)
-        }
-
-        /// All ones where the lane of `lhs` is the greater one, both read unsigned, else all zeros.
-        ///
-        /// # Contract
-        ///
-        /// ```text
-        /// ensures: result ≡ vector.gt_u w16 lhs rhs
-        /// ```
-        ///
-        /// Definitions: [`gt_u`](crate::specs::lanewise::VectorTable#gt_u).
-        #[inline]
-        pub fn i16x8_gt_u(lhs: V128, rhs: V128) -> V128 {
-            order::less_u::<u16>(rhs, lhs)
-        }
-
-        /// All ones where the lane of `lhs` is the greater one, both read unsigned, else all zeros.
-        ///
-        /// # Contract
-        ///
-        /// ```text
-        /// ensures: result ≡ vector.gt_u w32 lhs rhs
-        /// ```
-        ///
-        /// Definitions: [`gt_u`](crate::specs::lanewise::VectorTable#gt_u).
-        #[inline]
-        pub fn i32x4_gt_u(lhs: V128, rhs: V128) -> V128 {
-            order::less_u::<u32>(rhs, lhs)
-        }
-
-        /// All ones where the lane of `lhs` is at least that of `rhs`, both read signed, else all zeros.
-        ///
-        /// # Contract
-        ///
-        /// ```text
-        /// ensures: result ≡ vector.ge_s w8 lhs rhs
-        /// ```
-        ///
-        /// Definitions: [`ge_s`](crate::specs::lanewise::VectorTable#ge_s).
-        #[inline]
-        pub fn i8x16_ge_s(lhs: V128, rhs: V128) -> V128 {
-            order::at_most_s::<u8>(rhs, lhs)
-        }
-
-        /// All ones where the lane of `lhs` is at least that of `rhs`, both read signed, else all zeros.
-        ///
-        /// # Contract
-        ///
-        /// ```text
-        /// ensures: result ≡ vector.ge_s w16 lhs rhs
-        /// ```
-        ///
-        /// Definitions: [`ge_s`](crate::specs::lanewise::VectorTable#ge_s).
-        #[inline]
-        pub fn i16x8_ge_s(lhs: V128, rhs: V128) -> V128 {
-            order::at_most_s::<u16>(rhs, lhs)
-        }
-
-        /// All ones where the lane of `lhs` is at least that of `rhs`, both read signed, else all zeros.
-        ///
-        /// # Contract
-        ///
-        /// ```text
-        /// ensures: result ≡ vector.ge_s w32 lhs rhs
-        /// ```
-        ///
-        /// Definitions: [`ge_s`](crate::specs::lanewise::VectorTable#ge_s).
-        #[inline]
-        pub fn i32x4_ge_s(lhs: V128, rhs: V128) -> V128 {
-            order::at_most_s::<u32>(rhs, lhs)
-        }
-
-        /// All ones where the lane of `lhs` is at least that of `rhs`, both read signed, else all zeros.
-        ///
-        /// # Contract
-        ///
-        /// ```text
-        /// ensures: result ≡ vector.ge_s w64 lhs rhs
-        /// ```
-        ///
-        /// Definitions: [`ge_s`](crate::specs::lanewise::VectorTable#ge_s).
-        #[inline]
-        pub fn i64x2_ge_s(lhs: V128, rhs: V128) -> V128 {
-            order::at_most_s::<u64>(rhs, lhs)
-        }
-
-        /// All ones where the lane of `lhs` is at least that of `rhs`, both read unsigned, else all zeros.
-        ///
-        /// # Contract
-        ///
-        /// ```text
-        /// ensures: result ≡ vector.ge_u w8 lhs rhs
-        /// ```
-        ///
-        /// Definitions: [`ge_u`](crate::specs::lanewise::VectorTable#ge_u).
-        #[inline]
-        pub fn i8x16_ge_u(lhs: V128, rhs: V128) -> V128 {
-            order::at_most_u::<u8>(rhs, lhs)
-        }
-
-        /// All ones where the lane of `lhs` is at least that of `rhs`, both read unsigned, else all zeros.
-        ///
-        /// # Contract
-        ///
-        /// ```text
-        /// ensures: result ≡ vector.ge_u w16 lhs rhs
-        /// ```
-        ///
-        /// Definitions: [`ge_u`](crate::specs::lanewise::VectorTable#ge_u).
-        #[inline]
-        pub fn i16x8_ge_u(lhs: V128, rhs: V128) -> V128 {
-            order::at_most_u::<u16>(rhs, lhs)
-        }
-
-        /// All ones where the lane of `lhs` is at least that of `rhs`, both read unsigned, else all zeros.
-        ///
-        /// # Contract
-        ///
-        /// ```text
-        /// ensures: result ≡ vector.ge_u w32 lhs rhs
-        /// ```
-        ///
-        /// Definitions: [`ge_u`](crate::specs::lanewise::VectorTable#ge_u).
-        #[inline]
-        pub fn i32x4_ge_u(lhs: V128, rhs: V128) -> V128 {
-            order::at_most_u::<u32>(rhs, lhs)
-        }
-    }
-    mod lane_access {
-        //! Vectors of one item, one lane of a vector, and bytes chosen by their indices, for which an array
-        //! is slower than `core::simd` (docs/SPEED.md).
-
-        use crate::proved::lanes::{
-            I8x16, I32x4, ImmLaneIdx2, ImmLaneIdx4, ImmLaneIdx8, ImmLaneIdx16, ImmLaneIdx32,
-            SimdLane, VariableLane, bytes_of, from_bytes, on_vectors,
-        };
-        use crate::proved::raw::V128;
-        use crate::rattle::simd::prelude::*;
-
-        /// The item in every lane.
-        ///
-        /// # Contract
-        ///
-        /// ```text
-        /// ensures: result ≡ vector.splat w8 item
-        /// ```
-        ///
-        /// Definitions: [`splat`](crate::specs::lanewise::VectorTable#splat).
-        #[inline]
-        pub fn i8x16_splat(item: i8) -> V128 {
-            on_vectors::splat::<I8x16>(item)
-        }
-
-        /// The item in every lane.
-        ///
-        /// # Contract
-        ///
-        /// ```text
-        /// ensures: result ≡ vector.splat w16 item
-        /// ```
-        ///
-        /// Definitions: [`splat`](crate::specs::lanewise::VectorTable#splat).
-        #[inline]
-        pub fn i16x8_splat(item: i16) -> V128 {
-            // By a `core::simd` vector: LLVM puts eight plain lanes together by shifts.
-            u16::vector_of(u16::splat(item.cast_unsigned()))
-        }
-
-        /// The item in every lane.
-        ///
-        /// # Contract
-        ///
-        /// ```text
-        /// ensures: result ≡ vector.splat w32 item
-        /// ```
-        ///
-        /// Definitions: [`splat`](crate::specs::lanewise::VectorTable#splat).
-        #[inline]
-        pub fn i32x4_splat(item: i32) -> V128 {
-            on_vectors::splat::<I32x4>(item)
-        }
-
-        /// The item in every lane.
-        ///
-        /// # Contract
-        ///
-        /// ```text
-        /// ensures: result ≡ vector.splat w64 item
-        /// ```
-        ///
-        /// Definitions: [`splat`](crate::specs::lanewise::VectorTable#splat).
-        #[inline]
-        pub fn i64x2_splat(item: i64) -> V128 {
-            // By lanes of 32 bits: of one word in two places LLVM makes two stores.
-            let items = u32::lanes_of(V128::from_word_pair(item.cast_unsigned(), 0));
-            from_bytes(items.shuffle(items, [0, 1, 0, 1]).to_le_bytes())
-        }
-
-        /// One lane, read signed.
-        ///
-        /// # Contract
-        ///
-        /// ```text
-        /// ensures: result ≡ vector.extract_lane_s w8 v lane
-        /// ```
-        ///
-        /// Definitions: [`extract_lane_s`](crate::specs::lanewise::VectorTable#extract_lane_s).
-        #[inline]
-        pub fn i8x16_extract_lane_s(v: V128, lane: ImmLaneIdx16) -> i32 {
-            i32::from(u8::lane_at(v, lane).cast_signed())
-        }
-
-        /// One lane, read unsigned.
-        ///
-        /// # Contract
-        ///
-        /// ```text
-        /// ensures: result ≡ vector.extract_lane_u w8 v lane
-        /// ```
-        ///
-        /// Definitions: [`extract_lane_u`](crate::specs::lanewise::VectorTable#extract_lane_u).
-        #[inline]
-        pub fn i8x16_extract_lane_u(v: V128, lane: ImmLaneIdx16) -> u32 {
-            u32::from(u8::lane_at(v, lane))
-        }
-
-        /// One lane, read signed.
-        ///
-        /// # Contract
-        ///
-        /// ```text
-        /// ensures: result ≡ vector.extract_lane_s w16 v lane
-        /// ```
-        ///
-        /// Definitions: [`extract_lane_s`](crate::specs::lanewise::VectorTable#extract_lane_s).
-        #[inline]
-        pub fn i16x8_extract_lane_s(v: V128, lane: ImmLaneIdx8) -> i32 {
-            i32::from(u16::lane_at(v, lane).cast_signed())
-        }
-
-        /// One lane, read unsigned.
-        ///
-        /// # Contract
-        ///
-        /// ```text
-        /// ensures: result ≡ vector.extract_lane_u w16 v lane
-        /// ```
-        ///
-        /// Definitions: [`extract_lane_u`](crate::specs::lanewise::VectorTable#extract_lane_u).
-        #[inline]
-        pub fn i16x8_extract_lane_u(v: V128, lane: ImmLaneIdx8) -> u32 {
-            u32::from(u16::lane_at(v, lane))
-        }
-
-        /// One lane, read signed.
-        ///
-        /// # Contract
-        ///
-        /// ```text
-        /// ensures: result ≡ vector.extract_lane_s w32 v lane
-        /// ```
-        ///
-        /// Definitions: [`extract_lane_s`](crate::specs::lanewise::VectorTable#extract_lane_s).
-        #[inline]
-        pub fn i32x4_extract_lane(v: V128, lane: ImmLaneIdx4) -> i32 {
-            u32::lane_at(v, lane).cast_signed()
-        }
-
-        /// One lane, read signed.
-        ///
-        /// # Contract
-        ///
-        /// ```text
-        /// ensures: result ≡ vector.extract_lane_s w64 v lane
-        /// ```
-        ///
-        /// Definitions: [`extract_lane_s`](crate::specs::lanewise::VectorTable#extract_lane_s).
-        #[inline]
-        pub fn i64x2_extract_lane(v: V128, lane: ImmLaneIdx2) -> i64 {
-            u64::lane_at(v, lane).cast_signed()
-        }
-
-        /// `v` with the item in one lane.
-        ///
-        /// # Contract
-        ///
-        /// ```text
-        /// ensures: result ≡ vector.replace_lane w8 v lane item
-        /// ```
-        ///
-        /// Definitions: [`replace_lane`](crate::specs::lanewise::VectorTable#replace_lane).
-        #[inline]
-        pub fn i8x16_replace_lane(v: V128, lane: ImmLaneIdx16, item: i8) -> V128 {
-            u8::with_lane(v, lane, item.cast_unsigned())
-        }
-
-        /// `v` with the item in one lane.
-        ///
-        /// # Contract
-        ///
-        /// ```text
-        /// ensures: result ≡ vector.replace_lane w16 v lane item
-        /// ```
-        ///
-        /// Definitions: [`replace_lane`](crate::specs::lanewise::VectorTable#replace_lane).
-        #[inline]
-        pub fn i16x8_replace_lane(v: V128, lane: ImmLaneIdx8, item: i16) -> V128 {
-            u16::with_lane(v, lane, item.cast_unsigned())
-        }
-
-        /// `v` with the item in one lane.
-        ///
-        /// # Contract
-        ///
-        /// ```text
-        /// ensures: result ≡ vector.replace_lane w32 v lane item
-        /// ```
-        ///
-        /// Definitions: [`replace_lane`](crate::specs::lanewise::VectorTable#replace_lane).
-        #[inline]
-        pub fn i32x4_replace_lane(v: V128, lane: ImmLaneIdx4, item: i32) -> V128 {
-            u32::with_lane(v, lane, item.cast_unsigned())
-        }
-
-        /// `v` with the item in one lane.
-        ///
-        /// # Contract
-        ///
-        /// ```text
-        /// ensures: result ≡ vector.replace_lane w64 v lane item
-        /// ```
-        ///
-        /// Definitions: [`replace_lane`](crate::specs::lanewise::VectorTable#replace_lane).
-        #[inline]
-        pub fn i64x2_replace_lane(v: V128, lane: ImmLaneIdx2, item: i64) -> V128 {
-            u64::with_lane(v, lane, item.cast_unsigned())
-        }
-
-        /// Lane i is lane `s[i]` of `a`, or lane `s[i] - 16` of `b` where `s[i]` is above 15.
-        ///
-        /// # Contract
-        ///
-        /// ```text
-        /// ensures: result ≡ vector.shuffle a b s
-        /// ```
-        ///
-        /// Definitions: [`shuffle`](crate::specs::lanewise::VectorTable#shuffle).
-        #[inline]
-        pub fn i8x16_shuffle(a: V128, b: V128, s: [ImmLaneIdx32; 16]) -> V128 {
-            let indices = bytes_of_indices(s);
-            let low = picked(bytes_of(a), indices);
-            let high = picked(bytes_of(b), indices);
-            from_bytes(low_or_high(indices, low, high))
-        }
-
-        /// Lane i is the lane of `a` at the index that lane i of `s` is, and 0 where that is above 15.
-        ///
-        /// # Contract
-        ///
-        /// ```text
-        /// ensures: result ≡ vector.swizzle a s
-        /// ```
-        ///
-        /// Definitions: [`swizzle`](crate::specs::lanewise::VectorTable#swizzle).
-        #[inline]
-        pub fn i8x16_swizzle(a: V128, s: V128) -> V128 {
-            from_bytes(picked_or_zero(bytes_of(a), bytes_of(s)))
-        }
-
-        // The lanes of `table` at the indices, and 0 where an index is above 15: such an index becomes 128,
-        // at which the processor's instruction gives 0. LLVM leaves the last mask out, since that
-        // instruction reads no other bits.
-        /// # Contract
-        ///
-        /// ```text
-        /// ensures lanes: (i : ℕ) → i < 16 → slice_index result i
-        ///     ≡ (if nat_lt (slice_index indices i) 16 then slice_index table
-        ///     (slice_index indices i) else 0)
-        /// ```
-        #[inline(always)]
-        fn picked_or_zero(table: u8x16, indices: u8x16) -> u8x16 {
-            let biased = indices.simd_min(u8x16::splat(16)) + u8x16::splat(0x70);
-            table.swizzle_dyn_within::<16>(biased & u8x16::splat(0x8f))
-        }
-
-        // The lanes of `table` at the low four bits of the indices.
-        /// # Contract
-        ///
-        /// ```text
-        /// ensures lanes: (i : ℕ) → i < 16
-        ///     → slice_index result i ≡ slice_index table (slice_index indices i % 16)
-        /// ```
-        #[inline(always)]
-        fn picked(table: u8x16, indices: u8x16) -> u8x16 {
-            table.swizzle_dyn_within::<16>(indices & u8x16::splat(15))
-        }
-
-        // The lanes of `low` where the index is below 16, else those of `high`.
-        /// # Contract
-        ///
-        /// ```text
-        /// ensures lanes: (i : ℕ) → i < 16 → slice_index result i
-        ///     ≡ (if nat_lt (slice_index indices i) 16 then slice_index low i else slice_index high i)
-        /// ```
-        #[inline(always)]
-        fn low_or_high(indices: u8x16, low: u8x16, high: u8x16) -> u8x16 {
-            indices.simd_lt(u8x16::splat(16)).select(low, high)
-        }
-
-        /// # Contract
-        ///
-        /// ```text
-        /// ensures lanes: (i : ℕ) → i < 16 → slice_index result i ≡ slice_index indices i
-        /// ensures inside: (i : ℕ) → i < 16 → slice_index result i < 32
-        /// ```
-        #[inline(always)]
-        fn bytes_of_indices(indices: [ImmLaneIdx32; 16]) -> u8x16 {
-            let mut bytes = [0; 16];
-            for i in 0..16 {
-                bytes[i] = u8::from(indices[i]);
-            }
-            u8x16::from_array(bytes)
-        }
-    }
     mod order {
         //! Order of lanes, and what is chosen by it, on vectors of `core::simd`.
         //!
@@ -1611,234 +168,6 @@ pub mod simd {
                 T::splat(T::ALL_ZEROS),
                 T::splat(T::ALL_ONES),
             ))
-        }
-    }
-    mod unary {
-        //! Unary instructions, and those that work bit by bit on whole vectors.
-
-        use crate::proved::lanes::{I8x16, I16x8, I32x4, I64x2, from_u64x2, on_vectors, u64x2_of};
-        use crate::proved::lanewise::simd::words;
-        use crate::proved::raw::V128;
-        use crate::rattle::simd::prelude::*;
-
-        /// The lanes negated, modulo 2 to the power 8.
-        ///
-        /// # Contract
-        ///
-        /// ```text
-        /// ensures: result ≡ vector.neg w8 v
-        /// ```
-        ///
-        /// Definitions: [`neg`](crate::specs::lanewise::VectorTable#neg).
-        #[inline]
-        pub fn i8x16_neg(v: V128) -> V128 {
-            words::negations::<u8>(v)
-        }
-
-        /// The lanes negated, modulo 2 to the power 16.
-        ///
-        /// # Contract
-        ///
-        /// ```text
-        /// ensures: result ≡ vector.neg w16 v
-        /// ```
-        ///
-        /// Definitions: [`neg`](crate::specs::lanewise::VectorTable#neg).
-        #[inline]
-        pub fn i16x8_neg(v: V128) -> V128 {
-            words::negations::<u16>(v)
-        }
-
-        /// The lanes negated, modulo 2 to the power 32.
-        ///
-        /// # Contract
-        ///
-        /// ```text
-        /// ensures: result ≡ vector.neg w32 v
-        /// ```
-        ///
-        /// Definitions: [`neg`](crate::specs::lanewise::VectorTable#neg).
-        #[inline]
-        pub fn i32x4_neg(v: V128) -> V128 {
-            words::negations::<u32>(v)
-        }
-
-        /// The lanes negated, modulo 2 to the power 64.
-        ///
-        /// # Contract
-        ///
-        /// ```text
-        /// ensures: result ≡ vector.neg w64 v
-        /// ```
-        ///
-        /// Definitions: [`neg`](crate::specs::lanewise::VectorTable#neg).
-        #[inline]
-        pub fn i64x2_neg(v: V128) -> V128 {
-            words::negations::<u64>(v)
-        }
-
-        /// The absolute values of the lanes, read signed; that of the least number is itself.
-        ///
-        /// # Contract
-        ///
-        /// ```text
-        /// ensures: result ≡ vector.abs w8 v
-        /// ```
-        ///
-        /// Definitions: [`abs`](crate::specs::lanewise::VectorTable#abs).
-        #[inline]
-        pub fn i8x16_abs(v: V128) -> V128 {
-            on_vectors::unary::<I8x16, _>(v, |x| x.wrapping_abs())
-        }
-
-        /// The absolute values of the lanes, read signed; that of the least number is itself.
-        ///
-        /// # Contract
-        ///
-        /// ```text
-        /// ensures: result ≡ vector.abs w16 v
-        /// ```
-        ///
-        /// Definitions: [`abs`](crate::specs::lanewise::VectorTable#abs).
-        #[inline]
-        pub fn i16x8_abs(v: V128) -> V128 {
-            on_vectors::unary::<I16x8, _>(v, |x| x.wrapping_abs())
-        }
-
-        /// The absolute values of the lanes, read signed; that of the least number is itself.
-        ///
-        /// # Contract
-        ///
-        /// ```text
-        /// ensures: result ≡ vector.abs w32 v
-        /// ```
-        ///
-        /// Definitions: [`abs`](crate::specs::lanewise::VectorTable#abs).
-        #[inline]
-        pub fn i32x4_abs(v: V128) -> V128 {
-            on_vectors::unary::<I32x4, _>(v, |x| x.wrapping_abs())
-        }
-
-        /// The absolute values of the lanes, read signed; that of the least number is itself.
-        ///
-        /// # Contract
-        ///
-        /// ```text
-        /// ensures: result ≡ vector.abs w64 v
-        /// ```
-        ///
-        /// Definitions: [`abs`](crate::specs::lanewise::VectorTable#abs).
-        #[inline]
-        pub fn i64x2_abs(v: V128) -> V128 {
-            on_vectors::unary::<I64x2, _>(v, |x| x.wrapping_abs())
-        }
-
-        /// How many bits of each lane are one.
-        ///
-        /// Counted in lanes of 2, 4 and 8 bits in turn, each the sum of its halves. Both words are one
-        /// value of the processor's, for the reason at `words::filled`.
-        ///
-        /// # Contract
-        ///
-        /// ```text
-        /// ensures: result ≡ vector.popcnt w8 v
-        /// ```
-        ///
-        /// Definitions: [`popcnt`](crate::specs::lanewise::VectorTable#popcnt).
-        #[inline]
-        pub fn i8x16_popcnt(v: V128) -> V128 {
-            let words = u64x2_of(v);
-            let ones = u64x2::splat(0x5555_5555_5555_5555);
-            let pairs = words - ((words >> u64x2::splat(1)) & ones);
-            let twos = u64x2::splat(0x3333_3333_3333_3333);
-            let nibbles = (pairs & twos) + ((pairs >> u64x2::splat(2)) & twos);
-            let fours = u64x2::splat(0x0f0f_0f0f_0f0f_0f0f);
-            from_u64x2((nibbles + (nibbles >> u64x2::splat(4))) & fours)
-        }
-
-        /// Bitwise and.
-        ///
-        /// # Contract
-        ///
-        /// ```text
-        /// ensures: result ≡ vector.v128_and lhs rhs
-        /// ```
-        ///
-        /// Definitions: [`v128_and`](crate::specs::lanewise::VectorTable#v128_and).
-        #[inline]
-        pub fn v128_and(lhs: V128, rhs: V128) -> V128 {
-            from_u64x2(u64x2_of(lhs) & u64x2_of(rhs))
-        }
-
-        /// Bitwise or.
-        ///
-        /// # Contract
-        ///
-        /// ```text
-        /// ensures: result ≡ vector.v128_or lhs rhs
-        /// ```
-        ///
-        /// Definitions: [`v128_or`](crate::specs::lanewise::VectorTable#v128_or).
-        #[inline]
-        pub fn v128_or(lhs: V128, rhs: V128) -> V128 {
-            from_u64x2(u64x2_of(lhs) | u64x2_of(rhs))
-        }
-
-        /// Bitwise exclusive or.
-        ///
-        /// # Contract
-        ///
-        /// ```text
-        /// ensures: result ≡ vector.v128_xor lhs rhs
-        /// ```
-        ///
-        /// Definitions: [`v128_xor`](crate::specs::lanewise::VectorTable#v128_xor).
-        #[inline]
-        pub fn v128_xor(lhs: V128, rhs: V128) -> V128 {
-            from_u64x2(u64x2_of(lhs) ^ u64x2_of(rhs))
-        }
-
-        /// The bits of `v` inverted.
-        ///
-        /// # Contract
-        ///
-        /// ```text
-        /// ensures: result ≡ vector.v128_not v
-        /// ```
-        ///
-        /// Definitions: [`v128_not`](crate::specs::lanewise::VectorTable#v128_not).
-        #[inline]
-        pub fn v128_not(v: V128) -> V128 {
-            from_u64x2(!u64x2_of(v))
-        }
-
-        /// The bits of `lhs` where `rhs` has zeros.
-        ///
-        /// # Contract
-        ///
-        /// ```text
-        /// ensures: result ≡ vector.v128_andnot lhs rhs
-        /// ```
-        ///
-        /// Definitions: [`v128_andnot`](crate::specs::lanewise::VectorTable#v128_andnot).
-        #[inline]
-        pub fn v128_andnot(lhs: V128, rhs: V128) -> V128 {
-            v128_and(lhs, v128_not(rhs))
-        }
-
-        /// The bits of `v1` where `c` has ones, those of `v2` where it has zeros.
-        ///
-        /// # Contract
-        ///
-        /// ```text
-        /// ensures: result ≡ vector.v128_bitselect v1 v2 c
-        /// ```
-        ///
-        /// Definitions: [`v128_bitselect`](crate::specs::lanewise::VectorTable#v128_bitselect).
-        #[inline]
-        pub fn v128_bitselect(v1: V128, v2: V128, c: V128) -> V128 {
-            let ones = u64x2_of(c);
-            from_u64x2((u64x2_of(v1) & ones) | (u64x2_of(v2) & !ones))
         }
     }
     mod words {
@@ -2024,36 +353,13 @@ pub mod simd {
         }
     }
 
-    // Arithmetic and bits.
-    pub use binary::{
-        i8x16_add, i8x16_add_sat_s, i8x16_add_sat_u, i8x16_avgr_u, i8x16_max_s, i8x16_max_u,
-        i8x16_min_s, i8x16_min_u, i8x16_mul, i8x16_sub, i8x16_sub_sat_s, i8x16_sub_sat_u,
-        i16x8_add, i16x8_add_sat_s, i16x8_add_sat_u, i16x8_avgr_u, i16x8_max_s, i16x8_max_u,
-        i16x8_min_s, i16x8_min_u, i16x8_mul, i16x8_q15mulr_sat_s, i16x8_sub, i16x8_sub_sat_s,
-        i16x8_sub_sat_u, i32x4_add, i32x4_max_s, i32x4_max_u, i32x4_min_s, i32x4_min_u, i32x4_mul,
-        i32x4_sub, i64x2_add, i64x2_mul, i64x2_sub,
+    use crate::proved::lanes::words::word_differ;
+    use crate::proved::lanes::{
+        SimdLane, VariableLane, bytes_of, clamped_i8, clamped_i16, from_bytes, from_u64x2,
+        on_vectors, u64x2_of,
     };
-    pub use unary::{
-        i8x16_abs, i8x16_neg, i8x16_popcnt, i16x8_abs, i16x8_neg, i32x4_abs, i32x4_neg, i64x2_abs,
-        i64x2_neg, v128_and, v128_andnot, v128_bitselect, v128_not, v128_or, v128_xor,
-    };
-
-    // Comparisons.
-    pub use comparison::{
-        i8x16_eq, i8x16_ge_s, i8x16_ge_u, i8x16_gt_s, i8x16_gt_u, i8x16_le_s, i8x16_le_u,
-        i8x16_lt_s, i8x16_lt_u, i8x16_ne, i16x8_eq, i16x8_ge_s, i16x8_ge_u, i16x8_gt_s, i16x8_gt_u,
-        i16x8_le_s, i16x8_le_u, i16x8_lt_s, i16x8_lt_u, i16x8_ne, i32x4_eq, i32x4_ge_s, i32x4_ge_u,
-        i32x4_gt_s, i32x4_gt_u, i32x4_le_s, i32x4_le_u, i32x4_lt_s, i32x4_lt_u, i32x4_ne, i64x2_eq,
-        i64x2_ge_s, i64x2_gt_s, i64x2_le_s, i64x2_lt_s, i64x2_ne,
-    };
-
-    // Lanes and bytes by their indices.
-    pub use lane_access::{
-        i8x16_extract_lane_s, i8x16_extract_lane_u, i8x16_replace_lane, i8x16_shuffle, i8x16_splat,
-        i8x16_swizzle, i16x8_extract_lane_s, i16x8_extract_lane_u, i16x8_replace_lane, i16x8_splat,
-        i32x4_extract_lane, i32x4_replace_lane, i32x4_splat, i64x2_extract_lane,
-        i64x2_replace_lane, i64x2_splat,
-    };
+    use crate::proved::raw::V128;
+    use crate::rattle::simd::prelude::*;
 
     // Lanes and their indices.
     pub use crate::proved::lanes::{
@@ -2061,4 +367,1647 @@ pub mod simd {
         ImmLaneIdx8, ImmLaneIdx16, ImmLaneIdx32, IntoLaneIdx, IntoLanes, Lanes, OutOfBoundsLaneIdx,
         U8x16, U16x8, U32x4, U64x2,
     };
+
+    // Instructions of one operand, and those that work bit by bit on whole vectors.
+
+    /// The lanes negated, modulo 2 to the power 8.
+    ///
+    /// # Contract
+    ///
+    /// ```text
+    /// ensures: result ≡ vector.neg w8 v
+    /// ```
+    ///
+    /// Definitions: [`neg`](crate::specs::lanewise::VectorTable#neg).
+    #[inline]
+    pub fn i8x16_neg(v: V128) -> V128 {
+        words::negations::<u8>(v)
+    }
+
+    /// The lanes negated, modulo 2 to the power 16.
+    ///
+    /// # Contract
+    ///
+    /// ```text
+    /// ensures: result ≡ vector.neg w16 v
+    /// ```
+    ///
+    /// Definitions: [`neg`](crate::specs::lanewise::VectorTable#neg).
+    #[inline]
+    pub fn i16x8_neg(v: V128) -> V128 {
+        words::negations::<u16>(v)
+    }
+
+    /// The lanes negated, modulo 2 to the power 32.
+    ///
+    /// # Contract
+    ///
+    /// ```text
+    /// ensures: result ≡ vector.neg w32 v
+    /// ```
+    ///
+    /// Definitions: [`neg`](crate::specs::lanewise::VectorTable#neg).
+    #[inline]
+    pub fn i32x4_neg(v: V128) -> V128 {
+        words::negations::<u32>(v)
+    }
+
+    /// The lanes negated, modulo 2 to the power 64.
+    ///
+    /// # Contract
+    ///
+    /// ```text
+    /// ensures: result ≡ vector.neg w64 v
+    /// ```
+    ///
+    /// Definitions: [`neg`](crate::specs::lanewise::VectorTable#neg).
+    #[inline]
+    pub fn i64x2_neg(v: V128) -> V128 {
+        words::negations::<u64>(v)
+    }
+
+    /// The absolute values of the lanes, read signed; that of the least number is itself.
+    ///
+    /// # Contract
+    ///
+    /// ```text
+    /// ensures: result ≡ vector.abs w8 v
+    /// ```
+    ///
+    /// Definitions: [`abs`](crate::specs::lanewise::VectorTable#abs).
+    #[inline]
+    pub fn i8x16_abs(v: V128) -> V128 {
+        on_vectors::unary::<I8x16, _>(v, |x| x.wrapping_abs())
+    }
+
+    /// The absolute values of the lanes, read signed; that of the least number is itself.
+    ///
+    /// # Contract
+    ///
+    /// ```text
+    /// ensures: result ≡ vector.abs w16 v
+    /// ```
+    ///
+    /// Definitions: [`abs`](crate::specs::lanewise::VectorTable#abs).
+    #[inline]
+    pub fn i16x8_abs(v: V128) -> V128 {
+        on_vectors::unary::<I16x8, _>(v, |x| x.wrapping_abs())
+    }
+
+    /// The absolute values of the lanes, read signed; that of the least number is itself.
+    ///
+    /// # Contract
+    ///
+    /// ```text
+    /// ensures: result ≡ vector.abs w32 v
+    /// ```
+    ///
+    /// Definitions: [`abs`](crate::specs::lanewise::VectorTable#abs).
+    #[inline]
+    pub fn i32x4_abs(v: V128) -> V128 {
+        on_vectors::unary::<I32x4, _>(v, |x| x.wrapping_abs())
+    }
+
+    /// The absolute values of the lanes, read signed; that of the least number is itself.
+    ///
+    /// # Contract
+    ///
+    /// ```text
+    /// ensures: result ≡ vector.abs w64 v
+    /// ```
+    ///
+    /// Definitions: [`abs`](crate::specs::lanewise::VectorTable#abs).
+    #[inline]
+    pub fn i64x2_abs(v: V128) -> V128 {
+        on_vectors::unary::<I64x2, _>(v, |x| x.wrapping_abs())
+    }
+
+    /// How many bits of each lane are one.
+    ///
+    /// Counted in lanes of 2, 4 and 8 bits in turn, each the sum of its halves. Both words are one
+    /// value of the processor's, for the reason at `words::filled`.
+    ///
+    /// # Contract
+    ///
+    /// ```text
+    /// ensures: result ≡ vector.popcnt w8 v
+    /// ```
+    ///
+    /// Definitions: [`popcnt`](crate::specs::lanewise::VectorTable#popcnt).
+    #[inline]
+    pub fn i8x16_popcnt(v: V128) -> V128 {
+        let words = u64x2_of(v);
+        let ones = u64x2::splat(0x5555_5555_5555_5555);
+        let pairs = words - ((words >> u64x2::splat(1)) & ones);
+        let twos = u64x2::splat(0x3333_3333_3333_3333);
+        let nibbles = (pairs & twos) + ((pairs >> u64x2::splat(2)) & twos);
+        let fours = u64x2::splat(0x0f0f_0f0f_0f0f_0f0f);
+        from_u64x2((nibbles + (nibbles >> u64x2::splat(4))) & fours)
+    }
+
+    /// Bitwise and.
+    ///
+    /// # Contract
+    ///
+    /// ```text
+    /// ensures: result ≡ vector.v128_and lhs rhs
+    /// ```
+    ///
+    /// Definitions: [`v128_and`](crate::specs::lanewise::VectorTable#v128_and).
+    #[inline]
+    pub fn v128_and(lhs: V128, rhs: V128) -> V128 {
+        from_u64x2(u64x2_of(lhs) & u64x2_of(rhs))
+    }
+
+    /// Bitwise or.
+    ///
+    /// # Contract
+    ///
+    /// ```text
+    /// ensures: result ≡ vector.v128_or lhs rhs
+    /// ```
+    ///
+    /// Definitions: [`v128_or`](crate::specs::lanewise::VectorTable#v128_or).
+    #[inline]
+    pub fn v128_or(lhs: V128, rhs: V128) -> V128 {
+        from_u64x2(u64x2_of(lhs) | u64x2_of(rhs))
+    }
+
+    /// Bitwise exclusive or.
+    ///
+    /// # Contract
+    ///
+    /// ```text
+    /// ensures: result ≡ vector.v128_xor lhs rhs
+    /// ```
+    ///
+    /// Definitions: [`v128_xor`](crate::specs::lanewise::VectorTable#v128_xor).
+    #[inline]
+    pub fn v128_xor(lhs: V128, rhs: V128) -> V128 {
+        from_u64x2(u64x2_of(lhs) ^ u64x2_of(rhs))
+    }
+
+    /// The bits of `v` inverted.
+    ///
+    /// # Contract
+    ///
+    /// ```text
+    /// ensures: result ≡ vector.v128_not v
+    /// ```
+    ///
+    /// Definitions: [`v128_not`](crate::specs::lanewise::VectorTable#v128_not).
+    #[inline]
+    pub fn v128_not(v: V128) -> V128 {
+        from_u64x2(!u64x2_of(v))
+    }
+
+    /// The bits of `lhs` where `rhs` has zeros.
+    ///
+    /// # Contract
+    ///
+    /// ```text
+    /// ensures: result ≡ vector.v128_andnot lhs rhs
+    /// ```
+    ///
+    /// Definitions: [`v128_andnot`](crate::specs::lanewise::VectorTable#v128_andnot).
+    #[inline]
+    pub fn v128_andnot(lhs: V128, rhs: V128) -> V128 {
+        v128_and(lhs, v128_not(rhs))
+    }
+
+    /// The bits of `v1` where `c` has ones, those of `v2` where it has zeros.
+    ///
+    /// # Contract
+    ///
+    /// ```text
+    /// ensures: result ≡ vector.v128_bitselect v1 v2 c
+    /// ```
+    ///
+    /// Definitions: [`v128_bitselect`](crate::specs::lanewise::VectorTable#v128_bitselect).
+    #[inline]
+    pub fn v128_bitselect(v1: V128, v2: V128, c: V128) -> V128 {
+        let ones = u64x2_of(c);
+        from_u64x2((u64x2_of(v1) & ones) | (u64x2_of(v2) & !ones))
+    }
+
+    // Instructions of two operands.
+
+    /// The sums of the lanes, modulo 2 to the power 8.
+    ///
+    /// # Contract
+    ///
+    /// ```text
+    /// ensures: result ≡ vector.add w8 lhs rhs
+    /// ```
+    ///
+    /// Definitions: [`add`](crate::specs::lanewise::VectorTable#add).
+    #[inline]
+    pub fn i8x16_add(lhs: V128, rhs: V128) -> V128 {
+        words::sums::<u8>(lhs, rhs)
+    }
+
+    /// The sums of the lanes, modulo 2 to the power 16.
+    ///
+    /// # Contract
+    ///
+    /// ```text
+    /// ensures: result ≡ vector.add w16 lhs rhs
+    /// ```
+    ///
+    /// Definitions: [`add`](crate::specs::lanewise::VectorTable#add).
+    #[inline]
+    pub fn i16x8_add(lhs: V128, rhs: V128) -> V128 {
+        words::sums::<u16>(lhs, rhs)
+    }
+
+    /// The sums of the lanes, modulo 2 to the power 32.
+    ///
+    /// # Contract
+    ///
+    /// ```text
+    /// ensures: result ≡ vector.add w32 lhs rhs
+    /// ```
+    ///
+    /// Definitions: [`add`](crate::specs::lanewise::VectorTable#add).
+    #[inline]
+    pub fn i32x4_add(lhs: V128, rhs: V128) -> V128 {
+        words::sums::<u32>(lhs, rhs)
+    }
+
+    /// The sums of the lanes, modulo 2 to the power 64.
+    ///
+    /// # Contract
+    ///
+    /// ```text
+    /// ensures: result ≡ vector.add w64 lhs rhs
+    /// ```
+    ///
+    /// Definitions: [`add`](crate::specs::lanewise::VectorTable#add).
+    #[inline]
+    pub fn i64x2_add(lhs: V128, rhs: V128) -> V128 {
+        words::sums::<u64>(lhs, rhs)
+    }
+
+    /// The differences of the lanes, modulo 2 to the power 8.
+    ///
+    /// # Contract
+    ///
+    /// ```text
+    /// ensures: result ≡ vector.sub w8 lhs rhs
+    /// ```
+    ///
+    /// Definitions: [`sub`](crate::specs::lanewise::VectorTable#sub).
+    #[inline]
+    pub fn i8x16_sub(lhs: V128, rhs: V128) -> V128 {
+        words::differences::<u8>(lhs, rhs)
+    }
+
+    /// The differences of the lanes, modulo 2 to the power 16.
+    ///
+    /// # Contract
+    ///
+    /// ```text
+    /// ensures: result ≡ vector.sub w16 lhs rhs
+    /// ```
+    ///
+    /// Definitions: [`sub`](crate::specs::lanewise::VectorTable#sub).
+    #[inline]
+    pub fn i16x8_sub(lhs: V128, rhs: V128) -> V128 {
+        words::differences::<u16>(lhs, rhs)
+    }
+
+    /// The differences of the lanes, modulo 2 to the power 32.
+    ///
+    /// # Contract
+    ///
+    /// ```text
+    /// ensures: result ≡ vector.sub w32 lhs rhs
+    /// ```
+    ///
+    /// Definitions: [`sub`](crate::specs::lanewise::VectorTable#sub).
+    #[inline]
+    pub fn i32x4_sub(lhs: V128, rhs: V128) -> V128 {
+        words::differences::<u32>(lhs, rhs)
+    }
+
+    /// The differences of the lanes, modulo 2 to the power 64.
+    ///
+    /// # Contract
+    ///
+    /// ```text
+    /// ensures: result ≡ vector.sub w64 lhs rhs
+    /// ```
+    ///
+    /// Definitions: [`sub`](crate::specs::lanewise::VectorTable#sub).
+    #[inline]
+    pub fn i64x2_sub(lhs: V128, rhs: V128) -> V128 {
+        words::differences::<u64>(lhs, rhs)
+    }
+
+    /// The products of the lanes, modulo 2 to the power 8: upstream's alone, not WebAssembly's.
+    ///
+    /// # Contract
+    ///
+    /// ```text
+    /// ensures: result ≡ vector.mul w8 lhs rhs
+    /// ```
+    ///
+    /// Definitions: [`mul`](crate::specs::lanewise::VectorTable#mul).
+    #[inline]
+    pub fn i8x16_mul(lhs: V128, rhs: V128) -> V128 {
+        on_vectors::binary::<U8x16, _>(lhs, rhs, |x, y| x.wrapping_mul(y))
+    }
+
+    /// The products of the lanes, modulo 2 to the power 16.
+    ///
+    /// # Contract
+    ///
+    /// ```text
+    /// ensures: result ≡ vector.mul w16 lhs rhs
+    /// ```
+    ///
+    /// Definitions: [`mul`](crate::specs::lanewise::VectorTable#mul).
+    #[inline]
+    pub fn i16x8_mul(lhs: V128, rhs: V128) -> V128 {
+        on_vectors::binary::<U16x8, _>(lhs, rhs, |x, y| x.wrapping_mul(y))
+    }
+
+    /// The products of the lanes, modulo 2 to the power 32.
+    ///
+    /// # Contract
+    ///
+    /// ```text
+    /// ensures: result ≡ vector.mul w32 lhs rhs
+    /// ```
+    ///
+    /// Definitions: [`mul`](crate::specs::lanewise::VectorTable#mul).
+    #[inline]
+    pub fn i32x4_mul(lhs: V128, rhs: V128) -> V128 {
+        on_vectors::binary::<U32x4, _>(lhs, rhs, |x, y| x.wrapping_mul(y))
+    }
+
+    /// The products of the lanes, modulo 2 to the power 64.
+    ///
+    /// # Contract
+    ///
+    /// ```text
+    /// ensures: result ≡ vector.mul w64 lhs rhs
+    /// ```
+    ///
+    /// Definitions: [`mul`](crate::specs::lanewise::VectorTable#mul).
+    #[inline]
+    pub fn i64x2_mul(lhs: V128, rhs: V128) -> V128 {
+        let (a_low, a_high) = lhs.words();
+        let (b_low, b_high) = rhs.words();
+        V128::from_word_pair(a_low.wrapping_mul(b_low), product_by_u128(a_high, b_high))
+    }
+
+    // The product modulo 2 to the power 64, as the high word of one of 128 bits. Beside a product of
+    // two words LLVM doesn't take it for a lane of the same vector, whose product (three of `pmuludq`)
+    // is slower than two of words.
+    /// # Contract
+    ///
+    /// ```text
+    /// ensures: result ≡ x * y % 2 ^ 64
+    /// ```
+    #[inline(always)]
+    fn product_by_u128(x: u64, y: u64) -> u64 {
+        ((u128::from(x) << 64).wrapping_mul(u128::from(y)) >> 64) as u64
+    }
+
+    /// The sums of the lanes, read signed and clamped to the signed range of 8 bits.
+    ///
+    /// # Contract
+    ///
+    /// ```text
+    /// ensures: result ≡ vector.add_sat_s w8 lhs rhs
+    /// ```
+    ///
+    /// Definitions: [`add_sat_s`](crate::specs::lanewise::VectorTable#add_sat_s).
+    #[inline]
+    pub fn i8x16_add_sat_s(lhs: V128, rhs: V128) -> V128 {
+        on_vectors::binary::<I8x16, _>(lhs, rhs, |x, y| clamped_i8(sum_i8(x, y)))
+    }
+
+    /// The sums of the lanes, read unsigned and clamped to the unsigned range of 8 bits.
+    ///
+    /// # Contract
+    ///
+    /// ```text
+    /// ensures: result ≡ vector.add_sat_u w8 lhs rhs
+    /// ```
+    ///
+    /// Definitions: [`add_sat_u`](crate::specs::lanewise::VectorTable#add_sat_u).
+    #[inline]
+    pub fn i8x16_add_sat_u(lhs: V128, rhs: V128) -> V128 {
+        u8::vector_of(u8::lanes_of(lhs).saturating_add(u8::lanes_of(rhs)))
+    }
+
+    /// The sums of the lanes, read signed and clamped to the signed range of 16 bits.
+    ///
+    /// # Contract
+    ///
+    /// ```text
+    /// ensures: result ≡ vector.add_sat_s w16 lhs rhs
+    /// ```
+    ///
+    /// Definitions: [`add_sat_s`](crate::specs::lanewise::VectorTable#add_sat_s).
+    #[inline]
+    pub fn i16x8_add_sat_s(lhs: V128, rhs: V128) -> V128 {
+        on_vectors::binary::<I16x8, _>(lhs, rhs, |x, y| clamped_i16(sum_i16(x, y)))
+    }
+
+    /// The sums of the lanes, read unsigned and clamped to the unsigned range of 16 bits.
+    ///
+    /// # Contract
+    ///
+    /// ```text
+    /// ensures: result ≡ vector.add_sat_u w16 lhs rhs
+    /// ```
+    ///
+    /// Definitions: [`add_sat_u`](crate::specs::lanewise::VectorTable#add_sat_u).
+    #[inline]
+    pub fn i16x8_add_sat_u(lhs: V128, rhs: V128) -> V128 {
+        u16::vector_of(u16::lanes_of(lhs).saturating_add(u16::lanes_of(rhs)))
+    }
+
+    /// The differences of the lanes, read signed and clamped to the signed range of 8 bits.
+    ///
+    /// # Contract
+    ///
+    /// ```text
+    /// ensures: result ≡ vector.sub_sat_s w8 lhs rhs
+    /// ```
+    ///
+    /// Definitions: [`sub_sat_s`](crate::specs::lanewise::VectorTable#sub_sat_s).
+    #[inline]
+    pub fn i8x16_sub_sat_s(lhs: V128, rhs: V128) -> V128 {
+        on_vectors::binary::<I8x16, _>(lhs, rhs, |x, y| clamped_i8(difference_i8(x, y)))
+    }
+
+    /// The differences of the lanes, read unsigned and clamped to the unsigned range of 8 bits.
+    ///
+    /// # Contract
+    ///
+    /// ```text
+    /// ensures: result ≡ vector.sub_sat_u w8 lhs rhs
+    /// ```
+    ///
+    /// Definitions: [`sub_sat_u`](crate::specs::lanewise::VectorTable#sub_sat_u).
+    #[inline]
+    pub fn i8x16_sub_sat_u(lhs: V128, rhs: V128) -> V128 {
+        u8::vector_of(u8::lanes_of(lhs).saturating_sub(u8::lanes_of(rhs)))
+    }
+
+    /// The differences of the lanes, read signed and clamped to the signed range of 16 bits.
+    ///
+    /// # Contract
+    ///
+    /// ```text
+    /// ensures: result ≡ vector.sub_sat_s w16 lhs rhs
+    /// ```
+    ///
+    /// Definitions: [`sub_sat_s`](crate::specs::lanewise::VectorTable#sub_sat_s).
+    #[inline]
+    pub fn i16x8_sub_sat_s(lhs: V128, rhs: V128) -> V128 {
+        on_vectors::binary::<I16x8, _>(lhs, rhs, |x, y| clamped_i16(difference_i16(x, y)))
+    }
+
+    /// The differences of the lanes, read unsigned and clamped to the unsigned range of 16 bits.
+    ///
+    /// # Contract
+    ///
+    /// ```text
+    /// ensures: result ≡ vector.sub_sat_u w16 lhs rhs
+    /// ```
+    ///
+    /// Definitions: [`sub_sat_u`](crate::specs::lanewise::VectorTable#sub_sat_u).
+    #[inline]
+    pub fn i16x8_sub_sat_u(lhs: V128, rhs: V128) -> V128 {
+        u16::vector_of(u16::lanes_of(lhs).saturating_sub(u16::lanes_of(rhs)))
+    }
+
+    /// The products of the lanes as q15 numbers (signed, over 2 to the power 15), rounded and clamped
+    /// to the signed range.
+    ///
+    /// Twice the upper half of a product and its rounded lower half: each half is one instruction.
+    ///
+    /// # Contract
+    ///
+    /// ```text
+    /// ensures: result ≡ vector.q15mulr_sat_s lhs rhs
+    /// ```
+    ///
+    /// Definitions: [`q15mulr_sat_s`](crate::specs::lanewise::VectorTable#q15mulr_sat_s).
+    #[inline]
+    pub fn i16x8_q15mulr_sat_s(lhs: V128, rhs: V128) -> V128 {
+        let x = u16::lanes_of(lhs);
+        let y = u16::lanes_of(rhs);
+        u16::vector_of(twice(upper_halves(x, y)) + rounded_quotients(x * y))
+    }
+
+    // The lanes, read signed, at twice their width.
+    /// # Contract
+    ///
+    /// ```text
+    /// ensures lanes: (i : ℕ) → i < 8
+    ///     → slice_index result i ≡ cast_unsigned w32 (signed w16 (slice_index items i))
+    /// ```
+    #[inline(always)]
+    fn sign_copied(items: u16x8) -> u32x8 {
+        let tops = u32x8::splat(0x8000);
+        (items.cast::<u32>() ^ tops) - tops
+    }
+
+    // The upper halves of the products of lanes that are read signed.
+    /// # Contract
+    ///
+    /// ```text
+    /// ensures lanes: (i : ℕ) → i < 8 → slice_index result i
+    ///     ≡ cast_unsigned w32 (signed w16 (slice_index x i)) * cast_unsigned w32
+    ///     (signed w16 (slice_index y i)) % 2 ^ 32 / 2 ^ 16
+    /// ```
+    #[inline(always)]
+    fn upper_halves(x: u16x8, y: u16x8) -> u16x8 {
+        let products = sign_copied(x) * sign_copied(y);
+        (products >> u32x8::splat(16)).cast::<u16>()
+    }
+
+    // Twice the lanes, read signed, and the largest number in the place of the one double that doesn't
+    // fit, that of 2 to the power 14.
+    /// # Contract
+    ///
+    /// ```text
+    /// ensures lanes: (i : ℕ) → i < 8 → slice_index result i
+    ///     ≡ (slice_index items i +
+    ///     (if nat_lt ((slice_index items i + 0x8000) % 2 ^ 16) 0xbfff then slice_index items i
+    ///     else 0x3fff)) % 2 ^ 16
+    /// ```
+    #[inline(always)]
+    fn twice(items: u16x8) -> u16x8 {
+        let most = u16::splat(0x3fff);
+        items + u16::choose_if_less(u16::biased(items), u16::biased(most), items, most)
+    }
+
+    // The lanes divided by 2 to the power 15, halves rounded up.
+    /// # Contract
+    ///
+    /// ```text
+    /// ensures lanes: (i : ℕ) → i < 8
+    ///     → slice_index result i ≡ (slice_index items i / 2 + 0x2000) % 2 ^ 16 / 2 ^ 14
+    /// ```
+    #[inline(always)]
+    fn rounded_quotients(items: u16x8) -> u16x8 {
+        ((items >> u16x8::splat(1)) + u16x8::splat(0x2000)) >> u16x8::splat(14)
+    }
+
+    /// The smaller ones of the lanes, read signed.
+    ///
+    /// # Contract
+    ///
+    /// ```text
+    /// ensures: result ≡ vector.min_s w8 lhs rhs
+    /// ```
+    ///
+    /// Definitions: [`min_s`](crate::specs::lanewise::VectorTable#min_s).
+    #[inline]
+    pub fn i8x16_min_s(lhs: V128, rhs: V128) -> V128 {
+        order::smaller_s::<u8>(lhs, rhs)
+    }
+
+    /// The smaller ones of the lanes, read unsigned.
+    ///
+    /// # Contract
+    ///
+    /// ```text
+    /// ensures: result ≡ vector.min_u w8 lhs rhs
+    /// ```
+    ///
+    /// Definitions: [`min_u`](crate::specs::lanewise::VectorTable#min_u).
+    #[inline]
+    pub fn i8x16_min_u(lhs: V128, rhs: V128) -> V128 {
+        order::smaller_u::<u8>(lhs, rhs)
+    }
+
+    /// The smaller ones of the lanes, read signed.
+    ///
+    /// # Contract
+    ///
+    /// ```text
+    /// ensures: result ≡ vector.min_s w16 lhs rhs
+    /// ```
+    ///
+    /// Definitions: [`min_s`](crate::specs::lanewise::VectorTable#min_s).
+    #[inline]
+    pub fn i16x8_min_s(lhs: V128, rhs: V128) -> V128 {
+        order::smaller_s::<u16>(lhs, rhs)
+    }
+
+    /// The smaller ones of the lanes, read unsigned.
+    ///
+    /// # Contract
+    ///
+    /// ```text
+    /// ensures: result ≡ vector.min_u w16 lhs rhs
+    /// ```
+    ///
+    /// Definitions: [`min_u`](crate::specs::lanewise::VectorTable#min_u).
+    #[inline]
+    pub fn i16x8_min_u(lhs: V128, rhs: V128) -> V128 {
+        order::smaller_u::<u16>(lhs, rhs)
+    }
+
+    /// The smaller ones of the lanes, read signed.
+    ///
+    /// # Contract
+    ///
+    /// ```text
+    /// ensures: result ≡ vector.min_s w32 lhs rhs
+    /// ```
+    ///
+    /// Definitions: [`min_s`](crate::specs::lanewise::VectorTable#min_s).
+    #[inline]
+    pub fn i32x4_min_s(lhs: V128, rhs: V128) -> V128 {
+        order::smaller_s::<u32>(lhs, rhs)
+    }
+
+    /// The smaller ones of the lanes, read unsigned.
+    ///
+    /// # Contract
+    ///
+    /// ```text
+    /// ensures: result ≡ vector.min_u w32 lhs rhs
+    /// ```
+    ///
+    /// Definitions: [`min_u`](crate::specs::lanewise::VectorTable#min_u).
+    #[inline]
+    pub fn i32x4_min_u(lhs: V128, rhs: V128) -> V128 {
+        order::smaller_u::<u32>(lhs, rhs)
+    }
+
+    /// The larger ones of the lanes, read signed.
+    ///
+    /// # Contract
+    ///
+    /// ```text
+    /// ensures: result ≡ vector.max_s w8 lhs rhs
+    /// ```
+    ///
+    /// Definitions: [`max_s`](crate::specs::lanewise::VectorTable#max_s).
+    #[inline]
+    pub fn i8x16_max_s(lhs: V128, rhs: V128) -> V128 {
+        order::larger_s::<u8>(lhs, rhs)
+    }
+
+    /// The larger ones of the lanes, read unsigned.
+    ///
+    /// # Contract
+    ///
+    /// ```text
+    /// ensures: result ≡ vector.max_u w8 lhs rhs
+    /// ```
+    ///
+    /// Definitions: [`max_u`](crate::specs::lanewise::VectorTable#max_u).
+    #[inline]
+    pub fn i8x16_max_u(lhs: V128, rhs: V128) -> V128 {
+        order::larger_u::<u8>(lhs, rhs)
+    }
+
+    /// The larger ones of the lanes, read signed.
+    ///
+    /// # Contract
+    ///
+    /// ```text
+    /// ensures: result ≡ vector.max_s w16 lhs rhs
+    /// ```
+    ///
+    /// Definitions: [`max_s`](crate::specs::lanewise::VectorTable#max_s).
+    #[inline]
+    pub fn i16x8_max_s(lhs: V128, rhs: V128) -> V128 {
+        order::larger_s::<u16>(lhs, rhs)
+    }
+
+    /// The larger ones of the lanes, read unsigned.
+    ///
+    /// # Contract
+    ///
+    /// ```text
+    /// ensures: result ≡ vector.max_u w16 lhs rhs
+    /// ```
+    ///
+    /// Definitions: [`max_u`](crate::specs::lanewise::VectorTable#max_u).
+    #[inline]
+    pub fn i16x8_max_u(lhs: V128, rhs: V128) -> V128 {
+        order::larger_u::<u16>(lhs, rhs)
+    }
+
+    /// The larger ones of the lanes, read signed.
+    ///
+    /// # Contract
+    ///
+    /// ```text
+    /// ensures: result ≡ vector.max_s w32 lhs rhs
+    /// ```
+    ///
+    /// Definitions: [`max_s`](crate::specs::lanewise::VectorTable#max_s).
+    #[inline]
+    pub fn i32x4_max_s(lhs: V128, rhs: V128) -> V128 {
+        order::larger_s::<u32>(lhs, rhs)
+    }
+
+    /// The larger ones of the lanes, read unsigned.
+    ///
+    /// # Contract
+    ///
+    /// ```text
+    /// ensures: result ≡ vector.max_u w32 lhs rhs
+    /// ```
+    ///
+    /// Definitions: [`max_u`](crate::specs::lanewise::VectorTable#max_u).
+    #[inline]
+    pub fn i32x4_max_u(lhs: V128, rhs: V128) -> V128 {
+        order::larger_u::<u32>(lhs, rhs)
+    }
+
+    /// The averages of the lanes, read unsigned, halves rounded up.
+    ///
+    /// # Contract
+    ///
+    /// ```text
+    /// ensures: result ≡ vector.avgr_u w8 lhs rhs
+    /// ```
+    ///
+    /// Definitions: [`avgr_u`](crate::specs::lanewise::VectorTable#avgr_u).
+    #[inline]
+    pub fn i8x16_avgr_u(lhs: V128, rhs: V128) -> V128 {
+        words::averages::<u8>(lhs, rhs)
+    }
+
+    /// The averages of the lanes, read unsigned, halves rounded up.
+    ///
+    /// # Contract
+    ///
+    /// ```text
+    /// ensures: result ≡ vector.avgr_u w16 lhs rhs
+    /// ```
+    ///
+    /// Definitions: [`avgr_u`](crate::specs::lanewise::VectorTable#avgr_u).
+    #[inline]
+    pub fn i16x8_avgr_u(lhs: V128, rhs: V128) -> V128 {
+        words::averages::<u16>(lhs, rhs)
+    }
+
+    /// # Contract
+    ///
+    /// ```text
+    /// ensures: result ≡ x +ℤ y
+    /// ```
+    #[inline]
+    fn sum_i8(x: i8, y: i8) -> i16 {
+        i16::from(x) + i16::from(y)
+    }
+
+    /// # Contract
+    ///
+    /// ```text
+    /// ensures: result ≡ x -ℤ y
+    /// ```
+    #[inline]
+    fn difference_i8(x: i8, y: i8) -> i16 {
+        i16::from(x) - i16::from(y)
+    }
+
+    /// # Contract
+    ///
+    /// ```text
+    /// ensures: result ≡ x +ℤ y
+    /// ```
+    #[inline]
+    fn sum_i16(x: i16, y: i16) -> i32 {
+        i32::from(x) + i32::from(y)
+    }
+
+    /// # Contract
+    ///
+    /// ```text
+    /// ensures: result ≡ x -ℤ y
+    /// ```
+    #[inline]
+    fn difference_i16(x: i16, y: i16) -> i32 {
+        i32::from(x) - i32::from(y)
+    }
+
+    // Comparisons.
+
+    /// All ones in the lanes that are equal, else all zeros.
+    ///
+    /// # Contract
+    ///
+    /// ```text
+    /// ensures: result ≡ vector.eq w8 lhs rhs
+    /// ```
+    ///
+    /// Definitions: [`eq`](crate::specs::lanewise::VectorTable#eq).
+    #[inline]
+    pub fn i8x16_eq(lhs: V128, rhs: V128) -> V128 {
+        words::equal::<u8>(lhs, rhs)
+    }
+
+    /// All ones in the lanes that are equal, else all zeros.
+    ///
+    /// # Contract
+    ///
+    /// ```text
+    /// ensures: result ≡ vector.eq w16 lhs rhs
+    /// ```
+    ///
+    /// Definitions: [`eq`](crate::specs::lanewise::VectorTable#eq).
+    #[inline]
+    pub fn i16x8_eq(lhs: V128, rhs: V128) -> V128 {
+        words::equal::<u16>(lhs, rhs)
+    }
+
+    /// All ones in the lanes that are equal, else all zeros.
+    ///
+    /// # Contract
+    ///
+    /// ```text
+    /// ensures: result ≡ vector.eq w32 lhs rhs
+    /// ```
+    ///
+    /// Definitions: [`eq`](crate::specs::lanewise::VectorTable#eq).
+    #[inline]
+    pub fn i32x4_eq(lhs: V128, rhs: V128) -> V128 {
+        words::equal::<u32>(lhs, rhs)
+    }
+
+    /// All ones in the lanes that are equal, else all zeros.
+    ///
+    /// # Contract
+    ///
+    /// ```text
+    /// ensures: result ≡ vector.eq w64 lhs rhs
+    /// ```
+    ///
+    /// Definitions: [`eq`](crate::specs::lanewise::VectorTable#eq).
+    #[inline]
+    pub fn i64x2_eq(lhs: V128, rhs: V128) -> V128 {
+        let (a_low, a_high) = lhs.words();
+        let (b_low, b_high) = rhs.words();
+        V128::from_word_pair(ones_if_equal(a_low, b_low), ones_if_equal(a_high, b_high))
+    }
+
+    /// All ones in the lanes that are different, else all zeros.
+    ///
+    /// # Contract
+    ///
+    /// ```text
+    /// ensures: result ≡ vector.ne w8 lhs rhs
+    /// ```
+    ///
+    /// Definitions: [`ne`](crate::specs::lanewise::VectorTable#ne).
+    #[inline]
+    pub fn i8x16_ne(lhs: V128, rhs: V128) -> V128 {
+        words::different::<u8>(lhs, rhs)
+    }
+
+    /// All ones in the lanes that are different, else all zeros.
+    ///
+    /// # Contract
+    ///
+    /// ```text
+    /// ensures: result ≡ vector.ne w16 lhs rhs
+    /// ```
+    ///
+    /// Definitions: [`ne`](crate::specs::lanewise::VectorTable#ne).
+    #[inline]
+    pub fn i16x8_ne(lhs: V128, rhs: V128) -> V128 {
+        words::different::<u16>(lhs, rhs)
+    }
+
+    /// All ones in the lanes that are different, else all zeros.
+    ///
+    /// # Contract
+    ///
+    /// ```text
+    /// ensures: result ≡ vector.ne w32 lhs rhs
+    /// ```
+    ///
+    /// Definitions: [`ne`](crate::specs::lanewise::VectorTable#ne).
+    #[inline]
+    pub fn i32x4_ne(lhs: V128, rhs: V128) -> V128 {
+        words::different::<u32>(lhs, rhs)
+    }
+
+    /// All ones in the lanes that are different, else all zeros.
+    ///
+    /// # Contract
+    ///
+    /// ```text
+    /// ensures: result ≡ vector.ne w64 lhs rhs
+    /// ```
+    ///
+    /// Definitions: [`ne`](crate::specs::lanewise::VectorTable#ne).
+    #[inline]
+    pub fn i64x2_ne(lhs: V128, rhs: V128) -> V128 {
+        let (a_low, a_high) = lhs.words();
+        let (b_low, b_high) = rhs.words();
+        V128::from_word_pair(!ones_if_equal(a_low, b_low), !ones_if_equal(a_high, b_high))
+    }
+
+    // All ones if two words are equal, else 0. They are compared as lanes of one bit, of which
+    // `word_differ` masks nothing.
+    /// # Contract
+    ///
+    /// ```text
+    /// ensures: result ≡ (if a == b then 2 ^ 64 - 1 else 0)
+    /// ```
+    #[inline(always)]
+    fn ones_if_equal(a: u64, b: u64) -> u64 {
+        if word_differ(a, b, u64::MAX) == 0 {
+            u64::MAX
+        } else {
+            0
+        }
+    }
+
+    /// All ones where the lane of `lhs` is less than that of `rhs`, both read signed, else all zeros.
+    ///
+    /// # Contract
+    ///
+    /// ```text
+    /// ensures: result ≡ vector.lt_s w8 lhs rhs
+    /// ```
+    ///
+    /// Definitions: [`lt_s`](crate::specs::lanewise::VectorTable#lt_s).
+    #[inline]
+    pub fn i8x16_lt_s(lhs: V128, rhs: V128) -> V128 {
+        order::less_s::<u8>(lhs, rhs)
+    }
+
+    /// All ones where the lane of `lhs` is less than that of `rhs`, both read signed, else all zeros.
+    ///
+    /// # Contract
+    ///
+    /// ```text
+    /// ensures: result ≡ vector.lt_s w16 lhs rhs
+    /// ```
+    ///
+    /// Definitions: [`lt_s`](crate::specs::lanewise::VectorTable#lt_s).
+    #[inline]
+    pub fn i16x8_lt_s(lhs: V128, rhs: V128) -> V128 {
+        order::less_s::<u16>(lhs, rhs)
+    }
+
+    /// All ones where the lane of `lhs` is less than that of `rhs`, both read signed, else all zeros.
+    ///
+    /// # Contract
+    ///
+    /// ```text
+    /// ensures: result ≡ vector.lt_s w32 lhs rhs
+    /// ```
+    ///
+    /// Definitions: [`lt_s`](crate::specs::lanewise::VectorTable#lt_s).
+    #[inline]
+    pub fn i32x4_lt_s(lhs: V128, rhs: V128) -> V128 {
+        order::less_s::<u32>(lhs, rhs)
+    }
+
+    /// All ones where the lane of `lhs` is less than that of `rhs`, both read signed, else all zeros.
+    ///
+    /// # Contract
+    ///
+    /// ```text
+    /// ensures: result ≡ vector.lt_s w64 lhs rhs
+    /// ```
+    ///
+    /// Definitions: [`lt_s`](crate::specs::lanewise::VectorTable#lt_s).
+    #[inline]
+    pub fn i64x2_lt_s(lhs: V128, rhs: V128) -> V128 {
+        order::less_s::<u64>(lhs, rhs)
+    }
+
+    /// All ones where the lane of `lhs` is less than that of `rhs`, both read unsigned, else all zeros.
+    ///
+    /// # Contract
+    ///
+    /// ```text
+    /// ensures: result ≡ vector.lt_u w8 lhs rhs
+    /// ```
+    ///
+    /// Definitions: [`lt_u`](crate::specs::lanewise::VectorTable#lt_u).
+    #[inline]
+    pub fn i8x16_lt_u(lhs: V128, rhs: V128) -> V128 {
+        order::less_u::<u8>(lhs, rhs)
+    }
+
+    /// All ones where the lane of `lhs` is less than that of `rhs`, both read unsigned, else all zeros.
+    ///
+    /// # Contract
+    ///
+    /// ```text
+    /// ensures: result ≡ vector.lt_u w16 lhs rhs
+    /// ```
+    ///
+    /// Definitions: [`lt_u`](crate::specs::lanewise::VectorTable#lt_u).
+    #[inline]
+    pub fn i16x8_lt_u(lhs: V128, rhs: V128) -> V128 {
+        order::less_u::<u16>(lhs, rhs)
+    }
+
+    /// All ones where the lane of `lhs` is less than that of `rhs`, both read unsigned, else all zeros.
+    ///
+    /// # Contract
+    ///
+    /// ```text
+    /// ensures: result ≡ vector.lt_u w32 lhs rhs
+    /// ```
+    ///
+    /// Definitions: [`lt_u`](crate::specs::lanewise::VectorTable#lt_u).
+    #[inline]
+    pub fn i32x4_lt_u(lhs: V128, rhs: V128) -> V128 {
+        order::less_u::<u32>(lhs, rhs)
+    }
+
+    /// All ones where the lane of `lhs` is at most that of `rhs`, both read signed, else all zeros.
+    ///
+    /// # Contract
+    ///
+    /// ```text
+    /// ensures: result ≡ vector.le_s w8 lhs rhs
+    /// ```
+    ///
+    /// Definitions: [`le_s`](crate::specs::lanewise::VectorTable#le_s).
+    #[inline]
+    pub fn i8x16_le_s(lhs: V128, rhs: V128) -> V128 {
+        order::at_most_s::<u8>(lhs, rhs)
+    }
+
+    /// All ones where the lane of `lhs` is at most that of `rhs`, both read signed, else all zeros.
+    ///
+    /// # Contract
+    ///
+    /// ```text
+    /// ensures: result ≡ vector.le_s w16 lhs rhs
+    /// ```
+    ///
+    /// Definitions: [`le_s`](crate::specs::lanewise::VectorTable#le_s).
+    #[inline]
+    pub fn i16x8_le_s(lhs: V128, rhs: V128) -> V128 {
+        order::at_most_s::<u16>(lhs, rhs)
+    }
+
+    /// All ones where the lane of `lhs` is at most that of `rhs`, both read signed, else all zeros.
+    ///
+    /// # Contract
+    ///
+    /// ```text
+    /// ensures: result ≡ vector.le_s w32 lhs rhs
+    /// ```
+    ///
+    /// Definitions: [`le_s`](crate::specs::lanewise::VectorTable#le_s).
+    #[inline]
+    pub fn i32x4_le_s(lhs: V128, rhs: V128) -> V128 {
+        order::at_most_s::<u32>(lhs, rhs)
+    }
+
+    /// All ones where the lane of `lhs` is at most that of `rhs`, both read signed, else all zeros.
+    ///
+    /// # Contract
+    ///
+    /// ```text
+    /// ensures: result ≡ vector.le_s w64 lhs rhs
+    /// ```
+    ///
+    /// Definitions: [`le_s`](crate::specs::lanewise::VectorTable#le_s).
+    #[inline]
+    pub fn i64x2_le_s(lhs: V128, rhs: V128) -> V128 {
+        order::at_most_s::<u64>(lhs, rhs)
+    }
+
+    /// All ones where the lane of `lhs` is at most that of `rhs`, both read unsigned, else all zeros.
+    ///
+    /// # Contract
+    ///
+    /// ```text
+    /// ensures: result ≡ vector.le_u w8 lhs rhs
+    /// ```
+    ///
+    /// Definitions: [`le_u`](crate::specs::lanewise::VectorTable#le_u).
+    #[inline]
+    pub fn i8x16_le_u(lhs: V128, rhs: V128) -> V128 {
+        order::at_most_u::<u8>(lhs, rhs)
+    }
+
+    /// All ones where the lane of `lhs` is at most that of `rhs`, both read unsigned, else all zeros.
+    ///
+    /// # Contract
+    ///
+    /// ```text
+    /// ensures: result ≡ vector.le_u w16 lhs rhs
+    /// ```
+    ///
+    /// Definitions: [`le_u`](crate::specs::lanewise::VectorTable#le_u).
+    #[inline]
+    pub fn i16x8_le_u(lhs: V128, rhs: V128) -> V128 {
+        order::at_most_u::<u16>(lhs, rhs)
+    }
+
+    /// All ones where the lane of `lhs` is at most that of `rhs`, both read unsigned, else all zeros.
+    ///
+    /// # Contract
+    ///
+    /// ```text
+    /// ensures: result ≡ vector.le_u w32 lhs rhs
+    /// ```
+    ///
+    /// Definitions: [`le_u`](crate::specs::lanewise::VectorTable#le_u).
+    #[inline]
+    pub fn i32x4_le_u(lhs: V128, rhs: V128) -> V128 {
+        order::at_most_u::<u32>(lhs, rhs)
+    }
+
+    /// All ones where the lane of `lhs` is the greater one, both read signed, else all zeros.
+    ///
+    /// # Contract
+    ///
+    /// ```text
+    /// ensures: result ≡ vector.gt_s w8 lhs rhs
+    /// ```
+    ///
+    /// Definitions: [`gt_s`](crate::specs::lanewise::VectorTable#gt_s).
+    #[inline]
+    pub fn i8x16_gt_s(lhs: V128, rhs: V128) -> V128 {
+        order::less_s::<u8>(rhs, lhs)
+    }
+
+    /// All ones where the lane of `lhs` is the greater one, both read signed, else all zeros.
+    ///
+    /// # Contract
+    ///
+    /// ```text
+    /// ensures: result ≡ vector.gt_s w16 lhs rhs
+    /// ```
+    ///
+    /// Definitions: [`gt_s`](crate::specs::lanewise::VectorTable#gt_s).
+    #[inline]
+    pub fn i16x8_gt_s(lhs: V128, rhs: V128) -> V128 {
+        order::less_s::<u16>(rhs, lhs)
+    }
+
+    /// All ones where the lane of `lhs` is the greater one, both read signed, else all zeros.
+    ///
+    /// # Contract
+    ///
+    /// ```text
+    /// ensures: result ≡ vector.gt_s w32 lhs rhs
+    /// ```
+    ///
+    /// Definitions: [`gt_s`](crate::specs::lanewise::VectorTable#gt_s).
+    #[inline]
+    pub fn i32x4_gt_s(lhs: V128, rhs: V128) -> V128 {
+        order::less_s::<u32>(rhs, lhs)
+    }
+
+    /// All ones where the lane of `lhs` is the greater one, both read signed, else all zeros.
+    ///
+    /// # Contract
+    ///
+    /// ```text
+    /// ensures: result ≡ vector.gt_s w64 lhs rhs
+    /// ```
+    ///
+    /// Definitions: [`gt_s`](crate::specs::lanewise::VectorTable#gt_s).
+    #[inline]
+    pub fn i64x2_gt_s(lhs: V128, rhs: V128) -> V128 {
+        order::less_s::<u64>(rhs, lhs)
+    }
+
+    /// All ones where the lane of `lhs` is the greater one, both read unsigned, else all zeros.
+    ///
+    /// # Contract
+    ///
+    /// ```text
+    /// ensures: result ≡ vector.gt_u w8 lhs rhs
+    /// ```
+    ///
+    /// Definitions: [`gt_u`](crate::specs::lanewise::VectorTable#gt_u).
+    #[inline]
+    pub fn i8x16_gt_u(lhs: V128, rhs: V128) -> V128 {
+        order::less_u::<u8>(rhs, lhs)
+    }
+
+    /// All ones where the lane of `lhs` is the greater one, both read unsigned, else all zeros.
+    ///
+    /// # Contract
+    ///
+    /// ```text
+    /// ensures: result ≡ vector.gt_u w16 lhs rhs
+    /// ```
+    ///
+    /// Definitions: [`gt_u`](crate::specs::lanewise::VectorTable#gt_u).
+    #[inline]
+    pub fn i16x8_gt_u(lhs: V128, rhs: V128) -> V128 {
+        order::less_u::<u16>(rhs, lhs)
+    }
+
+    /// All ones where the lane of `lhs` is the greater one, both read unsigned, else all zeros.
+    ///
+    /// # Contract
+    ///
+    /// ```text
+    /// ensures: result ≡ vector.gt_u w32 lhs rhs
+    /// ```
+    ///
+    /// Definitions: [`gt_u`](crate::specs::lanewise::VectorTable#gt_u).
+    #[inline]
+    pub fn i32x4_gt_u(lhs: V128, rhs: V128) -> V128 {
+        order::less_u::<u32>(rhs, lhs)
+    }
+
+    /// All ones where the lane of `lhs` is at least that of `rhs`, both read signed, else all zeros.
+    ///
+    /// # Contract
+    ///
+    /// ```text
+    /// ensures: result ≡ vector.ge_s w8 lhs rhs
+    /// ```
+    ///
+    /// Definitions: [`ge_s`](crate::specs::lanewise::VectorTable#ge_s).
+    #[inline]
+    pub fn i8x16_ge_s(lhs: V128, rhs: V128) -> V128 {
+        order::at_most_s::<u8>(rhs, lhs)
+    }
+
+    /// All ones where the lane of `lhs` is at least that of `rhs`, both read signed, else all zeros.
+    ///
+    /// # Contract
+    ///
+    /// ```text
+    /// ensures: result ≡ vector.ge_s w16 lhs rhs
+    /// ```
+    ///
+    /// Definitions: [`ge_s`](crate::specs::lanewise::VectorTable#ge_s).
+    #[inline]
+    pub fn i16x8_ge_s(lhs: V128, rhs: V128) -> V128 {
+        order::at_most_s::<u16>(rhs, lhs)
+    }
+
+    /// All ones where the lane of `lhs` is at least that of `rhs`, both read signed, else all zeros.
+    ///
+    /// # Contract
+    ///
+    /// ```text
+    /// ensures: result ≡ vector.ge_s w32 lhs rhs
+    /// ```
+    ///
+    /// Definitions: [`ge_s`](crate::specs::lanewise::VectorTable#ge_s).
+    #[inline]
+    pub fn i32x4_ge_s(lhs: V128, rhs: V128) -> V128 {
+        order::at_most_s::<u32>(rhs, lhs)
+    }
+
+    /// All ones where the lane of `lhs` is at least that of `rhs`, both read signed, else all zeros.
+    ///
+    /// # Contract
+    ///
+    /// ```text
+    /// ensures: result ≡ vector.ge_s w64 lhs rhs
+    /// ```
+    ///
+    /// Definitions: [`ge_s`](crate::specs::lanewise::VectorTable#ge_s).
+    #[inline]
+    pub fn i64x2_ge_s(lhs: V128, rhs: V128) -> V128 {
+        order::at_most_s::<u64>(rhs, lhs)
+    }
+
+    /// All ones where the lane of `lhs` is at least that of `rhs`, both read unsigned, else all zeros.
+    ///
+    /// # Contract
+    ///
+    /// ```text
+    /// ensures: result ≡ vector.ge_u w8 lhs rhs
+    /// ```
+    ///
+    /// Definitions: [`ge_u`](crate::specs::lanewise::VectorTable#ge_u).
+    #[inline]
+    pub fn i8x16_ge_u(lhs: V128, rhs: V128) -> V128 {
+        order::at_most_u::<u8>(rhs, lhs)
+    }
+
+    /// All ones where the lane of `lhs` is at least that of `rhs`, both read unsigned, else all zeros.
+    ///
+    /// # Contract
+    ///
+    /// ```text
+    /// ensures: result ≡ vector.ge_u w16 lhs rhs
+    /// ```
+    ///
+    /// Definitions: [`ge_u`](crate::specs::lanewise::VectorTable#ge_u).
+    #[inline]
+    pub fn i16x8_ge_u(lhs: V128, rhs: V128) -> V128 {
+        order::at_most_u::<u16>(rhs, lhs)
+    }
+
+    /// All ones where the lane of `lhs` is at least that of `rhs`, both read unsigned, else all zeros.
+    ///
+    /// # Contract
+    ///
+    /// ```text
+    /// ensures: result ≡ vector.ge_u w32 lhs rhs
+    /// ```
+    ///
+    /// Definitions: [`ge_u`](crate::specs::lanewise::VectorTable#ge_u).
+    #[inline]
+    pub fn i32x4_ge_u(lhs: V128, rhs: V128) -> V128 {
+        order::at_most_u::<u32>(rhs, lhs)
+    }
+
+    // Vectors of one item, one lane of a vector, and bytes chosen by their indices, for which an array is
+    // slower than `core::simd` (docs/SPEED.md).
+
+    /// The item in every lane.
+    ///
+    /// # Contract
+    ///
+    /// ```text
+    /// ensures: result ≡ vector.splat w8 item
+    /// ```
+    ///
+    /// Definitions: [`splat`](crate::specs::lanewise::VectorTable#splat).
+    #[inline]
+    pub fn i8x16_splat(item: i8) -> V128 {
+        on_vectors::splat::<I8x16>(item)
+    }
+
+    /// The item in every lane.
+    ///
+    /// # Contract
+    ///
+    /// ```text
+    /// ensures: result ≡ vector.splat w16 item
+    /// ```
+    ///
+    /// Definitions: [`splat`](crate::specs::lanewise::VectorTable#splat).
+    #[inline]
+    pub fn i16x8_splat(item: i16) -> V128 {
+        // By a `core::simd` vector: LLVM puts eight plain lanes together by shifts.
+        u16::vector_of(u16::splat(item.cast_unsigned()))
+    }
+
+    /// The item in every lane.
+    ///
+    /// # Contract
+    ///
+    /// ```text
+    /// ensures: result ≡ vector.splat w32 item
+    /// ```
+    ///
+    /// Definitions: [`splat`](crate::specs::lanewise::VectorTable#splat).
+    #[inline]
+    pub fn i32x4_splat(item: i32) -> V128 {
+        on_vectors::splat::<I32x4>(item)
+    }
+
+    /// The item in every lane.
+    ///
+    /// # Contract
+    ///
+    /// ```text
+    /// ensures: result ≡ vector.splat w64 item
+    /// ```
+    ///
+    /// Definitions: [`splat`](crate::specs::lanewise::VectorTable#splat).
+    #[inline]
+    pub fn i64x2_splat(item: i64) -> V128 {
+        // By lanes of 32 bits: of one word in two places LLVM makes two stores.
+        let items = u32::lanes_of(V128::from_word_pair(item.cast_unsigned(), 0));
+        from_bytes(items.shuffle(items, [0, 1, 0, 1]).to_le_bytes())
+    }
+
+    /// One lane, read signed.
+    ///
+    /// # Contract
+    ///
+    /// ```text
+    /// ensures: result ≡ vector.extract_lane_s w8 v lane
+    /// ```
+    ///
+    /// Definitions: [`extract_lane_s`](crate::specs::lanewise::VectorTable#extract_lane_s).
+    #[inline]
+    pub fn i8x16_extract_lane_s(v: V128, lane: ImmLaneIdx16) -> i32 {
+        i32::from(u8::lane_at(v, lane).cast_signed())
+    }
+
+    /// One lane, read unsigned.
+    ///
+    /// # Contract
+    ///
+    /// ```text
+    /// ensures: result ≡ vector.extract_lane_u w8 v lane
+    /// ```
+    ///
+    /// Definitions: [`extract_lane_u`](crate::specs::lanewise::VectorTable#extract_lane_u).
+    #[inline]
+    pub fn i8x16_extract_lane_u(v: V128, lane: ImmLaneIdx16) -> u32 {
+        u32::from(u8::lane_at(v, lane))
+    }
+
+    /// One lane, read signed.
+    ///
+    /// # Contract
+    ///
+    /// ```text
+    /// ensures: result ≡ vector.extract_lane_s w16 v lane
+    /// ```
+    ///
+    /// Definitions: [`extract_lane_s`](crate::specs::lanewise::VectorTable#extract_lane_s).
+    #[inline]
+    pub fn i16x8_extract_lane_s(v: V128, lane: ImmLaneIdx8) -> i32 {
+        i32::from(u16::lane_at(v, lane).cast_signed())
+    }
+
+    /// One lane, read unsigned.
+    ///
+    /// # Contract
+    ///
+    /// ```text
+    /// ensures: result ≡ vector.extract_lane_u w16 v lane
+    /// ```
+    ///
+    /// Definitions: [`extract_lane_u`](crate::specs::lanewise::VectorTable#extract_lane_u).
+    #[inline]
+    pub fn i16x8_extract_lane_u(v: V128, lane: ImmLaneIdx8) -> u32 {
+        u32::from(u16::lane_at(v, lane))
+    }
+
+    /// One lane, read signed.
+    ///
+    /// # Contract
+    ///
+    /// ```text
+    /// ensures: result ≡ vector.extract_lane_s w32 v lane
+    /// ```
+    ///
+    /// Definitions: [`extract_lane_s`](crate::specs::lanewise::VectorTable#extract_lane_s).
+    #[inline]
+    pub fn i32x4_extract_lane(v: V128, lane: ImmLaneIdx4) -> i32 {
+        u32::lane_at(v, lane).cast_signed()
+    }
+
+    /// One lane, read signed.
+    ///
+    /// # Contract
+    ///
+    /// ```text
+    /// ensures: result ≡ vector.extract_lane_s w64 v lane
+    /// ```
+    ///
+    /// Definitions: [`extract_lane_s`](crate::specs::lanewise::VectorTable#extract_lane_s).
+    #[inline]
+    pub fn i64x2_extract_lane(v: V128, lane: ImmLaneIdx2) -> i64 {
+        u64::lane_at(v, lane).cast_signed()
+    }
+
+    /// `v` with the item in one lane.
+    ///
+    /// # Contract
+    ///
+    /// ```text
+    /// ensures: result ≡ vector.replace_lane w8 v lane item
+    /// ```
+    ///
+    /// Definitions: [`replace_lane`](crate::specs::lanewise::VectorTable#replace_lane).
+    #[inline]
+    pub fn i8x16_replace_lane(v: V128, lane: ImmLaneIdx16, item: i8) -> V128 {
+        u8::with_lane(v, lane, item.cast_unsigned())
+    }
+
+    /// `v` with the item in one lane.
+    ///
+    /// # Contract
+    ///
+    /// ```text
+    /// ensures: result ≡ vector.replace_lane w16 v lane item
+    /// ```
+    ///
+    /// Definitions: [`replace_lane`](crate::specs::lanewise::VectorTable#replace_lane).
+    #[inline]
+    pub fn i16x8_replace_lane(v: V128, lane: ImmLaneIdx8, item: i16) -> V128 {
+        u16::with_lane(v, lane, item.cast_unsigned())
+    }
+
+    /// `v` with the item in one lane.
+    ///
+    /// # Contract
+    ///
+    /// ```text
+    /// ensures: result ≡ vector.replace_lane w32 v lane item
+    /// ```
+    ///
+    /// Definitions: [`replace_lane`](crate::specs::lanewise::VectorTable#replace_lane).
+    #[inline]
+    pub fn i32x4_replace_lane(v: V128, lane: ImmLaneIdx4, item: i32) -> V128 {
+        u32::with_lane(v, lane, item.cast_unsigned())
+    }
+
+    /// `v` with the item in one lane.
+    ///
+    /// # Contract
+    ///
+    /// ```text
+    /// ensures: result ≡ vector.replace_lane w64 v lane item
+    /// ```
+    ///
+    /// Definitions: [`replace_lane`](crate::specs::lanewise::VectorTable#replace_lane).
+    #[inline]
+    pub fn i64x2_replace_lane(v: V128, lane: ImmLaneIdx2, item: i64) -> V128 {
+        u64::with_lane(v, lane, item.cast_unsigned())
+    }
+
+    /// Lane i is lane `s[i]` of `a`, or lane `s[i] - 16` of `b` where `s[i]` is above 15.
+    ///
+    /// # Contract
+    ///
+    /// ```text
+    /// ensures: result ≡ vector.shuffle a b s
+    /// ```
+    ///
+    /// Definitions: [`shuffle`](crate::specs::lanewise::VectorTable#shuffle).
+    #[inline]
+    pub fn i8x16_shuffle(a: V128, b: V128, s: [ImmLaneIdx32; 16]) -> V128 {
+        let indices = bytes_of_indices(s);
+        let low = picked(bytes_of(a), indices);
+        let high = picked(bytes_of(b), indices);
+        from_bytes(low_or_high(indices, low, high))
+    }
+
+    /// Lane i is the lane of `a` at the index that lane i of `s` is, and 0 where that is above 15.
+    ///
+    /// # Contract
+    ///
+    /// ```text
+    /// ensures: result ≡ vector.swizzle a s
+    /// ```
+    ///
+    /// Definitions: [`swizzle`](crate::specs::lanewise::VectorTable#swizzle).
+    #[inline]
+    pub fn i8x16_swizzle(a: V128, s: V128) -> V128 {
+        from_bytes(picked_or_zero(bytes_of(a), bytes_of(s)))
+    }
+
+    // The lanes of `table` at the indices, and 0 where an index is above 15: such an index becomes 128,
+    // at which the processor's instruction gives 0. LLVM leaves the last mask out, since that
+    // instruction reads no other bits.
+    /// # Contract
+    ///
+    /// ```text
+    /// ensures lanes: (i : ℕ) → i < 16 → slice_index result i
+    ///     ≡ (if nat_lt (slice_index indices i) 16 then slice_index table
+    ///     (slice_index indices i) else 0)
+    /// ```
+    #[inline(always)]
+    fn picked_or_zero(table: u8x16, indices: u8x16) -> u8x16 {
+        let biased = indices.simd_min(u8x16::splat(16)) + u8x16::splat(0x70);
+        table.swizzle_dyn_within::<16>(biased & u8x16::splat(0x8f))
+    }
+
+    // The lanes of `table` at the low four bits of the indices.
+    /// # Contract
+    ///
+    /// ```text
+    /// ensures lanes: (i : ℕ) → i < 16
+    ///     → slice_index result i ≡ slice_index table (slice_index indices i % 16)
+    /// ```
+    #[inline(always)]
+    fn picked(table: u8x16, indices: u8x16) -> u8x16 {
+        table.swizzle_dyn_within::<16>(indices & u8x16::splat(15))
+    }
+
+    // The lanes of `low` where the index is below 16, else those of `high`.
+    /// # Contract
+    ///
+    /// ```text
+    /// ensures lanes: (i : ℕ) → i < 16 → slice_index result i
+    ///     ≡ (if nat_lt (slice_index indices i) 16 then slice_index low i else slice_index high i)
+    /// ```
+    #[inline(always)]
+    fn low_or_high(indices: u8x16, low: u8x16, high: u8x16) -> u8x16 {
+        indices.simd_lt(u8x16::splat(16)).select(low, high)
+    }
+
+    /// # Contract
+    ///
+    /// ```text
+    /// ensures lanes: (i : ℕ) → i < 16 → slice_index result i ≡ slice_index indices i
+    /// ensures inside: (i : ℕ) → i < 16 → slice_index result i < 32
+    /// ```
+    #[inline(always)]
+    fn bytes_of_indices(indices: [ImmLaneIdx32; 16]) -> u8x16 {
+        let mut bytes = [0; 16];
+        for i in 0..16 {
+            bytes[i] = u8::from(indices[i]);
+        }
+        u8x16::from_array(bytes)
+    }
 }

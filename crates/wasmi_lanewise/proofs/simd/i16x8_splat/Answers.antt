@@ -1,0 +1,12 @@
+use Rattle.std.proofs.Common.{◌∙◌, refl, arith}
+use Rattle.std.proofs.lemmas.Int.{ints, to_z-of_z}
+use Rattle.wasmi_types.specs.Numbers.{w16}
+use Rattle.wasmi_lanes.specs.Vector.{splat_of}
+use Rattle.wasmi_lanes.proofs.VectorLemmas.{lanes_make_vector}
+use Rattle.wasmi_lanewise.proofs.simd.i16x8_splat.Goals as goal
+
+pub returns : goal.returns
+unfolding splat_of
+returns c =
+    lanes_make_vector w16 8 c.vector_of.result _ refl c.vector_of.ensures.in_range
+    (λ i inside. c.vector_of.ensures.lanes i inside ∙ c.splat.ensures.lanes i inside ∙ grind (arith, ints, to_z-of_z, c.cast_unsigned.ensures))
