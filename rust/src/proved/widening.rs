@@ -145,1388 +145,10 @@ pub mod simd {
     //! The vector instructions that widen, narrow, shift or test lanes, and the relaxed ones.
     //!
     //! Each function is the instruction of its name: `i16x8_extend_low_i8x16_s` is
-    //! `i16x8.extend_low_i8x16_s`, which makes 8 lanes of 16 bits of 16 lanes of 8 bits. Core
-    //! specification: vector instructions; what each gives stands in `specs/WideningTable.antt`.
-    //! Upstream: `wasmi_core::simd`.
+    //! `i16x8.extend_low_i8x16_s`, which makes 8 lanes of 16 bits of 16 lanes of 8 bits; lane 0 is the
+    //! lowest. Core specification: vector instructions; what each gives stands in
+    //! `specs/WideningTable.antt`. Upstream: `wasmi_core::simd`.
 
-    mod arithmetic {
-        //! Products of lanes, of twice their width, and sums of neighbouring lanes and of their products.
-
-        use super::wide::{ExtendedLane, PairedLane};
-        use crate::proved::lanes::SimdLane;
-        use crate::proved::raw::V128;
-
-        /// The products of the lanes of the lower halves, read signed.
-        ///
-        /// # Contract
-        ///
-        /// ```text
-        /// ensures: result ≡ vector.extmul_low_s w8 w16 lhs rhs
-        /// ```
-        ///
-        /// Definitions: [`extmul_low_s`](crate::specs::widening::WideningTable#extmul_low_s).
-        #[inline]
-        pub fn i16x8_extmul_low_i8x16_s(lhs: V128, rhs: V128) -> V128 {
-            products_low_s::<u8>(lhs, rhs)
-        }
-
-        /// The products of the lanes of the lower halves, read unsigned.
-        ///
-        /// # Contract
-        ///
-        /// ```text
-        /// ensures: result ≡ vector.extmul_low_u w8 w16 lhs rhs
-        /// ```
-        ///
-        /// Definitions: [`extmul_low_u`](crate::specs::widening::WideningTable#extmul_low_u).
-        #[inline]
-        pub fn i16x8_extmul_low_i8x16_u(lhs: V128, rhs: V128) -> V128 {
-            products_low_u::<u8>(lhs, rhs)
-        }
-
-        /// The products of the lanes of the upper halves, read signed.
-        ///
-        /// # Contract
-        ///
-        /// ```text
-        /// ensures: result ≡ vector.extmul_high_s w8 w16 lhs rhs
-        /// ```
-        ///
-        /// Definitions: [`extmul_high_s`](crate::specs::widening::WideningTable#extmul_high_s).
-        #[inline]
-        pub fn i16x8_extmul_high_i8x16_s(lhs: V128, rhs: V128) -> V128 {
-            products_high_s::<u8>(lhs, rhs)
-        }
-
-        /// The products of the lanes of the upper halves, read unsigned.
-        ///
-        /// # Contract
-        ///
-        /// ```text
-        /// ensures: result ≡ vector.extmul_high_u w8 w16 lhs rhs
-        /// ```
-        ///
-        /// Definitions: [`extmul_high_u`](crate::specs::widening::WideningTable#extmul_high_u).
-        #[inline]
-        pub fn i16x8_extmul_high_i8x16_u(lhs: V128, rhs: V128) -> V128 {
-            products_high_u::<u8>(lhs, rhs)
-        }
-
-        /// The products of the lanes of the lower halves, read signed.
-        ///
-        /// # Contract
-        ///
-        /// ```text
-        /// ensures: result ≡ vector.extmul_low_s w16 w32 lhs rhs
-        /// ```
-        ///
-        /// Definitions: [`extmul_low_s`](crate::specs::widening::WideningTable#extmul_low_s).
-        #[inline]
-        pub fn i32x4_extmul_low_i16x8_s(lhs: V128, rhs: V128) -> V128 {
-            products_low_s::<u16>(lhs, rhs)
-        }
-
-        /// The products of the lanes of the lower halves, read unsigned.
-        ///
-        /// # Contract
-        ///
-        /// ```text
-        /// ensures: result ≡ vector.extmul_low_u w16 w32 lhs rhs
-        /// ```
-        ///
-        /// Definitions: [`extmul_low_u`](crate::specs::widening::WideningTable#extmul_low_u).
-        #[inline]
-        pub fn i32x4_extmul_low_i16x8_u(lhs: V128, rhs: V128) -> V128 {
-            products_low_u::<u16>(lhs, rhs)
-        }
-
-        /// The products of the lanes of the upper halves, read signed.
-        ///
-        /// # Contract
-        ///
-        /// ```text
-        /// ensures: result ≡ vector.extmul_high_s w16 w32 lhs rhs
-        /// ```
-        ///
-        /// Definitions: [`extmul_high_s`](crate::specs::widening::WideningTable#extmul_high_s).
-        #[inline]
-        pub fn i32x4_extmul_high_i16x8_s(lhs: V128, rhs: V128) -> V128 {
-            products_high_s::<u16>(lhs, rhs)
-        }
-
-        /// The products of the lanes of the upper halves, read unsigned.
-        ///
-        /// # Contract
-        ///
-        /// ```text
-        /// ensures: result ≡ vector.extmul_high_u w16 w32 lhs rhs
-        /// ```
-        ///
-        /// Definitions: [`extmul_high_u`](crate::specs::widening::WideningTable#extmul_high_u).
-        #[inline]
-        pub fn i32x4_extmul_high_i16x8_u(lhs: V128, rhs: V128) -> V128 {
-            products_high_u::<u16>(lhs, rhs)
-        }
-
-        /// The products of the lanes of the lower halves, read signed.
-        ///
-        /// # Contract
-        ///
-        /// ```text
-        /// ensures: result ≡ vector.extmul_low_s w32 w64 lhs rhs
-        /// ```
-        ///
-        /// Definitions: [`extmul_low_s`](crate::specs::widening::WideningTable#extmul_low_s).
-        #[inline]
-        pub fn i64x2_extmul_low_i32x4_s(lhs: V128, rhs: V128) -> V128 {
-            products_low_s::<u32>(lhs, rhs)
-        }
-
-        /// The products of the lanes of the lower halves, read unsigned.
-        ///
-        /// # Contract
-        ///
-        /// ```text
-        /// ensures: result ≡ vector.extmul_low_u w32 w64 lhs rhs
-        /// ```
-        ///
-        /// Definitions: [`extmul_low_u`](crate::specs::widening::WideningTable#extmul_low_u).
-        #[inline]
-        pub fn i64x2_extmul_low_i32x4_u(lhs: V128, rhs: V128) -> V128 {
-            products_low_u::<u32>(lhs, rhs)
-        }
-
-        /// The products of the lanes of the upper halves, read signed.
-        ///
-        /// # Contract
-        ///
-        /// ```text
-        /// ensures: result ≡ vector.extmul_high_s w32 w64 lhs rhs
-        /// ```
-        ///
-        /// Definitions: [`extmul_high_s`](crate::specs::widening::WideningTable#extmul_high_s).
-        #[inline]
-        pub fn i64x2_extmul_high_i32x4_s(lhs: V128, rhs: V128) -> V128 {
-            products_high_s::<u32>(lhs, rhs)
-        }
-
-        /// The products of the lanes of the upper halves, read unsigned.
-        ///
-        /// # Contract
-        ///
-        /// ```text
-        /// ensures: result ≡ vector.extmul_high_u w32 w64 lhs rhs
-        /// ```
-        ///
-        /// Definitions: [`extmul_high_u`](crate::specs::widening::WideningTable#extmul_high_u).
-        #[inline]
-        pub fn i64x2_extmul_high_i32x4_u(lhs: V128, rhs: V128) -> V128 {
-            products_high_u::<u32>(lhs, rhs)
-        }
-
-        /// The sums of neighbouring lanes, read signed.
-        ///
-        /// # Contract
-        ///
-        /// ```text
-        /// ensures: result ≡ vector.extadd_pairwise_s w8 w16 v
-        /// ```
-        ///
-        /// Definitions: [`extadd_pairwise_s`](crate::specs::widening::WideningTable#extadd_pairwise_s).
-        #[inline]
-        pub fn i16x8_extadd_pairwise_i8x16_s(v: V128) -> V128 {
-            neighbours_s::<u8>(v)
-        }
-
-        /// The sums of neighbouring lanes, read unsigned.
-        ///
-        /// # Contract
-        ///
-        /// ```text
-        /// ensures: result ≡ vector.extadd_pairwise_u w8 w16 v
-        /// ```
-        ///
-        /// Definitions: [`extadd_pairwise_u`](crate::specs::widening::WideningTable#extadd_pairwise_u).
-        #[inline]
-        pub fn i16x8_extadd_pairwise_i8x16_u(v: V128) -> V128 {
-            neighbours_u::<u8>(v)
-        }
-
-        /// The sums of neighbouring lanes, read signed.
-        ///
-        /// # Contract
-        ///
-        /// ```text
-        /// ensures: result ≡ vector.extadd_pairwise_s w16 w32 v
-        /// ```
-        ///
-        /// Definitions: [`extadd_pairwise_s`](crate::specs::widening::WideningTable#extadd_pairwise_s).
-        #[inline]
-        pub fn i32x4_extadd_pairwise_i16x8_s(v: V128) -> V128 {
-            neighbours_s::<u16>(v)
-        }
-
-        /// The sums of neighbouring lanes, read unsigned.
-        ///
-        /// # Contract
-        ///
-        /// ```text
-        /// ensures: result ≡ vector.extadd_pairwise_u w16 w32 v
-        /// ```
-        ///
-        /// Definitions: [`extadd_pairwise_u`](crate::specs::widening::WideningTable#extadd_pairwise_u).
-        #[inline]
-        pub fn i32x4_extadd_pairwise_i16x8_u(v: V128) -> V128 {
-            neighbours_u::<u16>(v)
-        }
-
-        /// The sums of the products of neighbouring lanes, read signed, modulo 2 to the power 32.
-        ///
-        /// # Contract
-        ///
-        /// ```text
-        /// ensures: result ≡ vector.dot_s w16 w32 lhs rhs
-        /// ```
-        ///
-        /// Definitions: [`dot_s`](crate::specs::widening::WideningTable#dot_s).
-        #[inline]
-        pub fn i32x4_dot_i16x8_s(lhs: V128, rhs: V128) -> V128 {
-            dots::<u16>(lhs, rhs)
-        }
-
-        /// The sums of the products of neighbouring lanes, both read signed, modulo 2 to the power 16.
-        ///
-        /// # Contract
-        ///
-        /// ```text
-        /// ensures: result ≡ vector.relaxed_dot_s lhs rhs
-        /// ```
-        ///
-        /// Definitions: [`relaxed_dot_s`](crate::specs::widening::WideningTable#relaxed_dot_s).
-        #[inline]
-        pub fn i16x8_relaxed_dot_i8x16_i7x16_s(lhs: V128, rhs: V128) -> V128 {
-            dots::<u8>(lhs, rhs)
-        }
-
-        /// # Contract
-        ///
-        /// ```text
-        /// ensures: result ≡ vector.extmul_low_s T.width T.Wide.width lhs rhs
-        /// ```
-        ///
-        /// Definitions: [`extmul_low_s`](crate::specs::widening::WideningTable#extmul_low_s).
-        #[inline(always)]
-        fn products_low_s<T: ExtendedLane>(lhs: V128, rhs: V128) -> V128 {
-            T::Wide::vector_of(T::products(T::low_signed(lhs), T::low_signed(rhs)))
-        }
-
-        /// # Contract
-        ///
-        /// ```text
-        /// ensures: result ≡ vector.extmul_low_u T.width T.Wide.width lhs rhs
-        /// ```
-        ///
-        /// Definitions: [`extmul_low_u`](crate::specs::widening::WideningTable#extmul_low_u).
-        #[inline(always)]
-        fn products_low_u<T: ExtendedLane>(lhs: V128, rhs: V128) -> V128 {
-            T::Wide::vector_of(T::products(T::low(lhs), T::low(rhs)))
-        }
-
-        /// # Contract
-        ///
-        /// ```text
-        /// ensures: result ≡ vector.extmul_high_s T.width T.Wide.width lhs rhs
-        /// ```
-        ///
-        /// Definitions: [`extmul_high_s`](crate::specs::widening::WideningTable#extmul_high_s).
-        #[inline(always)]
-        fn products_high_s<T: ExtendedLane>(lhs: V128, rhs: V128) -> V128 {
-            T::Wide::vector_of(T::products(T::high_signed(lhs), T::high_signed(rhs)))
-        }
-
-        /// # Contract
-        ///
-        /// ```text
-        /// ensures: result ≡ vector.extmul_high_u T.width T.Wide.width lhs rhs
-        /// ```
-        ///
-        /// Definitions: [`extmul_high_u`](crate::specs::widening::WideningTable#extmul_high_u).
-        #[inline(always)]
-        fn products_high_u<T: ExtendedLane>(lhs: V128, rhs: V128) -> V128 {
-            T::Wide::vector_of(T::products(T::high(lhs), T::high(rhs)))
-        }
-
-        /// # Contract
-        ///
-        /// ```text
-        /// ensures: result ≡ vector.extadd_pairwise_s T.width T.Wide.width v
-        /// ```
-        ///
-        /// Definitions: [`extadd_pairwise_s`](crate::specs::widening::WideningTable#extadd_pairwise_s).
-        #[inline(always)]
-        fn neighbours_s<T: PairedLane>(v: V128) -> V128 {
-            T::Wide::vector_of(T::sums(T::even_signed(v), T::odd_signed(v)))
-        }
-
-        /// # Contract
-        ///
-        /// ```text
-        /// ensures: result ≡ vector.extadd_pairwise_u T.width T.Wide.width v
-        /// ```
-        ///
-        /// Definitions: [`extadd_pairwise_u`](crate::specs::widening::WideningTable#extadd_pairwise_u).
-        #[inline(always)]
-        fn neighbours_u<T: PairedLane>(v: V128) -> V128 {
-            T::Wide::vector_of(T::sums(T::even(v), T::odd(v)))
-        }
-
-        /// # Contract
-        ///
-        /// ```text
-        /// ensures: result ≡ vector.dot_s T.width T.Wide.width lhs rhs
-        /// ```
-        ///
-        /// Definitions: [`dot_s`](crate::specs::widening::WideningTable#dot_s).
-        #[inline(always)]
-        fn dots<T: PairedLane>(lhs: V128, rhs: V128) -> V128 {
-            let evens = T::products(T::even_signed(lhs), T::even_signed(rhs));
-            let odds = T::products(T::odd_signed(lhs), T::odd_signed(rhs));
-            T::Wide::vector_of(T::sums(evens, odds))
-        }
-    }
-    mod extend {
-        //! Lanes extended to twice their width.
-
-        use super::wide::ExtendedLane;
-        use crate::proved::lanes::SimdLane;
-        use crate::proved::raw::V128;
-        use crate::rattle::simd::prelude::*;
-
-        /// The lanes of the lower half, read signed.
-        ///
-        /// # Contract
-        ///
-        /// ```text
-        /// ensures: result ≡ vector.extend_low_s w8 w16 v
-        /// ```
-        ///
-        /// Definitions: [`extend_low_s`](crate::specs::widening::WideningTable#extend_low_s).
-        #[inline]
-        pub fn i16x8_extend_low_i8x16_s(v: V128) -> V128 {
-            extended_low_s::<u8>(v)
-        }
-
-        /// The lanes of the lower half, read unsigned.
-        ///
-        /// # Contract
-        ///
-        /// ```text
-        /// ensures: result ≡ vector.extend_low_u w8 w16 v
-        /// ```
-        ///
-        /// Definitions: [`extend_low_u`](crate::specs::widening::WideningTable#extend_low_u).
-        #[inline]
-        pub fn i16x8_extend_low_i8x16_u(v: V128) -> V128 {
-            extended_low_u::<u8>(v)
-        }
-
-        /// The lanes of the upper half, read signed.
-        ///
-        /// # Contract
-        ///
-        /// ```text
-        /// ensures: result ≡ vector.extend_high_s w8 w16 v
-        /// ```
-        ///
-        /// Definitions: [`extend_high_s`](crate::specs::widening::WideningTable#extend_high_s).
-        #[inline]
-        pub fn i16x8_extend_high_i8x16_s(v: V128) -> V128 {
-            extended_high_s::<u8>(v)
-        }
-
-        /// The lanes of the upper half, read unsigned.
-        ///
-        /// # Contract
-        ///
-        /// ```text
-        /// ensures: result ≡ vector.extend_high_u w8 w16 v
-        /// ```
-        ///
-        /// Definitions: [`extend_high_u`](crate::specs::widening::WideningTable#extend_high_u).
-        #[inline]
-        pub fn i16x8_extend_high_i8x16_u(v: V128) -> V128 {
-            extended_high_u::<u8>(v)
-        }
-
-        /// The lanes of the lower half, read signed.
-        ///
-        /// # Contract
-        ///
-        /// ```text
-        /// ensures: result ≡ vector.extend_low_s w16 w32 v
-        /// ```
-        ///
-        /// Definitions: [`extend_low_s`](crate::specs::widening::WideningTable#extend_low_s).
-        #[inline]
-        pub fn i32x4_extend_low_i16x8_s(v: V128) -> V128 {
-            extended_low_s::<u16>(v)
-        }
-
-        /// The lanes of the lower half, read unsigned.
-        ///
-        /// # Contract
-        ///
-        /// ```text
-        /// ensures: result ≡ vector.extend_low_u w16 w32 v
-        /// ```
-        ///
-        /// Definitions: [`extend_low_u`](crate::specs::widening::WideningTable#extend_low_u).
-        #[inline]
-        pub fn i32x4_extend_low_i16x8_u(v: V128) -> V128 {
-            extended_low_u::<u16>(v)
-        }
-
-        /// The lanes of the upper half, read signed.
-        ///
-        /// # Contract
-        ///
-        /// ```text
-        /// ensures: result ≡ vector.extend_high_s w16 w32 v
-        /// ```
-        ///
-        /// Definitions: [`extend_high_s`](crate::specs::widening::WideningTable#extend_high_s).
-        #[inline]
-        pub fn i32x4_extend_high_i16x8_s(v: V128) -> V128 {
-            extended_high_s::<u16>(v)
-        }
-
-        /// The lanes of the upper half, read unsigned.
-        ///
-        /// # Contract
-        ///
-        /// ```text
-        /// ensures: result ≡ vector.extend_high_u w16 w32 v
-        /// ```
-        ///
-        /// Definitions: [`extend_high_u`](crate::specs::widening::WideningTable#extend_high_u).
-        #[inline]
-        pub fn i32x4_extend_high_i16x8_u(v: V128) -> V128 {
-            extended_high_u::<u16>(v)
-        }
-
-        /// The lanes of the lower half, read signed.
-        ///
-        /// # Contract
-        ///
-        /// ```text
-        /// ensures: result ≡ vector.extend_low_s w32 w64 v
-        /// ```
-        ///
-        /// Definitions: [`extend_low_s`](crate::specs::widening::WideningTable#extend_low_s).
-        #[inline]
-        pub fn i64x2_extend_low_i32x4_s(v: V128) -> V128 {
-            extended_low_s::<u32>(v)
-        }
-
-        /// The lanes of the lower half, read unsigned.
-        ///
-        /// # Contract
-        ///
-        /// ```text
-        /// ensures: result ≡ vector.extend_low_u w32 w64 v
-        /// ```
-        ///
-        /// Definitions: [`extend_low_u`](crate::specs::widening::WideningTable#extend_low_u).
-        #[inline]
-        pub fn i64x2_extend_low_i32x4_u(v: V128) -> V128 {
-            extended_low_u::<u32>(v)
-        }
-
-        /// The lanes of the upper half, read signed.
-        ///
-        /// # Contract
-        ///
-        /// ```text
-        /// ensures: result ≡ vector.extend_high_s w32 w64 v
-        /// ```
-        ///
-        /// Definitions: [`extend_high_s`](crate::specs::widening::WideningTable#extend_high_s).
-        #[inline]
-        pub fn i64x2_extend_high_i32x4_s(v: V128) -> V128 {
-            extended_high_s::<u32>(v)
-        }
-
-        /// The lanes of the upper half, read unsigned.
-        ///
-        /// # Contract
-        ///
-        /// ```text
-        /// ensures: result ≡ vector.extend_high_u w32 w64 v
-        /// ```
-        ///
-        /// Definitions: [`extend_high_u`](crate::specs::widening::WideningTable#extend_high_u).
-        #[inline]
-        pub fn i64x2_extend_high_i32x4_u(v: V128) -> V128 {
-            extended_high_u::<u32>(v)
-        }
-
-        /// The 8 lanes of 8 bits of a number, read signed, lane 0 the lowest.
-        ///
-        /// What the extending load `v128.load8x8_s` makes of the number that it reads. Upstream's own.
-        ///
-        /// # Contract
-        ///
-        /// ```text
-        /// ensures: result ≡ vector.widen_s w8 w16 number
-        /// ```
-        ///
-        /// Definitions: [`widen_s`](crate::specs::widening::WideningTable#widen_s).
-        #[inline]
-        pub fn v128_widen8x8_s(number: u64) -> V128 {
-            i16x8_extend_low_i8x16_s(V128::from_word_pair(number, 0))
-        }
-
-        /// The 8 lanes of 8 bits of a number, read unsigned, lane 0 the lowest.
-        ///
-        /// What the extending load `v128.load8x8_u` makes of the number that it reads. Upstream's own.
-        ///
-        /// # Contract
-        ///
-        /// ```text
-        /// ensures: result ≡ vector.widen_u w8 w16 number
-        /// ```
-        ///
-        /// Definitions: [`widen_u`](crate::specs::widening::WideningTable#widen_u).
-        #[inline]
-        pub fn v128_widen8x8_u(number: u64) -> V128 {
-            i16x8_extend_low_i8x16_u(V128::from_word_pair(number, 0))
-        }
-
-        /// The 4 lanes of 16 bits of a number, read signed, lane 0 the lowest.
-        ///
-        /// What the extending load `v128.load16x4_s` makes of the number that it reads. Upstream's own.
-        ///
-        /// # Contract
-        ///
-        /// ```text
-        /// ensures: result ≡ vector.widen_s w16 w32 number
-        /// ```
-        ///
-        /// Definitions: [`widen_s`](crate::specs::widening::WideningTable#widen_s).
-        #[inline]
-        pub fn v128_widen16x4_s(number: u64) -> V128 {
-            i32x4_extend_low_i16x8_s(V128::from_word_pair(number, 0))
-        }
-
-        /// The 4 lanes of 16 bits of a number, read unsigned, lane 0 the lowest.
-        ///
-        /// What the extending load `v128.load16x4_u` makes of the number that it reads. Upstream's own.
-        ///
-        /// # Contract
-        ///
-        /// ```text
-        /// ensures: result ≡ vector.widen_u w16 w32 number
-        /// ```
-        ///
-        /// Definitions: [`widen_u`](crate::specs::widening::WideningTable#widen_u).
-        #[inline]
-        pub fn v128_widen16x4_u(number: u64) -> V128 {
-            i32x4_extend_low_i16x8_u(V128::from_word_pair(number, 0))
-        }
-
-        /// The 2 lanes of 32 bits of a number, read signed, lane 0 the lowest.
-        ///
-        /// What the extending load `v128.load32x2_s` makes of the number that it reads. Upstream's own.
-        ///
-        /// # Contract
-        ///
-        /// ```text
-        /// ensures: result ≡ vector.widen_s w32 w64 number
-        /// ```
-        ///
-        /// Definitions: [`widen_s`](crate::specs::widening::WideningTable#widen_s).
-        #[inline]
-        pub fn v128_widen32x2_s(number: u64) -> V128 {
-            i64x2_extend_low_i32x4_s(V128::from_word_pair(number, 0))
-        }
-
-        /// The 2 lanes of 32 bits of a number, read unsigned, lane 0 the lowest.
-        ///
-        /// What the extending load `v128.load32x2_u` makes of the number that it reads. Upstream's own.
-        ///
-        /// # Contract
-        ///
-        /// ```text
-        /// ensures: result ≡ vector.widen_u w32 w64 number
-        /// ```
-        ///
-        /// Definitions: [`widen_u`](crate::specs::widening::WideningTable#widen_u).
-        #[inline]
-        pub fn v128_widen32x2_u(number: u64) -> V128 {
-            i64x2_extend_low_i32x4_u(V128::from_word_pair(number, 0))
-        }
-
-        /// The number in lane 0, and 0 in the others.
-        ///
-        /// What `v128.load32_zero` makes of the number that it reads. Upstream's own.
-        ///
-        /// # Contract
-        ///
-        /// ```text
-        /// ensures: result ≡ vector.low_zero w32 number
-        /// ```
-        ///
-        /// Definitions: [`low_zero`](crate::specs::widening::WideningTable#low_zero).
-        #[inline]
-        pub fn v128_low32_zero(number: u32) -> V128 {
-            v128_low64_zero(u64::from(number))
-        }
-
-        /// The number in lane 0, and 0 in the others.
-        ///
-        /// What `v128.load64_zero` makes of the number that it reads. Upstream's own.
-        ///
-        /// # Contract
-        ///
-        /// ```text
-        /// ensures: result ≡ vector.low_zero w64 number
-        /// ```
-        ///
-        /// Definitions: [`low_zero`](crate::specs::widening::WideningTable#low_zero).
-        #[inline]
-        pub fn v128_low64_zero(number: u64) -> V128 {
-            // By lanes of 32 bits: of two words LLVM makes two stores.
-            let items = u32::lanes_of(V128::from_word_pair(number, 0));
-            u32::vector_of(items.shuffle(u32x4::splat(0), [0, 1, 4, 5]))
-        }
-
-        /// # Contract
-        ///
-        /// ```text
-        /// ensures: result ≡ vector.extend_low_s T.width T.Wide.width v
-        /// ```
-        ///
-        /// Definitions: [`extend_low_s`](crate::specs::widening::WideningTable#extend_low_s).
-        #[inline(always)]
-        fn extended_low_s<T: ExtendedLane>(v: V128) -> V128 {
-            T::Wide::vector_of(T::low_signed(v))
-        }
-
-        /// # Contract
-        ///
-        /// ```text
-        /// ensures: result ≡ vector.extend_low_u T.width T.Wide.width v
-        /// ```
-        ///
-        /// Definitions: [`extend_low_u`](crate::specs::widening::WideningTable#extend_low_u).
-        #[inline(always)]
-        fn extended_low_u<T: ExtendedLane>(v: V128) -> V128 {
-            T::Wide::vector_of(T::low(v))
-        }
-
-        /// # Contract
-        ///
-        /// ```text
-        /// ensures: result ≡ vector.extend_high_s T.width T.Wide.width v
-        /// ```
-        ///
-        /// Definitions: [`extend_high_s`](crate::specs::widening::WideningTable#extend_high_s).
-        #[inline(always)]
-        fn extended_high_s<T: ExtendedLane>(v: V128) -> V128 {
-            T::Wide::vector_of(T::high_signed(v))
-        }
-
-        /// # Contract
-        ///
-        /// ```text
-        /// ensures: result ≡ vector.extend_high_u T.width T.Wide.width v
-        /// ```
-        ///
-        /// Definitions: [`extend_high_u`](crate::specs::widening::WideningTable#extend_high_u).
-        #[inline(always)]
-        fn extended_high_u<T: ExtendedLane>(v: V128) -> V128 {
-            T::Wide::vector_of(T::high(v))
-        }
-    }
-    mod narrow {
-        //! Lanes narrowed to half of their width.
-
-        use crate::proved::lanes::{FromWide, I8x16, I16x8, I32x4, Lanes, clamped_i8, clamped_i16};
-        use crate::proved::raw::V128;
-
-        /// The lanes of `low`, then those of `high`, read signed and clamped to the signed range of 8 bits.
-        ///
-        /// # Contract
-        ///
-        /// ```text
-        /// ensures: result ≡ vector.narrow_s w16 w8 low high
-        /// ```
-        ///
-        /// Definitions: [`narrow_s`](crate::specs::widening::WideningTable#narrow_s).
-        #[inline]
-        pub fn i8x16_narrow_i16x8_s(low: V128, high: V128) -> V128 {
-            from_low_high::<I16x8, I8x16, _>(low, high, |x| clamped_i8(x))
-        }
-
-        /// The lanes of `low`, then those of `high`, read signed and clamped to the unsigned range of 8
-        /// bits.
-        ///
-        /// # Contract
-        ///
-        /// ```text
-        /// ensures: result ≡ vector.narrow_u w16 w8 low high
-        /// ```
-        ///
-        /// Definitions: [`narrow_u`](crate::specs::widening::WideningTable#narrow_u).
-        #[inline]
-        pub fn i8x16_narrow_i16x8_u(low: V128, high: V128) -> V128 {
-            from_low_high::<I16x8, I8x16, _>(low, high, clamped_u8)
-        }
-
-        /// The lanes of `low`, then those of `high`, read signed and clamped to the signed range of 16
-        /// bits.
-        ///
-        /// # Contract
-        ///
-        /// ```text
-        /// ensures: result ≡ vector.narrow_s w32 w16 low high
-        /// ```
-        ///
-        /// Definitions: [`narrow_s`](crate::specs::widening::WideningTable#narrow_s).
-        #[inline]
-        pub fn i16x8_narrow_i32x4_s(low: V128, high: V128) -> V128 {
-            from_low_high::<I32x4, I16x8, _>(low, high, |x| clamped_i16(x))
-        }
-
-        /// The lanes of `low`, then those of `high`, read signed and clamped to the unsigned range of 16
-        /// bits.
-        ///
-        /// # Contract
-        ///
-        /// ```text
-        /// ensures: result ≡ vector.narrow_u w32 w16 low high
-        /// ```
-        ///
-        /// Definitions: [`narrow_u`](crate::specs::widening::WideningTable#narrow_u).
-        #[inline]
-        pub fn i16x8_narrow_i32x4_u(low: V128, high: V128) -> V128 {
-            from_low_high::<I32x4, I16x8, _>(low, high, clamped_u16)
-        }
-
-        // The item of a lane that holds the number, clamped to the unsigned range of 8 bits.
-        /// # Contract
-        ///
-        /// ```text
-        /// ensures: cast_unsigned w8 result ≡ clamp_unsigned w8 x
-        /// ```
-        #[inline]
-        fn clamped_u8(x: i16) -> i8 {
-            (x.clamp(0, 255) as u8).cast_signed()
-        }
-
-        // The item of a lane that holds the number, clamped to the unsigned range of 16 bits.
-        /// # Contract
-        ///
-        /// ```text
-        /// ensures: cast_unsigned w16 result ≡ clamp_unsigned w16 x
-        /// ```
-        #[inline]
-        fn clamped_u16(x: i32) -> i16 {
-            (x.clamp(0, 65535) as u16).cast_signed()
-        }
-
-        // Applies `f` to the lanes of `low`, then to those of `high`.
-        /// # Contract
-        ///
-        /// ```text
-        /// requires callable: F.IsAlwaysCallable f
-        /// ensures lanes: (row : W.Item → ℕ)
-        ///     → ((x : W.Item) (z : L.Item) → W.Item.Fits x → L.Item.Fits z → F.post f x z
-        ///     → L.Item.image z ≡ row x)
-        ///     → result ≡ vector.from_low_high W.Item.width L.Item.width W.Item.read row low high
-        /// ```
-        ///
-        /// Definitions: [`from_low_high`](crate::specs::widening::WideningTable#from_low_high).
-        #[inline(always)]
-        fn from_low_high<W: Lanes, L: FromWide<W>, F: Fn(W::Item) -> L::Item>(
-            low: V128,
-            high: V128,
-            f: F,
-        ) -> V128 {
-            L::from_low_high(W::from_v128(low), W::from_v128(high), f).into_v128()
-        }
-    }
-    mod reductions {
-        //! Tests of lanes, on the two words of a vector.
-
-        use crate::proved::lanes::WordLane;
-        use crate::proved::raw::V128;
-
-        /// Whether no lane is 0.
-        ///
-        /// # Contract
-        ///
-        /// ```text
-        /// ensures: result ≡ vector.all_true w8 v
-        /// ```
-        ///
-        /// Definitions: [`all_true`](crate::specs::widening::WideningTable#all_true).
-        #[inline]
-        pub fn i8x16_all_true(v: V128) -> bool {
-            no_zero::<u8>(v)
-        }
-
-        /// Whether no lane is 0.
-        ///
-        /// # Contract
-        ///
-        /// ```text
-        /// ensures: result ≡ vector.all_true w16 v
-        /// ```
-        ///
-        /// Definitions: [`all_true`](crate::specs::widening::WideningTable#all_true).
-        #[inline]
-        pub fn i16x8_all_true(v: V128) -> bool {
-            no_zero::<u16>(v)
-        }
-
-        /// Whether no lane is 0.
-        ///
-        /// # Contract
-        ///
-        /// ```text
-        /// ensures: result ≡ vector.all_true w32 v
-        /// ```
-        ///
-        /// Definitions: [`all_true`](crate::specs::widening::WideningTable#all_true).
-        #[inline]
-        pub fn i32x4_all_true(v: V128) -> bool {
-            no_zero::<u32>(v)
-        }
-
-        /// Whether no lane is 0.
-        ///
-        /// # Contract
-        ///
-        /// ```text
-        /// ensures: result ≡ vector.all_true w64 v
-        /// ```
-        ///
-        /// Definitions: [`all_true`](crate::specs::widening::WideningTable#all_true).
-        #[inline]
-        pub fn i64x2_all_true(v: V128) -> bool {
-            no_zero::<u64>(v)
-        }
-
-        /// Whether some bit is 1.
-        ///
-        /// # Contract
-        ///
-        /// ```text
-        /// ensures: result ≡ vector.any_true v
-        /// ```
-        ///
-        /// Definitions: [`any_true`](crate::specs::widening::WideningTable#any_true).
-        #[inline]
-        pub fn v128_any_true(v: V128) -> bool {
-            v.as_u128() != 0
-        }
-
-        /// The highest bits of the lanes, that of lane i at bit i.
-        ///
-        /// # Contract
-        ///
-        /// ```text
-        /// ensures: result ≡ vector.bitmask w8 v
-        /// ```
-        ///
-        /// Definitions: [`bitmask`](crate::specs::widening::WideningTable#bitmask).
-        #[inline]
-        pub fn i8x16_bitmask(v: V128) -> u32 {
-            let (low, high) = v.words();
-            tops_of_8(low) | (tops_of_8(high) << 8)
-        }
-
-        /// The highest bits of the lanes, that of lane i at bit i.
-        ///
-        /// # Contract
-        ///
-        /// ```text
-        /// ensures: result ≡ vector.bitmask w16 v
-        /// ```
-        ///
-        /// Definitions: [`bitmask`](crate::specs::widening::WideningTable#bitmask).
-        #[inline]
-        pub fn i16x8_bitmask(v: V128) -> u32 {
-            let (low, high) = v.words();
-            // The product brings each bit to its place in the highest byte.
-            let both = ((low & u16::TOPS) >> 4) + (high & u16::TOPS);
-            (both.wrapping_mul(0x0000_2000_4000_8001) >> 56) as u32
-        }
-
-        /// The highest bits of the lanes, that of lane i at bit i.
-        ///
-        /// # Contract
-        ///
-        /// ```text
-        /// ensures: result ≡ vector.bitmask w32 v
-        /// ```
-        ///
-        /// Definitions: [`bitmask`](crate::specs::widening::WideningTable#bitmask).
-        #[inline]
-        pub fn i32x4_bitmask(v: V128) -> u32 {
-            let (low, high) = v.words();
-            // Bits 0 and 2 have the lanes 0 and 2, bits 32 and 34 the lanes 1 and 3.
-            let both = ((low & u32::TOPS) >> 31) + ((high & u32::TOPS) >> 29);
-            ((both + (both >> 31)) & 0xf) as u32
-        }
-
-        /// The highest bits of the lanes, that of lane i at bit i.
-        ///
-        /// # Contract
-        ///
-        /// ```text
-        /// ensures: result ≡ vector.bitmask w64 v
-        /// ```
-        ///
-        /// Definitions: [`bitmask`](crate::specs::widening::WideningTable#bitmask).
-        #[inline]
-        pub fn i64x2_bitmask(v: V128) -> u32 {
-            let (low, high) = v.words();
-            (low >> 63) as u32 | (((high >> 63) as u32) << 1)
-        }
-
-        /// # Contract
-        ///
-        /// ```text
-        /// ensures: result ≡ vector.all_true T.width v
-        /// ```
-        ///
-        /// Definitions: [`all_true`](crate::specs::widening::WideningTable#all_true).
-        #[inline(always)]
-        fn no_zero<T: WordLane>(v: V128) -> bool {
-            let (low, high) = v.words();
-            no_zero_in_word::<T>(low) & no_zero_in_word::<T>(high)
-        }
-
-        // The lowest lane that is 0 borrows, and gets a highest bit; what a borrow makes of the lanes above
-        // doesn't matter.
-        /// # Contract
-        ///
-        /// ```text
-        /// ensures: result
-        ///     ≡ holds_below (lanes_in_word T.width)
-        ///     (λ i. not (nat_eq (field (bits T.width * i) (bits T.width) word) 0))
-        /// ```
-        ///
-        /// Definitions: [`holds_below`](crate::specs::widening::WideningTable#holds_below), [`lanes_in_word`](crate::specs::lanes::Words#lanes_in_word), [`field`](crate::specs::lanes::Words#field).
-        #[inline(always)]
-        fn no_zero_in_word<T: WordLane>(word: u64) -> bool {
-            word.wrapping_sub(T::ONES) & !word & T::TOPS == 0
-        }
-
-        // The highest bits of the lanes of 8 bits of a word: the product brings each of them to its place
-        // in the highest byte.
-        /// # Contract
-        ///
-        /// ```text
-        /// ensures: result ≡ first_bits 8 (λ i. nat_le (2 ^ 7) (field (8 * i) 8 word))
-        /// ```
-        ///
-        /// Definitions: [`first_bits`](crate::specs::widening::WideningTable#first_bits), [`field`](crate::specs::lanes::Words#field).
-        #[inline(always)]
-        fn tops_of_8(word: u64) -> u32 {
-            ((word & u8::TOPS).wrapping_mul(0x0002_0408_1020_4081) >> 56) as u32
-        }
-    }
-    mod relaxed {
-        //! The relaxed instructions. Where the standard leaves a choice, each gives what another
-        //! instruction gives.
-
-        use super::arithmetic::{i16x8_relaxed_dot_i8x16_i7x16_s, i32x4_extadd_pairwise_i16x8_s};
-        use super::wide::PairedLane;
-        use crate::proved::lanes::SimdLane;
-        use crate::proved::lanewise::simd::{i8x16_swizzle, i16x8_q15mulr_sat_s, v128_bitselect};
-        use crate::proved::raw::V128;
-
-        /// As `i8x16_swizzle`: 0 where the index is above 15.
-        ///
-        /// # Contract
-        ///
-        /// ```text
-        /// ensures: result ≡ vector.relaxed_swizzle a s
-        /// ```
-        ///
-        /// Definitions: [`relaxed_swizzle`](crate::specs::widening::WideningTable#relaxed_swizzle).
-        #[inline]
-        pub fn i8x16_relaxed_swizzle(a: V128, s: V128) -> V128 {
-            i8x16_swizzle(a, s)
-        }
-
-        /// As `v128_bitselect`: the bits of `a` where `c` has ones, those of `b` where it has zeros.
-        ///
-        /// # Contract
-        ///
-        /// ```text
-        /// ensures: result ≡ vector.relaxed_laneselect a b c
-        /// ```
-        ///
-        /// Definitions: [`relaxed_laneselect`](crate::specs::widening::WideningTable#relaxed_laneselect).
-        #[inline]
-        pub fn i8x16_relaxed_laneselect(a: V128, b: V128, c: V128) -> V128 {
-            v128_bitselect(a, b, c)
-        }
-
-        /// As `v128_bitselect`: the bits of `a` where `c` has ones, those of `b` where it has zeros.
-        ///
-        /// # Contract
-        ///
-        /// ```text
-        /// ensures: result ≡ vector.relaxed_laneselect a b c
-        /// ```
-        ///
-        /// Definitions: [`relaxed_laneselect`](crate::specs::widening::WideningTable#relaxed_laneselect).
-        #[inline]
-        pub fn i16x8_relaxed_laneselect(a: V128, b: V128, c: V128) -> V128 {
-            v128_bitselect(a, b, c)
-        }
-
-        /// As `v128_bitselect`: the bits of `a` where `c` has ones, those of `b` where it has zeros.
-        ///
-        /// # Contract
-        ///
-        /// ```text
-        /// ensures: result ≡ vector.relaxed_laneselect a b c
-        /// ```
-        ///
-        /// Definitions: [`relaxed_laneselect`](crate::specs::widening::WideningTable#relaxed_laneselect).
-        #[inline]
-        pub fn i32x4_relaxed_laneselect(a: V128, b: V128, c: V128) -> V128 {
-            v128_bitselect(a, b, c)
-        }
-
-        /// As `v128_bitselect`: the bits of `a` where `c` has ones, those of `b` where it has zeros.
-        ///
-        /// # Contract
-        ///
-        /// ```text
-        /// ensures: result ≡ vector.relaxed_laneselect a b c
-        /// ```
-        ///
-        /// Definitions: [`relaxed_laneselect`](crate::specs::widening::WideningTable#relaxed_laneselect).
-        #[inline]
-        pub fn i64x2_relaxed_laneselect(a: V128, b: V128, c: V128) -> V128 {
-            v128_bitselect(a, b, c)
-        }
-
-        /// As `i16x8_q15mulr_sat_s`: the one product that doesn't fit is clamped.
-        ///
-        /// # Contract
-        ///
-        /// ```text
-        /// ensures: result ≡ vector.relaxed_q15mulr_s a b
-        /// ```
-        ///
-        /// Definitions: [`relaxed_q15mulr_s`](crate::specs::widening::WideningTable#relaxed_q15mulr_s).
-        #[inline]
-        pub fn i16x8_relaxed_q15mulr_s(a: V128, b: V128) -> V128 {
-            i16x8_q15mulr_sat_s(a, b)
-        }
-
-        /// The sums of neighbouring lanes of `i16x8_relaxed_dot_i8x16_i7x16_s`, read signed, and of `c`,
-        /// modulo 2 to the power 32.
-        ///
-        /// # Contract
-        ///
-        /// ```text
-        /// ensures: result ≡ vector.relaxed_dot_add_s lhs rhs c
-        /// ```
-        ///
-        /// Definitions: [`relaxed_dot_add_s`](crate::specs::widening::WideningTable#relaxed_dot_add_s).
-        #[inline]
-        pub fn i32x4_relaxed_dot_i8x16_i7x16_add_s(lhs: V128, rhs: V128, c: V128) -> V128 {
-            let dot = i16x8_relaxed_dot_i8x16_i7x16_s(lhs, rhs);
-            let pairs = i32x4_extadd_pairwise_i16x8_s(dot);
-            u32::vector_of(u16::sums(u32::lanes_of(pairs), u32::lanes_of(c)))
-        }
-    }
-    mod shift {
-        //! Shifts of lanes, by an amount modulo their width.
-        //!
-        //! The two words of the vector are shifted together, and the bits are masked that would leave their
-        //! lane; with the sign it is done lane by lane, or for lanes of 8 bits by a shift without sign of
-        //! lanes moved by half of their range.
-
-        use crate::proved::lanes::{
-            I16x8, I32x4, I64x2, SimdLane, WordLane, bytes_of, from_bytes, from_u64x2, on_vectors,
-            u64x2_of,
-        };
-        use crate::proved::raw::V128;
-        use crate::rattle::simd::prelude::*;
-
-        /// The lanes shifted to the left, the bits above each lane dropped. `amount` is taken modulo 8.
-        ///
-        /// # Contract
-        ///
-        /// ```text
-        /// ensures: result ≡ vector.shl w8 v amount
-        /// ```
-        ///
-        /// Definitions: [`shl`](crate::specs::widening::WideningTable#shl).
-        #[inline]
-        pub fn i8x16_shl(v: V128, amount: u32) -> V128 {
-            shifted_left::<u8>(v, amount)
-        }
-
-        /// The lanes shifted to the right, the sign copied. `amount` is taken modulo 8.
-        ///
-        /// # Contract
-        ///
-        /// ```text
-        /// ensures: result ≡ vector.shr_s w8 v amount
-        /// ```
-        ///
-        /// Definitions: [`shr_s`](crate::specs::widening::WideningTable#shr_s).
-        #[inline]
-        pub fn i8x16_shr_s(v: V128, amount: u32) -> V128 {
-            // What the lanes were moved by is a multiple of what they are divided by.
-            let biased = u8::vector_of(u8::biased(u8::lanes_of(v)));
-            let shifted = i8x16_shr_u(biased, amount);
-            let half = V128::from(HALVES_OF_8[(amount % 8) as usize]);
-            from_bytes(bytes_of(shifted) - bytes_of(half))
-        }
-
-        /// The lanes shifted to the right, with zeros. `amount` is taken modulo 8.
-        ///
-        /// # Contract
-        ///
-        /// ```text
-        /// ensures: result ≡ vector.shr_u w8 v amount
-        /// ```
-        ///
-        /// Definitions: [`shr_u`](crate::specs::widening::WideningTable#shr_u).
-        #[inline]
-        pub fn i8x16_shr_u(v: V128, amount: u32) -> V128 {
-            shifted_right::<u8>(v, amount)
-        }
-
-        /// The lanes shifted to the left, the bits above each lane dropped. `amount` is taken modulo 16.
-        ///
-        /// # Contract
-        ///
-        /// ```text
-        /// ensures: result ≡ vector.shl w16 v amount
-        /// ```
-        ///
-        /// Definitions: [`shl`](crate::specs::widening::WideningTable#shl).
-        #[inline]
-        pub fn i16x8_shl(v: V128, amount: u32) -> V128 {
-            shifted_left::<u16>(v, amount)
-        }
-
-        /// The lanes shifted to the right, the sign copied. `amount` is taken modulo 16.
-        ///
-        /// # Contract
-        ///
-        /// ```text
-        /// ensures: result ≡ vector.shr_s w16 v amount
-        /// ```
-        ///
-        /// Definitions: [`shr_s`](crate::specs::widening::WideningTable#shr_s).
-        #[inline]
-        pub fn i16x8_shr_s(v: V128, amount: u32) -> V128 {
-            on_vectors::unary::<I16x8, _>(v, |x| x.wrapping_shr(amount))
-        }
-
-        /// The lanes shifted to the right, with zeros. `amount` is taken modulo 16.
-        ///
-        /// # Contract
-        ///
-        /// ```text
-        /// ensures: result ≡ vector.shr_u w16 v amount
-        /// ```
-        ///
-        /// Definitions: [`shr_u`](crate::specs::widening::WideningTable#shr_u).
-        #[inline]
-        pub fn i16x8_shr_u(v: V128, amount: u32) -> V128 {
-            shifted_right::<u16>(v, amount)
-        }
-
-        /// The lanes shifted to the left, the bits above each lane dropped. `amount` is taken modulo 32.
-        ///
-        /// # Contract
-        ///
-        /// ```text
-        /// ensures: result ≡ vector.shl w32 v amount
-        /// ```
-        ///
-        /// Definitions: [`shl`](crate::specs::widening::WideningTable#shl).
-        #[inline]
-        pub fn i32x4_shl(v: V128, amount: u32) -> V128 {
-            shifted_left::<u32>(v, amount)
-        }
-
-        /// The lanes shifted to the right, the sign copied. `amount` is taken modulo 32.
-        ///
-        /// # Contract
-        ///
-        /// ```text
-        /// ensures: result ≡ vector.shr_s w32 v amount
-        /// ```
-        ///
-        /// Definitions: [`shr_s`](crate::specs::widening::WideningTable#shr_s).
-        #[inline]
-        pub fn i32x4_shr_s(v: V128, amount: u32) -> V128 {
-            on_vectors::unary::<I32x4, _>(v, |x| x.wrapping_shr(amount))
-        }
-
-        /// The lanes shifted to the right, with zeros. `amount` is taken modulo 32.
-        ///
-        /// # Contract
-        ///
-        /// ```text
-        /// ensures: result ≡ vector.shr_u w32 v amount
-        /// ```
-        ///
-        /// Definitions: [`shr_u`](crate::specs::widening::WideningTable#shr_u).
-        #[inline]
-        pub fn i32x4_shr_u(v: V128, amount: u32) -> V128 {
-            shifted_right::<u32>(v, amount)
-        }
-
-        /// The lanes shifted to the left, the bits above each lane dropped. `amount` is taken modulo 64.
-        ///
-        /// # Contract
-        ///
-        /// ```text
-        /// ensures: result ≡ vector.shl w64 v amount
-        /// ```
-        ///
-        /// Definitions: [`shl`](crate::specs::widening::WideningTable#shl).
-        #[inline]
-        pub fn i64x2_shl(v: V128, amount: u32) -> V128 {
-            from_u64x2(u64x2_of(v) << u64x2::splat(u64::from(amount % 64)))
-        }
-
-        /// The lanes shifted to the right, the sign copied. `amount` is taken modulo 64.
-        ///
-        /// # Contract
-        ///
-        /// ```text
-        /// ensures: result ≡ vector.shr_s w64 v amount
-        /// ```
-        ///
-        /// Definitions: [`shr_s`](crate::specs::widening::WideningTable#shr_s).
-        #[inline]
-        pub fn i64x2_shr_s(v: V128, amount: u32) -> V128 {
-            on_vectors::unary::<I64x2, _>(v, |x| x.wrapping_shr(amount))
-        }
-
-        /// The lanes shifted to the right, with zeros. `amount` is taken modulo 64.
-        ///
-        /// # Contract
-        ///
-        /// ```text
-        /// ensures: result ≡ vector.shr_u w64 v amount
-        /// ```
-        ///
-        /// Definitions: [`shr_u`](crate::specs::widening::WideningTable#shr_u).
-        #[inline]
-        pub fn i64x2_shr_u(v: V128, amount: u32) -> V128 {
-            from_u64x2(u64x2_of(v) >> u64x2::splat(u64::from(amount % 64)))
-        }
-
-        /// # Contract
-        ///
-        /// ```text
-        /// ensures: result ≡ vector.shl T.width v amount
-        /// ```
-        ///
-        /// Definitions: [`shl`](crate::specs::widening::WideningTable#shl).
-        #[inline(always)]
-        fn shifted_left<T: NarrowLane>(v: V128, amount: u32) -> V128 {
-            let amount = u64::from(amount % T::BITS);
-            let kept = T::shift_masks(amount);
-            from_u64x2((u64x2_of(v) & kept) << u64x2::splat(amount))
-        }
-
-        /// # Contract
-        ///
-        /// ```text
-        /// ensures: result ≡ vector.shr_u T.width v amount
-        /// ```
-        ///
-        /// Definitions: [`shr_u`](crate::specs::widening::WideningTable#shr_u).
-        #[inline(always)]
-        fn shifted_right<T: NarrowLane>(v: V128, amount: u32) -> V128 {
-            let amount = u64::from(amount % T::BITS);
-            let kept = T::shift_masks(amount);
-            from_u64x2((u64x2_of(v) >> u64x2::splat(amount)) & kept)
-        }
-
-        /// In each lane, what is left of a number once so many bits are dropped. The first factor has the
-        /// lowest bit of each lane.
-        macro_rules! each_shifted {
-    ($ones:literal * $all:literal >> [$($dropped:literal)*]) => {
-        [$($ones * ($all >> $dropped)),*]
-    };
-}
-
-        /// Half of the range of 8 bits in each lane, shifted to the right.
-        const HALVES_OF_8: [u128; 8] =
-            each_shifted!(0x0101_0101_0101_0101_0101_0101_0101_0101 * 0x80 >> [0 1 2 3 4 5 6 7]);
-
-        /// A lane of which a word has more than one, so that a shifted word needs a mask.
-        trait NarrowLane: WordLane {
-            /// The low bits of each lane of two words, all but its highest ones, of which there are
-            /// `dropped`. They come from a table: a shift of the highest bits would be made in a general
-            /// register, and go from there to a vector register.
-            ///
-            /// # Contract
-            ///
-            /// ```text
-            /// requires dropped: dropped < bits Self.width
-            /// ensures masks: result
-            ///     ≡ replicate 2 (in_each_lane Self.width (2 ^ (bits Self.width - dropped) - 1))
-            /// ```
-            ///
-            /// Definitions: [`in_each_lane`](crate::specs::lanes::Words#in_each_lane).
-            fn shift_masks(dropped: u64) -> u64x2;
-        }
-
-        impl NarrowLane for u8 {
-            #[inline(always)]
-            fn shift_masks(dropped: u64) -> u64x2 {
-                u64x2_of(V128::from(LOW_BITS_OF_8[dropped as usize]))
-            }
-        }
-
-        impl NarrowLane for u16 {
-            #[inline(always)]
-            fn shift_masks(dropped: u64) -> u64x2 {
-                u64x2_of(V128::from(LOW_BITS_OF_16[dropped as usize]))
-            }
-        }
-
-        impl NarrowLane for u32 {
-            #[inline(always)]
-            fn shift_masks(dropped: u64) -> u64x2 {
-                u64x2_of(V128::from(LOW_BITS_OF_32[dropped as usize]))
-            }
-        }
-
-        const LOW_BITS_OF_8: [u128; 8] =
-            each_shifted!(0x0101_0101_0101_0101_0101_0101_0101_0101 * 0xff >> [0 1 2 3 4 5 6 7]);
-
-        const LOW_BITS_OF_16: [u128; 16] = each_shifted!(
-            0x0001_0001_0001_0001_0001_0001_0001_0001 * 0xffff >> [0 1 2 3 4 5 6 7 8 9 10 11 12 13 14 15]
-        );
-
-        const LOW_BITS_OF_32: [u128; 32] = each_shifted!(
-            0x0000_0001_0000_0001_0000_0001_0000_0001 * 0xffff_ffff >>
-            [0 1 2 3 4 5 6 7 8 9 10 11 12 13 14 15 16 17 18 19 20 21 22 23 24 25 26 27 28 29 30 31]
-        );
-    }
     mod wide {
         //! Lanes at twice their width, as `core::simd` vectors: those of half a vector, and every second one
         //! of a vector. LLVM takes plain lanes out one by one.
@@ -1870,36 +492,1337 @@ pub mod simd {
         }
     }
 
-    pub use arithmetic::{
-        i16x8_extadd_pairwise_i8x16_s, i16x8_extadd_pairwise_i8x16_u, i16x8_extmul_high_i8x16_s,
-        i16x8_extmul_high_i8x16_u, i16x8_extmul_low_i8x16_s, i16x8_extmul_low_i8x16_u,
-        i16x8_relaxed_dot_i8x16_i7x16_s, i32x4_dot_i16x8_s, i32x4_extadd_pairwise_i16x8_s,
-        i32x4_extadd_pairwise_i16x8_u, i32x4_extmul_high_i16x8_s, i32x4_extmul_high_i16x8_u,
-        i32x4_extmul_low_i16x8_s, i32x4_extmul_low_i16x8_u, i64x2_extmul_high_i32x4_s,
-        i64x2_extmul_high_i32x4_u, i64x2_extmul_low_i32x4_s, i64x2_extmul_low_i32x4_u,
+    use crate::proved::lanes::{
+        FromWide, I8x16, I16x8, I32x4, I64x2, Lanes, SimdLane, WordLane, bytes_of, clamped_i8,
+        clamped_i16, from_bytes, from_u64x2, on_vectors, u64x2_of,
     };
-    pub use extend::{
-        i16x8_extend_high_i8x16_s, i16x8_extend_high_i8x16_u, i16x8_extend_low_i8x16_s,
-        i16x8_extend_low_i8x16_u, i32x4_extend_high_i16x8_s, i32x4_extend_high_i16x8_u,
-        i32x4_extend_low_i16x8_s, i32x4_extend_low_i16x8_u, i64x2_extend_high_i32x4_s,
-        i64x2_extend_high_i32x4_u, i64x2_extend_low_i32x4_s, i64x2_extend_low_i32x4_u,
-        v128_low32_zero, v128_low64_zero, v128_widen8x8_s, v128_widen8x8_u, v128_widen16x4_s,
-        v128_widen16x4_u, v128_widen32x2_s, v128_widen32x2_u,
+    use crate::proved::lanewise::simd::{i8x16_swizzle, i16x8_q15mulr_sat_s, v128_bitselect};
+    use crate::proved::raw::V128;
+    use crate::proved::widening::simd::wide::{ExtendedLane, PairedLane};
+    use crate::rattle::simd::prelude::*;
+
+    // Lanes extended to twice their width.
+
+    /// The lanes of the lower half, read signed.
+    ///
+    /// # Contract
+    ///
+    /// ```text
+    /// ensures: result ≡ vector.extend_low_s w8 w16 v
+    /// ```
+    ///
+    /// Definitions: [`extend_low_s`](crate::specs::widening::WideningTable#extend_low_s).
+    #[inline]
+    pub fn i16x8_extend_low_i8x16_s(v: V128) -> V128 {
+        extended_low_s::<u8>(v)
+    }
+
+    /// The lanes of the lower half, read unsigned.
+    ///
+    /// # Contract
+    ///
+    /// ```text
+    /// ensures: result ≡ vector.extend_low_u w8 w16 v
+    /// ```
+    ///
+    /// Definitions: [`extend_low_u`](crate::specs::widening::WideningTable#extend_low_u).
+    #[inline]
+    pub fn i16x8_extend_low_i8x16_u(v: V128) -> V128 {
+        extended_low_u::<u8>(v)
+    }
+
+    /// The lanes of the upper half, read signed.
+    ///
+    /// # Contract
+    ///
+    /// ```text
+    /// ensures: result ≡ vector.extend_high_s w8 w16 v
+    /// ```
+    ///
+    /// Definitions: [`extend_high_s`](crate::specs::widening::WideningTable#extend_high_s).
+    #[inline]
+    pub fn i16x8_extend_high_i8x16_s(v: V128) -> V128 {
+        extended_high_s::<u8>(v)
+    }
+
+    /// The lanes of the upper half, read unsigned.
+    ///
+    /// # Contract
+    ///
+    /// ```text
+    /// ensures: result ≡ vector.extend_high_u w8 w16 v
+    /// ```
+    ///
+    /// Definitions: [`extend_high_u`](crate::specs::widening::WideningTable#extend_high_u).
+    #[inline]
+    pub fn i16x8_extend_high_i8x16_u(v: V128) -> V128 {
+        extended_high_u::<u8>(v)
+    }
+
+    /// The lanes of the lower half, read signed.
+    ///
+    /// # Contract
+    ///
+    /// ```text
+    /// ensures: result ≡ vector.extend_low_s w16 w32 v
+    /// ```
+    ///
+    /// Definitions: [`extend_low_s`](crate::specs::widening::WideningTable#extend_low_s).
+    #[inline]
+    pub fn i32x4_extend_low_i16x8_s(v: V128) -> V128 {
+        extended_low_s::<u16>(v)
+    }
+
+    /// The lanes of the lower half, read unsigned.
+    ///
+    /// # Contract
+    ///
+    /// ```text
+    /// ensures: result ≡ vector.extend_low_u w16 w32 v
+    /// ```
+    ///
+    /// Definitions: [`extend_low_u`](crate::specs::widening::WideningTable#extend_low_u).
+    #[inline]
+    pub fn i32x4_extend_low_i16x8_u(v: V128) -> V128 {
+        extended_low_u::<u16>(v)
+    }
+
+    /// The lanes of the upper half, read signed.
+    ///
+    /// # Contract
+    ///
+    /// ```text
+    /// ensures: result ≡ vector.extend_high_s w16 w32 v
+    /// ```
+    ///
+    /// Definitions: [`extend_high_s`](crate::specs::widening::WideningTable#extend_high_s).
+    #[inline]
+    pub fn i32x4_extend_high_i16x8_s(v: V128) -> V128 {
+        extended_high_s::<u16>(v)
+    }
+
+    /// The lanes of the upper half, read unsigned.
+    ///
+    /// # Contract
+    ///
+    /// ```text
+    /// ensures: result ≡ vector.extend_high_u w16 w32 v
+    /// ```
+    ///
+    /// Definitions: [`extend_high_u`](crate::specs::widening::WideningTable#extend_high_u).
+    #[inline]
+    pub fn i32x4_extend_high_i16x8_u(v: V128) -> V128 {
+        extended_high_u::<u16>(v)
+    }
+
+    /// The lanes of the lower half, read signed.
+    ///
+    /// # Contract
+    ///
+    /// ```text
+    /// ensures: result ≡ vector.extend_low_s w32 w64 v
+    /// ```
+    ///
+    /// Definitions: [`extend_low_s`](crate::specs::widening::WideningTable#extend_low_s).
+    #[inline]
+    pub fn i64x2_extend_low_i32x4_s(v: V128) -> V128 {
+        extended_low_s::<u32>(v)
+    }
+
+    /// The lanes of the lower half, read unsigned.
+    ///
+    /// # Contract
+    ///
+    /// ```text
+    /// ensures: result ≡ vector.extend_low_u w32 w64 v
+    /// ```
+    ///
+    /// Definitions: [`extend_low_u`](crate::specs::widening::WideningTable#extend_low_u).
+    #[inline]
+    pub fn i64x2_extend_low_i32x4_u(v: V128) -> V128 {
+        extended_low_u::<u32>(v)
+    }
+
+    /// The lanes of the upper half, read signed.
+    ///
+    /// # Contract
+    ///
+    /// ```text
+    /// ensures: result ≡ vector.extend_high_s w32 w64 v
+    /// ```
+    ///
+    /// Definitions: [`extend_high_s`](crate::specs::widening::WideningTable#extend_high_s).
+    #[inline]
+    pub fn i64x2_extend_high_i32x4_s(v: V128) -> V128 {
+        extended_high_s::<u32>(v)
+    }
+
+    /// The lanes of the upper half, read unsigned.
+    ///
+    /// # Contract
+    ///
+    /// ```text
+    /// ensures: result ≡ vector.extend_high_u w32 w64 v
+    /// ```
+    ///
+    /// Definitions: [`extend_high_u`](crate::specs::widening::WideningTable#extend_high_u).
+    #[inline]
+    pub fn i64x2_extend_high_i32x4_u(v: V128) -> V128 {
+        extended_high_u::<u32>(v)
+    }
+
+    /// What `v128.load8x8_s` makes of a number: its 8 lanes of 8 bits, read signed. Upstream's own.
+    ///
+    /// # Contract
+    ///
+    /// ```text
+    /// ensures: result ≡ vector.widen_s w8 w16 number
+    /// ```
+    ///
+    /// Definitions: [`widen_s`](crate::specs::widening::WideningTable#widen_s).
+    #[inline]
+    pub fn v128_widen8x8_s(number: u64) -> V128 {
+        i16x8_extend_low_i8x16_s(V128::from_word_pair(number, 0))
+    }
+
+    /// What `v128.load8x8_u` makes of a number: its 8 lanes of 8 bits, read unsigned. Upstream's own.
+    ///
+    /// # Contract
+    ///
+    /// ```text
+    /// ensures: result ≡ vector.widen_u w8 w16 number
+    /// ```
+    ///
+    /// Definitions: [`widen_u`](crate::specs::widening::WideningTable#widen_u).
+    #[inline]
+    pub fn v128_widen8x8_u(number: u64) -> V128 {
+        i16x8_extend_low_i8x16_u(V128::from_word_pair(number, 0))
+    }
+
+    /// What `v128.load16x4_s` makes of a number: its 4 lanes of 16 bits, read signed. Upstream's own.
+    ///
+    /// # Contract
+    ///
+    /// ```text
+    /// ensures: result ≡ vector.widen_s w16 w32 number
+    /// ```
+    ///
+    /// Definitions: [`widen_s`](crate::specs::widening::WideningTable#widen_s).
+    #[inline]
+    pub fn v128_widen16x4_s(number: u64) -> V128 {
+        i32x4_extend_low_i16x8_s(V128::from_word_pair(number, 0))
+    }
+
+    /// What `v128.load16x4_u` makes of a number: its 4 lanes of 16 bits, read unsigned. Upstream's own.
+    ///
+    /// # Contract
+    ///
+    /// ```text
+    /// ensures: result ≡ vector.widen_u w16 w32 number
+    /// ```
+    ///
+    /// Definitions: [`widen_u`](crate::specs::widening::WideningTable#widen_u).
+    #[inline]
+    pub fn v128_widen16x4_u(number: u64) -> V128 {
+        i32x4_extend_low_i16x8_u(V128::from_word_pair(number, 0))
+    }
+
+    /// What `v128.load32x2_s` makes of a number: its 2 lanes of 32 bits, read signed. Upstream's own.
+    ///
+    /// # Contract
+    ///
+    /// ```text
+    /// ensures: result ≡ vector.widen_s w32 w64 number
+    /// ```
+    ///
+    /// Definitions: [`widen_s`](crate::specs::widening::WideningTable#widen_s).
+    #[inline]
+    pub fn v128_widen32x2_s(number: u64) -> V128 {
+        i64x2_extend_low_i32x4_s(V128::from_word_pair(number, 0))
+    }
+
+    /// What `v128.load32x2_u` makes of a number: its 2 lanes of 32 bits, read unsigned. Upstream's own.
+    ///
+    /// # Contract
+    ///
+    /// ```text
+    /// ensures: result ≡ vector.widen_u w32 w64 number
+    /// ```
+    ///
+    /// Definitions: [`widen_u`](crate::specs::widening::WideningTable#widen_u).
+    #[inline]
+    pub fn v128_widen32x2_u(number: u64) -> V128 {
+        i64x2_extend_low_i32x4_u(V128::from_word_pair(number, 0))
+    }
+
+    /// What `v128.load32_zero` makes of a number: it is lane 0, and the others are 0. Upstream's own.
+    ///
+    /// # Contract
+    ///
+    /// ```text
+    /// ensures: result ≡ vector.low_zero w32 number
+    /// ```
+    ///
+    /// Definitions: [`low_zero`](crate::specs::widening::WideningTable#low_zero).
+    #[inline]
+    pub fn v128_low32_zero(number: u32) -> V128 {
+        v128_low64_zero(u64::from(number))
+    }
+
+    /// What `v128.load64_zero` makes of a number: it is lane 0, and the others are 0. Upstream's own.
+    ///
+    /// # Contract
+    ///
+    /// ```text
+    /// ensures: result ≡ vector.low_zero w64 number
+    /// ```
+    ///
+    /// Definitions: [`low_zero`](crate::specs::widening::WideningTable#low_zero).
+    #[inline]
+    pub fn v128_low64_zero(number: u64) -> V128 {
+        // By lanes of 32 bits: of two words LLVM makes two stores.
+        let items = u32::lanes_of(V128::from_word_pair(number, 0));
+        u32::vector_of(items.shuffle(u32x4::splat(0), [0, 1, 4, 5]))
+    }
+
+    /// # Contract
+    ///
+    /// ```text
+    /// ensures: result ≡ vector.extend_low_s T.width T.Wide.width v
+    /// ```
+    ///
+    /// Definitions: [`extend_low_s`](crate::specs::widening::WideningTable#extend_low_s).
+    #[inline(always)]
+    fn extended_low_s<T: ExtendedLane>(v: V128) -> V128 {
+        T::Wide::vector_of(T::low_signed(v))
+    }
+
+    /// # Contract
+    ///
+    /// ```text
+    /// ensures: result ≡ vector.extend_low_u T.width T.Wide.width v
+    /// ```
+    ///
+    /// Definitions: [`extend_low_u`](crate::specs::widening::WideningTable#extend_low_u).
+    #[inline(always)]
+    fn extended_low_u<T: ExtendedLane>(v: V128) -> V128 {
+        T::Wide::vector_of(T::low(v))
+    }
+
+    /// # Contract
+    ///
+    /// ```text
+    /// ensures: result ≡ vector.extend_high_s T.width T.Wide.width v
+    /// ```
+    ///
+    /// Definitions: [`extend_high_s`](crate::specs::widening::WideningTable#extend_high_s).
+    #[inline(always)]
+    fn extended_high_s<T: ExtendedLane>(v: V128) -> V128 {
+        T::Wide::vector_of(T::high_signed(v))
+    }
+
+    /// # Contract
+    ///
+    /// ```text
+    /// ensures: result ≡ vector.extend_high_u T.width T.Wide.width v
+    /// ```
+    ///
+    /// Definitions: [`extend_high_u`](crate::specs::widening::WideningTable#extend_high_u).
+    #[inline(always)]
+    fn extended_high_u<T: ExtendedLane>(v: V128) -> V128 {
+        T::Wide::vector_of(T::high(v))
+    }
+
+    // Lanes narrowed to half of their width.
+
+    /// The lanes of `low`, then of `high`, read signed, clamped to the signed range of 8 bits.
+    ///
+    /// # Contract
+    ///
+    /// ```text
+    /// ensures: result ≡ vector.narrow_s w16 w8 low high
+    /// ```
+    ///
+    /// Definitions: [`narrow_s`](crate::specs::widening::WideningTable#narrow_s).
+    #[inline]
+    pub fn i8x16_narrow_i16x8_s(low: V128, high: V128) -> V128 {
+        from_low_high::<I16x8, I8x16, _>(low, high, |x| clamped_i8(x))
+    }
+
+    /// The lanes of `low`, then of `high`, read signed, clamped to the unsigned range of 8 bits.
+    ///
+    /// # Contract
+    ///
+    /// ```text
+    /// ensures: result ≡ vector.narrow_u w16 w8 low high
+    /// ```
+    ///
+    /// Definitions: [`narrow_u`](crate::specs::widening::WideningTable#narrow_u).
+    #[inline]
+    pub fn i8x16_narrow_i16x8_u(low: V128, high: V128) -> V128 {
+        from_low_high::<I16x8, I8x16, _>(low, high, clamped_u8)
+    }
+
+    /// The lanes of `low`, then of `high`, read signed, clamped to the signed range of 16 bits.
+    ///
+    /// # Contract
+    ///
+    /// ```text
+    /// ensures: result ≡ vector.narrow_s w32 w16 low high
+    /// ```
+    ///
+    /// Definitions: [`narrow_s`](crate::specs::widening::WideningTable#narrow_s).
+    #[inline]
+    pub fn i16x8_narrow_i32x4_s(low: V128, high: V128) -> V128 {
+        from_low_high::<I32x4, I16x8, _>(low, high, |x| clamped_i16(x))
+    }
+
+    /// The lanes of `low`, then of `high`, read signed, clamped to the unsigned range of 16 bits.
+    ///
+    /// # Contract
+    ///
+    /// ```text
+    /// ensures: result ≡ vector.narrow_u w32 w16 low high
+    /// ```
+    ///
+    /// Definitions: [`narrow_u`](crate::specs::widening::WideningTable#narrow_u).
+    #[inline]
+    pub fn i16x8_narrow_i32x4_u(low: V128, high: V128) -> V128 {
+        from_low_high::<I32x4, I16x8, _>(low, high, clamped_u16)
+    }
+
+    // The item of a lane that holds the number, clamped to the unsigned range of 8 bits.
+    /// # Contract
+    ///
+    /// ```text
+    /// ensures: cast_unsigned w8 result ≡ clamp_unsigned w8 x
+    /// ```
+    #[inline]
+    fn clamped_u8(x: i16) -> i8 {
+        (x.clamp(0, 255) as u8).cast_signed()
+    }
+
+    // The item of a lane that holds the number, clamped to the unsigned range of 16 bits.
+    /// # Contract
+    ///
+    /// ```text
+    /// ensures: cast_unsigned w16 result ≡ clamp_unsigned w16 x
+    /// ```
+    #[inline]
+    fn clamped_u16(x: i32) -> i16 {
+        (x.clamp(0, 65535) as u16).cast_signed()
+    }
+
+    // Applies `f` to the lanes of `low`, then to those of `high`.
+    /// # Contract
+    ///
+    /// ```text
+    /// requires callable: F.IsAlwaysCallable f
+    /// ensures lanes: (row : W.Item → ℕ)
+    ///     → ((x : W.Item) (z : L.Item) → W.Item.Fits x → L.Item.Fits z → F.post f x z
+    ///     → L.Item.image z ≡ row x)
+    ///     → result ≡ vector.from_low_high W.Item.width L.Item.width W.Item.read row low high
+    /// ```
+    ///
+    /// Definitions: [`from_low_high`](crate::specs::widening::WideningTable#from_low_high).
+    #[inline(always)]
+    fn from_low_high<W: Lanes, L: FromWide<W>, F: Fn(W::Item) -> L::Item>(
+        low: V128,
+        high: V128,
+        f: F,
+    ) -> V128 {
+        L::from_low_high(W::from_v128(low), W::from_v128(high), f).into_v128()
+    }
+
+    // Products of lanes, of twice their width, and sums of neighbouring lanes and of their products.
+
+    /// The products of the lanes of the lower halves, read signed.
+    ///
+    /// # Contract
+    ///
+    /// ```text
+    /// ensures: result ≡ vector.extmul_low_s w8 w16 lhs rhs
+    /// ```
+    ///
+    /// Definitions: [`extmul_low_s`](crate::specs::widening::WideningTable#extmul_low_s).
+    #[inline]
+    pub fn i16x8_extmul_low_i8x16_s(lhs: V128, rhs: V128) -> V128 {
+        products_low_s::<u8>(lhs, rhs)
+    }
+
+    /// The products of the lanes of the lower halves, read unsigned.
+    ///
+    /// # Contract
+    ///
+    /// ```text
+    /// ensures: result ≡ vector.extmul_low_u w8 w16 lhs rhs
+    /// ```
+    ///
+    /// Definitions: [`extmul_low_u`](crate::specs::widening::WideningTable#extmul_low_u).
+    #[inline]
+    pub fn i16x8_extmul_low_i8x16_u(lhs: V128, rhs: V128) -> V128 {
+        products_low_u::<u8>(lhs, rhs)
+    }
+
+    /// The products of the lanes of the upper halves, read signed.
+    ///
+    /// # Contract
+    ///
+    /// ```text
+    /// ensures: result ≡ vector.extmul_high_s w8 w16 lhs rhs
+    /// ```
+    ///
+    /// Definitions: [`extmul_high_s`](crate::specs::widening::WideningTable#extmul_high_s).
+    #[inline]
+    pub fn i16x8_extmul_high_i8x16_s(lhs: V128, rhs: V128) -> V128 {
+        products_high_s::<u8>(lhs, rhs)
+    }
+
+    /// The products of the lanes of the upper halves, read unsigned.
+    ///
+    /// # Contract
+    ///
+    /// ```text
+    /// ensures: result ≡ vector.extmul_high_u w8 w16 lhs rhs
+    /// ```
+    ///
+    /// Definitions: [`extmul_high_u`](crate::specs::widening::WideningTable#extmul_high_u).
+    #[inline]
+    pub fn i16x8_extmul_high_i8x16_u(lhs: V128, rhs: V128) -> V128 {
+        products_high_u::<u8>(lhs, rhs)
+    }
+
+    /// The products of the lanes of the lower halves, read signed.
+    ///
+    /// # Contract
+    ///
+    /// ```text
+    /// ensures: result ≡ vector.extmul_low_s w16 w32 lhs rhs
+    /// ```
+    ///
+    /// Definitions: [`extmul_low_s`](crate::specs::widening::WideningTable#extmul_low_s).
+    #[inline]
+    pub fn i32x4_extmul_low_i16x8_s(lhs: V128, rhs: V128) -> V128 {
+        products_low_s::<u16>(lhs, rhs)
+    }
+
+    /// The products of the lanes of the lower halves, read unsigned.
+    ///
+    /// # Contract
+    ///
+    /// ```text
+    /// ensures: result ≡ vector.extmul_low_u w16 w32 lhs rhs
+    /// ```
+    ///
+    /// Definitions: [`extmul_low_u`](crate::specs::widening::WideningTable#extmul_low_u).
+    #[inline]
+    pub fn i32x4_extmul_low_i16x8_u(lhs: V128, rhs: V128) -> V128 {
+        products_low_u::<u16>(lhs, rhs)
+    }
+
+    /// The products of the lanes of the upper halves, read signed.
+    ///
+    /// # Contract
+    ///
+    /// ```text
+    /// ensures: result ≡ vector.extmul_high_s w16 w32 lhs rhs
+    /// ```
+    ///
+    /// Definitions: [`extmul_high_s`](crate::specs::widening::WideningTable#extmul_high_s).
+    #[inline]
+    pub fn i32x4_extmul_high_i16x8_s(lhs: V128, rhs: V128) -> V128 {
+        products_high_s::<u16>(lhs, rhs)
+    }
+
+    /// The products of the lanes of the upper halves, read unsigned.
+    ///
+    /// # Contract
+    ///
+    /// ```text
+    /// ensures: result ≡ vector.extmul_high_u w16 w32 lhs rhs
+    /// ```
+    ///
+    /// Definitions: [`extmul_high_u`](crate::specs::widening::WideningTable#extmul_high_u).
+    #[inline]
+    pub fn i32x4_extmul_high_i16x8_u(lhs: V128, rhs: V128) -> V128 {
+        products_high_u::<u16>(lhs, rhs)
+    }
+
+    /// The products of the lanes of the lower halves, read signed.
+    ///
+    /// # Contract
+    ///
+    /// ```text
+    /// ensures: result ≡ vector.extmul_low_s w32 w64 lhs rhs
+    /// ```
+    ///
+    /// Definitions: [`extmul_low_s`](crate::specs::widening::WideningTable#extmul_low_s).
+    #[inline]
+    pub fn i64x2_extmul_low_i32x4_s(lhs: V128, rhs: V128) -> V128 {
+        products_low_s::<u32>(lhs, rhs)
+    }
+
+    /// The products of the lanes of the lower halves, read unsigned.
+    ///
+    /// # Contract
+    ///
+    /// ```text
+    /// ensures: result ≡ vector.extmul_low_u w32 w64 lhs rhs
+    /// ```
+    ///
+    /// Definitions: [`extmul_low_u`](crate::specs::widening::WideningTable#extmul_low_u).
+    #[inline]
+    pub fn i64x2_extmul_low_i32x4_u(lhs: V128, rhs: V128) -> V128 {
+        products_low_u::<u32>(lhs, rhs)
+    }
+
+    /// The products of the lanes of the upper halves, read signed.
+    ///
+    /// # Contract
+    ///
+    /// ```text
+    /// ensures: result ≡ vector.extmul_high_s w32 w64 lhs rhs
+    /// ```
+    ///
+    /// Definitions: [`extmul_high_s`](crate::specs::widening::WideningTable#extmul_high_s).
+    #[inline]
+    pub fn i64x2_extmul_high_i32x4_s(lhs: V128, rhs: V128) -> V128 {
+        products_high_s::<u32>(lhs, rhs)
+    }
+
+    /// The products of the lanes of the upper halves, read unsigned.
+    ///
+    /// # Contract
+    ///
+    /// ```text
+    /// ensures: result ≡ vector.extmul_high_u w32 w64 lhs rhs
+    /// ```
+    ///
+    /// Definitions: [`extmul_high_u`](crate::specs::widening::WideningTable#extmul_high_u).
+    #[inline]
+    pub fn i64x2_extmul_high_i32x4_u(lhs: V128, rhs: V128) -> V128 {
+        products_high_u::<u32>(lhs, rhs)
+    }
+
+    /// The sums of neighbouring lanes, read signed.
+    ///
+    /// # Contract
+    ///
+    /// ```text
+    /// ensures: result ≡ vector.extadd_pairwise_s w8 w16 v
+    /// ```
+    ///
+    /// Definitions: [`extadd_pairwise_s`](crate::specs::widening::WideningTable#extadd_pairwise_s).
+    #[inline]
+    pub fn i16x8_extadd_pairwise_i8x16_s(v: V128) -> V128 {
+        neighbours_s::<u8>(v)
+    }
+
+    /// The sums of neighbouring lanes, read unsigned.
+    ///
+    /// # Contract
+    ///
+    /// ```text
+    /// ensures: result ≡ vector.extadd_pairwise_u w8 w16 v
+    /// ```
+    ///
+    /// Definitions: [`extadd_pairwise_u`](crate::specs::widening::WideningTable#extadd_pairwise_u).
+    #[inline]
+    pub fn i16x8_extadd_pairwise_i8x16_u(v: V128) -> V128 {
+        neighbours_u::<u8>(v)
+    }
+
+    /// The sums of neighbouring lanes, read signed.
+    ///
+    /// # Contract
+    ///
+    /// ```text
+    /// ensures: result ≡ vector.extadd_pairwise_s w16 w32 v
+    /// ```
+    ///
+    /// Definitions: [`extadd_pairwise_s`](crate::specs::widening::WideningTable#extadd_pairwise_s).
+    #[inline]
+    pub fn i32x4_extadd_pairwise_i16x8_s(v: V128) -> V128 {
+        neighbours_s::<u16>(v)
+    }
+
+    /// The sums of neighbouring lanes, read unsigned.
+    ///
+    /// # Contract
+    ///
+    /// ```text
+    /// ensures: result ≡ vector.extadd_pairwise_u w16 w32 v
+    /// ```
+    ///
+    /// Definitions: [`extadd_pairwise_u`](crate::specs::widening::WideningTable#extadd_pairwise_u).
+    #[inline]
+    pub fn i32x4_extadd_pairwise_i16x8_u(v: V128) -> V128 {
+        neighbours_u::<u16>(v)
+    }
+
+    /// The sums of the products of neighbouring lanes, read signed, modulo 2 to the power 32.
+    ///
+    /// # Contract
+    ///
+    /// ```text
+    /// ensures: result ≡ vector.dot_s w16 w32 lhs rhs
+    /// ```
+    ///
+    /// Definitions: [`dot_s`](crate::specs::widening::WideningTable#dot_s).
+    #[inline]
+    pub fn i32x4_dot_i16x8_s(lhs: V128, rhs: V128) -> V128 {
+        dots::<u16>(lhs, rhs)
+    }
+
+    /// The sums of the products of neighbouring lanes, both read signed, modulo 2 to the power 16.
+    ///
+    /// # Contract
+    ///
+    /// ```text
+    /// ensures: result ≡ vector.relaxed_dot_s lhs rhs
+    /// ```
+    ///
+    /// Definitions: [`relaxed_dot_s`](crate::specs::widening::WideningTable#relaxed_dot_s).
+    #[inline]
+    pub fn i16x8_relaxed_dot_i8x16_i7x16_s(lhs: V128, rhs: V128) -> V128 {
+        dots::<u8>(lhs, rhs)
+    }
+
+    /// # Contract
+    ///
+    /// ```text
+    /// ensures: result ≡ vector.extmul_low_s T.width T.Wide.width lhs rhs
+    /// ```
+    ///
+    /// Definitions: [`extmul_low_s`](crate::specs::widening::WideningTable#extmul_low_s).
+    #[inline(always)]
+    fn products_low_s<T: ExtendedLane>(lhs: V128, rhs: V128) -> V128 {
+        T::Wide::vector_of(T::products(T::low_signed(lhs), T::low_signed(rhs)))
+    }
+
+    /// # Contract
+    ///
+    /// ```text
+    /// ensures: result ≡ vector.extmul_low_u T.width T.Wide.width lhs rhs
+    /// ```
+    ///
+    /// Definitions: [`extmul_low_u`](crate::specs::widening::WideningTable#extmul_low_u).
+    #[inline(always)]
+    fn products_low_u<T: ExtendedLane>(lhs: V128, rhs: V128) -> V128 {
+        T::Wide::vector_of(T::products(T::low(lhs), T::low(rhs)))
+    }
+
+    /// # Contract
+    ///
+    /// ```text
+    /// ensures: result ≡ vector.extmul_high_s T.width T.Wide.width lhs rhs
+    /// ```
+    ///
+    /// Definitions: [`extmul_high_s`](crate::specs::widening::WideningTable#extmul_high_s).
+    #[inline(always)]
+    fn products_high_s<T: ExtendedLane>(lhs: V128, rhs: V128) -> V128 {
+        T::Wide::vector_of(T::products(T::high_signed(lhs), T::high_signed(rhs)))
+    }
+
+    /// # Contract
+    ///
+    /// ```text
+    /// ensures: result ≡ vector.extmul_high_u T.width T.Wide.width lhs rhs
+    /// ```
+    ///
+    /// Definitions: [`extmul_high_u`](crate::specs::widening::WideningTable#extmul_high_u).
+    #[inline(always)]
+    fn products_high_u<T: ExtendedLane>(lhs: V128, rhs: V128) -> V128 {
+        T::Wide::vector_of(T::products(T::high(lhs), T::high(rhs)))
+    }
+
+    /// # Contract
+    ///
+    /// ```text
+    /// ensures: result ≡ vector.extadd_pairwise_s T.width T.Wide.width v
+    /// ```
+    ///
+    /// Definitions: [`extadd_pairwise_s`](crate::specs::widening::WideningTable#extadd_pairwise_s).
+    #[inline(always)]
+    fn neighbours_s<T: PairedLane>(v: V128) -> V128 {
+        T::Wide::vector_of(T::sums(T::even_signed(v), T::odd_signed(v)))
+    }
+
+    /// # Contract
+    ///
+    /// ```text
+    /// ensures: result ≡ vector.extadd_pairwise_u T.width T.Wide.width v
+    /// ```
+    ///
+    /// Definitions: [`extadd_pairwise_u`](crate::specs::widening::WideningTable#extadd_pairwise_u).
+    #[inline(always)]
+    fn neighbours_u<T: PairedLane>(v: V128) -> V128 {
+        T::Wide::vector_of(T::sums(T::even(v), T::odd(v)))
+    }
+
+    /// # Contract
+    ///
+    /// ```text
+    /// ensures: result ≡ vector.dot_s T.width T.Wide.width lhs rhs
+    /// ```
+    ///
+    /// Definitions: [`dot_s`](crate::specs::widening::WideningTable#dot_s).
+    #[inline(always)]
+    fn dots<T: PairedLane>(lhs: V128, rhs: V128) -> V128 {
+        let evens = T::products(T::even_signed(lhs), T::even_signed(rhs));
+        let odds = T::products(T::odd_signed(lhs), T::odd_signed(rhs));
+        T::Wide::vector_of(T::sums(evens, odds))
+    }
+
+    // Shifts of lanes, by an amount modulo their width.
+    //
+    // The two words of the vector are shifted together, and the bits are masked that would leave their
+    // lane; with the sign it is done lane by lane, or for lanes of 8 bits by a shift without sign of
+    // lanes moved by half of their range.
+
+    /// The lanes shifted to the left, the bits above each lane dropped. `amount` is taken modulo 8.
+    ///
+    /// # Contract
+    ///
+    /// ```text
+    /// ensures: result ≡ vector.shl w8 v amount
+    /// ```
+    ///
+    /// Definitions: [`shl`](crate::specs::widening::WideningTable#shl).
+    #[inline]
+    pub fn i8x16_shl(v: V128, amount: u32) -> V128 {
+        shifted_left::<u8>(v, amount)
+    }
+
+    /// The lanes shifted to the right, the sign copied. `amount` is taken modulo 8.
+    ///
+    /// # Contract
+    ///
+    /// ```text
+    /// ensures: result ≡ vector.shr_s w8 v amount
+    /// ```
+    ///
+    /// Definitions: [`shr_s`](crate::specs::widening::WideningTable#shr_s).
+    #[inline]
+    pub fn i8x16_shr_s(v: V128, amount: u32) -> V128 {
+        // What the lanes were moved by is a multiple of what they are divided by.
+        let biased = u8::vector_of(u8::biased(u8::lanes_of(v)));
+        let shifted = i8x16_shr_u(biased, amount);
+        let half = V128::from(HALVES_OF_8[(amount % 8) as usize]);
+        from_bytes(bytes_of(shifted) - bytes_of(half))
+    }
+
+    /// The lanes shifted to the right, with zeros. `amount` is taken modulo 8.
+    ///
+    /// # Contract
+    ///
+    /// ```text
+    /// ensures: result ≡ vector.shr_u w8 v amount
+    /// ```
+    ///
+    /// Definitions: [`shr_u`](crate::specs::widening::WideningTable#shr_u).
+    #[inline]
+    pub fn i8x16_shr_u(v: V128, amount: u32) -> V128 {
+        shifted_right::<u8>(v, amount)
+    }
+
+    /// The lanes shifted to the left, the bits above each lane dropped. `amount` is taken modulo 16.
+    ///
+    /// # Contract
+    ///
+    /// ```text
+    /// ensures: result ≡ vector.shl w16 v amount
+    /// ```
+    ///
+    /// Definitions: [`shl`](crate::specs::widening::WideningTable#shl).
+    #[inline]
+    pub fn i16x8_shl(v: V128, amount: u32) -> V128 {
+        shifted_left::<u16>(v, amount)
+    }
+
+    /// The lanes shifted to the right, the sign copied. `amount` is taken modulo 16.
+    ///
+    /// # Contract
+    ///
+    /// ```text
+    /// ensures: result ≡ vector.shr_s w16 v amount
+    /// ```
+    ///
+    /// Definitions: [`shr_s`](crate::specs::widening::WideningTable#shr_s).
+    #[inline]
+    pub fn i16x8_shr_s(v: V128, amount: u32) -> V128 {
+        on_vectors::unary::<I16x8, _>(v, |x| x.wrapping_shr(amount))
+    }
+
+    /// The lanes shifted to the right, with zeros. `amount` is taken modulo 16.
+    ///
+    /// # Contract
+    ///
+    /// ```text
+    /// ensures: result ≡ vector.shr_u w16 v amount
+    /// ```
+    ///
+    /// Definitions: [`shr_u`](crate::specs::widening::WideningTable#shr_u).
+    #[inline]
+    pub fn i16x8_shr_u(v: V128, amount: u32) -> V128 {
+        shifted_right::<u16>(v, amount)
+    }
+
+    /// The lanes shifted to the left, the bits above each lane dropped. `amount` is taken modulo 32.
+    ///
+    /// # Contract
+    ///
+    /// ```text
+    /// ensures: result ≡ vector.shl w32 v amount
+    /// ```
+    ///
+    /// Definitions: [`shl`](crate::specs::widening::WideningTable#shl).
+    #[inline]
+    pub fn i32x4_shl(v: V128, amount: u32) -> V128 {
+        shifted_left::<u32>(v, amount)
+    }
+
+    /// The lanes shifted to the right, the sign copied. `amount` is taken modulo 32.
+    ///
+    /// # Contract
+    ///
+    /// ```text
+    /// ensures: result ≡ vector.shr_s w32 v amount
+    /// ```
+    ///
+    /// Definitions: [`shr_s`](crate::specs::widening::WideningTable#shr_s).
+    #[inline]
+    pub fn i32x4_shr_s(v: V128, amount: u32) -> V128 {
+        on_vectors::unary::<I32x4, _>(v, |x| x.wrapping_shr(amount))
+    }
+
+    /// The lanes shifted to the right, with zeros. `amount` is taken modulo 32.
+    ///
+    /// # Contract
+    ///
+    /// ```text
+    /// ensures: result ≡ vector.shr_u w32 v amount
+    /// ```
+    ///
+    /// Definitions: [`shr_u`](crate::specs::widening::WideningTable#shr_u).
+    #[inline]
+    pub fn i32x4_shr_u(v: V128, amount: u32) -> V128 {
+        shifted_right::<u32>(v, amount)
+    }
+
+    /// The lanes shifted to the left, the bits above each lane dropped. `amount` is taken modulo 64.
+    ///
+    /// # Contract
+    ///
+    /// ```text
+    /// ensures: result ≡ vector.shl w64 v amount
+    /// ```
+    ///
+    /// Definitions: [`shl`](crate::specs::widening::WideningTable#shl).
+    #[inline]
+    pub fn i64x2_shl(v: V128, amount: u32) -> V128 {
+        from_u64x2(u64x2_of(v) << u64x2::splat(u64::from(amount % 64)))
+    }
+
+    /// The lanes shifted to the right, the sign copied. `amount` is taken modulo 64.
+    ///
+    /// # Contract
+    ///
+    /// ```text
+    /// ensures: result ≡ vector.shr_s w64 v amount
+    /// ```
+    ///
+    /// Definitions: [`shr_s`](crate::specs::widening::WideningTable#shr_s).
+    #[inline]
+    pub fn i64x2_shr_s(v: V128, amount: u32) -> V128 {
+        on_vectors::unary::<I64x2, _>(v, |x| x.wrapping_shr(amount))
+    }
+
+    /// The lanes shifted to the right, with zeros. `amount` is taken modulo 64.
+    ///
+    /// # Contract
+    ///
+    /// ```text
+    /// ensures: result ≡ vector.shr_u w64 v amount
+    /// ```
+    ///
+    /// Definitions: [`shr_u`](crate::specs::widening::WideningTable#shr_u).
+    #[inline]
+    pub fn i64x2_shr_u(v: V128, amount: u32) -> V128 {
+        from_u64x2(u64x2_of(v) >> u64x2::splat(u64::from(amount % 64)))
+    }
+
+    /// # Contract
+    ///
+    /// ```text
+    /// ensures: result ≡ vector.shl T.width v amount
+    /// ```
+    ///
+    /// Definitions: [`shl`](crate::specs::widening::WideningTable#shl).
+    #[inline(always)]
+    fn shifted_left<T: NarrowLane>(v: V128, amount: u32) -> V128 {
+        let amount = u64::from(amount % T::BITS);
+        let kept = T::shift_masks(amount);
+        from_u64x2((u64x2_of(v) & kept) << u64x2::splat(amount))
+    }
+
+    /// # Contract
+    ///
+    /// ```text
+    /// ensures: result ≡ vector.shr_u T.width v amount
+    /// ```
+    ///
+    /// Definitions: [`shr_u`](crate::specs::widening::WideningTable#shr_u).
+    #[inline(always)]
+    fn shifted_right<T: NarrowLane>(v: V128, amount: u32) -> V128 {
+        let amount = u64::from(amount % T::BITS);
+        let kept = T::shift_masks(amount);
+        from_u64x2((u64x2_of(v) >> u64x2::splat(amount)) & kept)
+    }
+
+    /// In each lane, what is left of a number once so many bits are dropped. The first factor has the
+    /// lowest bit of each lane.
+    macro_rules! each_shifted {
+    ($ones:literal * $all:literal >> [$($dropped:literal)*]) => {
+        [$($ones * ($all >> $dropped)),*]
     };
-    pub use narrow::{
-        i8x16_narrow_i16x8_s, i8x16_narrow_i16x8_u, i16x8_narrow_i32x4_s, i16x8_narrow_i32x4_u,
-    };
-    pub use reductions::{
-        i8x16_all_true, i8x16_bitmask, i16x8_all_true, i16x8_bitmask, i32x4_all_true,
-        i32x4_bitmask, i64x2_all_true, i64x2_bitmask, v128_any_true,
-    };
-    pub use relaxed::{
-        i8x16_relaxed_laneselect, i8x16_relaxed_swizzle, i16x8_relaxed_laneselect,
-        i16x8_relaxed_q15mulr_s, i32x4_relaxed_dot_i8x16_i7x16_add_s, i32x4_relaxed_laneselect,
-        i64x2_relaxed_laneselect,
-    };
-    pub use shift::{
-        i8x16_shl, i8x16_shr_s, i8x16_shr_u, i16x8_shl, i16x8_shr_s, i16x8_shr_u, i32x4_shl,
-        i32x4_shr_s, i32x4_shr_u, i64x2_shl, i64x2_shr_s, i64x2_shr_u,
-    };
+}
+
+    /// Half of the range of 8 bits in each lane, shifted to the right.
+    const HALVES_OF_8: [u128; 8] =
+        each_shifted!(0x0101_0101_0101_0101_0101_0101_0101_0101 * 0x80 >> [0 1 2 3 4 5 6 7]);
+
+    /// A lane of which a word has more than one, so that a shifted word needs a mask.
+    trait NarrowLane: WordLane {
+        /// The low bits of each lane of two words, all but its highest ones, of which there are
+        /// `dropped`. They come from a table: a shift of the highest bits would be made in a general
+        /// register, and go from there to a vector register.
+        ///
+        /// # Contract
+        ///
+        /// ```text
+        /// requires dropped: dropped < bits Self.width
+        /// ensures masks: result
+        ///     ≡ replicate 2 (in_each_lane Self.width (2 ^ (bits Self.width - dropped) - 1))
+        /// ```
+        ///
+        /// Definitions: [`in_each_lane`](crate::specs::lanes::Words#in_each_lane).
+        fn shift_masks(dropped: u64) -> u64x2;
+    }
+
+    impl NarrowLane for u8 {
+        #[inline(always)]
+        fn shift_masks(dropped: u64) -> u64x2 {
+            u64x2_of(V128::from(LOW_BITS_OF_8[dropped as usize]))
+        }
+    }
+
+    impl NarrowLane for u16 {
+        #[inline(always)]
+        fn shift_masks(dropped: u64) -> u64x2 {
+            u64x2_of(V128::from(LOW_BITS_OF_16[dropped as usize]))
+        }
+    }
+
+    impl NarrowLane for u32 {
+        #[inline(always)]
+        fn shift_masks(dropped: u64) -> u64x2 {
+            u64x2_of(V128::from(LOW_BITS_OF_32[dropped as usize]))
+        }
+    }
+
+    const LOW_BITS_OF_8: [u128; 8] =
+        each_shifted!(0x0101_0101_0101_0101_0101_0101_0101_0101 * 0xff >> [0 1 2 3 4 5 6 7]);
+
+    const LOW_BITS_OF_16: [u128; 16] = each_shifted!(
+        0x0001_0001_0001_0001_0001_0001_0001_0001 * 0xffff >> [0 1 2 3 4 5 6 7 8 9 10 11 12 13 14 15]
+    );
+
+    const LOW_BITS_OF_32: [u128; 32] = each_shifted!(
+        0x0000_0001_0000_0001_0000_0001_0000_0001 * 0xffff_ffff >>
+        [0 1 2 3 4 5 6 7 8 9 10 11 12 13 14 15 16 17 18 19 20 21 22 23 24 25 26 27 28 29 30 31]
+    );
+
+    // Tests of lanes, on the two words of a vector.
+
+    /// Whether no lane is 0.
+    ///
+    /// # Contract
+    ///
+    /// ```text
+    /// ensures: result ≡ vector.all_true w8 v
+    /// ```
+    ///
+    /// Definitions: [`all_true`](crate::specs::widening::WideningTable#all_true).
+    #[inline]
+    pub fn i8x16_all_true(v: V128) -> bool {
+        no_zero::<u8>(v)
+    }
+
+    /// Whether no lane is 0.
+    ///
+    /// # Contract
+    ///
+    /// ```text
+    /// ensures: result ≡ vector.all_true w16 v
+    /// ```
+    ///
+    /// Definitions: [`all_true`](crate::specs::widening::WideningTable#all_true).
+    #[inline]
+    pub fn i16x8_all_true(v: V128) -> bool {
+        no_zero::<u16>(v)
+    }
+
+    /// Whether no lane is 0.
+    ///
+    /// # Contract
+    ///
+    /// ```text
+    /// ensures: result ≡ vector.all_true w32 v
+    /// ```
+    ///
+    /// Definitions: [`all_true`](crate::specs::widening::WideningTable#all_true).
+    #[inline]
+    pub fn i32x4_all_true(v: V128) -> bool {
+        no_zero::<u32>(v)
+    }
+
+    /// Whether no lane is 0.
+    ///
+    /// # Contract
+    ///
+    /// ```text
+    /// ensures: result ≡ vector.all_true w64 v
+    /// ```
+    ///
+    /// Definitions: [`all_true`](crate::specs::widening::WideningTable#all_true).
+    #[inline]
+    pub fn i64x2_all_true(v: V128) -> bool {
+        no_zero::<u64>(v)
+    }
+
+    /// Whether some bit is 1.
+    ///
+    /// # Contract
+    ///
+    /// ```text
+    /// ensures: result ≡ vector.any_true v
+    /// ```
+    ///
+    /// Definitions: [`any_true`](crate::specs::widening::WideningTable#any_true).
+    #[inline]
+    pub fn v128_any_true(v: V128) -> bool {
+        v.as_u128() != 0
+    }
+
+    /// The highest bits of the lanes, that of lane i at bit i.
+    ///
+    /// # Contract
+    ///
+    /// ```text
+    /// ensures: result ≡ vector.bitmask w8 v
+    /// ```
+    ///
+    /// Definitions: [`bitmask`](crate::specs::widening::WideningTable#bitmask).
+    #[inline]
+    pub fn i8x16_bitmask(v: V128) -> u32 {
+        let (low, high) = v.words();
+        tops_of_8(low) | (tops_of_8(high) << 8)
+    }
+
+    /// The highest bits of the lanes, that of lane i at bit i.
+    ///
+    /// # Contract
+    ///
+    /// ```text
+    /// ensures: result ≡ vector.bitmask w16 v
+    /// ```
+    ///
+    /// Definitions: [`bitmask`](crate::specs::widening::WideningTable#bitmask).
+    #[inline]
+    pub fn i16x8_bitmask(v: V128) -> u32 {
+        let (low, high) = v.words();
+        // The product brings each bit to its place in the highest byte.
+        let both = ((low & u16::TOPS) >> 4) + (high & u16::TOPS);
+        (both.wrapping_mul(0x0000_2000_4000_8001) >> 56) as u32
+    }
+
+    /// The highest bits of the lanes, that of lane i at bit i.
+    ///
+    /// # Contract
+    ///
+    /// ```text
+    /// ensures: result ≡ vector.bitmask w32 v
+    /// ```
+    ///
+    /// Definitions: [`bitmask`](crate::specs::widening::WideningTable#bitmask).
+    #[inline]
+    pub fn i32x4_bitmask(v: V128) -> u32 {
+        let (low, high) = v.words();
+        // Bits 0 and 2 have the lanes 0 and 2, bits 32 and 34 the lanes 1 and 3.
+        let both = ((low & u32::TOPS) >> 31) + ((high & u32::TOPS) >> 29);
+        ((both + (both >> 31)) & 0xf) as u32
+    }
+
+    /// The highest bits of the lanes, that of lane i at bit i.
+    ///
+    /// # Contract
+    ///
+    /// ```text
+    /// ensures: result ≡ vector.bitmask w64 v
+    /// ```
+    ///
+    /// Definitions: [`bitmask`](crate::specs::widening::WideningTable#bitmask).
+    #[inline]
+    pub fn i64x2_bitmask(v: V128) -> u32 {
+        let (low, high) = v.words();
+        (low >> 63) as u32 | (((high >> 63) as u32) << 1)
+    }
+
+    /// # Contract
+    ///
+    /// ```text
+    /// ensures: result ≡ vector.all_true T.width v
+    /// ```
+    ///
+    /// Definitions: [`all_true`](crate::specs::widening::WideningTable#all_true).
+    #[inline(always)]
+    fn no_zero<T: WordLane>(v: V128) -> bool {
+        let (low, high) = v.words();
+        no_zero_in_word::<T>(low) & no_zero_in_word::<T>(high)
+    }
+
+    // The lowest lane that is 0 borrows, and gets a highest bit; what a borrow makes of the lanes above
+    // doesn't matter.
+    /// # Contract
+    ///
+    /// ```text
+    /// ensures: result
+    ///     ≡ holds_below (lanes_in_word T.width)
+    ///     (λ i. not (nat_eq (field (bits T.width * i) (bits T.width) word) 0))
+    /// ```
+    ///
+    /// Definitions: [`holds_below`](crate::specs::widening::WideningTable#holds_below), [`lanes_in_word`](crate::specs::lanes::Words#lanes_in_word), [`field`](crate::specs::lanes::Words#field).
+    #[inline(always)]
+    fn no_zero_in_word<T: WordLane>(word: u64) -> bool {
+        word.wrapping_sub(T::ONES) & !word & T::TOPS == 0
+    }
+
+    // The highest bits of the lanes of 8 bits of a word: the product brings each of them to its place
+    // in the highest byte.
+    /// # Contract
+    ///
+    /// ```text
+    /// ensures: result ≡ first_bits 8 (λ i. nat_le (2 ^ 7) (field (8 * i) 8 word))
+    /// ```
+    ///
+    /// Definitions: [`first_bits`](crate::specs::widening::WideningTable#first_bits), [`field`](crate::specs::lanes::Words#field).
+    #[inline(always)]
+    fn tops_of_8(word: u64) -> u32 {
+        ((word & u8::TOPS).wrapping_mul(0x0002_0408_1020_4081) >> 56) as u32
+    }
+
+    // The relaxed instructions. Where the standard leaves a choice, each gives what another instruction
+    // gives.
+
+    /// As `i8x16_swizzle`: 0 where the index is above 15.
+    ///
+    /// # Contract
+    ///
+    /// ```text
+    /// ensures: result ≡ vector.relaxed_swizzle a s
+    /// ```
+    ///
+    /// Definitions: [`relaxed_swizzle`](crate::specs::widening::WideningTable#relaxed_swizzle).
+    #[inline]
+    pub fn i8x16_relaxed_swizzle(a: V128, s: V128) -> V128 {
+        i8x16_swizzle(a, s)
+    }
+
+    /// As `v128_bitselect`: the bits of `a` where `c` has ones, those of `b` where it has zeros.
+    ///
+    /// # Contract
+    ///
+    /// ```text
+    /// ensures: result ≡ vector.relaxed_laneselect a b c
+    /// ```
+    ///
+    /// Definitions: [`relaxed_laneselect`](crate::specs::widening::WideningTable#relaxed_laneselect).
+    #[inline]
+    pub fn i8x16_relaxed_laneselect(a: V128, b: V128, c: V128) -> V128 {
+        v128_bitselect(a, b, c)
+    }
+
+    /// As `v128_bitselect`: the bits of `a` where `c` has ones, those of `b` where it has zeros.
+    ///
+    /// # Contract
+    ///
+    /// ```text
+    /// ensures: result ≡ vector.relaxed_laneselect a b c
+    /// ```
+    ///
+    /// Definitions: [`relaxed_laneselect`](crate::specs::widening::WideningTable#relaxed_laneselect).
+    #[inline]
+    pub fn i16x8_relaxed_laneselect(a: V128, b: V128, c: V128) -> V128 {
+        v128_bitselect(a, b, c)
+    }
+
+    /// As `v128_bitselect`: the bits of `a` where `c` has ones, those of `b` where it has zeros.
+    ///
+    /// # Contract
+    ///
+    /// ```text
+    /// ensures: result ≡ vector.relaxed_laneselect a b c
+    /// ```
+    ///
+    /// Definitions: [`relaxed_laneselect`](crate::specs::widening::WideningTable#relaxed_laneselect).
+    #[inline]
+    pub fn i32x4_relaxed_laneselect(a: V128, b: V128, c: V128) -> V128 {
+        v128_bitselect(a, b, c)
+    }
+
+    /// As `v128_bitselect`: the bits of `a` where `c` has ones, those of `b` where it has zeros.
+    ///
+    /// # Contract
+    ///
+    /// ```text
+    /// ensures: result ≡ vector.relaxed_laneselect a b c
+    /// ```
+    ///
+    /// Definitions: [`relaxed_laneselect`](crate::specs::widening::WideningTable#relaxed_laneselect).
+    #[inline]
+    pub fn i64x2_relaxed_laneselect(a: V128, b: V128, c: V128) -> V128 {
+        v128_bitselect(a, b, c)
+    }
+
+    /// As `i16x8_q15mulr_sat_s`: the one product that doesn't fit is clamped.
+    ///
+    /// # Contract
+    ///
+    /// ```text
+    /// ensures: result ≡ vector.relaxed_q15mulr_s a b
+    /// ```
+    ///
+    /// Definitions: [`relaxed_q15mulr_s`](crate::specs::widening::WideningTable#relaxed_q15mulr_s).
+    #[inline]
+    pub fn i16x8_relaxed_q15mulr_s(a: V128, b: V128) -> V128 {
+        i16x8_q15mulr_sat_s(a, b)
+    }
+
+    /// The sums of neighbouring lanes of `i16x8_relaxed_dot_i8x16_i7x16_s`, read signed, and of `c`,
+    /// modulo 2 to the power 32.
+    ///
+    /// # Contract
+    ///
+    /// ```text
+    /// ensures: result ≡ vector.relaxed_dot_add_s lhs rhs c
+    /// ```
+    ///
+    /// Definitions: [`relaxed_dot_add_s`](crate::specs::widening::WideningTable#relaxed_dot_add_s).
+    #[inline]
+    pub fn i32x4_relaxed_dot_i8x16_i7x16_add_s(lhs: V128, rhs: V128, c: V128) -> V128 {
+        let dot = i16x8_relaxed_dot_i8x16_i7x16_s(lhs, rhs);
+        let pairs = i32x4_extadd_pairwise_i16x8_s(dot);
+        u32::vector_of(u16::sums(u32::lanes_of(pairs), u32::lanes_of(c)))
+    }
 }

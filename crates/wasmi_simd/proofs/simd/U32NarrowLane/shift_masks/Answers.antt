@@ -1,0 +1,8 @@
+use Rattle.std.proofs.Common.{◌∙◌, refl}
+use Rattle.wasmi_types.specs.Numbers.{w32}
+use Rattle.wasmi_simd.proofs.ShiftLemmas.{mask_at}
+use Rattle.wasmi_simd.proofs.simd.U32NarrowLane.shift_masks.Goals as goal
+
+pub returns : goal.returns
+returns c = record
+    { masks = c.u64x2_of.ensures ∙ mask_at w32 c.args.dropped c.requires.dropped _ _ refl c.from.ensures refl }
