@@ -20,7 +20,7 @@ pub mod types;
 
 pub use fuel::MeterNumbers;
 pub use host::{HostAnswers, Question};
-pub use memory::MemoryNumbers;
+pub use memory::numbers::MemoryNumbers;
 pub use quota::QuotaNumbers;
 pub use range::Range;
-pub use table::TableNumbers;
+pub use table::numbers::TableNumbers;

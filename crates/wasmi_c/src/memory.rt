@@ -4,5 +4,3 @@ pub mod bytes;
 pub mod creation;
 pub mod growth;
 pub mod numbers;
-
-pub use numbers::MemoryNumbers;

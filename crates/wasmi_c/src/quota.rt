@@ -1,6 +1,6 @@
 //! A quota that lies with C, as a limiter.
 ghost use Rattle.std.specs.Prelude.{◌≡◌, OnSome, Some};
-ghost use Rattle.wasmi_c.specs.Numbers.{KeepsQuota, limiter_of, quota_of, quota_numbers_rules};
+ghost use Rattle.wasmi_c.specs.Numbers.{KeepsQuota, limiter_of, quota_numbers_rules};
 
 use wasmi_meter::{Amounts, Holdings, Kind, LimiterByKind, LimiterError, Quota};
 
@@ -59,16 +59,6 @@ impl QuotaNumbers {
         ensures limiter { limiter_of self.new ≡ Some quota.now }
         ensures kept { KeepsQuota self.old self.new }
     {
-        let is_on = self.is_on;
-        *self = QuotaNumbers::from_quota(quota);
-        self.is_on = is_on;
-    }
-
-    /// The numbers of a quota that is on.
-    pub fn from_quota(quota: &Quota) -> QuotaNumbers
-        ensures quota { quota_of result ≡ quota.now }
-        ensures on { limiter_of result ≡ Some quota.now }
-    {
         let caps = quota.caps();
         let holdings = quota.holdings();
         let held = holdings.held();
@@ -77,15 +67,15 @@ impl QuotaNumbers {
             Some((Kind::Elements, last)) => (2, last),
             None => (0, 0),
         };
-        QuotaNumbers {
+        *self = QuotaNumbers {
             cap_bytes: caps.bytes,
             cap_elements: caps.elements,
             held_bytes: held.bytes,
             held_elements: held.elements,
             last,
             last_kind,
-            is_on: 1,
-        }
+            is_on: self.is_on,
+        };
     }
 }
 

@@ -4,5 +4,3 @@ pub mod elements;
 pub mod growth;
 pub mod numbers;
 pub mod ranges;
-
-pub use numbers::TableNumbers;

@@ -1,11 +1,11 @@
 //! The types and meters that plain numbers stand for.
 ghost use Rattle.std.specs.Prelude.{◌≡◌, MatchOption, Some};
 ghost use Rattle.wasmi_store.specs.Memory.{IsValid, MemoryTypeValue, named_type};
-ghost use Rattle.wasmi_c.specs.Types.{if_flag, index_type_of, memory_type_of, meter_of, reference_type_of, settings_of, table_type_of, u32_of, val_type_of};
+ghost use Rattle.wasmi_c.specs.Types.{if_flag, memory_type_of, meter_of, reference_type_of, settings_of, table_type_of, u32_of, val_type_of};
 
 use wasmi_meter::{CustomFuelCosts, Fuel, FuelCostsProvider};
 use wasmi_store::{MemoryType, TableType};
-use wasmi_types::{IndexType, RefType, ValType};
+use wasmi_types::{RefType, ValType};
 
 /// The value types, by number.
 pub const VAL_TYPES: [ValType; 7] = [
@@ -46,17 +46,6 @@ pub fn if_flag(flag: u8, number: u64) -> Option<u64>
     if flag == 0 { None } else { Some(number) }
 }
 
-/// The type of addresses or indices: of 64 bits where the flag isn't 0.
-pub fn index_type(is_64: u8) -> IndexType
-    ensures { result ≡ index_type_of is_64 }
-{
-    if is_64 == 0 {
-        IndexType::I32
-    } else {
-        IndexType::I64
-    }
-}
-
 /// The type of a memory, if there is such a type. The limits are in pages.
 pub fn memory_type(
     minimum: u64,
@@ -86,22 +75,18 @@ pub fn table_type(element: u8, minimum: u64, maximum: Option<u64>, is_64: u8) ->
     ensures { result ≡ table_type_of element minimum maximum is_64 }
 {
     let element = reference_type(element)?;
-    if let Some(most) = maximum {
-        if most < minimum {
-            return None;
-        }
+    if maximum.is_some_and(|most| most < minimum) {
+        return None;
     }
-    match index_type(is_64) {
-        IndexType::I64 => Some(TableType::new64(element, minimum, maximum)),
-        IndexType::I32 => {
-            let minimum = to_u32(minimum)?;
-            let maximum = match maximum {
-                Some(most) => Some(to_u32(most)?),
-                None => None,
-            };
-            Some(TableType::new(element, minimum, maximum))
-        }
+    if is_64 != 0 {
+        return Some(TableType::new64(element, minimum, maximum));
     }
+    let minimum = to_u32(minimum)?;
+    let maximum = match maximum {
+        Some(most) => Some(to_u32(most)?),
+        None => None,
+    };
+    Some(TableType::new(element, minimum, maximum))
 }
 
 /// A meter with so much left, if it is on, and these costs.
@@ -110,9 +95,7 @@ pub fn meter(left: Option<u64>, costs: CustomFuelCosts) -> Fuel
 {
     let mut fuel = Fuel::new(left.is_some(), FuelCostsProvider::custom(costs));
     if let Some(left) = left {
-        match fuel.set_fuel(left) {
-            Ok(()) | Err(_) => {}
-        }
+        let _ = fuel.set_fuel(left);
     }
     fuel
 }

@@ -4,6 +4,7 @@ ghost use Rattle.wasmi_c.specs.Instruction.{Leaves, each_of, each_of_two, extrac
 
 use crate::instruction::list::op_numbered;
 use crate::instruction::refusal::Refusal;
+use crate::instruction::result::{leave, leave_vector, status_of};
 use crate::status::DONE;
 use wasmi_ops::{
     EXTRACTIONS, ExtractOp, LANE_LOADS, LANE_STORES, LoadLaneOp, REPLACEMENTS, ReplaceOp,
@@ -47,12 +48,6 @@ pub fn lane_store(number: u16, lane: u8) -> Result<StoreLaneOp, Refusal>
     kind.on(lane).ok_or(Refusal::NoLane)
 }
 
-fn extracted(op: &ExtractOp, a: RawVal) -> RawVal
-    ensures { result ≡ extracted_value op.now a }
-{
-    op.apply(a.into())
-}
-
 #[tactic(auto, unfolding(crate::specs::Instruction::replaced_value))]
 fn replaced(op: &ReplaceOp, a: RawVal, item: RawVal) -> RawVal
     ensures { result ≡ replaced_value op.now a item }
@@ -65,10 +60,7 @@ pub fn extract_by_number(number: u16, lane: u8, a: RawVal, value: &mut RawVal) -
     ensures { Leaves (extract_result number lane a) value.old value.new result }
 {
     match extraction(number, lane) {
-        Ok(op) => {
-            *value = extracted(&op, a);
-            DONE
-        }
+        Ok(op) => leave(Ok(op.apply(a.into())), value),
         Err(refusal) => refusal.into(),
     }
 }
@@ -93,7 +85,7 @@ fn extract_each_by_op(op: &ExtractOp, a: &[RawVal], values: &mut [RawVal]) -> u8
         return Refusal::LengthsDiffer.into();
     }
     for i in 0..a.len() {
-        values[i] = extracted(op, a[i]);
+        values[i] = op.apply(a[i].into());
     }
     DONE
 }
@@ -103,10 +95,7 @@ pub fn replace_by_number(number: u16, lane: u8, a: RawVal, item: RawVal, value: 
     ensures { Leaves (replace_result number lane a item) value.old value.new result }
 {
     match replacement(number, lane) {
-        Ok(op) => {
-            *value = replaced(&op, a, item);
-            DONE
-        }
+        Ok(op) => leave(Ok(replaced(&op, a, item)), value),
         Err(refusal) => refusal.into(),
     }
 }
@@ -156,13 +145,7 @@ pub fn load_lane(
         value.old value.new result }
 {
     match lane_load(number, lane) {
-        Ok(op) => match op.load(memory, ptr, offset, a.into()) {
-            Ok(vector) => {
-                *value = vector.into();
-                DONE
-            }
-            Err(trap) => u8::from(trap),
-        },
+        Ok(op) => leave_vector(op.load(memory, ptr, offset, a.into()), value),
         Err(refusal) => refusal.into(),
     }
 }
@@ -173,10 +156,7 @@ pub fn store_lane(number: u16, lane: u8, memory: &mut [u8], ptr: u64, offset: u6
         memory.old memory.new result }
 {
     match lane_store(number, lane) {
-        Ok(op) => match op.store(memory, ptr, offset, a.into()) {
-            Ok(()) => DONE,
-            Err(trap) => u8::from(trap),
-        },
+        Ok(op) => status_of(op.store(memory, ptr, offset, a.into())),
         Err(refusal) => refusal.into(),
     }
 }

@@ -14,8 +14,6 @@ pub fn numbered<Op: Copy>(list: &[Op], number: u16) -> Option<Op>
 pub fn op_numbered<Op: Copy>(list: &[(&str, Op)], number: u16) -> Option<Op>
     ensures { result ≡ op_numbered list.now number }
 {
-    match list.get(usize::from(number)) {
-        Some((_, op)) => Some(*op),
-        None => None,
-    }
+    let (_, op) = list.get(usize::from(number))?;
+    Some(*op)
 }

@@ -24,16 +24,11 @@ pub struct InstructionResult {
 pub fn result_of(given: Result<RawVal, TrapCode>) -> InstructionResult
     ensures { result ≡ result_of given }
 {
-    match given {
-        Ok(value) => InstructionResult {
-            value,
-            status: DONE,
-        },
-        Err(trap) => InstructionResult {
-            value: RawVal::from_bits64(0),
-            status: u8::from(trap),
-        },
-    }
+    let (value, status) = match given {
+        Ok(value) => (value, DONE),
+        Err(trap) => (RawVal::from_bits64(0), u8::from(trap)),
+    };
+    InstructionResult { value, status }
 }
 
 /// Writes the value that an instruction gives, or nothing if it traps, and returns the status.

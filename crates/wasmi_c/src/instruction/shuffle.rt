@@ -3,7 +3,7 @@ ghost use Rattle.std.specs.Prelude.{◌≡◌};
 ghost use Rattle.wasmi_c.specs.Instruction.{Leaves, lanes_of, shuffle_result};
 
 use crate::instruction::refusal::Refusal;
-use crate::status::DONE;
+use crate::instruction::result::leave_vector;
 use wasmi_lanes::ImmLaneIdx32;
 use wasmi_lanewise::simd;
 use wasmi_raw::RawVal;
@@ -26,10 +26,7 @@ pub fn shuffle(a: RawVal, b: RawVal, indices: [u8; 16], value: &mut RawVal) -> u
     ensures { Leaves (shuffle_result a b indices) value.old value.new result }
 {
     match lanes_of(indices) {
-        Some(lanes) => {
-            *value = simd::i8x16_shuffle(a.into(), b.into(), lanes).into();
-            DONE
-        }
+        Some(lanes) => leave_vector(Ok(simd::i8x16_shuffle(a.into(), b.into(), lanes)), value),
         None => Refusal::NoLane.into(),
     }
 }

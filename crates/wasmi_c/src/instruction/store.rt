@@ -6,7 +6,7 @@ ghost use Rattle.wasmi_c.specs.Instruction.{memory_after, store_numbered, store_
 use crate::instruction::list::numbered;
 use crate::instruction::numbers::STORE_INSTRUCTIONS;
 use crate::instruction::refusal::Refusal;
-use crate::status::DONE;
+use crate::instruction::result::status_of;
 use wasmi_ops::StoreOp;
 use wasmi_raw::RawVal;
 use wasmi_types::TrapCode;
@@ -46,10 +46,7 @@ pub fn store_by_number(number: u16, memory: &mut [u8], ptr: u64, offset: u64, va
         memory.old memory.new result }
 {
     match store_numbered(number) {
-        Some(op) => match op.store(memory, ptr, offset, value) {
-            Ok(()) => DONE,
-            Err(trap) => u8::from(trap),
-        },
+        Some(op) => status_of(op.store(memory, ptr, offset, value)),
         None => Refusal::Unknown.into(),
     }
 }

@@ -5,6 +5,7 @@ ghost use Rattle.wasmi_ops.specs.declared.vector.ternary.TheConstants.{TERNARIES
 
 use crate::instruction::list::op_numbered;
 use crate::instruction::refusal::Refusal;
+use crate::instruction::result::leave;
 use crate::status::DONE;
 use wasmi_ops::{TERNARIES, TernaryOp};
 use wasmi_raw::RawVal;
@@ -28,10 +29,7 @@ pub fn ternary_by_number(number: u16, a: RawVal, b: RawVal, c: RawVal, value: &m
     ensures { Leaves (ternary_result number a b c) value.old value.new result }
 {
     match ternary_numbered(number) {
-        Some(op) => {
-            *value = apply(op, a, b, c);
-            DONE
-        }
+        Some(op) => leave(Ok(apply(op, a, b, c)), value),
         None => Refusal::Unknown.into(),
     }
 }

@@ -6,6 +6,7 @@ ghost use Rattle.wasmi_c.specs.Instruction.{Leaves, each_of, unary_numbered, una
 use crate::instruction::list::numbered;
 use crate::instruction::numbers::{UNARY_INSTRUCTIONS, unary_numbers};
 use crate::instruction::refusal::Refusal;
+use crate::instruction::result::leave;
 use crate::instruction::rows::part_once;
 use crate::status::DONE;
 use wasmi_ops::{MakeOp, ScalarUnaryOp, TestOp, UnaryOp};
@@ -67,10 +68,7 @@ pub fn unary_by_number(number: u16, a: RawVal, value: &mut RawVal) -> u8
     ensures { Leaves (unary_result number a) value.old value.new result }
 {
     match unary_numbered(number) {
-        Some(op) => {
-            *value = op.apply(a);
-            DONE
-        }
+        Some(op) => leave(Ok(op.apply(a)), value),
         None => Refusal::Unknown.into(),
     }
 }

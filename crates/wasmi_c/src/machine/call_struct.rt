@@ -1,6 +1,6 @@
 //! Calls as structs of plain numbers.
 ghost use Rattle.std.specs.Prelude.{◌≡◌};
-ghost use Rattle.wasmi_c.specs.Machine.CallStructs.{maximum_of, memory_type_in, mutability_of, table_type_in, typed_reference_of};
+ghost use Rattle.wasmi_c.specs.Machine.CallStructs.{memory_type_in, mutability_of, table_type_in, typed_reference_of};
 
 use crate::types::{if_flag, memory_type, reference_type, table_type};
 use wasmi_raw::{RawRef, RawVal};
@@ -78,23 +78,19 @@ impl CallStruct {
         }
     }
 
-    fn maximum(&self) -> Option<u64>
-        ensures { result ≡ maximum_of self.now }
-    {
-        if_flag(self.has_maximum, self.maximum)
-    }
-
     /// The type of a memory.
     pub fn memory_type(&self) -> Option<MemoryType>
         ensures { result ≡ memory_type_in self.now }
     {
-        memory_type(self.count, self.maximum(), self.is_64, self.page_size_log2)
+        let maximum = if_flag(self.has_maximum, self.maximum);
+        memory_type(self.count, maximum, self.is_64, self.page_size_log2)
     }
 
     /// The type of a table.
     pub fn table_type(&self) -> Option<TableType>
         ensures { result ≡ table_type_in self.now }
     {
-        table_type(self.ty, self.count, self.maximum(), self.is_64)
+        let maximum = if_flag(self.has_maximum, self.maximum);
+        table_type(self.ty, self.count, maximum, self.is_64)
     }
 }

@@ -14,6 +14,7 @@ use crate::machine::limited_machine::LimitedMachine;
 use crate::machine::limits::{Limits, Totals, answers_of, are_answers};
 use crate::machine::machine_box::MachineBox;
 use crate::machine::reply_struct::ReplyStruct;
+use crate::pool::handle::PoolHandle;
 use crate::status::{DONE, HAS_MACHINE, NO_ANSWER, NO_MACHINE, NO_ROOM};
 use std::alloc::Global;
 use std::mem;
@@ -275,6 +276,7 @@ impl Handle {
 /// Does nothing: that it compiles says that a handle may go to another thread.
 pub fn handles_may_move() {
     may_move::<Handle>();
+    may_move::<PoolHandle>();
 }
 
 /// Does nothing: it can be called at a type that may go to another thread, and at no other.

@@ -193,22 +193,14 @@ impl LimitedMachine {
     pub fn totals(&self) -> Totals
         ensures { result ≡ totals_of self.now }
     {
-        match &self.limiter {
-            AnyLimiter::Quota(quota) => {
-                Totals::from_amounts(
-                    DONE,
-                    u128::from(quota.held_bytes()),
-                    u128::from(quota.held_elements()),
-                )
-            }
-            _ => {
-                Totals::from_amounts(
-                    DONE,
-                    self.machine.total_bytes(),
-                    self.machine.total_elements(),
-                )
-            }
-        }
+        let (bytes, elements) = match &self.limiter {
+            AnyLimiter::Quota(quota) => (
+                u128::from(quota.held_bytes()),
+                u128::from(quota.held_elements()),
+            ),
+            _ => (self.machine.total_bytes(), self.machine.total_elements()),
+        };
+        Totals::from_amounts(DONE, bytes, elements)
     }
 
     /// Takes fuel that isn't a call's.

@@ -3,7 +3,6 @@ ghost use Rattle.std.specs.Prelude.{◌≡◌, ◌↔◌, All, IfOk, IsTrue, map
 ghost use Rattle.wasmi_c.specs.Machine.Calls.{totals_in};
 ghost use Rattle.wasmi_c.specs.Machine.NewMachines.{IsNewLimiter, meter_with, IsAnswer, answer_of};
 
-use crate::status::DONE;
 use crate::types::{if_flag, meter};
 use std::alloc::{AllocError, Global};
 use wasmi_meter::{AnyLimiter, CustomFuelCosts, Fuel, LimiterAnswer, Quota};

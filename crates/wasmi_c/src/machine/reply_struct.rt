@@ -1,6 +1,6 @@
 //! Replies as structs of plain numbers.
 ghost use Rattle.std.specs.Prelude.{◌≡◌};
-ghost use Rattle.wasmi_c.specs.Machine.Replies.{fuel_refusal, memory_fuel, memory_refusal, meter_fuel, number_of, only, reference_number, reply_struct, status_of, table_fuel, with_number, with_reference, with_value};
+ghost use Rattle.wasmi_c.specs.Machine.Replies.{fuel_refusal, memory_fuel, memory_refusal, meter_fuel, number_of, only, reference_number, reply_struct, status_of, table_fuel, with_number, with_value};
 
 use crate::status::{
     DONE, NO_ELEMENT, NO_REGION, NO_ROOM, NO_SUCH, fuel_status, global_status, memory_status,
@@ -9,7 +9,6 @@ use crate::status::{
 use wasmi_core::Reply;
 use wasmi_meter::{FuelError, MemoryError, TableError};
 use wasmi_raw::RawVal;
-use wasmi_typed::TypedRawRef;
 use wasmi_types::RefType;
 
 /// A reply as numbers. What a reply doesn't have is 0.
@@ -60,16 +59,6 @@ impl ReplyStruct {
         }
     }
 
-    fn with_reference(element: TypedRawRef) -> ReplyStruct
-        ensures { result ≡ with_reference element }
-    {
-        ReplyStruct {
-            reference: u32::from(element.raw()),
-            ty: reference_number(element.ty()),
-            ..ReplyStruct::only(DONE)
-        }
-    }
-
     /// Why a call on a memory was refused.
     pub fn from_memory_error(error: MemoryError) -> ReplyStruct
         ensures { result ≡ memory_refusal error }
@@ -90,19 +79,12 @@ impl ReplyStruct {
     pub fn by_fields(self) -> ReplyStruct
         ensures { result ≡ self }
     {
-        let ReplyStruct {
-            value,
-            number,
-            reference,
-            ty,
-            status,
-        } = self;
         ReplyStruct {
-            value,
-            number,
-            reference,
-            ty,
-            status,
+            value: self.value,
+            number: self.number,
+            reference: self.reference,
+            ty: self.ty,
+            status: self.status,
         }
     }
 
@@ -126,7 +108,11 @@ impl ReplyStruct {
     {
         match reply {
             Reply::Value(value) => ReplyStruct::with_value(*value),
-            Reply::Reference(Some(element)) => ReplyStruct::with_reference(*element),
+            Reply::Reference(Some(element)) => ReplyStruct {
+                reference: u32::from(element.raw()),
+                ty: reference_number(element.ty()),
+                ..ReplyStruct::only(DONE)
+            },
             _ => ReplyStruct::with_number(status_of(reply), number_of(reply)),
         }
     }

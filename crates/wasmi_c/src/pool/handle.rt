@@ -212,11 +212,3 @@ impl PoolHandle {
         on_pool!(self, alloc, Totals::from_amounts(NO_POOL, 0, 0), pool => pool.totals())
     }
 }
-
-/// Does nothing: that it compiles says that a handle may go to another thread.
-pub fn pool_handles_may_move() {
-    may_move::<PoolHandle>();
-}
-
-/// Does nothing: it can be called at a type that may go to another thread, and at no other.
-fn may_move<T: Send>() {}

@@ -78,11 +78,10 @@ impl TenantPool {
         ensures step { TenantReplies tenant call.now result self.old self.new }
         ensures caps { self.new.caps ≡ self.old.caps }
     {
-        let replies = match self.run(tenant, slice::from_ref(call)) {
-            Ok(replies) => replies,
-            Err(refusal) => return refusal,
-        };
-        ReplyStruct::from_reply(&replies[0])
+        match self.run(tenant, slice::from_ref(call)) {
+            Ok(replies) => ReplyStruct::from_reply(&replies[0]),
+            Err(refusal) => refusal,
+        }
     }
 
     /// Runs calls on the machine of a tenant, or says why not; then the pool is the same.
