@@ -17,6 +17,7 @@ use Rattle.wasmi_core.specs.declared.calls.Call.{Call}
 use Rattle.wasmi_core.specs.declared.calls.Call.TheVariants.{NewSegment}
 use Rattle.wasmi_core.specs.declared.calls.Reply.{Reply}
 use Rattle.wasmi_c.specs.Machine.CallStructs.{call_of}
+use Rattle.wasmi_c.specs.MemoryCalls.{memory_fuel_needed}
 use Rattle.wasmi_c.specs.Machine.Caps.{MachineValue, StaysWithinCaps, Keeps}
 use Rattle.wasmi_c.specs.Machine.Replies.{only, with_number, memory_refusal, fuel_refusal, reply_struct, status_of}
 use Rattle.wasmi_c.specs.declared.status.TheConstants.{DONE, NO_CALL, NO_MACHINE, NO_ROOM, NO_SUCH, BAD_LINE, HEADER_LINE, TEXT_CUT}
@@ -36,7 +37,6 @@ use Rattle.wasmi_grammar.specs.Lines.{WritesScript, calls_of, IsFirstBadLine}
 use Rattle.wasmi_grammar.specs.declared.script.Script.{Script}
 use Rattle.wasmi_script.specs.Printing.{FillsFront}
 use Rattle.wasmi_script.specs.Outcomes.{replies_text}
-use Rattle.wasmi_meter.specs.declared.error.MemoryError.TheVariants as errors
 use Rattle.wasmi_core.specs.declared.calls.Call.TheVariants as calls
 use Rattle.wasmi_core.specs.declared.calls.Reply.TheVariants as replies
 use Rattle.wasmi_c.specs.declared.instruction.binary.Binary.TheVariants as two
@@ -162,7 +162,7 @@ vector_binary number dst a b = option_map (λ op. calls.Binary op dst a b) (vect
 abbrev pub word_after : Reply → ℕ → ℕ
 word_after (replies.Value value) word = value.lo
 word_after (replies.Number number) word = number
-word_after (replies.Memory (errors.OutOfFuel required)) word = required
+word_after (replies.Memory error) word = memory_fuel_needed error word
 word_after full word = word
 
 -- a machine replies to a call with a status and a word; where there is no call, the machine and the word stay

@@ -6,7 +6,6 @@ ghost use Rattle.wasmi_core.specs.ValueEffects.{get_fuel_reply};
 ghost use Rattle.wasmi_core.specs.MemoryEffects.{load_reply};
 ghost use Rattle.wasmi_core.specs.State.{live_at};
 ghost use Rattle.wasmi_core.specs.declared.calls.Call.TheVariants.{GetFuel, GrowMemory, Store};
-ghost use Rattle.wasmi_core.specs.declared.calls.Reply.TheVariants.{Memory};
 ghost use Rattle.wasmi_c.specs.Machine.Calls.{RepliesInStatus, RepliesInWord, item_load, item_store, vector_binary, word_after, MachineReplies};
 ghost use Rattle.wasmi_c.specs.Machine.Replies.{status_of};
 
@@ -15,10 +14,9 @@ use crate::machine::instructions::{
 };
 use crate::machine::laws;
 use crate::machine::limited_machine::LimitedMachine;
-use crate::machine::reply_struct::status_of;
-use crate::status::{DONE, NO_CALL, NO_SUCH, fuel_status, memory_status};
+use crate::machine::reply_struct::{ReplyStruct, status_of};
+use crate::status::{DONE, NO_CALL, memory_refusal};
 use wasmi_core::{Call, Reply};
-use wasmi_meter::MemoryError;
 use wasmi_ops::{LoadOp, StoreOp};
 use wasmi_raw::RawVal;
 
@@ -31,28 +29,23 @@ impl LimitedMachine {
             (result, value.new) self.now }
     {
         match item_load_numbered(number) {
-            Some(op) => self.load_item(op, memory, ptr, offset, value),
+            Some(op) => leave(self.load_item(op, memory, ptr, offset), value),
             None => NO_CALL,
         }
     }
 
-    /// Loads an item, and returns the status of the reply to it.
+    /// Loads an item.
     #[inline(always)]
-    fn load_item(&self, op: LoadOp, memory: usize, ptr: u64, offset: u64, value: &mut u64) -> u8
-        ensures status { result
-            ≡ status_of (load_reply op (ptr + offset) (live_at self.now.state.memories memory)) }
-        ensures value { value.new ≡ word_after
-            (load_reply op (ptr + offset) (live_at self.now.state.memories memory)) value.old }
+    pub(super) fn load_item(&self, op: LoadOp, memory: usize, ptr: u64, offset: u64) -> Reply
+        ensures { result
+            ≡ load_reply op (ptr + offset) (live_at self.now.state.memories memory) }
     {
         let Some(memory) = self.machine.memory(memory) else {
-            return NO_SUCH;
+            return Reply::NoSuch;
         };
         match op.load(memory.data(), ptr, offset) {
-            Ok(raw) => {
-                *value = raw.lo;
-                DONE
-            }
-            Err(trap) => u8::from(trap),
+            Ok(raw) => Reply::Value(raw),
+            Err(trap) => Reply::Trap(trap),
         }
     }
 
@@ -62,21 +55,17 @@ impl LimitedMachine {
     pub fn fuel_left(&self, left: &mut u64) -> u8
         ensures { RepliesInWord (Some GetFuel) left.old self.now (result, left.new) self.now }
     {
-        self.tell_fuel(left)
+        leave(self.fuel_reply(), left)
     }
 
-    /// Tells the fuel that is left, and returns the status of the reply to it.
+    /// The reply that tells the fuel that is left.
     #[inline(always)]
-    fn tell_fuel(&self, left: &mut u64) -> u8
-        ensures status { result ≡ status_of (get_fuel_reply self.now.state.meter) }
-        ensures left { left.new ≡ word_after (get_fuel_reply self.now.state.meter) left.old }
+    fn fuel_reply(&self) -> Reply
+        ensures { result ≡ get_fuel_reply self.now.state.meter }
     {
         match self.machine.fuel().get_fuel() {
-            Ok(amount) => {
-                *left = amount;
-                DONE
-            }
-            Err(error) => fuel_status(&error),
+            Ok(amount) => Reply::Number(amount),
+            Err(error) => Reply::Fuel(error),
         }
     }
 
@@ -92,7 +81,7 @@ impl LimitedMachine {
             return NO_CALL;
         };
         let value = RawVal { lo: value, hi: 0 };
-        common_status(self.store_item(op, memory, ptr, offset, value))
+        ReplyStruct::from_common(self.store_item(op, memory, ptr, offset, value)).status
     }
 
     /// Stores an item, which asks no limiter.
@@ -122,7 +111,7 @@ impl LimitedMachine {
         let Some(op) = vector_binary_numbered(number) else {
             return NO_CALL;
         };
-        common_status(self.reply(&Call::Binary { op, dst, a, b }))
+        ReplyStruct::from_common(self.reply(&Call::Binary { op, dst, a, b })).status
     }
 
     /// Grows a memory by so many pages, and leaves a status and a word of the reply.
@@ -133,14 +122,7 @@ impl LimitedMachine {
             (result, number.new) self.new }
         ensures caps { caps_of self.new.limiter ≡ caps_of self.old.limiter }
     {
-        match self.grow_memory(memory, pages) {
-            Reply::Number(size) => {
-                *number = size;
-                DONE
-            }
-            Reply::Memory(error) => leave_refusal(error, number),
-            other => leave(&other, number),
-        }
+        leave(self.grow_memory(memory, pages), number)
     }
 
     /// Grows a memory by so many pages.
@@ -155,42 +137,23 @@ impl LimitedMachine {
     }
 }
 
-/// The status of a reply. The replies of stores and of instructions are looked at first, since a
-/// reply that is kept in a variable is copied, which takes longer than what it tells.
+/// Leaves the word of a reply with the caller, and returns the status. It is matched where it is
+/// returned, since a reply that is kept in a variable is copied.
 #[inline(always)]
-fn common_status(reply: Reply) -> u8
-    ensures { result ≡ status_of reply }
+fn leave(reply: Reply, word: &mut u64) -> u8
+    ensures status { result ≡ status_of reply }
+    ensures word { word.new ≡ word_after reply word.old }
 {
     match reply {
-        Reply::Done => DONE,
-        Reply::NoSuch => NO_SUCH,
-        Reply::Trap(trap) => u8::from(trap),
+        Reply::Value(value) => {
+            *word = value.lo;
+            DONE
+        }
+        Reply::Number(number) => {
+            *word = number;
+            DONE
+        }
+        Reply::Memory(error) => memory_refusal(error, word),
         other => status_of(&other),
     }
-}
-
-/// Leaves the fuel that a growth lacks with the caller, and returns the status of a refusal.
-#[inline(always)]
-fn leave_refusal(error: MemoryError, word: &mut u64) -> u8
-    ensures status { result ≡ status_of (Memory error) }
-    ensures word { word.new ≡ word_after (Memory error) word.old }
-{
-    if let MemoryError::OutOfFuel { required_fuel } = error {
-        *word = required_fuel;
-    }
-    memory_status(error)
-}
-
-/// Leaves the word of a reply with the caller, and returns the status.
-fn leave(reply: &Reply, word: &mut u64) -> u8
-    ensures status { result ≡ status_of reply.now }
-    ensures word { word.new ≡ word_after reply.now word.old }
-{
-    match reply {
-        Reply::Value(value) => *word = value.lo,
-        Reply::Number(number) => *word = *number,
-        Reply::Memory(MemoryError::OutOfFuel { required_fuel }) => *word = *required_fuel,
-        _ => {}
-    }
-    status_of(reply)
 }

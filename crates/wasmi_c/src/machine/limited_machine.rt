@@ -1,8 +1,6 @@
 //! A machine with the limiter that it asks.
-ghost use Rattle.std.specs.Prelude.{◌≡◌, ◌+◌, IfOk, ◌↔◌, IsTrue, ℕ, List, OnErr};
+ghost use Rattle.std.specs.Prelude.{◌≡◌, IfOk, ◌↔◌, IsTrue, ℕ, List, OnErr};
 ghost use Rattle.wasmi_meter.specs.AnyLimiter.{caps_of};
-ghost use Rattle.wasmi_core.specs.MemoryEffects.{load_reply};
-ghost use Rattle.wasmi_core.specs.State.{live_at};
 ghost use Rattle.wasmi_core.specs.declared.calls.Call.TheVariants.{NewSegment, Write};
 ghost use Rattle.wasmi_c.specs.Machine.Calls.{ReadsOut, MachineRuns, RunsLines, WritesOut, no_header};
 ghost use Rattle.wasmi_grammar.specs.Lines.{WritesScript};
@@ -19,7 +17,6 @@ use std::marker::Model;
 use wasmi_core::{Call, Machine, Reply, run_lending};
 use wasmi_grammar::{Header, ParseError, Script, parse};
 use wasmi_meter::{AnswerList, AnyLimiter, LimiterAnswer};
-use wasmi_ops::LoadOp;
 use wasmi_raw::RawRef;
 use wasmi_script::write_lines;
 
@@ -45,7 +42,6 @@ impl LimitedMachine {
     ghost use Rattle.wasmi_c.specs.Machine.Calls.{MachineReplies, RepliesInStruct, RepliesToCopy, RepliesToSegment, RepliesToStruct, PaysFuel, totals_of};
     ghost use Rattle.wasmi_c.specs.Machine.Caps.{IsCapped};
     ghost use Rattle.wasmi_c.specs.Machine.NewMachines.{IsNewMachine, IsNewWithAnswers};
-    ghost use Rattle.wasmi_c.specs.Machine.Replies.{reply_struct};
 
     /// A machine with nothing on it, and with its quota if there are caps. It takes no memory.
     pub fn new(alloc: Global, limits: &Limits) -> LimitedMachine
@@ -94,14 +90,7 @@ impl LimitedMachine {
         ensures step { RepliesInStruct call.now self.old result self.new }
         ensures caps { caps_of self.new.limiter ≡ caps_of self.old.limiter }
     {
-        // A reply that is kept in a variable is copied, which takes longer than what it tells.
-        match self.reply(call) {
-            Reply::Done => ReplyStruct::only(DONE),
-            Reply::Value(value) => ReplyStruct::with_value(value),
-            Reply::Number(number) => ReplyStruct::with_number(DONE, number),
-            Reply::Memory(error) => ReplyStruct::from_memory_error(error),
-            other => ReplyStruct::from_reply(&other),
-        }
+        ReplyStruct::from_common(self.reply(call))
     }
 
     /// Replies to the call that numbers stand for, if there is one.
@@ -110,12 +99,12 @@ impl LimitedMachine {
         ensures step { RepliesToStruct numbers.now self.old result self.new }
         ensures caps { caps_of self.new.limiter ≡ caps_of self.old.limiter }
     {
+        let (index, ptr, offset) = (numbers.index, numbers.ptr, numbers.offset);
         // These read their own fields alone: to make a `Call` of all takes longer than the call.
         if let Some(op) = numbers.item_load() {
-            return self.load_to_struct(op, numbers.index, numbers.ptr, numbers.offset);
+            return ReplyStruct::from_common(self.load_item(op, index, ptr, offset));
         }
         if let Some(op) = numbers.item_store() {
-            let (index, ptr, offset) = (numbers.index, numbers.ptr, numbers.offset);
             return ReplyStruct::from_common(self.store_item(op, index, ptr, offset, numbers.value));
         }
         if let Some(op) = numbers.vector_binary() {
@@ -125,21 +114,6 @@ impl LimitedMachine {
         match &numbers.call() {
             Some(call) => self.reply_in_struct(call).by_fields(),
             None => ReplyStruct::only(NO_CALL),
-        }
-    }
-
-    /// Loads an item, and replies with a struct.
-    #[inline(always)]
-    fn load_to_struct(&self, op: LoadOp, memory: usize, ptr: u64, offset: u64) -> ReplyStruct
-        ensures { result ≡ reply_struct
-            (load_reply op (ptr + offset) (live_at self.now.state.memories memory)) }
-    {
-        let Some(memory) = self.machine.memory(memory) else {
-            return ReplyStruct::only(NO_SUCH);
-        };
-        match op.load(memory.data(), ptr, offset) {
-            Ok(raw) => ReplyStruct::with_value(raw),
-            Err(trap) => ReplyStruct::only(u8::from(trap)),
         }
     }
 
@@ -210,7 +184,7 @@ impl LimitedMachine {
     {
         match self.machine.consume_fuel(amount) {
             Ok(left) => ReplyStruct::with_number(DONE, left),
-            Err(error) => ReplyStruct::from_fuel_error(&error),
+            Err(error) => ReplyStruct::from_reply(&Reply::Fuel(error)),
         }
     }
 
@@ -281,7 +255,7 @@ pub(crate) fn read_out(
     };
     match memory.read(offset, bytes) {
         Ok(()) => ReplyStruct::only(DONE),
-        Err(error) => ReplyStruct::from_memory_error(error),
+        Err(error) => ReplyStruct::from_reply(&Reply::Memory(error)),
     }
 }
 

@@ -1,6 +1,6 @@
 //! Replies as structs of plain numbers.
 ghost use Rattle.std.specs.Prelude.{◌≡◌};
-ghost use Rattle.wasmi_c.specs.Machine.Replies.{fuel_refusal, memory_fuel, memory_refusal, meter_fuel, number_of, only, reference_number, reply_struct, status_of, table_fuel, with_number, with_value};
+ghost use Rattle.wasmi_c.specs.Machine.Replies.{memory_fuel, meter_fuel, number_of, only, reference_number, reply_struct, status_of, table_fuel, with_number, with_value};
 
 use crate::status::{
     DONE, NO_ELEMENT, NO_REGION, NO_ROOM, NO_SUCH, fuel_status, global_status, memory_status,
@@ -59,20 +59,6 @@ impl ReplyStruct {
         }
     }
 
-    /// Why a call on a memory was refused.
-    pub fn from_memory_error(error: MemoryError) -> ReplyStruct
-        ensures { result ≡ memory_refusal error }
-    {
-        ReplyStruct::with_number(memory_status(error), memory_fuel(error))
-    }
-
-    /// Why a call on the meter was refused.
-    pub fn from_fuel_error(error: &FuelError) -> ReplyStruct
-        ensures { result ≡ fuel_refusal error.now }
-    {
-        ReplyStruct::with_number(fuel_status(error), meter_fuel(error))
-    }
-
     /// The same reply, copied a field at a time. A copy of the whole may be made in pieces that
     /// overlap, and the processor then waits for the first to be stored.
     #[inline(always)]
@@ -88,8 +74,8 @@ impl ReplyStruct {
         }
     }
 
-    /// The reply as numbers. The replies of stores and of instructions are looked at first, and
-    /// are a status alone, since a reply that is kept in a variable is copied.
+    /// The reply as numbers. Those of the calls that engines make most are matched where they are
+    /// returned, since a reply that is kept in a variable is copied.
     #[inline(always)]
     pub fn from_common(reply: Reply) -> ReplyStruct
         ensures { result ≡ reply_struct reply }
@@ -98,6 +84,11 @@ impl ReplyStruct {
             Reply::Done => ReplyStruct::only(DONE),
             Reply::NoSuch => ReplyStruct::only(NO_SUCH),
             Reply::Trap(trap) => ReplyStruct::only(u8::from(trap)),
+            Reply::Value(value) => ReplyStruct::with_value(value),
+            Reply::Number(number) => ReplyStruct::with_number(DONE, number),
+            Reply::Memory(error) => {
+                ReplyStruct::with_number(memory_status(error), memory_fuel(error))
+            }
             other => ReplyStruct::from_reply(&other),
         }
     }
