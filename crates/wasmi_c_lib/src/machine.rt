@@ -12,6 +12,8 @@ use wasmi_c::machine::call_struct::CallStruct;
 use wasmi_c::machine::handle::Handle;
 use wasmi_c::machine::limits::{Limits, Totals};
 use wasmi_c::machine::reply_struct::ReplyStruct;
+use wasmi_c::on_machine;
+use wasmi_c::status::NO_MACHINE;
 
 /// Makes a machine with nothing on it: `Handle::new_machine`.
 #[unsafe(no_mangle)]
@@ -53,7 +55,7 @@ pub extern "C" fn wasmi_machine_call(handle: &mut Handle, call: &CallStruct) -> 
     handle.call(call)
 }
 
-/// Copies bytes of a memory to the caller's: `Handle::read`.
+/// Copies bytes of a memory from an offset on to the caller's array, as many as it has.
 #[unsafe(no_mangle)]
 pub extern "C" fn wasmi_machine_read(
     handle: &mut Handle,
@@ -67,10 +69,12 @@ pub extern "C" fn wasmi_machine_read(
         (only NO_MACHINE, bytes.old)
         handle.old.machine.held (result, bytes.new) handle.new.machine.held }
 {
-    handle.read(memory, offset, bytes)
+    on_machine!(handle, ReplyStruct::only(NO_MACHINE), machine => {
+        machine.read(memory, offset, bytes)
+    })
 }
 
-/// Writes bytes of the caller's to a memory: `Handle::write`.
+/// Writes the caller's bytes over those of a memory from an offset on, by a copy of them.
 #[unsafe(no_mangle)]
 pub extern "C" fn wasmi_machine_write(
     alloc: Global,
@@ -82,10 +86,12 @@ pub extern "C" fn wasmi_machine_write(
     ensures { OnHeld (RepliesToCopy (Write memory offset) bytes.now) (only NO_MACHINE)
         handle.old.machine.held result handle.new.machine.held }
 {
-    handle.write(alloc, memory, offset, bytes)
+    on_machine!(handle, ReplyStruct::only(NO_MACHINE), machine => {
+        machine.write(alloc, memory, offset, bytes)
+    })
 }
 
-/// Makes an element segment of the caller's references: `Handle::new_segment`.
+/// Makes an element segment of a copy of the caller's references.
 #[unsafe(no_mangle)]
 pub extern "C" fn wasmi_machine_new_segment(
     alloc: Global,
@@ -96,29 +102,32 @@ pub extern "C" fn wasmi_machine_new_segment(
     ensures { OnHeld (RepliesToSegment ty items.now) (only NO_MACHINE)
         handle.old.machine.held result handle.new.machine.held }
 {
-    handle.new_segment(alloc, ty, items)
+    on_machine!(handle, ReplyStruct::only(NO_MACHINE), machine => {
+        machine.new_segment(alloc, ty, items)
+    })
 }
 
-/// Gives how many bytes and elements the machine has: `Handle::totals`.
+/// Gives how many bytes and elements the machine has. Without caps its cost grows with the number of
+/// memories and tables that were ever made.
 #[unsafe(no_mangle)]
 pub extern "C" fn wasmi_machine_totals(handle: &mut Handle) -> Totals
     ensures { OnHeld
         (λ machine totals machine'. (machine' ≡ machine) × (totals ≡ totals_of machine))
         no_totals handle.old.machine.held result handle.new.machine.held }
 {
-    handle.totals()
+    on_machine!(handle, Totals::from_amounts(NO_MACHINE, 0, 0), machine => machine.totals())
 }
 
-/// Takes fuel that isn't a call's: `Handle::consume_fuel`.
+/// Takes fuel that isn't a call's; the number is what is left.
 #[unsafe(no_mangle)]
 pub extern "C" fn wasmi_machine_consume_fuel(handle: &mut Handle, amount: u64) -> ReplyStruct
     ensures { OnHeld (PaysFuel amount) (only NO_MACHINE)
         handle.old.machine.held result handle.new.machine.held }
 {
-    handle.consume_fuel(amount)
+    on_machine!(handle, ReplyStruct::only(NO_MACHINE), machine => machine.consume_fuel(amount))
 }
 
-/// Loads an item: `Handle::load`.
+/// Loads an item from `ptr + offset`, by the load that has the number, and sets `value` to it.
 #[unsafe(no_mangle)]
 pub extern "C" fn wasmi_machine_load(
     handle: &mut Handle,
@@ -132,10 +141,10 @@ pub extern "C" fn wasmi_machine_load(
         (NO_MACHINE, value.old)
         handle.old.machine.held (result, value.new) handle.new.machine.held }
 {
-    handle.load(op, memory, ptr, offset, value)
+    on_machine!(handle, NO_MACHINE, machine => machine.load(op, memory, ptr, offset, value))
 }
 
-/// Stores an item: `Handle::store`.
+/// Stores an item at `ptr + offset`, by the store that has the number.
 #[unsafe(no_mangle)]
 pub extern "C" fn wasmi_machine_store(
     handle: &mut Handle,
@@ -148,19 +157,19 @@ pub extern "C" fn wasmi_machine_store(
     ensures { OnHeld (RepliesInStatus (item_store op memory ptr offset value)) NO_MACHINE
         handle.old.machine.held result handle.new.machine.held }
 {
-    handle.store(op, memory, ptr, offset, value)
+    on_machine!(handle, NO_MACHINE, machine => machine.store(op, memory, ptr, offset, value))
 }
 
-/// Executes an instruction on two vectors: `Handle::binary`.
+/// Sets a register to what the instruction of a number makes of the vectors in two registers.
 #[unsafe(no_mangle)]
 pub extern "C" fn wasmi_machine_binary(handle: &mut Handle, op: u16, dst: u8, a: u8, b: u8) -> u8
     ensures { OnHeld (RepliesInStatus (vector_binary op dst a b)) NO_MACHINE
         handle.old.machine.held result handle.new.machine.held }
 {
-    handle.binary(op, dst, a, b)
+    on_machine!(handle, NO_MACHINE, machine => machine.binary(op, dst, a, b))
 }
 
-/// Grows a memory: `Handle::grow`.
+/// Grows a memory, and sets `number` to its old size in pages, or to the fuel that it lacks.
 #[unsafe(no_mangle)]
 pub extern "C" fn wasmi_machine_grow(
     handle: &mut Handle,
@@ -172,19 +181,20 @@ pub extern "C" fn wasmi_machine_grow(
         (NO_MACHINE, number.old)
         handle.old.machine.held (result, number.new) handle.new.machine.held }
 {
-    handle.grow(memory, pages, number)
+    on_machine!(handle, NO_MACHINE, machine => machine.grow(memory, pages, number))
 }
 
-/// Gives the fuel that is left: `Handle::fuel_left`.
+/// Sets `left` to the fuel that is left.
 #[unsafe(no_mangle)]
 pub extern "C" fn wasmi_machine_fuel_left(handle: &mut Handle, left: &mut u64) -> u8
     ensures { OnHeld (RepliesInWord (Some GetFuel) left.old) (NO_MACHINE, left.old)
         handle.old.machine.held (result, left.new) handle.new.machine.held }
 {
-    handle.fuel_left(left)
+    on_machine!(handle, NO_MACHINE, machine => machine.fuel_left(left))
 }
 
-/// Runs lines of calls: `Handle::run_lines`.
+/// Runs lines of calls, and writes as much of the text of their replies as fits. The number is the
+/// length of the whole text, which takes no memory, or that of the first bad line.
 #[unsafe(no_mangle)]
 pub extern "C" fn wasmi_machine_run_lines(
     alloc: Global,
@@ -197,5 +207,7 @@ pub extern "C" fn wasmi_machine_run_lines(
         (only NO_MACHINE, text.old)
         handle.old.machine.held (result, text.new) handle.new.machine.held }
 {
-    handle.run_lines(alloc, lines, text)
+    on_machine!(handle, ReplyStruct::only(NO_MACHINE), machine => {
+        machine.run_lines(alloc, lines, text)
+    })
 }

@@ -11,7 +11,9 @@ use std::alloc::Global;
 use wasmi_c::machine::call_struct::CallStruct;
 use wasmi_c::machine::limits::{Limits, Totals};
 use wasmi_c::machine::reply_struct::ReplyStruct;
+use wasmi_c::on_pool;
 use wasmi_c::pool::handle::PoolHandle;
+use wasmi_c::status::NO_POOL;
 
 /// Makes a pool without tenants: `PoolHandle::new_pool`.
 #[unsafe(no_mangle)]
@@ -34,7 +36,7 @@ pub extern "C" fn wasmi_pool_drop(alloc: Global, handle: &mut PoolHandle)
     handle.drop_pool(alloc);
 }
 
-/// Adds a tenant: `PoolHandle::add`.
+/// Adds a tenant with nothing on it, with the meter of the limits; the number is its index.
 #[unsafe(no_mangle)]
 pub extern "C" fn wasmi_pool_add(
     alloc: Global,
@@ -45,7 +47,7 @@ pub extern "C" fn wasmi_pool_add(
         (AddsNewTenant limits.now result) }
     ensures caps { KeepsCaps handle.old.pool.held handle.new.pool.held }
 {
-    handle.add(alloc, limits)
+    on_pool!(handle, alloc, ReplyStruct::only(NO_POOL), pool => pool.add(alloc, limits))
 }
 
 /// Replies to a call on a tenant: `PoolHandle::call`.
@@ -63,7 +65,7 @@ pub extern "C" fn wasmi_pool_call(
     handle.call(alloc, tenant, call)
 }
 
-/// Copies bytes of a memory of a tenant to the caller's: `PoolHandle::read`.
+/// Copies bytes of a memory of a tenant from an offset on to the caller's array, as many as it has.
 #[unsafe(no_mangle)]
 pub extern "C" fn wasmi_pool_read(
     alloc: Global,
@@ -78,10 +80,12 @@ pub extern "C" fn wasmi_pool_read(
         (TenantReadsOut tenant memory offset bytes.old result bytes.new) }
     ensures caps { KeepsCaps handle.old.pool.held handle.new.pool.held }
 {
-    handle.read(alloc, tenant, memory, offset, bytes)
+    on_pool!(handle, alloc, ReplyStruct::only(NO_POOL), pool => {
+        pool.read(tenant, memory, offset, bytes)
+    })
 }
 
-/// Writes bytes of the caller's to a memory of a tenant: `PoolHandle::write`.
+/// Writes a copy of the caller's bytes over those of a memory of a tenant from an offset on.
 #[unsafe(no_mangle)]
 pub extern "C" fn wasmi_pool_write(
     alloc: Global,
@@ -95,10 +99,12 @@ pub extern "C" fn wasmi_pool_write(
         (TenantRepliesToCopy tenant (Write memory offset) bytes.now result) }
     ensures caps { KeepsCaps handle.old.pool.held handle.new.pool.held }
 {
-    handle.write(alloc, tenant, memory, offset, bytes)
+    on_pool!(handle, alloc, ReplyStruct::only(NO_POOL), pool => {
+        pool.write(alloc, tenant, memory, offset, bytes)
+    })
 }
 
-/// Runs lines of calls on a tenant: `PoolHandle::run_lines`.
+/// Runs lines of calls on a tenant, as `wasmi_machine_run_lines` does on a machine.
 #[unsafe(no_mangle)]
 pub extern "C" fn wasmi_pool_run_lines(
     alloc: Global,
@@ -112,10 +118,12 @@ pub extern "C" fn wasmi_pool_run_lines(
         (RunsTenantLines tenant lines.now text.old result text.new) }
     ensures caps { KeepsCaps handle.old.pool.held handle.new.pool.held }
 {
-    handle.run_lines(alloc, tenant, lines, text)
+    on_pool!(handle, alloc, ReplyStruct::only(NO_POOL), pool => {
+        pool.run_lines(alloc, tenant, lines, text)
+    })
 }
 
-/// Gives what a tenant has: `PoolHandle::tenant_totals`.
+/// Gives how many bytes and elements a tenant has, with what it dropped.
 #[unsafe(no_mangle)]
 pub extern "C" fn wasmi_pool_tenant_totals(
     alloc: Global,
@@ -126,15 +134,15 @@ pub extern "C" fn wasmi_pool_tenant_totals(
         (λ pool pool'. (pool' ≡ pool) × (result ≡ tenant_totals tenant pool)) }
     ensures caps { KeepsCaps handle.old.pool.held handle.new.pool.held }
 {
-    handle.tenant_totals(alloc, tenant)
+    on_pool!(handle, alloc, Totals::from_amounts(NO_POOL, 0, 0), pool => pool.tenant_totals(tenant))
 }
 
-/// Gives what all tenants have together: `PoolHandle::totals`.
+/// Gives how many bytes and elements all tenants have together.
 #[unsafe(no_mangle)]
 pub extern "C" fn wasmi_pool_totals(alloc: Global, handle: &mut PoolHandle) -> Totals
     ensures step { ActsOnHeld no_pool_totals handle.old.pool.held result handle.new.pool.held
         (λ pool pool'. (pool' ≡ pool) × (result ≡ pool_totals pool)) }
     ensures caps { KeepsCaps handle.old.pool.held handle.new.pool.held }
 {
-    handle.totals(alloc)
+    on_pool!(handle, alloc, Totals::from_amounts(NO_POOL, 0, 0), pool => pool.totals())
 }

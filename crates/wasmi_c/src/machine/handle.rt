@@ -1,17 +1,15 @@
-//! What C holds: a machine with its limiter, or none; and the calls on it. Each works on the machine
-//! where it is. `include/wasmi_machine.h` says which statuses they return, in which order.
-ghost use Rattle.std.specs.Prelude.{◌≡◌, Some, None, is_some, MatchOption, ℕ, List};
-ghost use Rattle.wasmi_core.specs.declared.calls.Call.TheVariants.{GetFuel, GrowMemory, Write};
-ghost use Rattle.wasmi_c.specs.Machine.Calls.{RepliesInStatus, RepliesInWord, item_load, item_store, vector_binary, OnHeld, ReadsOut, RepliesToCopy, RepliesToSegment, RepliesToStruct, PaysFuel, no_totals, totals_of, RunsLines};
+//! What C holds: a machine with its limiter, or none. A call works on the machine where it is.
+//! `include/wasmi_machine.h` says which statuses calls return, in which order.
+ghost use Rattle.std.specs.Prelude.{◌≡◌, Some, None, is_some, MatchOption};
+ghost use Rattle.wasmi_c.specs.Machine.Calls.{OnHeld, RepliesToStruct};
 ghost use Rattle.wasmi_c.specs.Machine.NewMachines.{IsNewMachine, MakesMachine, MakesWithAnswers};
 ghost use Rattle.wasmi_c.specs.Machine.Replies.{only};
 ghost use Rattle.wasmi_c.specs.declared.status.TheConstants.{NO_MACHINE};
-ghost use Rattle.wasmi_c.specs.declared.machine.reply_struct.ReplyStruct.{ReplyStruct};
 
 use crate::held_box::HeldBox;
 use crate::machine::call_struct::CallStruct;
 use crate::machine::limited_machine::LimitedMachine;
-use crate::machine::limits::{Limits, Totals, answers_of, are_answers};
+use crate::machine::limits::{Limits, answers_of, are_answers};
 use crate::machine::machine_box::MachineBox;
 use crate::machine::reply_struct::ReplyStruct;
 use crate::pool::handle::PoolHandle;
@@ -21,6 +19,7 @@ use std::mem;
 
 /// What a call leaves of the machine of a handle and returns; or what is returned where there is
 /// none.
+#[macro_export]
 macro_rules! on_machine {
     ($handle:expr, $none:expr, $machine:ident => $call:expr) => {{
         if !$handle.is_made() {
@@ -154,122 +153,6 @@ impl Handle {
             self.old.machine.held result self.new.machine.held }
     {
         on_machine!(self, ReplyStruct::only(NO_MACHINE), machine => machine.reply_to_struct(call))
-    }
-
-    /// Copies bytes of a memory from an offset on to the caller's array, as many as it has.
-    pub fn read(&mut self, memory: usize, offset: usize, bytes: &mut [u8]) -> ReplyStruct
-        ensures { OnHeld {R = ReplyStruct × List ℕ}
-            (λ machine left machine'. (machine' ≡ machine)
-            × ReadsOut memory offset machine.state bytes.old left.0 left.1)
-            (only NO_MACHINE, bytes.old)
-            self.old.machine.held (result, bytes.new) self.new.machine.held }
-    {
-        on_machine!(self, ReplyStruct::only(NO_MACHINE), machine => {
-            machine.read(memory, offset, bytes)
-        })
-    }
-
-    /// Writes the caller's bytes over those of a memory from an offset on, by a copy of them.
-    pub fn write(
-        &mut self,
-        alloc: Global,
-        memory: usize,
-        offset: usize,
-        bytes: &[u8],
-    ) -> ReplyStruct
-        ensures { OnHeld (RepliesToCopy (Write memory offset) bytes.now) (only NO_MACHINE)
-            self.old.machine.held result self.new.machine.held }
-    {
-        on_machine!(self, ReplyStruct::only(NO_MACHINE), machine => {
-            machine.write(alloc, memory, offset, bytes)
-        })
-    }
-
-    /// Makes an element segment of a copy of the caller's references.
-    pub fn new_segment(&mut self, alloc: Global, ty: u8, items: &[u32]) -> ReplyStruct
-        ensures { OnHeld (RepliesToSegment ty items.now) (only NO_MACHINE)
-            self.old.machine.held result self.new.machine.held }
-    {
-        on_machine!(self, ReplyStruct::only(NO_MACHINE), machine => {
-            machine.new_segment(alloc, ty, items)
-        })
-    }
-
-    /// How many bytes and elements the machine has. Without caps its cost grows with the number of
-    /// memories and tables that were ever made.
-    pub fn totals(&mut self) -> Totals
-        ensures { OnHeld
-            (λ machine totals machine'. (machine' ≡ machine) × (totals ≡ totals_of machine))
-            no_totals self.old.machine.held result self.new.machine.held }
-    {
-        on_machine!(self, Totals::from_amounts(NO_MACHINE, 0, 0), machine => machine.totals())
-    }
-
-    /// Takes fuel, as an interpreter does for the instructions that it executes between calls; the
-    /// number is what is left.
-    pub fn consume_fuel(&mut self, amount: u64) -> ReplyStruct
-        ensures { OnHeld (PaysFuel amount) (only NO_MACHINE)
-            self.old.machine.held result self.new.machine.held }
-    {
-        on_machine!(self, ReplyStruct::only(NO_MACHINE), machine => machine.consume_fuel(amount))
-    }
-
-    /// Loads an item of a memory from `ptr + offset`, by the load that has the number, and sets
-    /// `value` to it.
-    pub fn load(&mut self, op: u16, memory: usize, ptr: u64, offset: u64, value: &mut u64) -> u8
-        ensures { OnHeld (RepliesInWord (item_load op memory ptr offset) value.old)
-            (NO_MACHINE, value.old)
-            self.old.machine.held (result, value.new) self.new.machine.held }
-    {
-        on_machine!(self, NO_MACHINE, machine => machine.load(op, memory, ptr, offset, value))
-    }
-
-    /// Stores an item to a memory at `ptr + offset`, by the store that has the number.
-    pub fn store(&mut self, op: u16, memory: usize, ptr: u64, offset: u64, value: u64) -> u8
-        ensures { OnHeld (RepliesInStatus (item_store op memory ptr offset value)) NO_MACHINE
-            self.old.machine.held result self.new.machine.held }
-    {
-        on_machine!(self, NO_MACHINE, machine => machine.store(op, memory, ptr, offset, value))
-    }
-
-    /// Sets a register to what the instruction of a number makes of the vectors in two registers.
-    pub fn binary(&mut self, op: u16, dst: u8, a: u8, b: u8) -> u8
-        ensures { OnHeld (RepliesInStatus (vector_binary op dst a b)) NO_MACHINE
-            self.old.machine.held result self.new.machine.held }
-    {
-        on_machine!(self, NO_MACHINE, machine => machine.binary(op, dst, a, b))
-    }
-
-    /// Grows a memory by so many pages, and sets `number` to its old size in pages, or to the fuel
-    /// that is needed if less is left.
-    pub fn grow(&mut self, memory: usize, pages: u64, number: &mut u64) -> u8
-        ensures { OnHeld (RepliesInWord (Some (GrowMemory memory pages)) number.old)
-            (NO_MACHINE, number.old)
-            self.old.machine.held (result, number.new) self.new.machine.held }
-    {
-        on_machine!(self, NO_MACHINE, machine => machine.grow(memory, pages, number))
-    }
-
-    /// Sets `left` to the fuel that is left.
-    pub fn fuel_left(&mut self, left: &mut u64) -> u8
-        ensures { OnHeld (RepliesInWord (Some GetFuel) left.old) (NO_MACHINE, left.old)
-            self.old.machine.held (result, left.new) self.new.machine.held }
-    {
-        on_machine!(self, NO_MACHINE, machine => machine.fuel_left(left))
-    }
-
-    /// Runs lines of calls, one after the other, and writes what a script prints for them to the
-    /// front of `text`, as much of it as fits. The number of the reply is the length of the whole
-    /// text, which takes no memory, or that of the first bad line.
-    pub fn run_lines(&mut self, alloc: Global, lines: &[u8], text: &mut [u8]) -> ReplyStruct
-        ensures { OnHeld {R = ReplyStruct × List ℕ}
-            (λ machine left machine'. RunsLines lines.now machine text.old left.0 left.1 machine')
-            (only NO_MACHINE, text.old)
-            self.old.machine.held (result, text.new) self.new.machine.held }
-    {
-        on_machine!(self, ReplyStruct::only(NO_MACHINE), machine => {
-            machine.run_lines(alloc, lines, text)
-        })
     }
 }
 

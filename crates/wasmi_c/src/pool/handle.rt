@@ -1,16 +1,13 @@
-//! What C holds: a pool, or none; and the calls on it. Each takes the pool out and puts it back.
-//! `include/wasmi_machine.h` says which statuses they return, in which order.
-ghost use Rattle.std.specs.Prelude.{◌≡◌, Some, None, is_some, MatchOption, ℕ, List};
-ghost use Rattle.wasmi_core.specs.declared.calls.Call.TheVariants.{Write};
+//! What C holds: a pool, or none. A call takes the pool out and puts it back.
+//! `include/wasmi_machine.h` says which statuses calls return, in which order.
+ghost use Rattle.std.specs.Prelude.{◌≡◌, Some, None, is_some, MatchOption};
 ghost use Rattle.wasmi_c.specs.Machine.Calls.{ActsOnHeld};
 ghost use Rattle.wasmi_c.specs.Machine.Replies.{only};
-ghost use Rattle.wasmi_c.specs.Pool.{AddsNewTenant, KeepsCaps, MakesPool, RunsTenantLines, TenantReadsOut, TenantRepliesToCopy, TenantRepliesToStruct, no_pool_totals, pool_totals, tenant_totals};
+ghost use Rattle.wasmi_c.specs.Pool.{KeepsCaps, MakesPool, TenantRepliesToStruct};
 ghost use Rattle.wasmi_c.specs.declared.status.TheConstants.{NO_POOL};
-ghost use Rattle.wasmi_c.specs.declared.machine.reply_struct.ReplyStruct.{ReplyStruct};
 
 use crate::held_box::HeldBox;
 use crate::machine::call_struct::CallStruct;
-use crate::machine::limits::{Limits, Totals};
 use crate::machine::reply_struct::ReplyStruct;
 use crate::pool::pool_box::PoolBox;
 use crate::pool::tenant_pool::TenantPool;
@@ -20,6 +17,7 @@ use std::mem;
 
 /// What a call leaves of the pool of a handle and returns; or what is returned where there is
 /// none.
+#[macro_export]
 macro_rules! on_pool {
     ($handle:expr, $alloc:expr, $none:expr, $pool:ident => $call:expr) => {{
         let Some(mut $pool) = $handle.take($alloc) else {
@@ -115,16 +113,6 @@ impl PoolHandle {
         let _pool = self.take(alloc);
     }
 
-    /// Adds a tenant: a machine with nothing on it, with the meter of the limits, whose caps aren't
-    /// read. The number is its index.
-    pub fn add(&mut self, alloc: Global, limits: &Limits) -> ReplyStruct
-        ensures step { ActsOnHeld (only NO_POOL) self.old.pool.held result self.new.pool.held
-            (AddsNewTenant limits.now result) }
-        ensures caps { KeepsCaps self.old.pool.held self.new.pool.held }
-    {
-        on_pool!(self, alloc, ReplyStruct::only(NO_POOL), pool => pool.add(alloc, limits))
-    }
-
     /// Replies to a call on the machine of a tenant, if the numbers stand for one.
     pub fn call(&mut self, alloc: Global, tenant: usize, call: &CallStruct) -> ReplyStruct
         ensures step { ActsOnHeld (only NO_POOL) self.old.pool.held result self.new.pool.held
@@ -134,81 +122,5 @@ impl PoolHandle {
         on_pool!(self, alloc, ReplyStruct::only(NO_POOL), pool => {
             pool.reply_to_struct(tenant, call)
         })
-    }
-
-    /// Copies bytes of a memory of a tenant from an offset on to the caller's array, as many as it
-    /// has.
-    pub fn read(
-        &mut self,
-        alloc: Global,
-        tenant: usize,
-        memory: usize,
-        offset: usize,
-        bytes: &mut [u8],
-    ) -> ReplyStruct
-        ensures step { ActsOnHeld {R = ReplyStruct × List ℕ} (only NO_POOL, bytes.old)
-            self.old.pool.held (result, bytes.new) self.new.pool.held
-            (TenantReadsOut tenant memory offset bytes.old result bytes.new) }
-        ensures caps { KeepsCaps self.old.pool.held self.new.pool.held }
-    {
-        on_pool!(self, alloc, ReplyStruct::only(NO_POOL), pool => {
-            pool.read(tenant, memory, offset, bytes)
-        })
-    }
-
-    /// Writes the caller's bytes over those of a memory of a tenant from an offset on, by a copy.
-    pub fn write(
-        &mut self,
-        alloc: Global,
-        tenant: usize,
-        memory: usize,
-        offset: usize,
-        bytes: &[u8],
-    ) -> ReplyStruct
-        ensures step { ActsOnHeld (only NO_POOL) self.old.pool.held result self.new.pool.held
-            (TenantRepliesToCopy tenant (Write memory offset) bytes.now result) }
-        ensures caps { KeepsCaps self.old.pool.held self.new.pool.held }
-    {
-        on_pool!(self, alloc, ReplyStruct::only(NO_POOL), pool => {
-            pool.write(alloc, tenant, memory, offset, bytes)
-        })
-    }
-
-    /// Runs lines of calls on the machine of a tenant, as `Handle::run_lines` does on a machine.
-    pub fn run_lines(
-        &mut self,
-        alloc: Global,
-        tenant: usize,
-        lines: &[u8],
-        text: &mut [u8],
-    ) -> ReplyStruct
-        ensures step { ActsOnHeld {R = ReplyStruct × List ℕ} (only NO_POOL, text.old)
-            self.old.pool.held (result, text.new) self.new.pool.held
-            (RunsTenantLines tenant lines.now text.old result text.new) }
-        ensures caps { KeepsCaps self.old.pool.held self.new.pool.held }
-    {
-        on_pool!(self, alloc, ReplyStruct::only(NO_POOL), pool => {
-            pool.run_lines(alloc, tenant, lines, text)
-        })
-    }
-
-    /// How many bytes and elements a tenant has, with what it dropped.
-    pub fn tenant_totals(&mut self, alloc: Global, tenant: usize) -> Totals
-        ensures step { ActsOnHeld no_pool_totals self.old.pool.held result self.new.pool.held
-            (λ pool pool'. (pool' ≡ pool) × (result ≡ tenant_totals tenant pool)) }
-        ensures caps { KeepsCaps self.old.pool.held self.new.pool.held }
-    {
-        on_pool!(self, alloc, Totals::from_amounts(NO_POOL, 0, 0), pool => {
-            pool.tenant_totals(tenant)
-        })
-    }
-
-    /// How many bytes and elements all tenants have together.
-    pub fn totals(&mut self, alloc: Global) -> Totals
-        ensures step { ActsOnHeld no_pool_totals self.old.pool.held result self.new.pool.held
-            (λ pool pool'. (pool' ≡ pool) × (result ≡ pool_totals pool)) }
-        ensures caps { KeepsCaps self.old.pool.held self.new.pool.held }
-    {
-        on_pool!(self, alloc, Totals::from_amounts(NO_POOL, 0, 0), pool => pool.totals())
     }
 }
