@@ -72,15 +72,11 @@ impl Question {
     pub fn new(current: usize, desired: usize, most: Option<usize>) -> Question
         ensures { result ≡ plain_sizes current desired most }
     {
-        let (has_maximum, maximum) = match most {
-            Some(maximum) => (1, maximum),
-            None => (0, 0),
-        };
         Question {
             current,
             desired,
-            maximum,
-            has_maximum,
+            maximum: most.unwrap_or(0),
+            has_maximum: u8::from(most.is_some()),
         }
     }
 }

@@ -1,11 +1,9 @@
 //! A script of calls, from bytes to bytes.
-ghost use Rattle.std.specs.Prelude.{[], Some};
-ghost use Rattle.wasmi_script.specs.Outcomes.{Replays};
 ghost use Rattle.wasmi_c.specs.Script.{AnswersScript};
 
 use crate::status::TEXT_TOO_SHORT;
 use std::alloc::Global;
-use wasmi_script::{Status, replay};
+use wasmi_script::replay;
 
 /// Runs a script, and writes what it prints to the front of `text`. `needed` is set to the length
 /// of that, in bytes.
@@ -18,7 +16,8 @@ pub fn run(alloc: Global, script: &[u8], text: &mut [u8], needed: &mut usize) ->
     ensures answers { AnswersScript script.now text.old text.new needed.new result }
 {
     let mut printed = Vec::new(alloc);
-    let status = print(alloc, script, &mut printed);
+    let mut reader = script;
+    let status = replay(alloc, &mut reader, &mut printed);
     *needed = printed.len();
     if text.len() < printed.len() {
         return TEXT_TOO_SHORT;
@@ -26,13 +25,4 @@ pub fn run(alloc: Global, script: &[u8], text: &mut [u8], needed: &mut usize) ->
     let front = &mut text[..printed.len()];
     front.copy_from_slice(printed.as_slice());
     status.code()
-}
-
-/// Runs a script, and writes what it prints to a buffer.
-fn print(alloc: Global, script: &[u8], printed: &mut Vec<u8>) -> Status
-    ensures replays { Replays (Some script.now) (Some printed.old.items)
-        (Some printed.new.items) result }
-{
-    let mut reader = script;
-    replay(alloc, &mut reader, printed)
 }

@@ -7,8 +7,8 @@ ghost use Rattle.wasmi_c.specs.Placement.{status_of, written_number};
 
 use crate::fuel::MeterNumbers;
 use crate::memory::numbers::MemoryNumbers;
-use crate::range::Range;
-use crate::status::{DONE, INVALID_STATE, memory_refusal};
+use crate::range::{Range, type_or_return};
+use crate::status::{DONE, memory_refusal};
 use wasmi_meter::MemoryError;
 use wasmi_region::memory as region_memory;
 
@@ -36,9 +36,7 @@ pub fn fill(
         (metered_region region.old meter.old number.old) result
         (metered_region region.new meter.new number.new) }
 {
-    let Some(_ty) = memory.type_if_valid(region) else {
-        return INVALID_STATE;
-    };
+    type_or_return!(_ty, memory, region);
     let mut fuel = meter.fuel();
     let (to, count) = (range.to, range.count);
     let written = region_memory::fill(region, memory.size, to, value, count, &mut fuel);
@@ -58,9 +56,7 @@ pub fn copy_within(
         (metered_region region.old meter.old number.old) result
         (metered_region region.new meter.new number.new) }
 {
-    let Some(_ty) = memory.type_if_valid(region) else {
-        return INVALID_STATE;
-    };
+    type_or_return!(_ty, memory, region);
     let mut fuel = meter.fuel();
     let (to, from, count) = (range.to, range.from, range.count);
     let written = region_memory::copy_within(region, memory.size, to, from, count, &mut fuel);
@@ -82,9 +78,7 @@ pub fn copy(
         (metered_region region.old meter.old number.old) result
         (metered_region region.new meter.new number.new) }
 {
-    let Some(_source_ty) = source.type_if_valid(source_region) else {
-        return INVALID_STATE;
-    };
+    type_or_return!(_source_ty, source, source_region);
     let bytes = &source_region[..source.size];
     init(memory, region, bytes, range, meter, number)
 }
@@ -102,9 +96,7 @@ pub fn init(
         (metered_region region.old meter.old number.old) result
         (metered_region region.new meter.new number.new) }
 {
-    let Some(_ty) = memory.type_if_valid(region) else {
-        return INVALID_STATE;
-    };
+    type_or_return!(_ty, memory, region);
     let mut fuel = meter.fuel();
     let (to, from, count) = (range.to, range.from, range.count);
     let written = region_memory::copy(region, memory.size, bytes, to, from, count, &mut fuel);

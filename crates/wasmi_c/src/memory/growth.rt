@@ -12,7 +12,8 @@ use crate::fuel::MeterNumbers;
 use crate::host::{HostAnswers, Question};
 use crate::memory::numbers::MemoryNumbers;
 use crate::quota::QuotaNumbers;
-use crate::status::{ASKS, DONE, INVALID_STATE, MEMORY_GROWTH, OTHER_SIZE, memory_refusal};
+use crate::range::type_or_return;
+use crate::status::{ASKS, DONE, MEMORY_GROWTH, OTHER_SIZE, memory_refusal};
 use wasmi_meter::{MemoryError, ResourceLimiter, ResourceLimiterRef};
 use wasmi_region::memory as region_memory;
 use wasmi_store::MemoryType;
@@ -75,9 +76,7 @@ pub fn grow(
         → in_bounds ty (memory.old.size / page_bytes ty.page + pages) ≡ false
         → quota.new ≡ quota.old }
 {
-    let Some(ty) = memory.type_if_valid(region) else {
-        return INVALID_STATE;
-    };
+    type_or_return!(ty, memory, region);
     grow_under(memory, ty, region, pages, meter, quota, number)
 }
 
@@ -86,9 +85,7 @@ pub fn grow(
 pub fn question(memory: &MemoryNumbers, region: &[u8], pages: u64, question: &mut Question) -> u8
     ensures { AsksEmbedded memory.now region.now pages result question.old question.new }
 {
-    let Some(ty) = memory.type_if_valid(region) else {
-        return INVALID_STATE;
-    };
+    type_or_return!(ty, memory, region);
     if pages == 0 {
         return DONE;
     }
@@ -114,9 +111,7 @@ pub fn settle(
         (embedded memory.old region.old meter.old (Some answers.old) number.old) result
         (embedded memory.new region.new meter.new (Some answers.new) number.new) }
 {
-    let Some(ty) = memory.type_if_valid(region) else {
-        return INVALID_STATE;
-    };
+    type_or_return!(ty, memory, region);
     if !are_about(memory, ty, region, pages, answers) {
         return OTHER_SIZE;
     }

@@ -3,7 +3,8 @@ ghost use Rattle.std.specs.Prelude.{◌≡◌};
 ghost use Rattle.wasmi_c.specs.Numbers.{placed};
 ghost use Rattle.wasmi_c.specs.TableCalls.{CountsElements, GetsElement, SetsElement};
 
-use crate::status::{DONE, INVALID_STATE, NO_ELEMENT, table_status};
+use crate::range::type_or_return;
+use crate::status::{DONE, NO_ELEMENT, table_status};
 use crate::table::numbers::TableNumbers;
 use wasmi_region::table as region_table;
 
@@ -11,9 +12,7 @@ use wasmi_region::table as region_table;
 pub fn size(table: &TableNumbers, region: &[u32], size: &mut u64) -> u8
     ensures { CountsElements table.now region.now size.old result size.new }
 {
-    let Some(_ty) = table.type_if_valid(region) else {
-        return INVALID_STATE;
-    };
+    type_or_return!(_ty, table, region);
     *size = table.size as u64;
     DONE
 }
@@ -22,9 +21,7 @@ pub fn size(table: &TableNumbers, region: &[u32], size: &mut u64) -> u8
 pub fn get(table: &TableNumbers, region: &[u32], index: u64, reference: &mut u32) -> u8
     ensures { GetsElement (placed table.now region.now) index reference.old result reference.new }
 {
-    let Some(_ty) = table.type_if_valid(region) else {
-        return INVALID_STATE;
-    };
+    type_or_return!(_ty, table, region);
     let elements = &region[..table.size];
     let Some(found) = elements.get(index as usize) else {
         return NO_ELEMENT;
@@ -37,9 +34,7 @@ pub fn get(table: &TableNumbers, region: &[u32], index: u64, reference: &mut u32
 pub fn set(table: &TableNumbers, region: &mut [u32], index: u64, reference: u32) -> u8
     ensures { SetsElement (placed table.now region.old) index reference result region.new }
 {
-    let Some(ty) = table.type_if_valid(region) else {
-        return INVALID_STATE;
-    };
+    type_or_return!(ty, table, region);
     match region_table::set(ty, &mut region[..table.size], index, reference) {
         Ok(()) => DONE,
         Err(error) => table_status(error),

@@ -11,7 +11,8 @@ ghost use Rattle.wasmi_c.specs.TableCalls.{AsksTableEmbedded, by_elements, of_ta
 use crate::fuel::MeterNumbers;
 use crate::host::{HostAnswers, Question};
 use crate::quota::QuotaNumbers;
-use crate::status::{ASKS, DONE, INVALID_STATE, OTHER_SIZE, TABLE_GROWTH, table_refusal};
+use crate::range::type_or_return;
+use crate::status::{ASKS, DONE, OTHER_SIZE, TABLE_GROWTH, table_refusal};
 use crate::table::numbers::TableNumbers;
 use wasmi_meter::{ResourceLimiter, ResourceLimiterRef, TableError};
 use wasmi_region::table as region_table;
@@ -78,9 +79,7 @@ pub fn grow(
     ensures unasked { (ty : TableTypeValue) → IsTable table.old region.old ty
         → is_indexable ty (table.old.size + delta) ≡ false → quota.new ≡ quota.old }
 {
-    let Some(ty) = table.type_if_valid(region) else {
-        return INVALID_STATE;
-    };
+    type_or_return!(ty, table, region);
     grow_under(table, ty, region, delta, reference, meter, quota, number)
 }
 
@@ -90,9 +89,7 @@ pub fn grow(
 pub fn question(table: &TableNumbers, region: &[u32], delta: u64, question: &mut Question) -> u8
     ensures { AsksTableEmbedded table.now region.now delta result question.old question.new }
 {
-    let Some(ty) = table.type_if_valid(region) else {
-        return INVALID_STATE;
-    };
+    type_or_return!(ty, table, region);
     if delta == 0 {
         return DONE;
     }
@@ -119,9 +116,7 @@ pub fn settle(
         (embedded table.old region.old meter.old (Some answers.old) number.old) result
         (embedded table.new region.new meter.new (Some answers.new) number.new) }
 {
-    let Some(ty) = table.type_if_valid(region) else {
-        return INVALID_STATE;
-    };
+    type_or_return!(ty, table, region);
     if !are_about(table, ty, region, delta, reference, answers) {
         return OTHER_SIZE;
     }

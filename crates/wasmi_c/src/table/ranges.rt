@@ -8,8 +8,8 @@ ghost use Rattle.wasmi_c.specs.Numbers.{metered_region, placed};
 ghost use Rattle.wasmi_c.specs.Placement.{status_of, written_number};
 
 use crate::fuel::MeterNumbers;
-use crate::range::Range;
-use crate::status::{DONE, INVALID_STATE, table_refusal};
+use crate::range::{Range, type_or_return};
+use crate::status::{DONE, table_refusal};
 use crate::table::numbers::TableNumbers;
 use wasmi_meter::TableError;
 use wasmi_region::table as region_table;
@@ -38,9 +38,7 @@ pub fn fill(
         table.now (metered_region region.old meter.old number.old) result
         (metered_region region.new meter.new number.new) }
 {
-    let Some(ty) = table.type_if_valid(region) else {
-        return INVALID_STATE;
-    };
+    type_or_return!(ty, table, region);
     let mut fuel = meter.fuel();
     let front = &mut region[..table.size];
     let written = region_table::fill(ty, front, range.to, reference, range.count, &mut fuel);
@@ -61,9 +59,7 @@ pub fn copy_within(
         table.now (metered_region region.old meter.old number.old) result
         (metered_region region.new meter.new number.new) }
 {
-    let Some(ty) = table.type_if_valid(region) else {
-        return INVALID_STATE;
-    };
+    type_or_return!(ty, table, region);
     let mut fuel = meter.fuel();
     let front = &mut region[..table.size];
     let (to, from, count) = (range.to, range.from, range.count);
@@ -86,12 +82,8 @@ pub fn copy(
         (metered_region region.old meter.old number.old) result
         (metered_region region.new meter.new number.new) }
 {
-    let Some(ty) = table.type_if_valid(region) else {
-        return INVALID_STATE;
-    };
-    let Some(source_ty) = source.type_if_valid(source_region) else {
-        return INVALID_STATE;
-    };
+    type_or_return!(ty, table, region);
+    type_or_return!(source_ty, source, source_region);
     let mut fuel = meter.fuel();
     let front = &mut region[..table.size];
     let items = &source_region[..source.size];
@@ -115,9 +107,7 @@ pub fn init(
         table.now (metered_region region.old meter.old number.old) result
         (metered_region region.new meter.new number.new) }
 {
-    let Some(ty) = table.type_if_valid(region) else {
-        return INVALID_STATE;
-    };
+    type_or_return!(ty, table, region);
     let mut fuel = meter.fuel();
     let front = &mut region[..table.size];
     let (to, from, count) = (range.to, range.from, range.count);
