@@ -3,6 +3,9 @@ ghost use Rattle.std.specs.Prelude.{◌≡◌, IfSome, Some};
 ghost use Rattle.wasmi_core.specs.declared.calls.Call.TheVariants.{Binary, Load, Store};
 ghost use Rattle.wasmi_c.specs.Machine.CallStructs.{call_of, global_call, memory_call, meter_call, register_call, table_call};
 
+use crate::instruction::lanes::{extraction, lane_load, lane_store, replacement};
+use crate::instruction::shuffle::lanes_of;
+use crate::instruction::ternary::ternary_numbered;
 use crate::machine::call_struct::CallStruct;
 use crate::machine::instructions::{
     item_load_numbered, item_store_numbered, vector_binary_numbered,
@@ -89,8 +92,21 @@ impl CallStruct {
             MemoryCall::DropMemory => Some(Call::DropMemory(self.index)),
             MemoryCall::Load => self.load_call(),
             MemoryCall::Store => self.store_call(),
-            MemoryCall::LoadLane => self.load_lane_call(),
-            MemoryCall::StoreLane => self.store_lane_call(),
+            MemoryCall::LoadLane => Some(Call::LoadLane {
+                op: lane_load(self.op, self.lane).ok()?,
+                dst: self.dst,
+                a: self.a,
+                memory: self.index,
+                ptr: self.ptr,
+                offset: self.offset,
+            }),
+            MemoryCall::StoreLane => Some(Call::StoreLane {
+                op: lane_store(self.op, self.lane).ok()?,
+                a: self.a,
+                memory: self.index,
+                ptr: self.ptr,
+                offset: self.offset,
+            }),
         }
     }
 
@@ -161,18 +177,38 @@ impl CallStruct {
     fn register_call(&self, kind: RegisterCall) -> Option<Call>
         ensures { result ≡ register_call kind self.now }
     {
+        let (dst, a, b) = (self.dst, self.a, self.b);
         match kind {
             RegisterCall::SetRegister => Some(Call::SetRegister {
-                dst: self.dst,
+                dst,
                 value: self.value,
             }),
-            RegisterCall::GetRegister => Some(Call::GetRegister(self.a)),
+            RegisterCall::GetRegister => Some(Call::GetRegister(a)),
             RegisterCall::Unary => self.unary_call(),
             RegisterCall::Binary => self.binary_call(),
-            RegisterCall::Ternary => self.ternary_call(),
-            RegisterCall::ExtractLane => self.extract_lane_call(),
-            RegisterCall::ReplaceLane => self.replace_lane_call(),
-            RegisterCall::Shuffle => self.shuffle_call(),
+            RegisterCall::Ternary => Some(Call::Ternary {
+                op: ternary_numbered(self.op)?,
+                dst,
+                a,
+                b,
+                c: self.c,
+            }),
+            RegisterCall::ExtractLane => Some(Call::Extract {
+                op: extraction(self.op, self.lane).ok()?,
+                a,
+            }),
+            RegisterCall::ReplaceLane => Some(Call::Replace {
+                op: replacement(self.op, self.lane).ok()?,
+                dst,
+                a,
+                item: b,
+            }),
+            RegisterCall::Shuffle => Some(Call::Shuffle {
+                dst,
+                a,
+                b,
+                lanes: lanes_of(self.lanes)?,
+            }),
         }
     }
 }

@@ -1,14 +1,11 @@
 //! The calls of instructions that numbers stand for.
 ghost use Rattle.std.specs.Prelude.{◌≡◌};
-ghost use Rattle.wasmi_c.specs.Machine.CallStructs.{binary_call, extract_lane_call, load_call, load_lane_call, replace_lane_call, shuffle_call, store_call, store_lane_call, ternary_call, unary_call};
+ghost use Rattle.wasmi_c.specs.Machine.CallStructs.{binary_call, load_call, store_call, unary_call};
 ghost use Rattle.wasmi_c.specs.Machine.Calls.{item_load_numbered, item_store_numbered, vector_binary_numbered};
 
 use crate::instruction::binary::{Binary, binary_numbered};
-use crate::instruction::lanes::{extraction, lane_load, lane_store, replacement};
 use crate::instruction::load::{Load, load_numbered};
-use crate::instruction::shuffle::lanes_of;
 use crate::instruction::store::{Store, store_numbered};
-use crate::instruction::ternary::ternary_numbered;
 use crate::instruction::unary::{Unary, unary_numbered};
 use crate::machine::call_struct::CallStruct;
 use crate::types::to_u32;
@@ -87,80 +84,6 @@ impl CallStruct {
                 Some(Call::Shift { op, dst, a, amount })
             }
         }
-    }
-
-    /// A load of a lane.
-    pub fn load_lane_call(&self) -> Option<Call>
-        ensures { result ≡ load_lane_call self.now }
-    {
-        Some(Call::LoadLane {
-            op: lane_load(self.op, self.lane).ok()?,
-            dst: self.dst,
-            a: self.a,
-            memory: self.index,
-            ptr: self.ptr,
-            offset: self.offset,
-        })
-    }
-
-    /// A store of a lane.
-    pub fn store_lane_call(&self) -> Option<Call>
-        ensures { result ≡ store_lane_call self.now }
-    {
-        Some(Call::StoreLane {
-            op: lane_store(self.op, self.lane).ok()?,
-            a: self.a,
-            memory: self.index,
-            ptr: self.ptr,
-            offset: self.offset,
-        })
-    }
-
-    /// An instruction of three registers.
-    pub fn ternary_call(&self) -> Option<Call>
-        ensures { result ≡ ternary_call self.now }
-    {
-        Some(Call::Ternary {
-            op: ternary_numbered(self.op)?,
-            dst: self.dst,
-            a: self.a,
-            b: self.b,
-            c: self.c,
-        })
-    }
-
-    /// An extraction of a lane.
-    pub fn extract_lane_call(&self) -> Option<Call>
-        ensures { result ≡ extract_lane_call self.now }
-    {
-        Some(Call::Extract {
-            op: extraction(self.op, self.lane).ok()?,
-            a: self.a,
-        })
-    }
-
-    /// A replacement of a lane.
-    pub fn replace_lane_call(&self) -> Option<Call>
-        ensures { result ≡ replace_lane_call self.now }
-    {
-        Some(Call::Replace {
-            op: replacement(self.op, self.lane).ok()?,
-            dst: self.dst,
-            a: self.a,
-            item: self.b,
-        })
-    }
-
-    /// A shuffle of the bytes of two registers.
-    pub fn shuffle_call(&self) -> Option<Call>
-        ensures { result ≡ shuffle_call self.now }
-    {
-        Some(Call::Shuffle {
-            dst: self.dst,
-            a: self.a,
-            b: self.b,
-            lanes: lanes_of(self.lanes)?,
-        })
     }
 }
 
