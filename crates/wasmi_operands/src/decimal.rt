@@ -43,10 +43,7 @@ fn decimal(word: &str) -> Result<u64, LineError>
     }
     let mut number = 0;
     for digit in word.as_bytes() {
-        let Some(longer) = appended(number, *digit) else {
-            return Err(LineError::BadCommand);
-        };
-        number = longer;
+        number = appended(number, *digit).ok_or(LineError::BadCommand)?;
     }
     Ok(number)
 }

@@ -364,7 +364,7 @@ pub fn list_of<T: Operand>(alloc: Global, words: &[&str]) -> Result<Vec<T>, Line
 {
     let mut list = Vec::with_capacity(alloc, words.len())?;
     for word in words {
-        list.push(T::from_word(word)?)?;
+        list.push_reserved(T::from_word(word)?);
     }
     Ok(list)
 }

@@ -58,10 +58,7 @@ mod decimal {
         }
         let mut number = 0;
         for digit in word.as_bytes() {
-            let Some(longer) = appended(number, *digit) else {
-                return Err(LineError::BadCommand);
-            };
-            number = longer;
+            number = appended(number, *digit).ok_or(LineError::BadCommand)?;
         }
         Ok(number)
     }
@@ -89,7 +86,7 @@ mod decimal {
 mod error {
     //! Why a line isn't taken.
 
-    use crate::rattle::alloc::{AllocError, AllocFailed};
+    use crate::rattle::alloc::AllocError;
 
     /// Why a line isn't taken.
     #[derive(Clone, Copy)]
@@ -108,18 +105,6 @@ mod error {
     impl From<AllocError> for LineError {
         #[inline]
         fn from(_: AllocError) -> Self {
-            LineError::OutOfMemory
-        }
-    }
-
-    /// # Contract
-    ///
-    /// ```text
-    /// from_gives = λ _ error. error ≡ OutOfMemory
-    /// ```
-    impl<T> From<AllocFailed<T>> for LineError {
-        #[inline]
-        fn from(_: AllocFailed<T>) -> Self {
             LineError::OutOfMemory
         }
     }
@@ -818,7 +803,7 @@ pub mod operand {
     pub fn list_of<T: Operand>(words: &[&str]) -> Result<Vec<T>, LineError> {
         let mut list = Vec::with_capacity(words.len())?;
         for word in words {
-            list.push(T::from_word(word)?)?;
+            list.push_reserved(T::from_word(word)?);
         }
         Ok(list)
     }

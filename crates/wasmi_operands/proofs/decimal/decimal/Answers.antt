@@ -1,4 +1,5 @@
-use Rattle.std.proofs.Common.{◌≡◌, ◌∙◌, ◌+◌, ◌<◌, ◌≤◌, ap, arith, get_or, length, rules, subst, tests}
+use Rattle.std.proofs.Common.{◌≡◌, ◌∙◌, ◌+◌, ◌^◌, ◌<◌, ◌≤◌, Err, ap, arith, get_or, length, rules, subst, sym, tests}
+use Rattle.std.specs.Result.{OkIff}
 use Rattle.std.specs.Str.Parse.{AllDigits, digits_value}
 use Rattle.std.proofs.lemmas.Int.Digits.{digits_value_more}
 use Rattle.std.proofs.lemmas.List.{take_all}
@@ -14,16 +15,17 @@ returns-then-is_empty-clause-value c h =
     let none : length c.args.word.now ≡ 0 = search (rules, tests, c.is_empty.ensures, c.if-is_empty.true) in
     omega (arith, h.0.0)
 
-pub returns-in_default-clause-value : goal.returns-in_default-clause-value
+pub returns-in_err-number-clause-value : goal.returns-in_err-number-clause-value
 unfolding IsDecimal decimal_value
-returns-in_default-clause-value c h =
+returns-in_err-number-clause-value c =
     let word = c.args.word.now in
     let i = c.loop-digit.digit-index in
     let inside = subst (λ bytes. i < length bytes) c.as_bytes-digit-items.ensures.value c.loop-digit-test.true in
-    let none = rw c.as_bytes-digit-items.ensures.value at c.in_default.ensures in
-    let digit = digit_at word i h.0.1 inside in
-    none (
-      digit,
+    let none = rw (c.as_bytes-digit-items.ensures.value, c.in_err-number.ensures.ok_part) at c.appended.ensures in
+    let same : c.from_residual.result ≡ Err c.in_err-number.field-0.0 = search rules in
+    subst (λ result. OkIff result (IsDecimal word × (decimal_value word < 2 ^ 64)) (decimal_value word)) (sym same)
+    (λ h. none (
+      digit_at word i h.0.1 inside,
       omega (
         arith,
         digits_value_more 10 word i inside,
@@ -31,14 +33,14 @@ returns-in_default-clause-value c h =
         h.1,
         digits_value-take-le 10 word (i + 1) (omega arith),
       ),
-    )
+    ))
 
 pub loop-digit-preserved : goal.loop-digit-preserved
 loop-digit-preserved c =
     let word = c.args.word.now in
     let inside = subst (λ bytes. c.loop-digit.digit-index < length bytes) c.as_bytes-digit-items.ensures.value
     c.loop-digit-test.true in
-    let longer = rw c.as_bytes-digit-items.ensures.value at c.in-Some.ensures in
+    let longer = rw (c.as_bytes-digit-items.ensures.value, c.in_ok-number.ensures.ok_part) at c.appended.ensures in
     let worth = digit_value_digit (get_or word c.loop-digit.digit-index 0) longer.0.0 in (
       digits_more word c.loop-digit.digit-index inside c.loop-digit.invariant.0 (omega (arith, worth, longer.0.0)),
       omega (arith, digits_value_more 10 word c.loop-digit.digit-index inside, c.loop-digit.invariant.1, longer.1),
