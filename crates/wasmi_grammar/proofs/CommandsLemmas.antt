@@ -1,13 +1,17 @@
 -- What the operands of a command write, by the word that it begins with.
-use Rattle.std.proofs.Common.{ℕ, ◌≡◌, List, [], ◌∷◌, Result, Err, bytes_eq, cond, codes, length, subst}
+use Rattle.std.proofs.Common.{ℕ, zero, suc, ◌≡◌, List, [], ◌∷◌, Bor, Result, Err, bytes_eq, cond, codes, get_or, length, refl, sym, subst}
 use Rattle.wasmi_types.specs.declared.value.RefType.{RefType}
 use Rattle.wasmi_store.specs.Memory.{MemoryTypeValue}
+use Rattle.wasmi_store.specs.Table.{TableTypeValue}
+use Rattle.wasmi_typed.specs.declared.typed_ref.TypedRawRef.{TypedRawRef}
 use Rattle.wasmi_types.specs.declared.value.ValType.{ValType}
 use Rattle.wasmi_typed.specs.declared.global.Mutability.{Mutability}
 use Rattle.wasmi_raw.specs.declared.raw.RawVal.{RawVal}
 use Rattle.wasmi_ops.specs.declared.scalar.access.LoadOp.{LoadOp}
 use Rattle.wasmi_ops.specs.declared.scalar.access.StoreOp.{StoreOp}
 use Rattle.wasmi_ops.specs.declared.vector.access.VectorLoadOp.{VectorLoadOp}
+use Rattle.wasmi_ops.specs.declared.vector.access.LoadLaneOp.{LoadLaneOp}
+use Rattle.wasmi_ops.specs.declared.vector.access.StoreLaneOp.{StoreLaneOp}
 use Rattle.wasmi_ops.specs.declared.vector.binary.BinaryOp.{BinaryOp}
 use Rattle.wasmi_ops.specs.declared.vector.make.MakeOp.{MakeOp}
 use Rattle.wasmi_ops.specs.declared.vector.shift.ShiftOp.{ShiftOp}
@@ -88,6 +92,9 @@ forms =
     (codes "test", made (TestOp × ℕ) (λ a. call.Test a.0 a.1)) ∷
     (codes "vload", made (VectorLoadOp × ℕ × ℕ × ℕ × ℕ) (λ a. call.VectorLoad a.0 a.1 a.2 a.3 a.4)) ∷
     (codes "vstore", made (ℕ × ℕ × ℕ × ℕ) (λ a. call.VectorStore a.0 a.1 a.2 a.3)) ∷
+    (codes "vloadlane", made (LoadLaneOp × ℕ × ℕ × ℕ × ℕ × ℕ) (λ a. call.LoadLane a.0 a.1 a.2 a.3 a.4 a.5)) ∷
+    (codes "vstorelane", made (StoreLaneOp × ℕ × ℕ × ℕ × ℕ) (λ a. call.StoreLane a.0 a.1 a.2 a.3 a.4)) ∷
+    (codes "table", made (TableTypeValue × TypedRawRef) (λ a. call.NewTable a.0 a.1)) ∷
     []
 
 -- a call whose operands are written is of the form of its word
@@ -123,6 +130,9 @@ form words (call.Shift op dst a amount) w = ((op, dst, a, amount), w)
 form words (call.Test op a) w = ((op, a), w)
 form words (call.VectorLoad op dst memory ptr offset) w = ((op, dst, memory, ptr, offset), w)
 form words (call.VectorStore a memory ptr offset) w = ((a, memory, ptr, offset), w)
+form words (call.LoadLane op dst a memory ptr offset) w = ((op, dst, a, memory, ptr, offset), w)
+form words (call.StoreLane op a memory ptr offset) w = ((op, a, memory, ptr, offset), w)
+form words (call.NewTable ty init) w = ((ty, init), w)
 form words call w = (call, w)
 
 -- a command is refused since the values of its form are
@@ -134,3 +144,14 @@ refused_form word words error result is =
     refused_through error result is
     (λ call names. subst (λ name. (a : (form_in forms name).0) × (form_in forms name).1 words a)
     names.0 (form words call names.1))
+
+-- the text of the word at a place, as the code takes the word
+text_at : (words : LineWords) (k : ℕ) (none : Bor (List ℕ)) → none.now ≡ [] → word_at words k ≡ (get_or words k none).now
+text_at [] k none empty = sym empty
+text_at (word ∷ words) zero none empty = refl
+text_at (word ∷ words) (suc k) none empty = text_at words k none empty
+
+-- what the word at a place writes, as the code takes the word
+pub written_at : (Writes : List ℕ → Type 0) (words : LineWords) (k : ℕ) (none : Bor (List ℕ)) → none.now ≡ []
+    → Writes (word_at words k) → Writes (get_or words k none).now
+written_at Writes words k none empty = subst Writes (text_at words k none empty)

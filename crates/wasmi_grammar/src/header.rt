@@ -5,7 +5,7 @@ ghost use Rattle.wasmi_grammar.specs.Headers.{WritesMeter, NamesLimiterAfter, Wr
 
 use std::alloc::Global;
 use wasmi_meter::{Amounts, LimiterAnswer};
-use wasmi_operands::operand::list_of;
+use wasmi_operands::operand::{self, list_of};
 use wasmi_operands::{LineError, number};
 
 /// The most tenants that a script may have.
@@ -88,42 +88,28 @@ pub(crate) fn meter_line(operands: &[&str]) -> Result<MeterLine, LineError>
 pub(crate) fn region_line(operands: &[&str]) -> Result<RegionLine, LineError>
     ensures { Accepts result (WritesRegion operands.now) }
 {
-    let &[len, byte] = operands else {
-        return Err(LineError::BadCommand);
-    };
-    match (number(len), number(byte)) {
-        (Ok(len), Ok(byte)) => Ok(RegionLine { len, byte }),
-        _ => Err(LineError::BadCommand),
-    }
+    let (len, byte) = operand::two(operands)?;
+    Ok(RegionLine { len, byte })
 }
 
 /// `quota B E`.
 pub(crate) fn quota(operands: &[&str]) -> Result<LimiterLine, LineError>
     ensures { Accepts result (NamesLimiterAfter (codes "quota") operands.now) }
 {
-    let &[bytes, elements] = operands else {
-        return Err(LineError::BadCommand);
-    };
-    match (number(bytes), number(elements)) {
-        (Ok(bytes), Ok(elements)) => Ok(LimiterLine::Quota(Amounts { bytes, elements })),
-        _ => Err(LineError::BadCommand),
-    }
+    let (bytes, elements) = operand::two(operands)?;
+    Ok(LimiterLine::Quota(Amounts { bytes, elements }))
 }
 
 /// `tenants N B E`.
 pub(crate) fn tenants(operands: &[&str]) -> Result<LimiterLine, LineError>
     ensures { Accepts result (NamesLimiterAfter (codes "tenants") operands.now) }
 {
-    let &[count, bytes, elements] = operands else {
-        return Err(LineError::BadCommand);
-    };
-    match (number(count), number(bytes), number(elements)) {
-        (Ok(count @ 1..=MOST_TENANTS), Ok(bytes), Ok(elements)) => {
-            Ok(LimiterLine::Tenants(TenantsLine {
-                count,
-                caps: Amounts { bytes, elements },
-            }))
-        }
+    let (count, bytes, elements) = operand::three(operands)?;
+    match count {
+        1..=MOST_TENANTS => Ok(LimiterLine::Tenants(TenantsLine {
+            count,
+            caps: Amounts { bytes, elements },
+        })),
         _ => Err(LineError::BadCommand),
     }
 }

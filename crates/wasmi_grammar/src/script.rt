@@ -154,7 +154,7 @@ fn calls_at(calls: &[Call], start: usize, end: usize) -> &[Call]
 }
 
 impl Script {
-    ghost use Rattle.wasmi_grammar.specs.Lines.{AddsWords, AddsLine, AddsMeter, AddsLimiter, AddsRegion, AddsCall, AddsPart, HasNoCommands, IsNewScript};
+    ghost use Rattle.wasmi_grammar.specs.Lines.{AddsWords, AddsLine, AddsMeter, AddsLimiter, AddsRegion, AddsCall, AddsPart, IsNewScript};
 
     /// A script without lines.
     fn new(alloc: Global) -> Self
@@ -198,12 +198,9 @@ impl Script {
     /// Takes in a `meter` line, of which a script has at most one.
     fn take_meter(&mut self, line: MeterLine) -> Result<(), LineError>
         ensures ok { OnOk result (AddsMeter self.old line self.new) }
-        ensures err { OnErr result (self.new ≡ self.old) }
-        ensures bad { IfErr result (λ error. error ≡ LineError.BadCommand) }
         ensures refused { OnErr result ((new : Script) → ¬ (AddsMeter self.old line new)) }
     {
-        self.expect_no_commands()?;
-        if self.header.meter.is_some() {
+        if !self.parts.is_empty() || self.header.meter.is_some() {
             return Err(LineError::BadCommand);
         }
         self.header.meter = Some(line);
@@ -213,12 +210,9 @@ impl Script {
     /// Takes in a limiter line, of which a script has at most one. A pool has no region.
     fn take_limiter(&mut self, line: LimiterLine) -> Result<(), LineError>
         ensures ok { OnOk result (AddsLimiter self.old line self.new) }
-        ensures err { OnErr result (self.new ≡ self.old) }
-        ensures bad { IfErr result (λ error. error ≡ LineError.BadCommand) }
         ensures refused { OnErr result ((new : Script) → ¬ (AddsLimiter self.old line new)) }
     {
-        self.expect_no_commands()?;
-        if self.header.limiter.is_some() {
+        if !self.parts.is_empty() || self.header.limiter.is_some() {
             return Err(LineError::BadCommand);
         }
         if self.header.region.is_some() && matches!(line, LimiterLine::Tenants(_)) {
@@ -231,31 +225,16 @@ impl Script {
     /// Takes in a `region` line, of which a script has at most one, and none beside a pool.
     fn take_region(&mut self, line: RegionLine) -> Result<(), LineError>
         ensures ok { OnOk result (AddsRegion self.old line self.new) }
-        ensures err { OnErr result (self.new ≡ self.old) }
-        ensures bad { IfErr result (λ error. error ≡ LineError.BadCommand) }
         ensures refused { OnErr result ((new : Script) → ¬ (AddsRegion self.old line new)) }
     {
-        self.expect_no_commands()?;
-        if self.header.region.is_some()
+        if !self.parts.is_empty()
+            || self.header.region.is_some()
             || matches!(self.header.limiter, Some(LimiterLine::Tenants(_)))
         {
             return Err(LineError::BadCommand);
         }
         self.header.region = Some(line);
         Ok(())
-    }
-
-    /// Header lines stand before all commands.
-    fn expect_no_commands(&self) -> Result<(), LineError>
-        ensures ok { OnOk result (HasNoCommands self.now) }
-        ensures err { IfErr result
-            (λ error. (error ≡ LineError.BadCommand) × ¬ (HasNoCommands self.now)) }
-    {
-        if self.parts.is_empty() {
-            Ok(())
-        } else {
-            Err(LineError::BadCommand)
-        }
     }
 
     /// Takes in a command's call.

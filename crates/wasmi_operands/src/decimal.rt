@@ -4,7 +4,7 @@ ghost use Rattle.std.specs.Int.{IsInRange};
 ghost use Rattle.std.specs.Prelude.{◌≡◌, ◌+◌, ◌*◌, ◌<◌, ◌^◌, IfErr, IfOk, Err, Ok};
 ghost use Rattle.std.specs.Option.{SomeIff};
 ghost use Rattle.std.specs.Result.{OkIff};
-ghost use Rattle.wasmi_operands.specs.LineWords.{Accepts, IsDecimal, WritesLimit, decimal_value};
+ghost use Rattle.wasmi_operands.specs.LineWords.{IsDecimal, decimal_value};
 
 use crate::error::LineError;
 
@@ -20,16 +20,6 @@ where
         → (error : T.Error) × T.try_from_gives (decimal_value word.now) (Err error)) }
 {
     T::try_from(decimal(word)?).map_err(|_| LineError::BadCommand)
-}
-
-/// The number that a word writes, or `None` for the word `none`.
-pub fn number_or_none(word: &str) -> Result<Option<u64>, LineError>
-    ensures { Accepts result (WritesLimit word.now) }
-{
-    match word {
-        "none" => Ok(None),
-        _ => Ok(Some(number(word)?)),
-    }
 }
 
 /// The number that a word writes in decimal digits, if it is below 2^64.

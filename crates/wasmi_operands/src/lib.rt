@@ -3,11 +3,10 @@
 
 mod decimal;
 mod error;
-pub mod names;
+pub mod lane;
 pub mod operand;
 mod words;
 
-pub use decimal::{number, number_or_none};
+pub use decimal::number;
 pub use error::LineError;
-pub use operand::{index_ty, ref_type, reference};
 pub use words::read_words;

@@ -1,17 +1,17 @@
 //! What words write as the operands of a command: one to five words, or a list.
 #![tactic(auto, using(crate::proofs::OpNamesLemmas::op_names))]
 
-ghost use Rattle.std.specs.Prelude.{◌≡◌, ℕ, List, length};
-ghost use Rattle.wasmi_operands.specs.Names.{WritesAnswer, IsName, WritesReference, mutability_word, reference_word, value_word, width_word};
-ghost use Rattle.wasmi_operands.specs.LineWords.{Accepts, AcceptsWithMemory, WritesNumber, WritesEach, word_at};
+ghost use Rattle.std.specs.Prelude.{◌≡◌, ℕ, List, length, map};
+ghost use Rattle.wasmi_operands.specs.Names.{WritesAnswer, IsName, IsNamed, mutability_word, reference_word, value_word, width_word};
+ghost use Rattle.wasmi_operands.specs.LineWords.{Accepts, AcceptsWithMemory, WritesNumber, WritesLimit, WritesEach, word_at};
 ghost use Rattle.wasmi_ops.specs.ScalarOps.{load_name, store_name, scalar_binary_name, scalar_unary_name};
 ghost use Rattle.wasmi_ops.specs.VectorOps.{vector_load_name, binary_name, make_name, shift_name, ternary_name, test_name, unary_name};
 ghost use Rattle.wasmi_ops.specs.LaneOps.{extract_name, load_lane_name, replace_name, store_lane_name};
 
 use crate::decimal::number;
 use crate::error::LineError;
-use crate::names::op_named;
 use std::alloc::Global;
+use wasmi_lanes::ImmLaneIdx32;
 use wasmi_meter::LimiterAnswer;
 use wasmi_ops::{
     BINARIES, BinaryOp, EXTRACTIONS, ExtractKind, LANE_LOADS, LANE_STORES, LOADS, LoadLaneKind,
@@ -20,7 +20,7 @@ use wasmi_ops::{
     TernaryOp, TestOp, UNARIES, UnaryOp, VECTOR_LOADS, VectorLoadOp,
 };
 use wasmi_raw::RawRef;
-use wasmi_typed::{Mutability, TypedRawRef};
+use wasmi_typed::Mutability;
 use wasmi_types::{IndexType, RefType, ValType};
 
 /// What one word of a command can write.
@@ -74,11 +74,47 @@ impl Operand for RawRef {
     }
 }
 
+impl Operand for IndexType {
+    ghost writes = { λ word index. word ≡ width_word index };
+
+    fn from_word(word: &str) -> Result<Self, LineError> {
+        match word {
+            "32" => Ok(IndexType::I32),
+            "64" => Ok(IndexType::I64),
+            _ => Err(LineError::BadCommand),
+        }
+    }
+}
+
+impl Operand for Option<u64> {
+    ghost writes = { WritesLimit };
+
+    fn from_word(word: &str) -> Result<Self, LineError> {
+        match word {
+            "none" => Ok(None),
+            _ => Ok(Some(number(word)?)),
+        }
+    }
+}
+
+impl Operand for ImmLaneIdx32 {
+    ghost writes = { WritesNumber 5 };
+
+    fn from_word(word: &str) -> Result<Self, LineError> {
+        let index: u8 = number(word)?;
+        ImmLaneIdx32::try_from(index).map_err(|_| LineError::BadCommand)
+    }
+}
+
 impl Operand for RefType {
     ghost writes = { λ word ty. word ≡ reference_word ty };
 
     fn from_word(word: &str) -> Result<Self, LineError> {
-        ref_type(word)
+        match word {
+            "func" => Ok(RefType::Func),
+            "extern" => Ok(RefType::Extern),
+            _ => Err(LineError::BadCommand),
+        }
     }
 }
 
@@ -245,34 +281,12 @@ impl Operand for StoreLaneKind {
     }
 }
 
-/// The address type of a width word, `32` or `64`.
-pub fn index_ty(width: &str) -> Result<IndexType, LineError>
-    ensures { Accepts result (λ index. width.now ≡ width_word index) }
+/// The op of a name in a list of names.
+fn op_named<T: Copy>(names: &[(&str, T)], name: &str) -> Result<T, LineError>
+    ensures { Accepts result (IsNamed (map (λ entry. (entry.0.now, entry.1)) names.now) name.now) }
 {
-    match width {
-        "32" => Ok(IndexType::I32),
-        "64" => Ok(IndexType::I64),
-        _ => Err(LineError::BadCommand),
-    }
-}
-
-/// The reference type of a word, `func` or `extern`.
-pub fn ref_type(word: &str) -> Result<RefType, LineError>
-    ensures { Accepts result (λ ty. word.now ≡ reference_word ty) }
-{
-    match word {
-        "func" => Ok(RefType::Func),
-        "extern" => Ok(RefType::Extern),
-        _ => Err(LineError::BadCommand),
-    }
-}
-
-/// The reference of a type's word and a number below 2^32.
-pub fn reference(ty: &str, raw: &str) -> Result<TypedRawRef, LineError>
-    ensures { Accepts result (WritesReference ty.now raw.now) }
-{
-    let ty = ref_type(ty)?;
-    Ok(TypedRawRef::new(RawRef::from_word(raw)?, ty))
+    let entry = names.iter().find(|(known, _)| *known == name);
+    entry.map(|(_, op)| *op).ok_or(LineError::BadCommand)
 }
 
 /// What one word writes, with none beside it.

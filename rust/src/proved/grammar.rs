@@ -5,8 +5,8 @@ mod command {
         //! Commands that load from a memory or store to it.
 
         use crate::proved::machine::{Call, RawVal};
-        use crate::proved::operands::names::lane::{load_lane_op, store_lane_op};
-        use crate::proved::operands::{LineError, number, operand};
+        use crate::proved::operands::lane::{load_lane_op, store_lane_op};
+        use crate::proved::operands::{LineError, operand};
 
         /// `load NAME K PTR OFFSET`.
         ///
@@ -84,24 +84,16 @@ mod command {
             let &[name, dst, a, lane, memory, ptr, offset] = operands else {
                 return Err(LineError::BadCommand);
             };
-            match (
-                load_lane_op(name, lane),
-                number(dst),
-                number(a),
-                number(memory),
-                number(ptr),
-                number(offset),
-            ) {
-                (Ok(op), Ok(dst), Ok(a), Ok(memory), Ok(ptr), Ok(offset)) => Ok(Call::LoadLane {
-                    op,
-                    dst,
-                    a,
-                    memory,
-                    ptr,
-                    offset,
-                }),
-                _ => Err(LineError::BadCommand),
-            }
+            let op = load_lane_op(name, lane)?;
+            let (dst, a, memory, ptr, offset) = operand::five(&[dst, a, memory, ptr, offset])?;
+            Ok(Call::LoadLane {
+                op,
+                dst,
+                a,
+                memory,
+                ptr,
+                offset,
+            })
         }
 
         /// `vstore A K PTR OFFSET`.
@@ -138,22 +130,15 @@ mod command {
             let &[name, a, lane, memory, ptr, offset] = operands else {
                 return Err(LineError::BadCommand);
             };
-            match (
-                store_lane_op(name, lane),
-                number(a),
-                number(memory),
-                number(ptr),
-                number(offset),
-            ) {
-                (Ok(op), Ok(a), Ok(memory), Ok(ptr), Ok(offset)) => Ok(Call::StoreLane {
-                    op,
-                    a,
-                    memory,
-                    ptr,
-                    offset,
-                }),
-                _ => Err(LineError::BadCommand),
-            }
+            let op = store_lane_op(name, lane)?;
+            let (a, memory, ptr, offset) = operand::four(&[a, memory, ptr, offset])?;
+            Ok(Call::StoreLane {
+                op,
+                a,
+                memory,
+                ptr,
+                offset,
+            })
         }
     }
     pub mod memory {
@@ -161,7 +146,7 @@ mod command {
 
         use crate::proved::machine::{Call, IndexType, MemoryType};
         use crate::proved::operands::operand::{self, list_of};
-        use crate::proved::operands::{LineError, index_ty, number, number_or_none};
+        use crate::proved::operands::{LineError, number};
 
         /// `memory MIN MAX LOG2 WIDTH`.
         ///
@@ -174,7 +159,7 @@ mod command {
         /// Definitions: [`Accepts`](crate::specs::operands::LineWords#Accepts), [`NamesAfter`](crate::specs::grammar::Commands#NamesAfter).
         #[inline]
         pub fn new_memory(operands: &[&str]) -> Result<Call, LineError> {
-            Ok(Call::NewMemory(four_word_type(operands)?))
+            Ok(Call::NewMemory(memory_type(operands)?))
         }
 
         /// `lent MIN MAX LOG2 WIDTH`.
@@ -188,7 +173,7 @@ mod command {
         /// Definitions: [`Accepts`](crate::specs::operands::LineWords#Accepts), [`NamesAfter`](crate::specs::grammar::Commands#NamesAfter).
         #[inline]
         pub fn new_lent_memory(operands: &[&str]) -> Result<Call, LineError> {
-            Ok(Call::NewLentMemory(four_word_type(operands)?))
+            Ok(Call::NewLentMemory(memory_type(operands)?))
         }
 
         /// `grow K PAGES`.
@@ -279,33 +264,8 @@ mod command {
         ///
         /// Definitions: [`Accepts`](crate::specs::operands::LineWords#Accepts), [`NamesType`](crate::specs::grammar::Commands#NamesType), [`word_at`](crate::specs::operands::LineWords#word_at).
         #[inline]
-        fn four_word_type(words: &[&str]) -> Result<MemoryType, LineError> {
-            let &[min, max, log2, width] = words else {
-                return Err(LineError::BadCommand);
-            };
-            memory_type(min, max, log2, width)
-        }
-
-        /// The memory type of these words, if there is such a type.
-        ///
-        /// # Contract
-        ///
-        /// ```text
-        /// ensures: Accepts result (NamesType min.now max.now log2.now width.now)
-        /// ```
-        ///
-        /// Definitions: [`Accepts`](crate::specs::operands::LineWords#Accepts), [`NamesType`](crate::specs::grammar::Commands#NamesType).
-        #[inline]
-        fn memory_type(
-            min: &str,
-            max: &str,
-            log2: &str,
-            width: &str,
-        ) -> Result<MemoryType, LineError> {
-            let minimum = number(min)?;
-            let maximum = number_or_none(max)?;
-            let page_size_log2 = number(log2)?;
-            let index = index_ty(width)?;
+        fn memory_type(words: &[&str]) -> Result<MemoryType, LineError> {
+            let (minimum, maximum, page_size_log2, index) = operand::four(words)?;
             type_of(index, minimum, maximum, page_size_log2)
         }
 
@@ -332,20 +292,15 @@ mod command {
                 .max(maximum)
                 .page_size_log2(page_size_log2)
                 .memory64(matches!(index, IndexType::I64));
-            match builder.build() {
-                Ok(ty) => Ok(ty),
-                Err(_) => Err(LineError::BadCommand),
-            }
+            builder.build().map_err(|_| LineError::BadCommand)
         }
     }
     pub mod table {
         //! Commands of tables and element segments.
 
         use crate::proved::machine::{Call, IndexType, RefType, TableType, TypedRawRef};
-        use crate::proved::operands::operand::{self, list_of};
-        use crate::proved::operands::{
-            LineError, index_ty, number, number_or_none, ref_type, reference,
-        };
+        use crate::proved::operands::LineError;
+        use crate::proved::operands::operand::{self, Operand, list_of};
 
         /// `table T MIN X WIDTH T N`.
         ///
@@ -358,13 +313,15 @@ mod command {
         /// Definitions: [`Accepts`](crate::specs::operands::LineWords#Accepts), [`NamesAfter`](crate::specs::grammar::Commands#NamesAfter).
         #[inline]
         pub fn new_table(operands: &[&str]) -> Result<Call, LineError> {
-            let &[element, min, max, width, ty, raw] = operands else {
+            let &[element, min, max, width, init_ty, raw] = operands else {
                 return Err(LineError::BadCommand);
             };
-            match (table_type(element, min, max, width), reference(ty, raw)) {
-                (Ok(ty), Ok(init)) => Ok(Call::NewTable { ty, init }),
-                _ => Err(LineError::BadCommand),
-            }
+            let ty = table_type(&[element, min, max, width])?;
+            let (init_ty, raw) = operand::two(&[init_ty, raw])?;
+            Ok(Call::NewTable {
+                ty,
+                init: TypedRawRef::new(raw, init_ty),
+            })
         }
 
         /// `tgrow K DELTA T N`.
@@ -497,7 +454,7 @@ mod command {
                 return Err(LineError::BadCommand);
             };
             Ok(Call::NewSegment {
-                ty: ref_type(ty)?,
+                ty: RefType::from_word(ty)?,
                 items: list_of(items)?,
             })
         }
@@ -516,26 +473,19 @@ mod command {
             Ok(Call::DropItems(operand::one(operands)?))
         }
 
-        /// The table type of these words, if there is such a type.
+        /// The table type of four words, if there is such a type.
         ///
         /// # Contract
         ///
         /// ```text
-        /// ensures: Accepts result (NamesTableType element.now min.now max.now width.now)
+        /// ensures: Accepts result (λ ty. (length words.now ≡ 4) × NamesTableType (word_at words.now 0)
+        ///     (word_at words.now 1) (word_at words.now 2) (word_at words.now 3) ty)
         /// ```
         ///
-        /// Definitions: [`Accepts`](crate::specs::operands::LineWords#Accepts), [`NamesTableType`](crate::specs::grammar::Commands#NamesTableType).
+        /// Definitions: [`Accepts`](crate::specs::operands::LineWords#Accepts), [`NamesTableType`](crate::specs::grammar::Commands#NamesTableType), [`word_at`](crate::specs::operands::LineWords#word_at).
         #[inline]
-        fn table_type(
-            element: &str,
-            min: &str,
-            max: &str,
-            width: &str,
-        ) -> Result<TableType, LineError> {
-            let element = ref_type(element)?;
-            let minimum = number(min)?;
-            let maximum = number_or_none(max)?;
-            let index = index_ty(width)?;
+        fn table_type(words: &[&str]) -> Result<TableType, LineError> {
+            let (element, minimum, maximum, index) = operand::four(words)?;
             type_of(index, element, minimum, maximum)
         }
 
@@ -556,18 +506,13 @@ mod command {
             minimum: u64,
             maximum: Option<u64>,
         ) -> Result<TableType, LineError> {
-            if let Some(most) = maximum {
-                if most < minimum {
-                    return Err(LineError::BadCommand);
-                }
+            if maximum.is_some_and(|most| most < minimum) {
+                return Err(LineError::BadCommand);
             }
             match index {
                 IndexType::I32 => {
                     let minimum = index32(minimum)?;
-                    let maximum = match maximum {
-                        Some(most) => Some(index32(most)?),
-                        None => None,
-                    };
+                    let maximum = maximum.map(index32).transpose()?;
                     Ok(TableType::new(element, minimum, maximum))
                 }
                 IndexType::I64 => Ok(TableType::new64(element, minimum, maximum)),
@@ -584,10 +529,7 @@ mod command {
         /// ```
         #[inline]
         fn index32(limit: u64) -> Result<u32, LineError> {
-            match u32::try_from(limit) {
-                Ok(limit) => Ok(limit),
-                Err(_) => Err(LineError::BadCommand),
-            }
+            u32::try_from(limit).map_err(|_| LineError::BadCommand)
         }
     }
     pub mod values {
@@ -715,8 +657,9 @@ mod command {
 
         use crate::proved::machine::Call;
         use crate::proved::machine::simd::ImmLaneIdx32;
-        use crate::proved::operands::names::lane::{extract_op, index, replace_op};
-        use crate::proved::operands::{LineError, number, operand};
+        use crate::proved::operands::lane::{extract_op, replace_op};
+        use crate::proved::operands::operand::{self, Operand};
+        use crate::proved::operands::{LineError, number};
         use crate::rattle::ArrayExt;
 
         /// `make NAME D A`.
@@ -883,7 +826,7 @@ mod command {
             let Ok(words) = <&[&str; 16]>::try_from(words) else {
                 return Err(LineError::BadCommand);
             };
-            words.try_map_all(|word| index(word))
+            words.try_map_all(|word| ImmLaneIdx32::from_word(word))
         }
     }
 }
@@ -920,7 +863,7 @@ mod header {
     //! The header lines of a script.
 
     use crate::proved::meter::{Amounts, LimiterAnswer};
-    use crate::proved::operands::operand::list_of;
+    use crate::proved::operands::operand::{self, list_of};
     use crate::proved::operands::{LineError, number};
     use crate::rattle::Vec;
 
@@ -1024,13 +967,8 @@ mod header {
     /// Definitions: [`Accepts`](crate::specs::operands::LineWords#Accepts), [`WritesRegion`](crate::specs::grammar::Headers#WritesRegion).
     #[inline]
     pub(crate) fn region_line(operands: &[&str]) -> Result<RegionLine, LineError> {
-        let &[len, byte] = operands else {
-            return Err(LineError::BadCommand);
-        };
-        match (number(len), number(byte)) {
-            (Ok(len), Ok(byte)) => Ok(RegionLine { len, byte }),
-            _ => Err(LineError::BadCommand),
-        }
+        let (len, byte) = operand::two(operands)?;
+        Ok(RegionLine { len, byte })
     }
 
     /// `quota B E`.
@@ -1044,13 +982,8 @@ mod header {
     /// Definitions: [`Accepts`](crate::specs::operands::LineWords#Accepts), [`NamesLimiterAfter`](crate::specs::grammar::Headers#NamesLimiterAfter).
     #[inline]
     pub(crate) fn quota(operands: &[&str]) -> Result<LimiterLine, LineError> {
-        let &[bytes, elements] = operands else {
-            return Err(LineError::BadCommand);
-        };
-        match (number(bytes), number(elements)) {
-            (Ok(bytes), Ok(elements)) => Ok(LimiterLine::Quota(Amounts { bytes, elements })),
-            _ => Err(LineError::BadCommand),
-        }
+        let (bytes, elements) = operand::two(operands)?;
+        Ok(LimiterLine::Quota(Amounts { bytes, elements }))
     }
 
     /// `tenants N B E`.
@@ -1064,16 +997,12 @@ mod header {
     /// Definitions: [`Accepts`](crate::specs::operands::LineWords#Accepts), [`NamesLimiterAfter`](crate::specs::grammar::Headers#NamesLimiterAfter).
     #[inline]
     pub(crate) fn tenants(operands: &[&str]) -> Result<LimiterLine, LineError> {
-        let &[count, bytes, elements] = operands else {
-            return Err(LineError::BadCommand);
-        };
-        match (number(count), number(bytes), number(elements)) {
-            (Ok(count @ 1..=MOST_TENANTS), Ok(bytes), Ok(elements)) => {
-                Ok(LimiterLine::Tenants(TenantsLine {
-                    count,
-                    caps: Amounts { bytes, elements },
-                }))
-            }
+        let (count, bytes, elements) = operand::three(operands)?;
+        match count {
+            1..=MOST_TENANTS => Ok(LimiterLine::Tenants(TenantsLine {
+                count,
+                caps: Amounts { bytes, elements },
+            })),
             _ => Err(LineError::BadCommand),
         }
     }
@@ -1394,16 +1323,13 @@ mod script {
         ///
         /// ```text
         /// ensures ok: OnOk result (AddsMeter self.old line self.new)
-        /// ensures err: OnErr result (self.new ≡ self.old)
-        /// ensures bad: IfErr result (λ error. error ≡ LineError.BadCommand)
         /// ensures refused: OnErr result ((new : Script) → ¬ (AddsMeter self.old line new))
         /// ```
         ///
         /// Definitions: [`AddsMeter`](crate::specs::grammar::Lines#AddsMeter).
         #[inline]
         fn take_meter(&mut self, line: MeterLine) -> Result<(), LineError> {
-            self.expect_no_commands()?;
-            if self.header.meter.is_some() {
+            if !self.parts.is_empty() || self.header.meter.is_some() {
                 return Err(LineError::BadCommand);
             }
             self.header.meter = Some(line);
@@ -1416,16 +1342,13 @@ mod script {
         ///
         /// ```text
         /// ensures ok: OnOk result (AddsLimiter self.old line self.new)
-        /// ensures err: OnErr result (self.new ≡ self.old)
-        /// ensures bad: IfErr result (λ error. error ≡ LineError.BadCommand)
         /// ensures refused: OnErr result ((new : Script) → ¬ (AddsLimiter self.old line new))
         /// ```
         ///
         /// Definitions: [`AddsLimiter`](crate::specs::grammar::Lines#AddsLimiter).
         #[inline]
         fn take_limiter(&mut self, line: LimiterLine) -> Result<(), LineError> {
-            self.expect_no_commands()?;
-            if self.header.limiter.is_some() {
+            if !self.parts.is_empty() || self.header.limiter.is_some() {
                 return Err(LineError::BadCommand);
             }
             if self.header.region.is_some() && matches!(line, LimiterLine::Tenants(_)) {
@@ -1441,42 +1364,20 @@ mod script {
         ///
         /// ```text
         /// ensures ok: OnOk result (AddsRegion self.old line self.new)
-        /// ensures err: OnErr result (self.new ≡ self.old)
-        /// ensures bad: IfErr result (λ error. error ≡ LineError.BadCommand)
         /// ensures refused: OnErr result ((new : Script) → ¬ (AddsRegion self.old line new))
         /// ```
         ///
         /// Definitions: [`AddsRegion`](crate::specs::grammar::Lines#AddsRegion).
         #[inline]
         fn take_region(&mut self, line: RegionLine) -> Result<(), LineError> {
-            self.expect_no_commands()?;
-            if self.header.region.is_some()
+            if !self.parts.is_empty()
+                || self.header.region.is_some()
                 || matches!(self.header.limiter, Some(LimiterLine::Tenants(_)))
             {
                 return Err(LineError::BadCommand);
             }
             self.header.region = Some(line);
             Ok(())
-        }
-
-        /// Header lines stand before all commands.
-        ///
-        /// # Contract
-        ///
-        /// ```text
-        /// ensures ok: OnOk result (HasNoCommands self.now)
-        /// ensures err: IfErr result
-        ///     (λ error. (error ≡ LineError.BadCommand) × ¬ (HasNoCommands self.now))
-        /// ```
-        ///
-        /// Definitions: [`HasNoCommands`](crate::specs::grammar::Lines#HasNoCommands).
-        #[inline]
-        fn expect_no_commands(&self) -> Result<(), LineError> {
-            if self.parts.is_empty() {
-                Ok(())
-            } else {
-                Err(LineError::BadCommand)
-            }
         }
 
         /// Takes in a command's call.

@@ -23,23 +23,6 @@ mod decimal {
         T::try_from(decimal(word)?).map_err(|_| LineError::BadCommand)
     }
 
-    /// The number that a word writes, or `None` for the word `none`.
-    ///
-    /// # Contract
-    ///
-    /// ```text
-    /// ensures: Accepts result (WritesLimit word.now)
-    /// ```
-    ///
-    /// Definitions: [`Accepts`](crate::specs::operands::LineWords#Accepts), [`WritesLimit`](crate::specs::operands::LineWords#WritesLimit).
-    #[inline]
-    pub fn number_or_none(word: &str) -> Result<Option<u64>, LineError> {
-        match word {
-            "none" => Ok(None),
-            _ => Ok(Some(number(word)?)),
-        }
-    }
-
     /// The number that a word writes in decimal digits, if it is below 2^64.
     ///
     /// # Contract
@@ -109,128 +92,87 @@ mod error {
         }
     }
 }
-pub mod names {
-    //! An instruction by its name: of a list of names, and on a lane in `lane`.
-
-    pub mod lane {
-        //! The instructions on one lane, by their names and the word of the lane's index.
-
-        use crate::proved::operands::decimal::number;
-        use crate::proved::operands::error::LineError;
-        use crate::proved::operands::operand::Operand;
-        use crate::proved::ops::{
-            ExtractKind, ExtractOp, LoadLaneKind, LoadLaneOp, ReplaceKind, ReplaceOp,
-            StoreLaneKind, StoreLaneOp,
-        };
-
-        /// The extraction of a name and a lane.
-        ///
-        /// # Contract
-        ///
-        /// ```text
-        /// ensures: Accepts result (NamesLane ops.extract_name ops.extract_op name.now lane.now)
-        /// ```
-        ///
-        /// Definitions: [`Accepts`](crate::specs::operands::LineWords#Accepts), [`NamesLane`](crate::specs::operands::Names#NamesLane), [`extract_name`](crate::specs::ops::LaneOps#extract_name), [`extract_op`](crate::specs::ops::LaneOps#extract_op).
-        #[inline]
-        pub fn extract_op(name: &str, lane: &str) -> Result<ExtractOp, LineError> {
-            let kind = ExtractKind::from_word(name)?;
-            let index = u8::from_word(lane)?;
-            kind.on(index).ok_or(LineError::BadCommand)
-        }
-
-        /// The replacement of a name and a lane.
-        ///
-        /// # Contract
-        ///
-        /// ```text
-        /// ensures: Accepts result (NamesLane ops.replace_name ops.replace_op name.now lane.now)
-        /// ```
-        ///
-        /// Definitions: [`Accepts`](crate::specs::operands::LineWords#Accepts), [`NamesLane`](crate::specs::operands::Names#NamesLane), [`replace_name`](crate::specs::ops::LaneOps#replace_name), [`replace_op`](crate::specs::ops::LaneOps#replace_op).
-        #[inline]
-        pub fn replace_op(name: &str, lane: &str) -> Result<ReplaceOp, LineError> {
-            let kind = ReplaceKind::from_word(name)?;
-            let index = u8::from_word(lane)?;
-            kind.on(index).ok_or(LineError::BadCommand)
-        }
-
-        /// The load of a lane, of a name and a lane.
-        ///
-        /// # Contract
-        ///
-        /// ```text
-        /// ensures: Accepts result (NamesLane ops.load_lane_name ops.load_lane_op name.now lane.now)
-        /// ```
-        ///
-        /// Definitions: [`Accepts`](crate::specs::operands::LineWords#Accepts), [`NamesLane`](crate::specs::operands::Names#NamesLane), [`load_lane_name`](crate::specs::ops::LaneOps#load_lane_name), [`load_lane_op`](crate::specs::ops::LaneOps#load_lane_op).
-        #[inline]
-        pub fn load_lane_op(name: &str, lane: &str) -> Result<LoadLaneOp, LineError> {
-            let kind = LoadLaneKind::from_word(name)?;
-            let index = u8::from_word(lane)?;
-            kind.on(index).ok_or(LineError::BadCommand)
-        }
-
-        /// The store of a lane, of a name and a lane.
-        ///
-        /// # Contract
-        ///
-        /// ```text
-        /// ensures: Accepts result (NamesLane ops.store_lane_name ops.store_lane_op name.now lane.now)
-        /// ```
-        ///
-        /// Definitions: [`Accepts`](crate::specs::operands::LineWords#Accepts), [`NamesLane`](crate::specs::operands::Names#NamesLane), [`store_lane_name`](crate::specs::ops::LaneOps#store_lane_name), [`store_lane_op`](crate::specs::ops::LaneOps#store_lane_op).
-        #[inline]
-        pub fn store_lane_op(name: &str, lane: &str) -> Result<StoreLaneOp, LineError> {
-            let kind = StoreLaneKind::from_word(name)?;
-            let index = u8::from_word(lane)?;
-            kind.on(index).ok_or(LineError::BadCommand)
-        }
-
-        /// The index of a lane that a word writes, if there is such a lane.
-        ///
-        /// # Contract
-        ///
-        /// ```text
-        /// ensures digits: IfOk result (λ _. IsDecimal word.now)
-        /// ensures value: IfOk result (λ lane. L.try_from_gives (decimal_value word.now) (Ok lane))
-        /// ensures refused: IfErr result (λ error. error ≡ LineError.BadCommand)
-        /// ensures unfit: IfErr result (λ _. IsDecimal word.now → decimal_value word.now < 2 ^ 8
-        ///     → (error : L.Error) × L.try_from_gives (decimal_value word.now) (Err error))
-        /// ```
-        ///
-        /// Definitions: [`IsDecimal`](crate::specs::operands::LineWords#IsDecimal), [`decimal_value`](crate::specs::operands::LineWords#decimal_value).
-        #[inline]
-        pub fn index<L: TryFrom<u8>>(word: &str) -> Result<L, LineError> {
-            let number: u8 = number(word)?;
-            L::try_from(number).map_err(|_| LineError::BadCommand)
-        }
-    }
+pub mod lane {
+    //! The instructions on one lane, by their names and the word of the lane's index.
 
     use crate::proved::operands::error::LineError;
+    use crate::proved::operands::operand::Operand;
+    use crate::proved::ops::{
+        ExtractKind, ExtractOp, LoadLaneKind, LoadLaneOp, ReplaceKind, ReplaceOp, StoreLaneKind,
+        StoreLaneOp,
+    };
 
-    /// The op of a name in a list of names.
+    /// The extraction of a name and a lane.
     ///
     /// # Contract
     ///
     /// ```text
-    /// ensures: Accepts result (IsNamed (map (λ entry. (entry.0.now, entry.1)) names.now) name.now)
+    /// ensures: Accepts result (NamesLane ops.extract_name ops.extract_op name.now lane.now)
     /// ```
     ///
-    /// Definitions: [`Accepts`](crate::specs::operands::LineWords#Accepts), [`IsNamed`](crate::specs::operands::Names#IsNamed).
+    /// Definitions: [`Accepts`](crate::specs::operands::LineWords#Accepts), [`NamesLane`](crate::specs::operands::Names#NamesLane), [`extract_name`](crate::specs::ops::LaneOps#extract_name), [`extract_op`](crate::specs::ops::LaneOps#extract_op).
     #[inline]
-    pub(crate) fn op_named<T: Copy>(names: &[(&str, T)], name: &str) -> Result<T, LineError> {
-        let entry = names.iter().find(|(known, _)| *known == name);
-        entry.map(|(_, op)| *op).ok_or(LineError::BadCommand)
+    pub fn extract_op(name: &str, lane: &str) -> Result<ExtractOp, LineError> {
+        let kind = ExtractKind::from_word(name)?;
+        let index = u8::from_word(lane)?;
+        kind.on(index).ok_or(LineError::BadCommand)
+    }
+
+    /// The replacement of a name and a lane.
+    ///
+    /// # Contract
+    ///
+    /// ```text
+    /// ensures: Accepts result (NamesLane ops.replace_name ops.replace_op name.now lane.now)
+    /// ```
+    ///
+    /// Definitions: [`Accepts`](crate::specs::operands::LineWords#Accepts), [`NamesLane`](crate::specs::operands::Names#NamesLane), [`replace_name`](crate::specs::ops::LaneOps#replace_name), [`replace_op`](crate::specs::ops::LaneOps#replace_op).
+    #[inline]
+    pub fn replace_op(name: &str, lane: &str) -> Result<ReplaceOp, LineError> {
+        let kind = ReplaceKind::from_word(name)?;
+        let index = u8::from_word(lane)?;
+        kind.on(index).ok_or(LineError::BadCommand)
+    }
+
+    /// The load of a lane, of a name and a lane.
+    ///
+    /// # Contract
+    ///
+    /// ```text
+    /// ensures: Accepts result (NamesLane ops.load_lane_name ops.load_lane_op name.now lane.now)
+    /// ```
+    ///
+    /// Definitions: [`Accepts`](crate::specs::operands::LineWords#Accepts), [`NamesLane`](crate::specs::operands::Names#NamesLane), [`load_lane_name`](crate::specs::ops::LaneOps#load_lane_name), [`load_lane_op`](crate::specs::ops::LaneOps#load_lane_op).
+    #[inline]
+    pub fn load_lane_op(name: &str, lane: &str) -> Result<LoadLaneOp, LineError> {
+        let kind = LoadLaneKind::from_word(name)?;
+        let index = u8::from_word(lane)?;
+        kind.on(index).ok_or(LineError::BadCommand)
+    }
+
+    /// The store of a lane, of a name and a lane.
+    ///
+    /// # Contract
+    ///
+    /// ```text
+    /// ensures: Accepts result (NamesLane ops.store_lane_name ops.store_lane_op name.now lane.now)
+    /// ```
+    ///
+    /// Definitions: [`Accepts`](crate::specs::operands::LineWords#Accepts), [`NamesLane`](crate::specs::operands::Names#NamesLane), [`store_lane_name`](crate::specs::ops::LaneOps#store_lane_name), [`store_lane_op`](crate::specs::ops::LaneOps#store_lane_op).
+    #[inline]
+    pub fn store_lane_op(name: &str, lane: &str) -> Result<StoreLaneOp, LineError> {
+        let kind = StoreLaneKind::from_word(name)?;
+        let index = u8::from_word(lane)?;
+        kind.on(index).ok_or(LineError::BadCommand)
     }
 }
 pub mod operand {
     //! What words write as the operands of a command: one to five words, or a list.
 
+    use crate::proved::lanes::ImmLaneIdx32;
     use crate::proved::meter::LimiterAnswer;
     use crate::proved::operands::decimal::number;
     use crate::proved::operands::error::LineError;
-    use crate::proved::operands::names::op_named;
     use crate::proved::ops::{
         BINARIES, BinaryOp, EXTRACTIONS, ExtractKind, LANE_LOADS, LANE_STORES, LOADS, LoadLaneKind,
         LoadOp, MAKES, MakeOp, REPLACEMENTS, ReplaceKind, SCALAR_BINARIES, SCALAR_UNARIES, SHIFTS,
@@ -238,7 +180,7 @@ pub mod operand {
         TernaryOp, TestOp, UNARIES, UnaryOp, VECTOR_LOADS, VectorLoadOp,
     };
     use crate::proved::raw::RawRef;
-    use crate::proved::typed::{Mutability, TypedRawRef};
+    use crate::proved::typed::Mutability;
     use crate::proved::types::{IndexType, RefType, ValType};
     use crate::rattle::Vec;
 
@@ -337,6 +279,56 @@ pub mod operand {
     /// # Contract
     ///
     /// ```text
+    /// writes = λ word index. word ≡ width_word index
+    /// ```
+    ///
+    /// Definitions: [`width_word`](crate::specs::operands::Names#width_word).
+    impl Operand for IndexType {
+        #[inline]
+        fn from_word(word: &str) -> Result<Self, LineError> {
+            match word {
+                "32" => Ok(IndexType::I32),
+                "64" => Ok(IndexType::I64),
+                _ => Err(LineError::BadCommand),
+            }
+        }
+    }
+
+    /// # Contract
+    ///
+    /// ```text
+    /// writes = WritesLimit
+    /// ```
+    ///
+    /// Definitions: [`WritesLimit`](crate::specs::operands::LineWords#WritesLimit).
+    impl Operand for Option<u64> {
+        #[inline]
+        fn from_word(word: &str) -> Result<Self, LineError> {
+            match word {
+                "none" => Ok(None),
+                _ => Ok(Some(number(word)?)),
+            }
+        }
+    }
+
+    /// # Contract
+    ///
+    /// ```text
+    /// writes = WritesNumber 5
+    /// ```
+    ///
+    /// Definitions: [`WritesNumber`](crate::specs::operands::LineWords#WritesNumber).
+    impl Operand for ImmLaneIdx32 {
+        #[inline]
+        fn from_word(word: &str) -> Result<Self, LineError> {
+            let index: u8 = number(word)?;
+            ImmLaneIdx32::try_from(index).map_err(|_| LineError::BadCommand)
+        }
+    }
+
+    /// # Contract
+    ///
+    /// ```text
     /// writes = λ word ty. word ≡ reference_word ty
     /// ```
     ///
@@ -344,7 +336,11 @@ pub mod operand {
     impl Operand for RefType {
         #[inline]
         fn from_word(word: &str) -> Result<Self, LineError> {
-            ref_type(word)
+            match word {
+                "func" => Ok(RefType::Func),
+                "extern" => Ok(RefType::Extern),
+                _ => Err(LineError::BadCommand),
+            }
         }
     }
 
@@ -619,55 +615,19 @@ pub mod operand {
         }
     }
 
-    /// The address type of a width word, `32` or `64`.
+    /// The op of a name in a list of names.
     ///
     /// # Contract
     ///
     /// ```text
-    /// ensures: Accepts result (λ index. width.now ≡ width_word index)
+    /// ensures: Accepts result (IsNamed (map (λ entry. (entry.0.now, entry.1)) names.now) name.now)
     /// ```
     ///
-    /// Definitions: [`Accepts`](crate::specs::operands::LineWords#Accepts), [`width_word`](crate::specs::operands::Names#width_word).
+    /// Definitions: [`Accepts`](crate::specs::operands::LineWords#Accepts), [`IsNamed`](crate::specs::operands::Names#IsNamed).
     #[inline]
-    pub fn index_ty(width: &str) -> Result<IndexType, LineError> {
-        match width {
-            "32" => Ok(IndexType::I32),
-            "64" => Ok(IndexType::I64),
-            _ => Err(LineError::BadCommand),
-        }
-    }
-
-    /// The reference type of a word, `func` or `extern`.
-    ///
-    /// # Contract
-    ///
-    /// ```text
-    /// ensures: Accepts result (λ ty. word.now ≡ reference_word ty)
-    /// ```
-    ///
-    /// Definitions: [`Accepts`](crate::specs::operands::LineWords#Accepts), [`reference_word`](crate::specs::operands::Names#reference_word).
-    #[inline]
-    pub fn ref_type(word: &str) -> Result<RefType, LineError> {
-        match word {
-            "func" => Ok(RefType::Func),
-            "extern" => Ok(RefType::Extern),
-            _ => Err(LineError::BadCommand),
-        }
-    }
-
-    /// The reference of a type's word and a number below 2^32.
-    ///
-    /// # Contract
-    ///
-    /// ```text
-    /// ensures: Accepts result (WritesReference ty.now raw.now)
-    /// ```
-    ///
-    /// Definitions: [`Accepts`](crate::specs::operands::LineWords#Accepts), [`WritesReference`](crate::specs::operands::Names#WritesReference).
-    #[inline]
-    pub fn reference(ty: &str, raw: &str) -> Result<TypedRawRef, LineError> {
-        let ty = ref_type(ty)?;
-        Ok(TypedRawRef::new(RawRef::from_word(raw)?, ty))
+    fn op_named<T: Copy>(names: &[(&str, T)], name: &str) -> Result<T, LineError> {
+        let entry = names.iter().find(|(known, _)| *known == name);
+        entry.map(|(_, op)| *op).ok_or(LineError::BadCommand)
     }
 
     /// What one word writes, with none beside it.
@@ -835,7 +795,6 @@ mod words {
     }
 }
 
-pub use decimal::{number, number_or_none};
+pub use decimal::number;
 pub use error::LineError;
-pub use operand::{index_ty, ref_type, reference};
 pub use words::read_words;

@@ -5,8 +5,8 @@ ghost use Rattle.wasmi_operands.specs.LineWords.{Accepts};
 ghost use Rattle.wasmi_grammar.specs.Commands.{NamesAfter};
 
 use wasmi_core::{Call, RawVal};
-use wasmi_operands::names::lane::{load_lane_op, store_lane_op};
-use wasmi_operands::{LineError, number, operand};
+use wasmi_operands::lane::{load_lane_op, store_lane_op};
+use wasmi_operands::{LineError, operand};
 
 /// `load NAME K PTR OFFSET`.
 pub fn load(operands: &[&str]) -> Result<Call, LineError>
@@ -56,24 +56,16 @@ pub fn load_lane(operands: &[&str]) -> Result<Call, LineError>
     let &[name, dst, a, lane, memory, ptr, offset] = operands else {
         return Err(LineError::BadCommand);
     };
-    match (
-        load_lane_op(name, lane),
-        number(dst),
-        number(a),
-        number(memory),
-        number(ptr),
-        number(offset),
-    ) {
-        (Ok(op), Ok(dst), Ok(a), Ok(memory), Ok(ptr), Ok(offset)) => Ok(Call::LoadLane {
-            op,
-            dst,
-            a,
-            memory,
-            ptr,
-            offset,
-        }),
-        _ => Err(LineError::BadCommand),
-    }
+    let op = load_lane_op(name, lane)?;
+    let (dst, a, memory, ptr, offset) = operand::five(&[dst, a, memory, ptr, offset])?;
+    Ok(Call::LoadLane {
+        op,
+        dst,
+        a,
+        memory,
+        ptr,
+        offset,
+    })
 }
 
 /// `vstore A K PTR OFFSET`.
@@ -96,20 +88,13 @@ pub fn store_lane(operands: &[&str]) -> Result<Call, LineError>
     let &[name, a, lane, memory, ptr, offset] = operands else {
         return Err(LineError::BadCommand);
     };
-    match (
-        store_lane_op(name, lane),
-        number(a),
-        number(memory),
-        number(ptr),
-        number(offset),
-    ) {
-        (Ok(op), Ok(a), Ok(memory), Ok(ptr), Ok(offset)) => Ok(Call::StoreLane {
-            op,
-            a,
-            memory,
-            ptr,
-            offset,
-        }),
-        _ => Err(LineError::BadCommand),
-    }
+    let op = store_lane_op(name, lane)?;
+    let (a, memory, ptr, offset) = operand::four(&[a, memory, ptr, offset])?;
+    Ok(Call::StoreLane {
+        op,
+        a,
+        memory,
+        ptr,
+        offset,
+    })
 }

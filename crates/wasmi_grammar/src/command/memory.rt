@@ -7,20 +7,20 @@ ghost use Rattle.wasmi_grammar.specs.Commands.{NamesAfter, HasSettings, NamesTyp
 use std::alloc::Global;
 use wasmi_core::{Call, IndexType, MemoryType};
 use wasmi_operands::operand::{self, list_of};
-use wasmi_operands::{LineError, index_ty, number, number_or_none};
+use wasmi_operands::{LineError, number};
 
 /// `memory MIN MAX LOG2 WIDTH`.
 pub fn new_memory(operands: &[&str]) -> Result<Call, LineError>
     ensures { Accepts result (NamesAfter (codes "memory") operands.now) }
 {
-    Ok(Call::NewMemory(four_word_type(operands)?))
+    Ok(Call::NewMemory(memory_type(operands)?))
 }
 
 /// `lent MIN MAX LOG2 WIDTH`.
 pub fn new_lent_memory(operands: &[&str]) -> Result<Call, LineError>
     ensures { Accepts result (NamesAfter (codes "lent") operands.now) }
 {
-    Ok(Call::NewLentMemory(four_word_type(operands)?))
+    Ok(Call::NewLentMemory(memory_type(operands)?))
 }
 
 /// `grow K PAGES`.
@@ -73,24 +73,11 @@ pub fn drop_live(operands: &[&str]) -> Result<Call, LineError>
 }
 
 /// The memory type of four words, if there is such a type.
-fn four_word_type(words: &[&str]) -> Result<MemoryType, LineError>
+fn memory_type(words: &[&str]) -> Result<MemoryType, LineError>
     ensures { Accepts result (λ ty. (length words.now ≡ 4) × NamesType (word_at words.now 0)
         (word_at words.now 1) (word_at words.now 2) (word_at words.now 3) ty) }
 {
-    let &[min, max, log2, width] = words else {
-        return Err(LineError::BadCommand);
-    };
-    memory_type(min, max, log2, width)
-}
-
-/// The memory type of these words, if there is such a type.
-fn memory_type(min: &str, max: &str, log2: &str, width: &str) -> Result<MemoryType, LineError>
-    ensures { Accepts result (NamesType min.now max.now log2.now width.now) }
-{
-    let minimum = number(min)?;
-    let maximum = number_or_none(max)?;
-    let page_size_log2 = number(log2)?;
-    let index = index_ty(width)?;
+    let (minimum, maximum, page_size_log2, index) = operand::four(words)?;
     type_of(index, minimum, maximum, page_size_log2)
 }
 
@@ -110,8 +97,5 @@ fn type_of(
         .max(maximum)
         .page_size_log2(page_size_log2)
         .memory64(matches!(index, IndexType::I64));
-    match builder.build() {
-        Ok(ty) => Ok(ty),
-        Err(_) => Err(LineError::BadCommand),
-    }
+    builder.build().map_err(|_| LineError::BadCommand)
 }

@@ -1,26 +1,28 @@
 //! Commands of tables and element segments.
 
-ghost use Rattle.std.specs.Prelude.{◌≡◌, ◌<◌, ◌^◌, codes, IfErr};
+ghost use Rattle.std.specs.Prelude.{◌≡◌, ◌<◌, ◌^◌, codes, length, IfErr};
 ghost use Rattle.std.specs.Result.{OkIff};
-ghost use Rattle.wasmi_operands.specs.LineWords.{Accepts, AcceptsWithMemory};
+ghost use Rattle.wasmi_operands.specs.LineWords.{Accepts, AcceptsWithMemory, word_at};
 ghost use Rattle.wasmi_grammar.specs.Commands.{NamesAfter, HasLimits, NamesTableType};
 
 use std::alloc::Global;
 use wasmi_core::{Call, IndexType, RefType, TableType, TypedRawRef};
-use wasmi_operands::operand::{self, list_of};
-use wasmi_operands::{LineError, index_ty, number, number_or_none, ref_type, reference};
+use wasmi_operands::LineError;
+use wasmi_operands::operand::{self, Operand, list_of};
 
 /// `table T MIN X WIDTH T N`.
 pub fn new_table(operands: &[&str]) -> Result<Call, LineError>
     ensures { Accepts result (NamesAfter (codes "table") operands.now) }
 {
-    let &[element, min, max, width, ty, raw] = operands else {
+    let &[element, min, max, width, init_ty, raw] = operands else {
         return Err(LineError::BadCommand);
     };
-    match (table_type(element, min, max, width), reference(ty, raw)) {
-        (Ok(ty), Ok(init)) => Ok(Call::NewTable { ty, init }),
-        _ => Err(LineError::BadCommand),
-    }
+    let ty = table_type(&[element, min, max, width])?;
+    let (init_ty, raw) = operand::two(&[init_ty, raw])?;
+    Ok(Call::NewTable {
+        ty,
+        init: TypedRawRef::new(raw, init_ty),
+    })
 }
 
 /// `tgrow K DELTA T N`.
@@ -104,7 +106,7 @@ pub fn new_segment(alloc: Global, operands: &[&str]) -> Result<Call, LineError>
         return Err(LineError::BadCommand);
     };
     Ok(Call::NewSegment {
-        ty: ref_type(ty)?,
+        ty: RefType::from_word(ty)?,
         items: list_of(alloc, items)?,
     })
 }
@@ -116,14 +118,12 @@ pub fn empty(operands: &[&str]) -> Result<Call, LineError>
     Ok(Call::DropItems(operand::one(operands)?))
 }
 
-/// The table type of these words, if there is such a type.
-fn table_type(element: &str, min: &str, max: &str, width: &str) -> Result<TableType, LineError>
-    ensures { Accepts result (NamesTableType element.now min.now max.now width.now) }
+/// The table type of four words, if there is such a type.
+fn table_type(words: &[&str]) -> Result<TableType, LineError>
+    ensures { Accepts result (λ ty. (length words.now ≡ 4) × NamesTableType (word_at words.now 0)
+        (word_at words.now 1) (word_at words.now 2) (word_at words.now 3) ty) }
 {
-    let element = ref_type(element)?;
-    let minimum = number(min)?;
-    let maximum = number_or_none(max)?;
-    let index = index_ty(width)?;
+    let (element, minimum, maximum, index) = operand::four(words)?;
     type_of(index, element, minimum, maximum)
 }
 
@@ -137,18 +137,13 @@ fn type_of(
     ensures { Accepts result (HasLimits
         (record { index = index; minimum = minimum; maximum = maximum }) element) }
 {
-    if let Some(most) = maximum {
-        if most < minimum {
-            return Err(LineError::BadCommand);
-        }
+    if maximum.is_some_and(|most| most < minimum) {
+        return Err(LineError::BadCommand);
     }
     match index {
         IndexType::I32 => {
             let minimum = index32(minimum)?;
-            let maximum = match maximum {
-                Some(most) => Some(index32(most)?),
-                None => None,
-            };
+            let maximum = maximum.map(index32).transpose()?;
             Ok(TableType::new(element, minimum, maximum))
         }
         IndexType::I64 => Ok(TableType::new64(element, minimum, maximum)),
@@ -160,8 +155,5 @@ fn index32(limit: u64) -> Result<u32, LineError>
     ensures value { OkIff result (limit < 2 ^ 32) limit }
     ensures refused { IfErr result (λ error. error ≡ LineError.BadCommand) }
 {
-    match u32::try_from(limit) {
-        Ok(limit) => Ok(limit),
-        Err(_) => Err(LineError::BadCommand),
-    }
+    u32::try_from(limit).map_err(|_| LineError::BadCommand)
 }

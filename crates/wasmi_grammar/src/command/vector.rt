@@ -7,8 +7,9 @@ ghost use Rattle.wasmi_operands.specs.Names.{WritesLanes};
 
 use wasmi_core::Call;
 use wasmi_core::simd::ImmLaneIdx32;
-use wasmi_operands::names::lane::{extract_op, index, replace_op};
-use wasmi_operands::{LineError, number, operand};
+use wasmi_operands::lane::{extract_op, replace_op};
+use wasmi_operands::operand::{self, Operand};
+use wasmi_operands::{LineError, number};
 
 /// `make NAME D A`.
 pub fn make(operands: &[&str]) -> Result<Call, LineError>
@@ -104,5 +105,5 @@ fn lanes_of(words: &[&str]) -> Result<[ImmLaneIdx32; 16], LineError>
     let Some(words) = words.as_array::<16>() else {
         return Err(LineError::BadCommand);
     };
-    words.try_map(|word| index(word))
+    words.try_map(|word| ImmLaneIdx32::from_word(word))
 }

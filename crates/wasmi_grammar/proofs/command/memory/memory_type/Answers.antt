@@ -1,14 +1,32 @@
 use Rattle.std.proofs.Common.{rules}
-use Rattle.wasmi_operands.proofs.LineWordsLemmas.{accepts_same}
+use Rattle.wasmi_operands.specs.LineWords.{word_at}
+use Rattle.wasmi_operands.proofs.LineWordsLemmas.{accepts_same, refused_through}
+use Rattle.wasmi_store.specs.Memory.{page_log2}
 use Rattle.wasmi_grammar.proofs.LimitWordsLemmas.{limits_written, WrittenSettings, names_of, settings_of}
 use Rattle.wasmi_grammar.proofs.command.memory.memory_type.Goals as goal
 
+pub returns-in_err-minimum : goal.returns-in_err-minimum
+returns-in_err-minimum c =
+    refused_through c.in_err-minimum.field-0.0 c.from_residual.result (search rules)
+    (λ ty w. (
+      (ty.minimum, ty.maximum, page_log2 ty.page, ty.index),
+      (
+        w.0,
+        w.1.limits_words.minimum_word,
+        w.1.limits_words.maximum_word,
+        w.1.log2_word,
+        w.1.limits_words.width_text,
+      ),
+    )) c.in_err-minimum.ensures
+
 pub returns : goal.returns
 returns c =
-    let written : WrittenSettings c.args.min.now c.args.max.now c.args.log2.now c.args.width.now = record {
-      limits = limits_written c.in_ok-index.index c.in_ok-minimum.minimum c.in_ok-maximum.maximum (search rules)
-          c.in_ok-maximum.ensures c.in_ok-index.ensures;
-      page_log2 = c.in_ok-page_size_log2.page_size_log2;
-      writes_log2 = search rules;
+    let text = word_at c.args.words.now in
+    let read = c.in_ok-minimum.ensures in
+    let written : WrittenSettings (text 0) (text 1) (text 2) (text 3) = record {
+      limits = limits_written _ _ _ read.1 read.2 read.4;
+      page_log2 = _;
+      writes_log2 = read.3;
     } in
-    accepts_same c.type_of.result _ _ (names_of _ _ _ _ written) (settings_of _ _ _ _ written) c.type_of.ensures
+    accepts_same c.type_of.result _ _ (λ ty has. (read.0, names_of _ _ _ _ written ty has))
+    (λ ty names. settings_of _ _ _ _ written ty names.1) c.type_of.ensures

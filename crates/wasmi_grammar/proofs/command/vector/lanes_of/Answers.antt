@@ -1,4 +1,4 @@
-use Rattle.std.proofs.Common.{◌≡◌, Bor, ℕ, List, Result, Ok, Err, IfErr, IfOk, length, rules, subst, sym}
+use Rattle.std.proofs.Common.{◌≡◌, Bor, ℕ, List, Result, Ok, Err, IfErr, IfOk, length, refl, rules, subst, sym}
 use Rattle.std.proofs.lemmas.Result.{IfErr-weaker, IfOk-weaker}
 use Rattle.std.specs.List.{IsAmong}
 use Rattle.wasmi_operands.specs.declared.error.LineError.{LineError}
@@ -23,13 +23,14 @@ accepted words (Err OutOfMemory) count taken refused = absurd (variant refused.0
   variant is = cc
 
 -- one word that writes no lane is a bad command
-refused_at : (words : LineWords) (word : Bor (List ℕ)) (error : LineError) → IsAmong words word → error ≡ BadCommand
-    → ((lane : ℕ) → ¬ (WritesNumber 5 word.now lane)) → (error ≡ BadCommand) × WriteNoLanes words
-refused_at words word error among bad unfit = (
-  bad,
+refused_at : (words : LineWords) (word : Bor (List ℕ)) (error : LineError) → IsAmong words word
+    → Accepts {A = ℕ} (Err error) (WritesNumber 5 word.now) → (error ≡ BadCommand) × WriteNoLanes words
+refused_at words word BadCommand among unfit = (
+  refl,
   not_each (WritesNumber 5) words among.0 word among.1.0
       (λ lane writes. unfit lane (subst (λ w. WritesNumber 5 w.now lane) (sym among.1.1) writes)),
 )
+refused_at words word OutOfMemory among refused = absurd refused
 
 pub returns : goal.returns
 returns c =
@@ -41,6 +42,6 @@ returns c =
     (λ word number says. let is : WritesNumber 5 word.now number = search rules in is) words lanes all.whole)
     c.try_map.ensures.ok in
     let refused : IfErr result (λ error. (error ≡ BadCommand) × WriteNoLanes words) =
-    IfErr-weaker _ _ _ (λ error bad. refused_at words bad.0 error bad.1 (search rules) (λ lane fits. search rules))
+    IfErr-weaker _ _ _ (λ error bad. refused_at words bad.0 error bad.1 (search rules))
     c.try_map.ensures.err in
     subst (λ ws. Accepts result (WritesLanes ws)) same (accepted words result (search rules) taken refused)

@@ -1,12 +1,10 @@
 //! The instructions on one lane, by their names and the word of the lane's index.
 #![tactic(auto, using(crate::proofs::OpNamesLemmas::lane_ops))]
 
-ghost use Rattle.std.specs.Prelude.{◌<◌, ◌^◌, IfErr, IfOk, Err, Ok, ◌≡◌};
-ghost use Rattle.wasmi_operands.specs.LineWords.{Accepts, IsDecimal, decimal_value};
+ghost use Rattle.wasmi_operands.specs.LineWords.{Accepts};
 ghost use Rattle.wasmi_operands.specs.Names.{NamesLane};
 ghost use Rattle.wasmi_ops.specs.LaneOps as ops;
 
-use crate::decimal::number;
 use crate::error::LineError;
 use crate::operand::Operand;
 use wasmi_ops::{
@@ -48,18 +46,4 @@ pub fn store_lane_op(name: &str, lane: &str) -> Result<StoreLaneOp, LineError>
     let kind = StoreLaneKind::from_word(name)?;
     let index = u8::from_word(lane)?;
     kind.on(index).ok_or(LineError::BadCommand)
-}
-
-/// The index of a lane that a word writes, if there is such a lane.
-pub fn index<L: TryFrom<u8>>(word: &str) -> Result<L, LineError>
-where
-    L::Error: Drop,
-    ensures digits { IfOk result (λ _. IsDecimal word.now) }
-    ensures value { IfOk result (λ lane. L.try_from_gives (decimal_value word.now) (Ok lane)) }
-    ensures refused { IfErr result (λ error. error ≡ LineError.BadCommand) }
-    ensures unfit { IfErr result (λ _. IsDecimal word.now → decimal_value word.now < 2 ^ 8
-        → (error : L.Error) × L.try_from_gives (decimal_value word.now) (Err error)) }
-{
-    let number: u8 = number(word)?;
-    L::try_from(number).map_err(|_| LineError::BadCommand)
 }

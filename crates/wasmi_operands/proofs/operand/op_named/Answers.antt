@@ -4,7 +4,7 @@ use Rattle.std.proofs.lemmas.Iterator.Search.{find_from_yields_List}
 use Rattle.std.specs.List.{find}
 use Rattle.std.specs.Option.{option_map}
 use Rattle.wasmi_operands.specs.Names.{IsNamed, entry_of}
-use Rattle.wasmi_operands.proofs.names.op_named.Goals as goal
+use Rattle.wasmi_operands.proofs.operand.op_named.Goals as goal
 
 -- the first entry of a name, and what it names
 entry_of_found : {A : Type 0} (names : List (Bor (List ℕ) × A)) (name : List ℕ)
