@@ -29,7 +29,8 @@ EDITS = [
     ("tests", "TypedRawRef::try_from(", "TypedRawRef::of_value(", 1),
     # Rust knows the size of each type.
     ("meter", "/// # Contract /// /// ```text /// SIZE = 1 /// ``` impl ValueSize for u8 { const SIZE: u64 = 1;",
-     "/// The size in memory. Proved are the 1 of a byte and the 4 of a reference.\nimpl<T> ValueSize for T { const SIZE: u64 = size_of::<T>() as u64;", 1),
+     "/// The size in memory. Proved are the 1 of a byte and the 4 of a reference and of a `u32`.\nimpl<T> ValueSize for T { const SIZE: u64 = size_of::<T>() as u64;", 1),
+    ("meter", "/// # Contract /// /// ```text /// SIZE = 4 /// ``` impl ValueSize for u32 { const SIZE: u64 = 4; }", "", 1),
     ("meter", "/// # Contract /// /// ```text /// SIZE = 4 /// ``` impl ValueSize for RawRef { const SIZE: u64 = 4; }", "", 1),
     ("meter", "pub fn fuel_for_copying_values<T: ValueSize>", "pub fn fuel_for_copying_values<T>", 1),
     # `impl Trait` as upstream's.

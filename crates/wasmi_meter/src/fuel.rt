@@ -23,6 +23,12 @@ impl ValueSize for u8 {
     const SIZE: u64 = 1;
 }
 
+impl ValueSize for u32 {
+    ghost SIZE = { 4 };
+
+    const SIZE: u64 = 4;
+}
+
 impl ValueSize for RawRef {
     ghost SIZE = { 4 };
 

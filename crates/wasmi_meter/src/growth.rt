@@ -2,7 +2,9 @@
 //! that grows.
 //!
 //! Own: upstream writes these steps in each function that grows something.
-ghost use Rattle.std.specs.Prelude.{◌≡◌};
+ghost use Rattle.std.specs.Prelude.{◌≡◌, ℕ};
+ghost use Rattle.wasmi_meter.specs.declared.error.MemoryError.{MemoryError};
+ghost use Rattle.wasmi_meter.specs.declared.error.TableError.{TableError};
 ghost use Rattle.wasmi_meter.specs.Attempt.{Permits, error_of_failure};
 ghost use Rattle.wasmi_meter.specs.Meter.{copy_cost, Charges, due};
 ghost use Rattle.wasmi_meter.specs.Limiter.{Failure, MemoryFailure, TableFailure, NoticeAnswer, optional_rules, lent_limiter, KeepsLoan};
@@ -28,10 +30,17 @@ pub fn permission<E: Drop>(
     }
 }
 
-/// An error of a growth, of which a limiter can be notified.
+/// An error of a growth, of which a limiter can be notified, or of a bulk instruction.
 pub trait GrowthError: Drop {
     /// The notice that a limiter gets of it.
     ghost notice: { Self → Failure };
+
+    /// The error if less fuel is left than is needed, in contracts.
+    ghost unpaid: { ℕ → Self };
+
+    /// The error if less fuel is left than is needed.
+    fn out_of_fuel(required_fuel: u64) -> Self
+        ensures { result ≡ unpaid required_fuel };
 
     /// Notifies the limiter, if there is one, that a growth which it permitted failed with this
     /// error.
@@ -48,6 +57,12 @@ pub trait GrowthError: Drop {
 impl GrowthError for MemoryError {
     ghost notice = { MemoryFailure };
 
+    ghost unpaid = { MemoryError.OutOfFuel };
+
+    fn out_of_fuel(required_fuel: u64) -> Self {
+        MemoryError::OutOfFuel { required_fuel }
+    }
+
     fn notify<L: ResourceLimiter>(
         &self,
         limiter: &mut ResourceLimiterRef<L>,
@@ -58,6 +73,12 @@ impl GrowthError for MemoryError {
 
 impl GrowthError for TableError {
     ghost notice = { TableFailure };
+
+    ghost unpaid = { TableError.OutOfFuel };
+
+    fn out_of_fuel(required_fuel: u64) -> Self {
+        TableError::OutOfFuel { required_fuel }
+    }
 
     fn notify<L: ResourceLimiter>(
         &self,

@@ -14,7 +14,7 @@ ghost use Rattle.wasmi_region.specs.Memory.{memory_in, made_in};
 use wasmi_meter::growth::tell;
 use wasmi_meter::{Fuel, MemoryError, ResourceLimiter, ResourceLimiterRef};
 use wasmi_store::MemoryType;
-use wasmi_store::bulk::{copy_bytes, copy_bytes_within, fill_bytes};
+use wasmi_store::bulk::{MEMORY_OUTSIDE as OUTSIDE, copy_items, copy_items_within, fill_items};
 use wasmi_store::growth::{MEMORY_DENIED as DENIED, decide_growth, permitted_minimum};
 pub use wasmi_store::range::read_bytes;
 use wasmi_store::range::{fill_range, write_range};
@@ -163,7 +163,7 @@ pub fn fill(
     ensures rest { drop size region.new ≡ drop size region.old }
     ensures len { length region.new ≡ length region.old }
 {
-    fill_bytes(&mut region[..size], dst, value, len, fuel)
+    fill_items(&mut region[..size], dst, value, len, OUTSIDE, fuel)
 }
 
 /// Copies `len` bytes from `src` on over those from `dst` on, of a memory of `size` bytes at the
@@ -184,7 +184,7 @@ pub fn copy_within(
     ensures rest { drop size region.new ≡ drop size region.old }
     ensures len { length region.new ≡ length region.old }
 {
-    copy_bytes_within(&mut region[..size], dst, src, len, fuel)
+    copy_items_within(&mut region[..size], dst, src, len, OUTSIDE, fuel)
 }
 
 /// Copies `len` bytes of another memory, from `src` on, over those from `dst` on, of a memory of
@@ -206,7 +206,7 @@ pub fn copy(
     ensures rest { drop size region.new ≡ drop size region.old }
     ensures len { length region.new ≡ length region.old }
 {
-    copy_bytes(&mut region[..size], dst, source, src, len, fuel)
+    copy_items(&mut region[..size], dst, source, src, len, OUTSIDE, fuel)
 }
 
 /// Copies `len` bytes of a data segment, from `src` on, over those from `dst` on, of a memory of
@@ -229,7 +229,7 @@ pub fn init(
     ensures len { length region.new ≡ length region.old }
 {
     let (src, len) = (u64::from(src), u64::from(len));
-    copy_bytes(&mut region[..size], dst, segment, src, len, fuel)
+    copy_items(&mut region[..size], dst, segment, src, len, OUTSIDE, fuel)
 }
 
 /// Whether a region has `size` bytes.

@@ -13,7 +13,7 @@ use wasmi_meter::growth::{charge, permission, tell};
 use wasmi_meter::{Fuel, ResourceLimiter, ResourceLimiterRef, TableError};
 use wasmi_raw::RawRef;
 use wasmi_store::TableType;
-use wasmi_store::elements::{copy_elements, copy_elements_within, fill_elements, init_elements};
+use wasmi_store::bulk::{copy_items, copy_items_within, fill_items, init_elements};
 use wasmi_store::growth::TABLE_DENIED as DENIED;
 use wasmi_store::range::{fill_range, write_range};
 
@@ -154,7 +154,8 @@ pub fn fill(
         (metered (table_of ty elements.old) (Some fuel.old)) result
         (metered (table_of ty elements.new) (Some fuel.new)) }
 {
-    fill_elements(elements, dst, reference, len, fuel)
+    let outside = TableError::FillOutOfBounds;
+    fill_items(elements, dst, reference, len, outside, fuel)
 }
 
 /// Copies `len` elements from `src` on over those from `dst` on. The errors are those of
@@ -172,7 +173,8 @@ pub fn copy_within(
         (metered (table_of ty elements.old) (Some fuel.old)) result
         (metered (table_of ty elements.new) (Some fuel.new)) }
 {
-    copy_elements_within(elements, dst, src, len, fuel)
+    let outside = TableError::CopyOutOfBounds;
+    copy_items_within(elements, dst, src, len, outside, fuel)
 }
 
 /// Copies `len` items of a table, from `src` on, over the elements of another table from `dst` on.
@@ -194,7 +196,7 @@ pub fn copy(
 {
     ty.ensure_element_type_matches(source.element())?;
     let outside = TableError::CopyOutOfBounds;
-    copy_elements(elements, dst, items, src, len, outside, fuel)
+    copy_items(elements, dst, items, src, len, outside, fuel)
 }
 
 /// Copies `len` items of the type of a table's elements, from `src` on, over the elements from

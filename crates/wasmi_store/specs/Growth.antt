@@ -1,6 +1,7 @@
 -- Making and growing a memory or a table, as an attempt with its answer, and what the bulk instructions write and take.
 use Rattle.std.specs.Prelude.{◌≡◌, ◌<◌, ◌⊎◌, ℕ, Option, None, Result, Ok, List, replicate, MatchBool, Some, Err}
 use Rattle.wasmi_meter.specs.Limiter.{Question, Answer, IsDenial, Rules}
+use Rattle.wasmi_meter.specs.declared.fuel.CustomFuelCosts.{CustomFuelCosts}
 use Rattle.wasmi_meter.specs.Meter.{Meter, copy_cost, meter_after}
 use Rattle.wasmi_meter.specs.Attempt.{MeteredValue, alone, Request, AttemptOutcome, Attempt, answer_of, optional_due, covers}
 use Rattle.std.specs.Option.{option_map, option_and_then}
@@ -74,14 +75,30 @@ copied items dst source src len = option_and_then (λ part. overwrite items dst 
 abbrev pub bytes_due : Option Meter → ℕ → ℕ
 bytes_due meter len = optional_due meter (Some (λ costs. copy_cost costs len 1))
 
+-- the fuel for so many items of so many bytes each
+abbrev pub item_price : ℕ → ℕ → CustomFuelCosts → ℕ
+item_price size n costs = copy_cost costs n size
+
+-- items with their meter, if there is one
+abbrev pub MeteredItems : Type 0 → Type 0
+MeteredItems A = MeteredValue (List A) (Unit {0})
+
 -- bytes with their meter, if there is one
 abbrev pub MeteredBytes : Type 0
-MeteredBytes = MeteredValue (List ℕ) (Unit {0})
+MeteredBytes = MeteredItems ℕ
 
--- A bulk instruction writes so many bytes, by what the bytes become, or none where a range ends past its list. That is
--- tested first, then the fuel; an instruction that is refused writes and takes nothing.
+-- Items are written over, wherever they lie: by the error of a meter with less than is needed, what the items become, or
+-- none where a range ends past its list, the error there, and what they cost, if anything. The ranges are tested first,
+-- then the fuel; a write that is refused writes and takes nothing.
+abbrev pub WritesItems : {A E : Type 0} → (ℕ → E) → Option (List A) → E → Option (CustomFuelCosts → ℕ) → MeteredItems A
+    → Result (Unit {0}) E → MeteredItems A → Type 0
+WritesItems unpaid None outside price s result s' = (result ≡ Err outside) × (s' ≡ s)
+WritesItems unpaid (Some items) outside price s result s' =
+    let amount = optional_due s.meter price in
+    MatchBool (covers s.meter amount)
+    ((result ≡ Ok tt) × (s' ≡ metered items (option_map (λ m. meter_after m amount) s.meter)))
+    ((result ≡ Err (unpaid amount)) × (s' ≡ s))
+
+-- a bulk instruction writes so many bytes, each of which is paid for
 abbrev pub BulkWrites : Option (List ℕ) → ℕ → MeteredBytes → Result (Unit {0}) MemoryError → MeteredBytes → Type 0
-BulkWrites None len s result s' = (result ≡ Err OutOfBoundsAccess) × (s' ≡ s)
-BulkWrites (Some bytes) len s result s' = let amount = bytes_due s.meter len in MatchBool (covers s.meter amount)
-    ((result ≡ Ok tt) × (s' ≡ metered bytes (option_map (λ m. meter_after m amount) s.meter)))
-    ((result ≡ Err (OutOfFuel amount)) × (s' ≡ s))
+BulkWrites written len = WritesItems OutOfFuel written OutOfBoundsAccess (Some (item_price 1 len))

@@ -15,7 +15,7 @@ use Rattle.wasmi_meter.specs.declared.limiter.Kind.TheVariants.{Elements}
 use Rattle.wasmi_meter.specs.Limiter.{TableFailure, Rules}
 use Rattle.wasmi_meter.specs.Meter.{copy_cost, meter_after}
 use Rattle.wasmi_meter.specs.Attempt.{MeteredValue, Request, optional_due, covers}
-use Rattle.wasmi_store.specs.Growth.{filled, copied, WithCharge, Makes, Grows, metered}
+use Rattle.wasmi_store.specs.Growth.{filled, copied, WithCharge, Makes, Grows, MeteredItems, WritesItems}
 use Rattle.wasmi_store.specs.Segment.{SegmentValue}
 
 -- a table type: its index type, the type of its elements, and its limits in elements
@@ -245,17 +245,8 @@ pub record WritesTableCharging (write : TableValue → TableWrite) (s : MeteredT
 abbrev pub WritesTable : (TableValue → TableWrite) → MeteredTable → Result (Unit {0}) TableError → MeteredTable → Type 0
 WritesTable write = WithCharge (WritesTableCharging write)
 
--- elements of any kind with their meter, if there is one
-abbrev pub MeteredElements : Type 0 → Type 0
-MeteredElements A = MeteredValue (List A) (Unit {0})
-
 -- Elements are written over, wherever they lie: by what they become, or none where a range ends past its list, the
--- error there, and how many of them are paid for, if any. A write that is refused writes and takes nothing.
-abbrev pub WritesElements : {A : Type 0} → Option (List A) → TableError → Option ℕ → MeteredElements A
-    → Result (Unit {0}) TableError → MeteredElements A → Type 0
-WritesElements None outside paid s result s' = (result ≡ Err outside) × (s' ≡ s)
-WritesElements (Some elements) outside paid s result s' =
-    let amount = optional_due s.meter (option_map element_price paid) in
-    MatchBool (covers s.meter amount)
-    ((result ≡ Ok tt) × (s' ≡ metered elements (option_map (λ m. meter_after m amount) s.meter)))
-    ((result ≡ Err (OutOfFuel amount)) × (s' ≡ s))
+-- error there, and how many of them are paid for, if any.
+abbrev pub WritesElements : {A : Type 0} → Option (List A) → TableError → Option ℕ → MeteredItems A
+    → Result (Unit {0}) TableError → MeteredItems A → Type 0
+WritesElements written outside paid = WritesItems OutOfFuel written outside (option_map element_price paid)

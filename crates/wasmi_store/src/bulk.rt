@@ -1,82 +1,121 @@
-//! The bulk instructions on bytes, wherever these lie.
+//! What is written over a range of a memory's bytes or of a table's elements, wherever these lie.
+//! The bounds are tested first, then the fuel, also for no item. A write that is refused writes and
+//! takes nothing.
 //!
-//! Own: upstream's crate has none for memories. They are tested and charged as its calls on tables:
-//! the bounds first (`OutOfBoundsAccess`), then the fuel (`OutOfFuel`), also for no byte. One that is
-//! refused writes no byte and takes no fuel.
-ghost use Rattle.std.specs.Prelude.{◌≡◌, length, Some};
-ghost use Rattle.wasmi_store.specs.Growth.{filled, copied, BulkWrites, metered};
+//! Own: upstream's crate has no bulk instructions for memories. They are tested and charged as its
+//! calls on tables.
+ghost use Rattle.std.specs.Prelude.{◌≡◌, length, nat_eq, if◌then◌else◌, None, Some};
+ghost use Rattle.std.specs.Option.{option_map};
+ghost use Rattle.wasmi_store.specs.Growth.{filled, copied, item_price, WritesItems, metered};
 
-use crate::range::{copy_overlapping, fill_range, lies_within, write_range};
-use wasmi_meter::growth::charge;
-use wasmi_meter::{Fuel, MemoryError};
+use crate::range::{Chunk, copy_overlapping, fill_range, lies_within, write_range};
+use wasmi_meter::growth::{GrowthError, charge};
+use wasmi_meter::{Fuel, MemoryError, TableError, ValueSize};
 
-/// Fills `len` bytes from `dst` on with a value (core specification, memory.fill).
-pub fn fill_bytes(
-    bytes: &mut [u8],
+/// The error of a memory if a range ends past its list.
+pub const MEMORY_OUTSIDE: MemoryError = MemoryError::OutOfBoundsAccess;
+
+/// Fills `len` items from `dst` on with a value, of which a clone is the value itself (core
+/// specification, memory.fill, table.fill). `outside` is the error if they end past their list.
+pub fn fill_items<T: Copy + ValueSize, E: GrowthError>(
+    items: &mut [T],
     dst: u64,
-    value: u8,
+    value: T,
     len: u64,
+    outside: E,
     fuel: &mut Fuel,
-) -> Result<(), MemoryError>
-    ensures written { BulkWrites (filled bytes.old dst value len) len
-        (metered bytes.old (Some fuel.old)) result (metered bytes.new (Some fuel.new)) }
-    ensures len { length bytes.new ≡ length bytes.old }
+) -> Result<(), E>
+    requires infallible { T.is_infallible value }
+    requires same { (clone : T) → T.is_clone value clone → clone ≡ value }
+    ensures written { WritesItems E.unpaid (filled items.old dst value len) outside
+        (Some (item_price T.SIZE len)) (metered items.old (Some fuel.old)) result
+        (metered items.new (Some fuel.new)) }
+    ensures len { length items.new ≡ length items.old }
 {
-    if !lies_within(bytes, dst, len) {
-        return Err(MemoryError::OutOfBoundsAccess);
+    if !lies_within(items, dst, len) {
+        return Err(outside);
     }
-    if let Err(required_fuel) = charge::<u8>(fuel, len) {
-        return Err(MemoryError::OutOfFuel { required_fuel });
+    if let Err(required_fuel) = charge::<T>(fuel, len) {
+        return Err(E::out_of_fuel(required_fuel));
     }
     let (start, end) = (dst as usize, (dst + len) as usize);
-    fill_range(bytes, start, end, value);
+    fill_range(items, start, end, value);
     Ok(())
 }
 
-/// Copies `len` bytes from `src` on over those from `dst` on. If the ranges overlap, the old bytes
-/// are copied (core specification, memory.copy).
-pub fn copy_bytes_within(
-    bytes: &mut [u8],
+/// Copies `len` items from `src` on over those from `dst` on. If the ranges overlap, the old items
+/// are copied (core specification, memory.copy, table.copy). `outside` is the error if a range ends
+/// past the list.
+pub fn copy_items_within<T: Chunk + ValueSize, E: GrowthError>(
+    items: &mut [T],
     dst: u64,
     src: u64,
     len: u64,
+    outside: E,
     fuel: &mut Fuel,
-) -> Result<(), MemoryError>
-    ensures written { BulkWrites (copied bytes.old dst bytes.old src len) len
-        (metered bytes.old (Some fuel.old)) result (metered bytes.new (Some fuel.new)) }
-    ensures len { length bytes.new ≡ length bytes.old }
+) -> Result<(), E>
+    ensures written { WritesItems E.unpaid (copied items.old dst items.old src len) outside
+        (Some (item_price T.SIZE len)) (metered items.old (Some fuel.old)) result
+        (metered items.new (Some fuel.new)) }
+    ensures len { length items.new ≡ length items.old }
 {
-    if !lies_within(bytes, src, len) || !lies_within(bytes, dst, len) {
-        return Err(MemoryError::OutOfBoundsAccess);
+    if !lies_within(items, src, len) || !lies_within(items, dst, len) {
+        return Err(outside);
     }
-    if let Err(required_fuel) = charge::<u8>(fuel, len) {
-        return Err(MemoryError::OutOfFuel { required_fuel });
+    if let Err(required_fuel) = charge::<T>(fuel, len) {
+        return Err(E::out_of_fuel(required_fuel));
     }
-    copy_overlapping(bytes, dst as usize, src as usize, len as usize);
+    copy_overlapping(items, dst as usize, src as usize, len as usize);
     Ok(())
 }
 
-/// Copies `len` bytes of a source, from `src` on, over those from `dst` on (core specification,
-/// memory.copy of two memories, memory.init).
-pub fn copy_bytes(
-    bytes: &mut [u8],
+/// Copies `len` items of a source, from `src` on, over those from `dst` on (core specification,
+/// memory.copy and table.copy of two, memory.init). `outside` is the error if a range ends past its
+/// list.
+pub fn copy_items<T: Copy + ValueSize, E: GrowthError>(
+    items: &mut [T],
     dst: u64,
-    source: &[u8],
+    source: &[T],
     src: u64,
     len: u64,
+    outside: E,
     fuel: &mut Fuel,
-) -> Result<(), MemoryError>
-    ensures written { BulkWrites (copied bytes.old dst source.now src len) len
-        (metered bytes.old (Some fuel.old)) result (metered bytes.new (Some fuel.new)) }
-    ensures len { length bytes.new ≡ length bytes.old }
+) -> Result<(), E>
+    ensures written { WritesItems E.unpaid (copied items.old dst source.now src len) outside
+        (Some (item_price T.SIZE len)) (metered items.old (Some fuel.old)) result
+        (metered items.new (Some fuel.new)) }
+    ensures len { length items.new ≡ length items.old }
 {
-    if !lies_within(source, src, len) || !lies_within(bytes, dst, len) {
-        return Err(MemoryError::OutOfBoundsAccess);
+    if !lies_within(source, src, len) || !lies_within(items, dst, len) {
+        return Err(outside);
     }
-    if let Err(required_fuel) = charge::<u8>(fuel, len) {
-        return Err(MemoryError::OutOfFuel { required_fuel });
+    if let Err(required_fuel) = charge::<T>(fuel, len) {
+        return Err(E::out_of_fuel(required_fuel));
     }
     let (dst, src, len) = (dst as usize, src as usize, len as usize);
-    write_range(bytes, dst, &source[src..src + len]);
+    write_range(items, dst, &source[src..src + len]);
     Ok(())
+}
+
+/// Copies `len` items of an element segment, from `src` on, over a table's elements from `dst` on.
+/// Copying no items costs no fuel.
+pub fn init_elements<T: Copy + ValueSize>(
+    elements: &mut [T],
+    dst: u64,
+    items: &[T],
+    src: u64,
+    len: u64,
+    fuel: &mut Fuel,
+) -> Result<(), TableError>
+    ensures written { WritesItems TableError.OutOfFuel (copied elements.old dst items.now src len)
+        TableError.InitOutOfBounds
+        (option_map (item_price T.SIZE) (if nat_eq len 0 then None else Some len))
+        (metered elements.old (Some fuel.old)) result (metered elements.new (Some fuel.new)) }
+    ensures len { length elements.new ≡ length elements.old }
+{
+    if len == 0 && lies_within(items, src, 0) && lies_within(elements, dst, 0) {
+        return Ok(());
+    }
+    let outside = TableError::InitOutOfBounds;
+    copy_items(elements, dst, items, src, len, outside, fuel)
 }

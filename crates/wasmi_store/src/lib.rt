@@ -2,7 +2,6 @@
 #![tactic(auto)]
 
 pub mod bulk;
-pub mod elements;
 pub mod growth;
 pub mod laws;
 mod memory;

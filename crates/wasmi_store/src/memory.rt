@@ -11,7 +11,7 @@ ghost use Rattle.wasmi_store.specs.Memory.{MemoryValue, PermitsMinimum, GrowsMem
 mod buffer;
 mod ty;
 
-use crate::bulk::{copy_bytes, copy_bytes_within, fill_bytes};
+use crate::bulk::{MEMORY_OUTSIDE as OUTSIDE, copy_items, copy_items_within, fill_items};
 use crate::growth::{MEMORY_DENIED as DENIED, decide_growth, permitted_minimum};
 use crate::range::{read_bytes, write_bytes};
 use crate::with_meter;
@@ -276,7 +276,7 @@ impl<R: Region> LinearMemory<R> {
             (metered self.new.bytes (meter_at_exit fuel.exit)) }
         ensures kept { KeepsPlace self.old self.new }
     {
-        with_meter!(fuel => fill_bytes(self.buffer.data_mut(), dst, value, len, fuel))
+        with_meter!(fuel => fill_items(self.data_mut(), dst, value, len, OUTSIDE, fuel))
     }
 
     /// Copies `len` bytes from `src` on over those from `dst` on. If the ranges overlap, the old
@@ -295,7 +295,7 @@ impl<R: Region> LinearMemory<R> {
             (metered self.new.bytes (meter_at_exit fuel.exit)) }
         ensures kept { KeepsPlace self.old self.new }
     {
-        with_meter!(fuel => copy_bytes_within(self.buffer.data_mut(), dst, src, len, fuel))
+        with_meter!(fuel => copy_items_within(self.data_mut(), dst, src, len, OUTSIDE, fuel))
     }
 
     /// Copies `len` bytes of another memory, from `src` on, over the bytes of a memory from `dst`
@@ -317,7 +317,7 @@ impl<R: Region> LinearMemory<R> {
         ensures kept { KeepsPlace dst_memory.old dst_memory.new }
     {
         let source = src_memory.data();
-        with_meter!(fuel => copy_bytes(dst_memory.buffer.data_mut(), dst, source, src, len, fuel))
+        with_meter!(fuel => copy_items(dst_memory.data_mut(), dst, source, src, len, OUTSIDE, fuel))
     }
 
     /// Copies `len` bytes of a data segment, from `src` on, over the bytes from `dst` on. A segment
@@ -339,6 +339,6 @@ impl<R: Region> LinearMemory<R> {
         ensures kept { KeepsPlace self.old self.new }
     {
         let (src, len) = (u64::from(src), u64::from(len));
-        with_meter!(fuel => copy_bytes(self.buffer.data_mut(), dst, segment, src, len, fuel))
+        with_meter!(fuel => copy_items(self.data_mut(), dst, segment, src, len, OUTSIDE, fuel))
     }
 }

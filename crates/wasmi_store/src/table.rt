@@ -9,7 +9,7 @@ ghost use Rattle.wasmi_store.specs.Segment.{segment_of};
 mod element;
 mod ty;
 
-use crate::elements::{copy_elements, copy_elements_within, fill_elements, init_elements};
+use crate::bulk::{copy_items, copy_items_within, fill_items, init_elements};
 use crate::growth::TABLE_DENIED as DENIED;
 use crate::range::write_range;
 use crate::with_meter;
@@ -327,17 +327,9 @@ impl Table {
             (metered self.old (Some fuel.old)) result (metered self.new (Some fuel.new)) }
     {
         self.ty.ensure_element_type_matches(src_table.ty.element())?;
-        let items = src_table.elements.as_slice();
-        let outside = TableError::CopyOutOfBounds;
-        copy_elements(
-            self.elements.as_mut_slice(),
-            dst,
-            items,
-            src,
-            len,
-            outside,
-            fuel,
-        )
+        let elements = self.elements.as_mut_slice();
+        let (items, outside) = (src_table.elements.as_slice(), TableError::CopyOutOfBounds);
+        copy_items(elements, dst, items, src, len, outside, fuel)
     }
 
     /// Copies `len` elements from `src` on over those from `dst` on. If the ranges overlap, the old
@@ -370,7 +362,8 @@ impl Table {
         ensures { WritesTable (copy_of dst src len self.old)
             (metered self.old (Some fuel.old)) result (metered self.new (Some fuel.new)) }
     {
-        copy_elements_within(self.elements.as_mut_slice(), dst, src, len, fuel)
+        let (elements, outside) = (self.elements.as_mut_slice(), TableError::CopyOutOfBounds);
+        copy_items_within(elements, dst, src, len, outside, fuel)
     }
 
     /// Fills `len` elements from `dst` on with a reference. The type of the reference is tested
@@ -431,6 +424,7 @@ impl Table {
         ensures { WritesTable (raw_filling_of dst val len)
             (metered self.old (Some fuel.old)) result (metered self.new (Some fuel.new)) }
     {
-        fill_elements(self.elements.as_mut_slice(), dst, val, len, fuel)
+        let outside = TableError::FillOutOfBounds;
+        fill_items(self.elements.as_mut_slice(), dst, val, len, outside, fuel)
     }
 }

@@ -588,7 +588,7 @@ mod fuel {
         const SIZE: u64;
     }
 
-    /// The size in memory. Proved are the 1 of a byte and the 4 of a reference.
+    /// The size in memory. Proved are the 1 of a byte and the 4 of a reference and of a `u32`.
     impl<T> ValueSize for T {
         const SIZE: u64 = size_of::<T>() as u64;
     }
@@ -1036,17 +1036,28 @@ pub mod growth {
         }
     }
 
-    /// An error of a growth, of which a limiter can be notified.
+    /// An error of a growth, of which a limiter can be notified, or of a bulk instruction.
     ///
     /// # Contract
     ///
     /// ```text
     /// -- The notice that a limiter gets of it.
     /// notice: Self → Failure
+    /// -- The error if less fuel is left than is needed, in contracts.
+    /// unpaid: ℕ → Self
     /// ```
     ///
     /// Definitions: [`Failure`](crate::specs::meter::Limiter#Failure).
     pub trait GrowthError {
+        /// The error if less fuel is left than is needed.
+        ///
+        /// # Contract
+        ///
+        /// ```text
+        /// ensures: result ≡ unpaid required_fuel
+        /// ```
+        fn out_of_fuel(required_fuel: u64) -> Self;
+
         /// Notifies the limiter, if there is one, that a growth which it permitted failed with this
         /// error.
         ///
@@ -1070,10 +1081,16 @@ pub mod growth {
     ///
     /// ```text
     /// notice = MemoryFailure
+    /// unpaid = MemoryError.OutOfFuel
     /// ```
     ///
     /// Definitions: [`MemoryFailure`](crate::specs::meter::Limiter#MemoryFailure).
     impl GrowthError for MemoryError {
+        #[inline]
+        fn out_of_fuel(required_fuel: u64) -> Self {
+            MemoryError::OutOfFuel { required_fuel }
+        }
+
         #[inline]
         fn notify<L: ResourceLimiter>(
             &self,
@@ -1087,10 +1104,16 @@ pub mod growth {
     ///
     /// ```text
     /// notice = TableFailure
+    /// unpaid = TableError.OutOfFuel
     /// ```
     ///
     /// Definitions: [`TableFailure`](crate::specs::meter::Limiter#TableFailure).
     impl GrowthError for TableError {
+        #[inline]
+        fn out_of_fuel(required_fuel: u64) -> Self {
+            TableError::OutOfFuel { required_fuel }
+        }
+
         #[inline]
         fn notify<L: ResourceLimiter>(
             &self,

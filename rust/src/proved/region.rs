@@ -55,7 +55,9 @@ pub mod memory {
     use crate::proved::meter::growth::tell;
     use crate::proved::meter::{Fuel, MemoryError, ResourceLimiter, ResourceLimiterRef};
     use crate::proved::store::MemoryType;
-    use crate::proved::store::bulk::{copy_bytes, copy_bytes_within, fill_bytes};
+    use crate::proved::store::bulk::{
+        MEMORY_OUTSIDE as OUTSIDE, copy_items, copy_items_within, fill_items,
+    };
     use crate::proved::store::growth::{MEMORY_DENIED as DENIED, decide_growth, permitted_minimum};
     pub use crate::proved::store::range::read_bytes;
     use crate::proved::store::range::{fill_range, write_range};
@@ -287,7 +289,7 @@ pub mod memory {
             size <= region.len(),
             "the size is above the length of the region"
         );
-        fill_bytes(&mut region[..size], dst, value, len, fuel)
+        fill_items(&mut region[..size], dst, value, len, OUTSIDE, fuel)
     }
 
     /// Copies `len` bytes from `src` on over those from `dst` on, of a memory of `size` bytes at the
@@ -323,7 +325,7 @@ pub mod memory {
             size <= region.len(),
             "the size is above the length of the region"
         );
-        copy_bytes_within(&mut region[..size], dst, src, len, fuel)
+        copy_items_within(&mut region[..size], dst, src, len, OUTSIDE, fuel)
     }
 
     /// Copies `len` bytes of another memory, from `src` on, over those from `dst` on, of a memory of
@@ -360,7 +362,7 @@ pub mod memory {
             size <= region.len(),
             "the size is above the length of the region"
         );
-        copy_bytes(&mut region[..size], dst, source, src, len, fuel)
+        copy_items(&mut region[..size], dst, source, src, len, OUTSIDE, fuel)
     }
 
     /// Copies `len` bytes of a data segment, from `src` on, over those from `dst` on, of a memory of
@@ -398,7 +400,7 @@ pub mod memory {
             "the size is above the length of the region"
         );
         let (src, len) = (u64::from(src), u64::from(len));
-        copy_bytes(&mut region[..size], dst, segment, src, len, fuel)
+        copy_items(&mut region[..size], dst, segment, src, len, OUTSIDE, fuel)
     }
 
     /// Whether a region has `size` bytes.
@@ -424,9 +426,7 @@ pub mod table {
     use crate::proved::meter::{Fuel, ResourceLimiter, ResourceLimiterRef, TableError};
     use crate::proved::raw::RawRef;
     use crate::proved::store::TableType;
-    use crate::proved::store::elements::{
-        copy_elements, copy_elements_within, fill_elements, init_elements,
-    };
+    use crate::proved::store::bulk::{copy_items, copy_items_within, fill_items, init_elements};
     use crate::proved::store::growth::TABLE_DENIED as DENIED;
     use crate::proved::store::range::{fill_range, write_range};
 
@@ -621,7 +621,8 @@ pub mod table {
         len: u64,
         fuel: &mut Fuel,
     ) -> Result<(), TableError> {
-        fill_elements(elements, dst, reference, len, fuel)
+        let outside = TableError::FillOutOfBounds;
+        fill_items(elements, dst, reference, len, outside, fuel)
     }
 
     /// Copies `len` elements from `src` on over those from `dst` on. The errors are those of
@@ -645,7 +646,8 @@ pub mod table {
         len: u64,
         fuel: &mut Fuel,
     ) -> Result<(), TableError> {
-        copy_elements_within(elements, dst, src, len, fuel)
+        let outside = TableError::CopyOutOfBounds;
+        copy_items_within(elements, dst, src, len, outside, fuel)
     }
 
     /// Copies `len` items of a table, from `src` on, over the elements of another table from `dst` on.
@@ -673,7 +675,7 @@ pub mod table {
     ) -> Result<(), TableError> {
         ty.ensure_element_type_matches(source.element())?;
         let outside = TableError::CopyOutOfBounds;
-        copy_elements(elements, dst, items, src, len, outside, fuel)
+        copy_items(elements, dst, items, src, len, outside, fuel)
     }
 
     /// Copies `len` items of the type of a table's elements, from `src` on, over the elements from

@@ -2777,6 +2777,7 @@ module _ {Region : Type 0} where
 
 <pre><code>use Rattle.std.specs.Prelude.{◌≡◌, ◌&lt;◌, ◌⊎◌, ℕ, Option, None, Result, Ok, List, replicate, MatchBool, Some, Err}
 use Rattle.wasmi_meter.specs.Limiter.{<a href="../../meter/Limiter/index.html#Question">Question</a>, <a href="../../meter/Limiter/index.html#Answer">Answer</a>, <a href="../../meter/Limiter/index.html#IsDenial">IsDenial</a>, <a href="../../meter/Limiter/index.html#Rules">Rules</a>}
+use Rattle.wasmi_meter.specs.declared.fuel.CustomFuelCosts.{CustomFuelCosts}
 use Rattle.wasmi_meter.specs.Meter.{<a href="../../meter/Meter/index.html#Meter">Meter</a>, <a href="../../meter/Meter/index.html#copy_cost">copy_cost</a>, <a href="../../meter/Meter/index.html#meter_after">meter_after</a>}
 use Rattle.wasmi_meter.specs.Attempt.{<a href="../../meter/Attempt/index.html#MeteredValue">MeteredValue</a>, <a href="../../meter/Attempt/index.html#alone">alone</a>, <a href="../../meter/Attempt/index.html#Request">Request</a>, <a href="../../meter/Attempt/index.html#AttemptOutcome">AttemptOutcome</a>, <a href="../../meter/Attempt/index.html#Attempt">Attempt</a>, <a href="../../meter/Attempt/index.html#answer_of">answer_of</a>, <a href="../../meter/Attempt/index.html#optional_due">optional_due</a>, <a href="../../meter/Attempt/index.html#covers">covers</a>}
 use Rattle.std.specs.Option.{option_map, option_and_then}
@@ -2850,17 +2851,33 @@ abbrev pub <b id="copied">copied</b> : {A : Type 0} → List A → ℕ → List 
 abbrev pub <b id="bytes_due">bytes_due</b> : Option <a href="../../meter/Meter/index.html#Meter">Meter</a> → ℕ → ℕ
 <a href="../../store/Growth/index.html#bytes_due">bytes_due</a> meter len = <a href="../../meter/Attempt/index.html#optional_due">optional_due</a> meter (Some (λ costs. <a href="../../meter/Meter/index.html#copy_cost">copy_cost</a> costs len 1))
 
+-- the fuel for so many items of so many bytes each
+abbrev pub <b id="item_price">item_price</b> : ℕ → ℕ → CustomFuelCosts → ℕ
+<a href="../../store/Growth/index.html#item_price">item_price</a> <a href="../../store/Growth/index.html#size">size</a> n costs = <a href="../../meter/Meter/index.html#copy_cost">copy_cost</a> costs n <a href="../../store/Growth/index.html#size">size</a>
+
+-- items with their meter, if there is one
+abbrev pub <b id="MeteredItems">MeteredItems</b> : Type 0 → Type 0
+<a href="../../store/Growth/index.html#MeteredItems">MeteredItems</a> A = <a href="../../meter/Attempt/index.html#MeteredValue">MeteredValue</a> (List A) (Unit {0})
+
 -- bytes with their meter, if there is one
 abbrev pub <b id="MeteredBytes">MeteredBytes</b> : Type 0
-<a href="../../store/Growth/index.html#MeteredBytes">MeteredBytes</a> = <a href="../../meter/Attempt/index.html#MeteredValue">MeteredValue</a> (List ℕ) (Unit {0})
+<a href="../../store/Growth/index.html#MeteredBytes">MeteredBytes</a> = <a href="../../store/Growth/index.html#MeteredItems">MeteredItems</a> ℕ
 
--- A bulk instruction writes so many bytes, by what the bytes become, or none where a range ends past its list. That is
--- tested first, then the fuel; an instruction that is refused writes and takes nothing.
+-- Items are written over, wherever they lie: by the error of a meter with less than is needed, what the items become, or
+-- none where a range ends past its list, the error there, and what they cost, if anything. The ranges are tested first,
+-- then the fuel; a write that is refused writes and takes nothing.
+abbrev pub <b id="WritesItems">WritesItems</b> : {A E : Type 0} → (ℕ → E) → Option (List A) → E → Option (CustomFuelCosts → ℕ) → <a href="../../store/Growth/index.html#MeteredItems">MeteredItems</a> A
+    → Result (Unit {0}) E → <a href="../../store/Growth/index.html#MeteredItems">MeteredItems</a> A → Type 0
+<a href="../../store/Growth/index.html#WritesItems">WritesItems</a> unpaid None outside price s result s&#x27; = (result ≡ Err outside) × (s&#x27; ≡ s)
+<a href="../../store/Growth/index.html#WritesItems">WritesItems</a> unpaid (Some items) outside price s result s&#x27; =
+    let <a href="../../store/Growth/index.html#amount">amount</a> = <a href="../../meter/Attempt/index.html#optional_due">optional_due</a> s.meter price in
+    MatchBool (<a href="../../meter/Attempt/index.html#covers">covers</a> s.meter <a href="../../store/Growth/index.html#amount">amount</a>)
+    ((result ≡ Ok tt) × (s&#x27; ≡ <a href="../../store/Growth/index.html#metered">metered</a> items (option_map (λ m. <a href="../../meter/Meter/index.html#meter_after">meter_after</a> m <a href="../../store/Growth/index.html#amount">amount</a>) s.meter)))
+    ((result ≡ Err (unpaid <a href="../../store/Growth/index.html#amount">amount</a>)) × (s&#x27; ≡ s))
+
+-- a bulk instruction writes so many bytes, each of which is paid for
 abbrev pub <b id="BulkWrites">BulkWrites</b> : Option (List ℕ) → ℕ → <a href="../../store/Growth/index.html#MeteredBytes">MeteredBytes</a> → Result (Unit {0}) MemoryError → <a href="../../store/Growth/index.html#MeteredBytes">MeteredBytes</a> → Type 0
-<a href="../../store/Growth/index.html#BulkWrites">BulkWrites</a> None len s result s&#x27; = (result ≡ Err OutOfBoundsAccess) × (s&#x27; ≡ s)
-<a href="../../store/Growth/index.html#BulkWrites">BulkWrites</a> (Some bytes) len s result s&#x27; = let <a href="../../store/Growth/index.html#amount">amount</a> = <a href="../../store/Growth/index.html#bytes_due">bytes_due</a> s.meter len in MatchBool (<a href="../../meter/Attempt/index.html#covers">covers</a> s.meter <a href="../../store/Growth/index.html#amount">amount</a>)
-    ((result ≡ Ok tt) × (s&#x27; ≡ <a href="../../store/Growth/index.html#metered">metered</a> bytes (option_map (λ m. <a href="../../meter/Meter/index.html#meter_after">meter_after</a> m <a href="../../store/Growth/index.html#amount">amount</a>) s.meter)))
-    ((result ≡ Err (OutOfFuel <a href="../../store/Growth/index.html#amount">amount</a>)) × (s&#x27; ≡ s))
+<a href="../../store/Growth/index.html#BulkWrites">BulkWrites</a> written len = <a href="../../store/Growth/index.html#WritesItems">WritesItems</a> OutOfFuel written OutOfBoundsAccess (Some (<a href="../../store/Growth/index.html#item_price">item_price</a> 1 len))
 </code></pre>
 "####]
     pub mod Growth {}
@@ -3149,7 +3166,7 @@ use Rattle.wasmi_meter.specs.declared.limiter.Kind.TheVariants.{Elements}
 use Rattle.wasmi_meter.specs.Limiter.{<a href="../../meter/Limiter/index.html#TableFailure">TableFailure</a>, <a href="../../meter/Limiter/index.html#Rules">Rules</a>}
 use Rattle.wasmi_meter.specs.Meter.{<a href="../../meter/Meter/index.html#copy_cost">copy_cost</a>, <a href="../../meter/Meter/index.html#meter_after">meter_after</a>}
 use Rattle.wasmi_meter.specs.Attempt.{<a href="../../meter/Attempt/index.html#MeteredValue">MeteredValue</a>, <a href="../../meter/Attempt/index.html#Request">Request</a>, <a href="../../meter/Attempt/index.html#optional_due">optional_due</a>, <a href="../../meter/Attempt/index.html#covers">covers</a>}
-use Rattle.wasmi_store.specs.Growth.{<a href="../../store/Growth/index.html#filled">filled</a>, <a href="../../store/Growth/index.html#copied">copied</a>, <a href="../../store/Growth/index.html#WithCharge">WithCharge</a>, <a href="../../store/Growth/index.html#Makes">Makes</a>, <a href="../../store/Growth/index.html#Grows">Grows</a>, <a href="../../store/Growth/index.html#metered">metered</a>}
+use Rattle.wasmi_store.specs.Growth.{<a href="../../store/Growth/index.html#filled">filled</a>, <a href="../../store/Growth/index.html#copied">copied</a>, <a href="../../store/Growth/index.html#WithCharge">WithCharge</a>, <a href="../../store/Growth/index.html#Makes">Makes</a>, <a href="../../store/Growth/index.html#Grows">Grows</a>, <a href="../../store/Growth/index.html#MeteredItems">MeteredItems</a>, <a href="../../store/Growth/index.html#WritesItems">WritesItems</a>}
 use Rattle.wasmi_store.specs.Segment.{<a href="../../store/Segment/index.html#SegmentValue">SegmentValue</a>}
 
 -- a table type: its index type, the type of its elements, and its limits in elements
@@ -3379,20 +3396,11 @@ pub record <b id="WritesTableCharging">WritesTableCharging</b> (write : <a href=
 abbrev pub <b id="WritesTable">WritesTable</b> : (<a href="../../store/Table/index.html#TableValue">TableValue</a> → <a href="../../store/Table/index.html#TableWrite">TableWrite</a>) → <a href="../../store/Table/index.html#MeteredTable">MeteredTable</a> → Result (Unit {0}) TableError → <a href="../../store/Table/index.html#MeteredTable">MeteredTable</a> → Type 0
 <a href="../../store/Table/index.html#WritesTable">WritesTable</a> write = <a href="../../store/Growth/index.html#WithCharge">WithCharge</a> (<a href="../../store/Table/index.html#WritesTableCharging">WritesTableCharging</a> write)
 
--- elements of any kind with their meter, if there is one
-abbrev pub <b id="MeteredElements">MeteredElements</b> : Type 0 → Type 0
-<a href="../../store/Table/index.html#MeteredElements">MeteredElements</a> A = <a href="../../meter/Attempt/index.html#MeteredValue">MeteredValue</a> (List A) (Unit {0})
-
 -- Elements are written over, wherever they lie: by what they become, or none where a range ends past its list, the
--- error there, and how many of them are paid for, if any. A write that is refused writes and takes nothing.
-abbrev pub <b id="WritesElements">WritesElements</b> : {A : Type 0} → Option (List A) → TableError → Option ℕ → <a href="../../store/Table/index.html#MeteredElements">MeteredElements</a> A
-    → Result (Unit {0}) TableError → <a href="../../store/Table/index.html#MeteredElements">MeteredElements</a> A → Type 0
-<a href="../../store/Table/index.html#WritesElements">WritesElements</a> None <a href="../../store/Table/index.html#outside">outside</a> <a href="../../store/Table/index.html#paid">paid</a> s <a href="../../store/Table/index.html#result">result</a> s&#x27; = (<a href="../../store/Table/index.html#result">result</a> ≡ Err <a href="../../store/Table/index.html#outside">outside</a>) × (s&#x27; ≡ s)
-<a href="../../store/Table/index.html#WritesElements">WritesElements</a> (Some <a href="../../store/Table/index.html#elements">elements</a>) <a href="../../store/Table/index.html#outside">outside</a> <a href="../../store/Table/index.html#paid">paid</a> s <a href="../../store/Table/index.html#result">result</a> s&#x27; =
-    let amount = <a href="../../meter/Attempt/index.html#optional_due">optional_due</a> s.meter (option_map <a href="../../store/Table/index.html#element_price">element_price</a> <a href="../../store/Table/index.html#paid">paid</a>) in
-    MatchBool (<a href="../../meter/Attempt/index.html#covers">covers</a> s.meter amount)
-    ((<a href="../../store/Table/index.html#result">result</a> ≡ Ok tt) × (s&#x27; ≡ <a href="../../store/Growth/index.html#metered">metered</a> <a href="../../store/Table/index.html#elements">elements</a> (option_map (λ m. <a href="../../meter/Meter/index.html#meter_after">meter_after</a> m amount) s.meter)))
-    ((<a href="../../store/Table/index.html#result">result</a> ≡ Err (OutOfFuel amount)) × (s&#x27; ≡ s))
+-- error there, and how many of them are paid for, if any.
+abbrev pub <b id="WritesElements">WritesElements</b> : {A : Type 0} → Option (List A) → TableError → Option ℕ → <a href="../../store/Growth/index.html#MeteredItems">MeteredItems</a> A
+    → Result (Unit {0}) TableError → <a href="../../store/Growth/index.html#MeteredItems">MeteredItems</a> A → Type 0
+<a href="../../store/Table/index.html#WritesElements">WritesElements</a> <a href="../../store/Table/index.html#written">written</a> <a href="../../store/Table/index.html#outside">outside</a> <a href="../../store/Table/index.html#paid">paid</a> = <a href="../../store/Growth/index.html#WritesItems">WritesItems</a> OutOfFuel <a href="../../store/Table/index.html#written">written</a> <a href="../../store/Table/index.html#outside">outside</a> (option_map <a href="../../store/Table/index.html#element_price">element_price</a> <a href="../../store/Table/index.html#paid">paid</a>)
 </code></pre>
 "####]
     pub mod Table {}

@@ -1,230 +1,140 @@
 //! Linear memories and tables: their types, what they contain, and how they are made and grow.
 pub mod bulk {
-    //! The bulk instructions on bytes, wherever these lie.
+    //! What is written over a range of a memory's bytes or of a table's elements, wherever these lie.
+    //! The bounds are tested first, then the fuel, also for no item. A write that is refused writes and
+    //! takes nothing.
     //!
-    //! Own: upstream's crate has none for memories. They are tested and charged as its calls on tables:
-    //! the bounds first (`OutOfBoundsAccess`), then the fuel (`OutOfFuel`), also for no byte. One that is
-    //! refused writes no byte and takes no fuel.
+    //! Own: upstream's crate has no bulk instructions for memories. They are tested and charged as its
+    //! calls on tables.
 
-    use crate::proved::meter::growth::charge;
-    use crate::proved::meter::{Fuel, MemoryError};
-    use crate::proved::store::range::{copy_overlapping, fill_range, lies_within, write_range};
-
-    /// Fills `len` bytes from `dst` on with a value (core specification, memory.fill).
-    ///
-    /// # Contract
-    ///
-    /// ```text
-    /// ensures written: BulkWrites (filled bytes.old dst value len) len
-    ///     (metered bytes.old (Some fuel.old)) result (metered bytes.new (Some fuel.new))
-    /// ensures len: length bytes.new ≡ length bytes.old
-    /// ```
-    ///
-    /// Definitions: [`BulkWrites`](crate::specs::store::Growth#BulkWrites), [`filled`](crate::specs::store::Growth#filled), [`metered`](crate::specs::store::Growth#metered).
-    #[inline]
-    pub fn fill_bytes(
-        bytes: &mut [u8],
-        dst: u64,
-        value: u8,
-        len: u64,
-        fuel: &mut Fuel,
-    ) -> Result<(), MemoryError> {
-        if !lies_within(bytes, dst, len) {
-            return Err(MemoryError::OutOfBoundsAccess);
-        }
-        if let Err(required_fuel) = charge::<u8>(fuel, len) {
-            return Err(MemoryError::OutOfFuel { required_fuel });
-        }
-        let (start, end) = (dst as usize, (dst + len) as usize);
-        fill_range(bytes, start, end, value);
-        Ok(())
-    }
-
-    /// Copies `len` bytes from `src` on over those from `dst` on. If the ranges overlap, the old bytes
-    /// are copied (core specification, memory.copy).
-    ///
-    /// # Contract
-    ///
-    /// ```text
-    /// ensures written: BulkWrites (copied bytes.old dst bytes.old src len) len
-    ///     (metered bytes.old (Some fuel.old)) result (metered bytes.new (Some fuel.new))
-    /// ensures len: length bytes.new ≡ length bytes.old
-    /// ```
-    ///
-    /// Definitions: [`BulkWrites`](crate::specs::store::Growth#BulkWrites), [`copied`](crate::specs::store::Growth#copied), [`metered`](crate::specs::store::Growth#metered).
-    #[inline]
-    pub fn copy_bytes_within(
-        bytes: &mut [u8],
-        dst: u64,
-        src: u64,
-        len: u64,
-        fuel: &mut Fuel,
-    ) -> Result<(), MemoryError> {
-        if !lies_within(bytes, src, len) || !lies_within(bytes, dst, len) {
-            return Err(MemoryError::OutOfBoundsAccess);
-        }
-        if let Err(required_fuel) = charge::<u8>(fuel, len) {
-            return Err(MemoryError::OutOfFuel { required_fuel });
-        }
-        copy_overlapping(bytes, dst as usize, src as usize, len as usize);
-        Ok(())
-    }
-
-    /// Copies `len` bytes of a source, from `src` on, over those from `dst` on (core specification,
-    /// memory.copy of two memories, memory.init).
-    ///
-    /// # Contract
-    ///
-    /// ```text
-    /// ensures written: BulkWrites (copied bytes.old dst source.now src len) len
-    ///     (metered bytes.old (Some fuel.old)) result (metered bytes.new (Some fuel.new))
-    /// ensures len: length bytes.new ≡ length bytes.old
-    /// ```
-    ///
-    /// Definitions: [`BulkWrites`](crate::specs::store::Growth#BulkWrites), [`copied`](crate::specs::store::Growth#copied), [`metered`](crate::specs::store::Growth#metered).
-    #[inline]
-    pub fn copy_bytes(
-        bytes: &mut [u8],
-        dst: u64,
-        source: &[u8],
-        src: u64,
-        len: u64,
-        fuel: &mut Fuel,
-    ) -> Result<(), MemoryError> {
-        if !lies_within(source, src, len) || !lies_within(bytes, dst, len) {
-            return Err(MemoryError::OutOfBoundsAccess);
-        }
-        if let Err(required_fuel) = charge::<u8>(fuel, len) {
-            return Err(MemoryError::OutOfFuel { required_fuel });
-        }
-        let (dst, src, len) = (dst as usize, src as usize, len as usize);
-        write_range(bytes, dst, &source[src..src + len]);
-        Ok(())
-    }
-}
-pub mod elements {
-    //! What is written over a range of a table's elements, wherever these lie. The bounds are tested
-    //! first, then the fuel; a write that is refused writes and takes nothing.
-
-    use crate::proved::meter::growth::charge;
-    use crate::proved::meter::{Fuel, TableError};
-    use crate::proved::raw::RawRef;
+    use crate::proved::meter::growth::{GrowthError, charge};
+    use crate::proved::meter::{Fuel, MemoryError, TableError, ValueSize};
     use crate::proved::store::range::{
         Chunk, copy_overlapping, fill_range, lies_within, write_range,
     };
 
-    /// Fills `len` elements from `dst` on with a value. A clone of the value is the value itself.
+    /// The error of a memory if a range ends past its list.
+    pub const MEMORY_OUTSIDE: MemoryError = MemoryError::OutOfBoundsAccess;
+
+    /// Fills `len` items from `dst` on with a value, of which a clone is the value itself (core
+    /// specification, memory.fill, table.fill). `outside` is the error if they end past their list.
     ///
     /// # Contract
     ///
     /// ```text
     /// requires infallible: T.is_infallible value
     /// requires same: (clone : T) → T.is_clone value clone → clone ≡ value
-    /// ensures written: WritesElements (filled elements.old dst value len) TableError.FillOutOfBounds
-    ///     (Some len) (metered elements.old (Some fuel.old)) result
-    ///     (metered elements.new (Some fuel.new))
-    /// ensures len: length elements.new ≡ length elements.old
+    /// ensures written: WritesItems E.unpaid (filled items.old dst value len) outside
+    ///     (Some (item_price T.SIZE len)) (metered items.old (Some fuel.old)) result
+    ///     (metered items.new (Some fuel.new))
+    /// ensures len: length items.new ≡ length items.old
     /// ```
     ///
-    /// Definitions: [`WritesElements`](crate::specs::store::Table#WritesElements), [`filled`](crate::specs::store::Growth#filled), [`metered`](crate::specs::store::Growth#metered).
+    /// Definitions: [`WritesItems`](crate::specs::store::Growth#WritesItems), [`filled`](crate::specs::store::Growth#filled), [`item_price`](crate::specs::store::Growth#item_price), [`metered`](crate::specs::store::Growth#metered).
     #[inline]
-    pub fn fill_elements<T: Copy>(
-        elements: &mut [T],
+    pub fn fill_items<T: Copy + ValueSize, E: GrowthError>(
+        items: &mut [T],
         dst: u64,
         value: T,
         len: u64,
+        outside: E,
         fuel: &mut Fuel,
-    ) -> Result<(), TableError> {
-        if !lies_within(elements, dst, len) {
-            return Err(TableError::FillOutOfBounds);
-        }
-        if let Err(required_fuel) = charge::<RawRef>(fuel, len) {
-            return Err(TableError::OutOfFuel { required_fuel });
-        }
-        let (start, end) = (dst as usize, (dst + len) as usize);
-        fill_range(elements, start, end, value);
-        Ok(())
-    }
-
-    /// Copies `len` elements from `src` on over those from `dst` on. If the ranges overlap, the old
-    /// elements are copied.
-    ///
-    /// # Contract
-    ///
-    /// ```text
-    /// ensures written: WritesElements (copied elements.old dst elements.old src len)
-    ///     TableError.CopyOutOfBounds (Some len) (metered elements.old (Some fuel.old)) result
-    ///     (metered elements.new (Some fuel.new))
-    /// ensures len: length elements.new ≡ length elements.old
-    /// ```
-    ///
-    /// Definitions: [`WritesElements`](crate::specs::store::Table#WritesElements), [`copied`](crate::specs::store::Growth#copied), [`metered`](crate::specs::store::Growth#metered).
-    #[inline]
-    pub fn copy_elements_within<T: Chunk>(
-        elements: &mut [T],
-        dst: u64,
-        src: u64,
-        len: u64,
-        fuel: &mut Fuel,
-    ) -> Result<(), TableError> {
-        if !lies_within(elements, src, len) || !lies_within(elements, dst, len) {
-            return Err(TableError::CopyOutOfBounds);
-        }
-        if let Err(required_fuel) = charge::<RawRef>(fuel, len) {
-            return Err(TableError::OutOfFuel { required_fuel });
-        }
-        copy_overlapping(elements, dst as usize, src as usize, len as usize);
-        Ok(())
-    }
-
-    /// Copies `len` items, from `src` on, over the elements from `dst` on. `outside` is the error if a
-    /// range ends past its list.
-    ///
-    /// # Contract
-    ///
-    /// ```text
-    /// ensures written: WritesElements (copied elements.old dst items.now src len) outside (Some len)
-    ///     (metered elements.old (Some fuel.old)) result (metered elements.new (Some fuel.new))
-    /// ensures len: length elements.new ≡ length elements.old
-    /// ```
-    ///
-    /// Definitions: [`WritesElements`](crate::specs::store::Table#WritesElements), [`copied`](crate::specs::store::Growth#copied), [`metered`](crate::specs::store::Growth#metered).
-    #[inline]
-    pub fn copy_elements<T: Copy>(
-        elements: &mut [T],
-        dst: u64,
-        items: &[T],
-        src: u64,
-        len: u64,
-        outside: TableError,
-        fuel: &mut Fuel,
-    ) -> Result<(), TableError> {
-        if !lies_within(items, src, len) || !lies_within(elements, dst, len) {
+    ) -> Result<(), E> {
+        if !lies_within(items, dst, len) {
             return Err(outside);
         }
-        if let Err(required_fuel) = charge::<RawRef>(fuel, len) {
-            return Err(TableError::OutOfFuel { required_fuel });
+        if let Err(required_fuel) = charge::<T>(fuel, len) {
+            return Err(E::out_of_fuel(required_fuel));
         }
-        let (dst, src, len) = (dst as usize, src as usize, len as usize);
-        write_range(elements, dst, &items[src..src + len]);
+        let (start, end) = (dst as usize, (dst + len) as usize);
+        fill_range(items, start, end, value);
         Ok(())
     }
 
-    /// Copies `len` items of a segment, from `src` on, over the elements from `dst` on. Copying no
-    /// items costs no fuel.
+    /// Copies `len` items from `src` on over those from `dst` on. If the ranges overlap, the old items
+    /// are copied (core specification, memory.copy, table.copy). `outside` is the error if a range ends
+    /// past the list.
     ///
     /// # Contract
     ///
     /// ```text
-    /// ensures written: WritesElements (copied elements.old dst items.now src len)
-    ///     TableError.InitOutOfBounds (if nat_eq len 0 then None else Some len)
+    /// ensures written: WritesItems E.unpaid (copied items.old dst items.old src len) outside
+    ///     (Some (item_price T.SIZE len)) (metered items.old (Some fuel.old)) result
+    ///     (metered items.new (Some fuel.new))
+    /// ensures len: length items.new ≡ length items.old
+    /// ```
+    ///
+    /// Definitions: [`WritesItems`](crate::specs::store::Growth#WritesItems), [`copied`](crate::specs::store::Growth#copied), [`item_price`](crate::specs::store::Growth#item_price), [`metered`](crate::specs::store::Growth#metered).
+    #[inline]
+    pub fn copy_items_within<T: Chunk + ValueSize, E: GrowthError>(
+        items: &mut [T],
+        dst: u64,
+        src: u64,
+        len: u64,
+        outside: E,
+        fuel: &mut Fuel,
+    ) -> Result<(), E> {
+        if !lies_within(items, src, len) || !lies_within(items, dst, len) {
+            return Err(outside);
+        }
+        if let Err(required_fuel) = charge::<T>(fuel, len) {
+            return Err(E::out_of_fuel(required_fuel));
+        }
+        copy_overlapping(items, dst as usize, src as usize, len as usize);
+        Ok(())
+    }
+
+    /// Copies `len` items of a source, from `src` on, over those from `dst` on (core specification,
+    /// memory.copy and table.copy of two, memory.init). `outside` is the error if a range ends past its
+    /// list.
+    ///
+    /// # Contract
+    ///
+    /// ```text
+    /// ensures written: WritesItems E.unpaid (copied items.old dst source.now src len) outside
+    ///     (Some (item_price T.SIZE len)) (metered items.old (Some fuel.old)) result
+    ///     (metered items.new (Some fuel.new))
+    /// ensures len: length items.new ≡ length items.old
+    /// ```
+    ///
+    /// Definitions: [`WritesItems`](crate::specs::store::Growth#WritesItems), [`copied`](crate::specs::store::Growth#copied), [`item_price`](crate::specs::store::Growth#item_price), [`metered`](crate::specs::store::Growth#metered).
+    #[inline]
+    pub fn copy_items<T: Copy + ValueSize, E: GrowthError>(
+        items: &mut [T],
+        dst: u64,
+        source: &[T],
+        src: u64,
+        len: u64,
+        outside: E,
+        fuel: &mut Fuel,
+    ) -> Result<(), E> {
+        if !lies_within(source, src, len) || !lies_within(items, dst, len) {
+            return Err(outside);
+        }
+        if let Err(required_fuel) = charge::<T>(fuel, len) {
+            return Err(E::out_of_fuel(required_fuel));
+        }
+        let (dst, src, len) = (dst as usize, src as usize, len as usize);
+        write_range(items, dst, &source[src..src + len]);
+        Ok(())
+    }
+
+    /// Copies `len` items of an element segment, from `src` on, over a table's elements from `dst` on.
+    /// Copying no items costs no fuel.
+    ///
+    /// # Contract
+    ///
+    /// ```text
+    /// ensures written: WritesItems TableError.OutOfFuel (copied elements.old dst items.now src len)
+    ///     TableError.InitOutOfBounds
+    ///     (option_map (item_price T.SIZE) (if nat_eq len 0 then None else Some len))
     ///     (metered elements.old (Some fuel.old)) result (metered elements.new (Some fuel.new))
     /// ensures len: length elements.new ≡ length elements.old
     /// ```
     ///
-    /// Definitions: [`WritesElements`](crate::specs::store::Table#WritesElements), [`copied`](crate::specs::store::Growth#copied), [`metered`](crate::specs::store::Growth#metered).
+    /// Definitions: [`WritesItems`](crate::specs::store::Growth#WritesItems), [`copied`](crate::specs::store::Growth#copied), [`item_price`](crate::specs::store::Growth#item_price), [`metered`](crate::specs::store::Growth#metered).
     #[inline]
-    pub fn init_elements<T: Copy>(
+    pub fn init_elements<T: Copy + ValueSize>(
         elements: &mut [T],
         dst: u64,
         items: &[T],
@@ -235,15 +145,8 @@ pub mod elements {
         if len == 0 && lies_within(items, src, 0) && lies_within(elements, dst, 0) {
             return Ok(());
         }
-        copy_elements(
-            elements,
-            dst,
-            items,
-            src,
-            len,
-            TableError::InitOutOfBounds,
-            fuel,
-        )
+        let outside = TableError::InitOutOfBounds;
+        copy_items(elements, dst, items, src, len, outside, fuel)
     }
 }
 pub mod growth {
@@ -1255,7 +1158,9 @@ mod memory {
 
     use crate::proved::meter::growth::tell;
     use crate::proved::meter::{Fuel, MemoryError, ResourceLimiter, ResourceLimiterRef};
-    use crate::proved::store::bulk::{copy_bytes, copy_bytes_within, fill_bytes};
+    use crate::proved::store::bulk::{
+        MEMORY_OUTSIDE as OUTSIDE, copy_items, copy_items_within, fill_items,
+    };
     use crate::proved::store::growth::{MEMORY_DENIED as DENIED, decide_growth, permitted_minimum};
     use crate::proved::store::range::{read_bytes, write_bytes};
     use crate::proved::store::with_meter;
@@ -1607,7 +1512,7 @@ mod memory {
             len: u64,
             fuel: Option<&mut Fuel>,
         ) -> Result<(), MemoryError> {
-            with_meter!(fuel => fill_bytes(self.buffer.data_mut(), dst, value, len, fuel))
+            with_meter!(fuel => fill_items(self.data_mut(), dst, value, len, OUTSIDE, fuel))
         }
 
         /// Copies `len` bytes from `src` on over those from `dst` on. If the ranges overlap, the old
@@ -1633,7 +1538,7 @@ mod memory {
             len: u64,
             fuel: Option<&mut Fuel>,
         ) -> Result<(), MemoryError> {
-            with_meter!(fuel => copy_bytes_within(self.buffer.data_mut(), dst, src, len, fuel))
+            with_meter!(fuel => copy_items_within(self.data_mut(), dst, src, len, OUTSIDE, fuel))
         }
 
         /// Copies `len` bytes of another memory, from `src` on, over the bytes of a memory from `dst`
@@ -1662,7 +1567,7 @@ mod memory {
             fuel: Option<&mut Fuel>,
         ) -> Result<(), MemoryError> {
             let source = src_memory.data();
-            with_meter!(fuel => copy_bytes(dst_memory.buffer.data_mut(), dst, source, src, len, fuel))
+            with_meter!(fuel => copy_items(dst_memory.data_mut(), dst, source, src, len, OUTSIDE, fuel))
         }
 
         /// Copies `len` bytes of a data segment, from `src` on, over the bytes from `dst` on. A segment
@@ -1691,7 +1596,7 @@ mod memory {
             fuel: Option<&mut Fuel>,
         ) -> Result<(), MemoryError> {
             let (src, len) = (u64::from(src), u64::from(len));
-            with_meter!(fuel => copy_bytes(self.buffer.data_mut(), dst, segment, src, len, fuel))
+            with_meter!(fuel => copy_items(self.data_mut(), dst, segment, src, len, OUTSIDE, fuel))
         }
     }
 }
@@ -2436,9 +2341,7 @@ mod table {
     use crate::proved::meter::growth::{charge, permission, tell};
     use crate::proved::meter::{Fuel, ResourceLimiter, ResourceLimiterRef, TableError};
     use crate::proved::raw::RawRef;
-    use crate::proved::store::elements::{
-        copy_elements, copy_elements_within, fill_elements, init_elements,
-    };
+    use crate::proved::store::bulk::{copy_items, copy_items_within, fill_items, init_elements};
     use crate::proved::store::growth::TABLE_DENIED as DENIED;
     use crate::proved::store::range::write_range;
     use crate::proved::store::with_meter;
@@ -2867,17 +2770,9 @@ mod table {
         ) -> Result<(), TableError> {
             self.ty
                 .ensure_element_type_matches(src_table.ty.element())?;
-            let items = src_table.elements.as_slice();
-            let outside = TableError::CopyOutOfBounds;
-            copy_elements(
-                self.elements.as_mut_slice(),
-                dst,
-                items,
-                src,
-                len,
-                outside,
-                fuel,
-            )
+            let elements = self.elements.as_mut_slice();
+            let (items, outside) = (src_table.elements.as_slice(), TableError::CopyOutOfBounds);
+            copy_items(elements, dst, items, src, len, outside, fuel)
         }
 
         /// Copies `len` elements from `src` on over those from `dst` on. If the ranges overlap, the old
@@ -2924,7 +2819,8 @@ mod table {
             len: u64,
             fuel: &mut Fuel,
         ) -> Result<(), TableError> {
-            copy_elements_within(self.elements.as_mut_slice(), dst, src, len, fuel)
+            let (elements, outside) = (self.elements.as_mut_slice(), TableError::CopyOutOfBounds);
+            copy_items_within(elements, dst, src, len, outside, fuel)
         }
 
         /// Fills `len` elements from `dst` on with a reference. The type of the reference is tested
@@ -3012,7 +2908,8 @@ mod table {
             len: u64,
             fuel: &mut Fuel,
         ) -> Result<(), TableError> {
-            fill_elements(self.elements.as_mut_slice(), dst, val, len, fuel)
+            let outside = TableError::FillOutOfBounds;
+            fill_items(self.elements.as_mut_slice(), dst, val, len, outside, fuel)
         }
     }
 }

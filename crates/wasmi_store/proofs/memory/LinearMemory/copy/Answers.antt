@@ -1,20 +1,12 @@
-use Rattle.wasmi_store.proofs.MemoryLemmas.{refilled_by, sized_refilled}
+use Rattle.wasmi_store.proofs.MemoryLemmas.{refilled_by}
 use Rattle.wasmi_store.proofs.WriteLemmas.{bytes_unmetered}
 use Rattle.wasmi_store.proofs.memory.LinearMemory.copy.Goals as goal
 
 pub returns-in-Some-clause-written : goal.returns-in-Some-clause-written
-returns-in-Some-clause-written g c =
-    rw (c.in-Some.is, ← c.dst_memory.view_is, refilled_by _ _ _ c.data_mut.ensures.value c.copy_bytes.ensures.len)
-    (rw (c.data_mut.ensures.value, c.data-source.ensures) at c.copy_bytes.ensures.written)
+returns-in-Some-clause-written g c = rw (c.in-Some.is, refilled_by _ _ _ c.data_mut.ensures.value c.copy_items.ensures.len)
+    (rw (c.data_mut.ensures.value, c.data-source.ensures) at c.copy_items.ensures.written)
 
 pub returns-in-None-clause-written : goal.returns-in-None-clause-written
-returns-in-None-clause-written g c =
-    rw (c.in-None.is, ← c.dst_memory.view_is, refilled_by _ _ _ c.data_mut-in-None.ensures.value c.copy_bytes-in-None.ensures.len)
-    (bytes_unmetered _ _ _ _ _ _ _ (rw (c.unmetered-off.ensures, c.data_mut-in-None.ensures.value, c.data-source.ensures) at
-    c.copy_bytes-in-None.ensures.written))
-
-pub invariant_of-dst_memory : goal.invariant_of-dst_memory
-invariant_of-dst_memory g c = sized_refilled _ _ _ c.dst_memory.invariant
-
-pub invariant_of-dst_memory-in-None : goal.invariant_of-dst_memory-in-None
-invariant_of-dst_memory-in-None g c = sized_refilled _ _ _ c.dst_memory.invariant
+returns-in-None-clause-written g c = rw (c.in-None.is, refilled_by _ _ _ c.data_mut-in-None.ensures.value c.copy_items-in-None.ensures.len)
+    (bytes_unmetered _ _ _ _ _ _ _ (rw (c.unmetered-off.ensures, c.data_mut-in-None.ensures.value, c.data-source.ensures)
+    at c.copy_items-in-None.ensures.written))

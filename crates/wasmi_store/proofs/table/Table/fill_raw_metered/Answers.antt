@@ -7,10 +7,10 @@ use Rattle.wasmi_store.proofs.table.Table.fill_raw_metered.Goals as goal
 
 pub returns : goal.returns
 returns c =
-    let long = c.fill_elements.ensures.len ∙ ap length c.as_mut_slice.ensures.value ∙ sym c.self.inside.elements.ok.0 in
+    let long = c.fill_items.ensures.len ∙ ap length c.as_mut_slice.ensures.value ∙ sym c.self.inside.elements.ok.0 in
     rw (← c.self.view_is, with_items_is c.self.inside.elements _ long)
     (writes_elements (raw_filling_of c.args.dst c.args.val c.args.len) c.self.inside.ty _ _ refl _ _ _
-    (rw c.as_mut_slice.ensures.value at c.fill_elements.ensures.written))
+    (rw c.as_mut_slice.ensures.value at c.fill_items.ensures.written))
 
 pub invariant_of-self : goal.invariant_of-self
 invariant_of-self c = grind (arith, common_steps)
