@@ -394,7 +394,15 @@ impl Table {
             (metered self.old (Some fuel.old)) result (metered self.new (Some fuel.new)) }
     {
         self.ty.ensure_element_type_matches(val.ty)?;
-        self.fill_raw_metered(dst, val.raw, len, fuel)
+        let outside = TableError::FillOutOfBounds;
+        fill_items(
+            self.elements.as_mut_slice(),
+            dst,
+            val.raw,
+            len,
+            outside,
+            fuel,
+        )
     }
 
     /// Fills `len` elements from `dst` on with a reference. Errors, in the order of the tests:
@@ -411,20 +419,7 @@ impl Table {
             (metered self.old (meter_at_entry fuel.entry)) result
             (metered self.new (meter_at_exit fuel.exit)) }
     {
-        with_meter!(fuel => self.fill_raw_metered(dst, val, len, fuel))
-    }
-
-    fn fill_raw_metered(
-        &mut self,
-        dst: u64,
-        val: RawRef,
-        len: u64,
-        fuel: &mut Fuel,
-    ) -> Result<(), TableError>
-        ensures { WritesTable (raw_filling_of dst val len)
-            (metered self.old (Some fuel.old)) result (metered self.new (Some fuel.new)) }
-    {
         let outside = TableError::FillOutOfBounds;
-        fill_items(self.elements.as_mut_slice(), dst, val, len, outside, fuel)
+        with_meter!(fuel => fill_items(self.elements.as_mut_slice(), dst, val, len, outside, fuel))
     }
 }

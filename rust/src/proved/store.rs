@@ -242,11 +242,8 @@ pub mod growth {
         }
         let paid = charge::<u8>(fuel, (size - old_size) as u64);
         if let Err(required_fuel) = paid {
-            return Err(tell(
-                limiter,
-                MemoryError::OutOfFuel { required_fuel },
-                MEMORY_DENIED,
-            ));
+            let cause = MemoryError::OutOfFuel { required_fuel };
+            return Err(tell(limiter, cause, MEMORY_DENIED));
         }
         Ok(())
     }
@@ -909,12 +906,8 @@ mod memory {
             /// Definitions: [`maximum_bytes`](crate::specs::store::Memory#maximum_bytes).
             #[inline]
             pub(crate) fn maximum_size(self) -> Option<usize> {
-                match self.maximum {
-                    Some(pages) => {
-                        Some(pages.saturating_mul(u64::from(self.page.bytes())) as usize)
-                    }
-                    None => None,
-                }
+                self.maximum
+                    .map(|pages| pages.saturating_mul(u64::from(self.page.bytes())) as usize)
             }
 
             /// The number of whole pages in `size` bytes.
@@ -1009,11 +1002,7 @@ mod memory {
         /// Definitions: [`IsNoLooser`](crate::specs::store::Memory#IsNoLooser).
         #[inline]
         pub(crate) fn is_no_looser(own: Option<u64>, other: Option<u64>) -> bool {
-            match (own, other) {
-                (_, None) => true,
-                (None, Some(_)) => false,
-                (Some(maximum), Some(most)) => maximum <= most,
-            }
+            other.is_none_or(|most| own.is_some_and(|maximum| maximum <= most))
         }
 
         /// Builds a [`MemoryType`] step by step.
@@ -2865,7 +2854,15 @@ mod table {
             fuel: &mut Fuel,
         ) -> Result<(), TableError> {
             self.ty.ensure_element_type_matches(val.ty)?;
-            self.fill_raw_metered(dst, val.raw, len, fuel)
+            let outside = TableError::FillOutOfBounds;
+            fill_items(
+                self.elements.as_mut_slice(),
+                dst,
+                val.raw,
+                len,
+                outside,
+                fuel,
+            )
         }
 
         /// Fills `len` elements from `dst` on with a reference. Errors, in the order of the tests:
@@ -2889,27 +2886,8 @@ mod table {
             len: u64,
             fuel: Option<&mut Fuel>,
         ) -> Result<(), TableError> {
-            with_meter!(fuel => self.fill_raw_metered(dst, val, len, fuel))
-        }
-
-        /// # Contract
-        ///
-        /// ```text
-        /// ensures: WritesTable (raw_filling_of dst val len)
-        ///     (metered self.old (Some fuel.old)) result (metered self.new (Some fuel.new))
-        /// ```
-        ///
-        /// Definitions: [`WritesTable`](crate::specs::store::Table#WritesTable), [`raw_filling_of`](crate::specs::store::Table#raw_filling_of), [`metered`](crate::specs::store::Growth#metered).
-        #[inline]
-        fn fill_raw_metered(
-            &mut self,
-            dst: u64,
-            val: RawRef,
-            len: u64,
-            fuel: &mut Fuel,
-        ) -> Result<(), TableError> {
             let outside = TableError::FillOutOfBounds;
-            fill_items(self.elements.as_mut_slice(), dst, val, len, outside, fuel)
+            with_meter!(fuel => fill_items(self.elements.as_mut_slice(), dst, val, len, outside, fuel))
         }
     }
 }

@@ -171,10 +171,7 @@ impl MemoryType {
     pub fn maximum_size(self) -> Option<usize>
         ensures { result ≡ maximum_bytes self }
     {
-        match self.maximum {
-            Some(pages) => Some(pages.saturating_mul(u64::from(self.page.bytes())) as usize),
-            None => None,
-        }
+        self.maximum.map(|pages| pages.saturating_mul(u64::from(self.page.bytes())) as usize)
     }
 
     /// The number of whole pages in `size` bytes.
@@ -226,11 +223,7 @@ fn most_pages(index: IndexType, page: PageSize) -> u64
 pub(crate) fn is_no_looser(own: Option<u64>, other: Option<u64>) -> bool
     ensures { IsTrue result ↔ IsNoLooser own other }
 {
-    match (own, other) {
-        (_, None) => true,
-        (None, Some(_)) => false,
-        (Some(maximum), Some(most)) => maximum <= most,
-    }
+    other.is_none_or(|most| own.is_some_and(|maximum| maximum <= most))
 }
 
 /// Builds a [`MemoryType`] step by step.
