@@ -27,14 +27,13 @@ use Rattle.wasmi_c.specs.declared.instruction.unary.Unary.{Unary}
 use Rattle.wasmi_c.specs.declared.instruction.unary.Unary.TheVariants as one
 use Rattle.wasmi_c.specs.declared.instruction.binary.Binary.{Binary}
 use Rattle.wasmi_c.specs.declared.instruction.binary.Binary.TheVariants as two
-use Rattle.wasmi_ops.specs.declared.vector.ternary.TernaryOp.{TernaryOp}
-use Rattle.wasmi_ops.specs.declared.vector.ternary.TheConstants.{TERNARIES}
+use Rattle.wasmi_ops.specs.declared.vector.TernaryOp.{TernaryOp}
+use Rattle.wasmi_ops.specs.declared.vector.TheConstants.{TERNARIES, EXTRACTIONS, LANE_LOADS, LANE_STORES, REPLACEMENTS}
 use Rattle.wasmi_ops.specs.LaneOps.{extract_op, load_lane_op, replace_op, store_lane_op, extracted_raw, replaced_vector}
-use Rattle.wasmi_ops.specs.declared.vector.access.LoadLaneOp.{LoadLaneOp}
-use Rattle.wasmi_ops.specs.declared.vector.access.StoreLaneOp.{StoreLaneOp}
-use Rattle.wasmi_ops.specs.declared.vector.lane.ExtractOp.{ExtractOp}
-use Rattle.wasmi_ops.specs.declared.vector.lane.ReplaceOp.{ReplaceOp}
-use Rattle.wasmi_ops.specs.declared.vector.lane_kind.TheConstants.{EXTRACTIONS, LANE_LOADS, LANE_STORES, REPLACEMENTS}
+use Rattle.wasmi_ops.specs.declared.vector.LoadLaneOp.{LoadLaneOp}
+use Rattle.wasmi_ops.specs.declared.vector.StoreLaneOp.{StoreLaneOp}
+use Rattle.wasmi_ops.specs.declared.vector.ExtractOp.{ExtractOp}
+use Rattle.wasmi_ops.specs.declared.vector.ReplaceOp.{ReplaceOp}
 use Rattle.wasmi_lanewise.specs.VectorTable as vector
 use Rattle.wasmi_c.specs.Types.{where_true}
 

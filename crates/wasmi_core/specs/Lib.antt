@@ -46,5 +46,5 @@ pub use Rattle.wasmi_meter.specs.declared.limiter.Kind.TheVariants as Kinds
 pub use Rattle.wasmi_meter.specs.declared.error.MemoryError.TheVariants as MemoryErrors
 pub use Rattle.wasmi_meter.specs.declared.error.TableError.TheVariants as TableErrors
 pub use Rattle.wasmi_types.specs.declared.trap.TrapCode.TheVariants as TrapCodes
-pub use Rattle.wasmi_ops.specs.declared.vector.access.VectorLoadOp.TheVariants as VectorLoads
-pub use Rattle.wasmi_ops.specs.declared.vector.binary.BinaryOp.TheVariants as Binaries
+pub use Rattle.wasmi_ops.specs.declared.vector.VectorLoadOp.TheVariants as VectorLoads
+pub use Rattle.wasmi_ops.specs.declared.vector.BinaryOp.TheVariants as Binaries

@@ -12,7 +12,7 @@ use Rattle.wasmi_store.specs.Memory.{MemoryTypeValue, page_bytes, MemoryValue, M
 use Rattle.wasmi_core.specs.declared.calls.Reply.{Reply}
 use Rattle.wasmi_core.specs.declared.calls.Reply.TheVariants.{Done, Value, Number, Bytes, Memory, Trap, NoSuch, NoRegion, NoRoom}
 use Rattle.wasmi_core.specs.declared.slots.Slot.{Slot}
-use Rattle.wasmi_ops.specs.declared.scalar.access.LoadOp.{LoadOp}
+use Rattle.wasmi_ops.specs.declared.scalar.LoadOp.{LoadOp}
 use Rattle.wasmi_ops.specs.ScalarOps.{loaded_raw}
 use Rattle.wasmi_core.specs.State.{MemoryPart, live_at}
 use Rattle.wasmi_core.specs.Effects.{reply_of, OnLive, Creates, ChangesAt}

@@ -5,8 +5,8 @@ use Rattle.wasmi_types.specs.declared.trap.TrapCode.{TrapCode}
 use Rattle.wasmi_raw.specs.declared.raw.RawVal.{RawVal}
 use Rattle.wasmi_raw.specs.RawVal.{vector_in, raw_of_vector}
 use Rattle.wasmi_store.specs.Memory.{MemoryValue}
-use Rattle.wasmi_ops.specs.declared.vector.access.VectorLoadOp.{VectorLoadOp}
-use Rattle.wasmi_ops.specs.declared.vector.access.LoadLaneOp.{LoadLaneOp}
+use Rattle.wasmi_ops.specs.declared.vector.VectorLoadOp.{VectorLoadOp}
+use Rattle.wasmi_ops.specs.declared.vector.LoadLaneOp.{LoadLaneOp}
 use Rattle.wasmi_ops.specs.VectorOps.{loaded_vector, loaded_lane}
 use Rattle.wasmi_core.specs.declared.calls.Reply.{Reply}
 use Rattle.wasmi_core.specs.declared.calls.Reply.TheVariants.{Done, Value, Trap, NoSuch}

@@ -15,8 +15,8 @@ use Rattle.wasmi_meter.specs.Meter.{Meter, amount_left, meter_after, ConsumesFue
 use Rattle.wasmi_raw.specs.declared.raw.RawVal.{RawVal}
 use Rattle.wasmi_raw.specs.RawVal.{raw_of, signed_in}
 use Rattle.wasmi_scalar.specs.Numerics.{iadd, imul}
-use Rattle.wasmi_ops.specs.declared.scalar.access.StoreOp.TheVariants.{Store64}
-use Rattle.wasmi_ops.specs.declared.vector.access.VectorLoadOp.TheVariants.{V128Load64Zero}
+use Rattle.wasmi_ops.specs.declared.scalar.StoreOp.TheVariants.{Store64}
+use Rattle.wasmi_ops.specs.declared.vector.VectorLoadOp.TheVariants.{V128Load64Zero}
 use Rattle.wasmi_store.specs.Memory.{MemoryValue, pages_of}
 use Rattle.wasmi_core.specs.declared.calls.Call.{Call}
 use Rattle.wasmi_core.specs.declared.calls.Call.TheVariants.{SetFuel, GrowMemory, SetRegister, VectorLoad}

@@ -5,8 +5,8 @@ use Rattle.std.specs.Option.{option_map, option_map_or, option_and_then}
 use Rattle.wasmi_raw.specs.declared.raw.RawVal.{RawVal}
 use Rattle.wasmi_raw.specs.RawVal.{raw_of, signed_in}
 use Rattle.wasmi_scalar.specs.Numerics.{iadd, imul}
-use Rattle.wasmi_ops.specs.declared.vector.binary.BinaryOp.TheVariants.{I8x16Add}
-use Rattle.wasmi_ops.specs.declared.vector.access.VectorLoadOp.TheVariants.{V128Load64Zero}
+use Rattle.wasmi_ops.specs.declared.vector.BinaryOp.TheVariants.{I8x16Add}
+use Rattle.wasmi_ops.specs.declared.vector.VectorLoadOp.TheVariants.{V128Load64Zero}
 use Rattle.wasmi_meter.specs.Limiter.{Rules}
 use Rattle.wasmi_meter.specs.Meter.{Meter, meter_after}
 use Rattle.wasmi_store.specs.Memory.{pages_of}
@@ -14,7 +14,7 @@ use Rattle.wasmi_core.specs.declared.calls.Call.{Call}
 use Rattle.wasmi_core.specs.declared.calls.Call.TheVariants as call
 use Rattle.wasmi_core.specs.declared.calls.Reply.{Reply}
 use Rattle.wasmi_core.specs.declared.calls.Reply.TheVariants.{Done, Number, Memory}
-use Rattle.wasmi_ops.specs.declared.scalar.access.StoreOp.TheVariants.{Store64}
+use Rattle.wasmi_ops.specs.declared.scalar.StoreOp.TheVariants.{Store64}
 use Rattle.wasmi_core.specs.State.{State, live_at, World, Turn, world}
 use Rattle.wasmi_core.specs.Steps.{Run, IsRunOf, AreTurns}
 use Rattle.wasmi_core.specs.Account.{IsSpent}

@@ -7,17 +7,15 @@ use Rattle.wasmi_typed.specs.declared.typed_ref.TypedRawRef.{TypedRawRef}
 use Rattle.wasmi_types.specs.declared.value.ValType.{ValType}
 use Rattle.wasmi_typed.specs.declared.global.Mutability.{Mutability}
 use Rattle.wasmi_raw.specs.declared.raw.RawVal.{RawVal}
-use Rattle.wasmi_ops.specs.declared.scalar.access.LoadOp.{LoadOp}
-use Rattle.wasmi_ops.specs.declared.scalar.access.StoreOp.{StoreOp}
-use Rattle.wasmi_ops.specs.declared.vector.access.VectorLoadOp.{VectorLoadOp}
-use Rattle.wasmi_ops.specs.declared.vector.access.LoadLaneOp.{LoadLaneOp}
-use Rattle.wasmi_ops.specs.declared.vector.access.StoreLaneOp.{StoreLaneOp}
-use Rattle.wasmi_ops.specs.declared.vector.binary.BinaryOp.{BinaryOp}
-use Rattle.wasmi_ops.specs.declared.vector.make.MakeOp.{MakeOp}
-use Rattle.wasmi_ops.specs.declared.vector.shift.ShiftOp.{ShiftOp}
-use Rattle.wasmi_ops.specs.declared.vector.ternary.TernaryOp.{TernaryOp}
-use Rattle.wasmi_ops.specs.declared.vector.test.TestOp.{TestOp}
-use Rattle.wasmi_ops.specs.declared.vector.unary.UnaryOp.{UnaryOp}
+use Rattle.wasmi_ops.specs.declared.scalar.LoadOp.{LoadOp}
+use Rattle.wasmi_ops.specs.declared.scalar.StoreOp.{StoreOp}
+use Rattle.wasmi_ops.specs.declared.vector.VectorLoadOp.{VectorLoadOp}
+use Rattle.wasmi_ops.specs.declared.vector.BinaryOp.{BinaryOp}
+use Rattle.wasmi_ops.specs.declared.vector.MakeOp.{MakeOp}
+use Rattle.wasmi_ops.specs.declared.vector.ShiftOp.{ShiftOp}
+use Rattle.wasmi_ops.specs.declared.vector.TernaryOp.{TernaryOp}
+use Rattle.wasmi_ops.specs.declared.vector.TestOp.{TestOp}
+use Rattle.wasmi_ops.specs.declared.vector.UnaryOp.{UnaryOp}
 use Rattle.wasmi_core.specs.declared.calls.Call.{Call}
 use Rattle.wasmi_core.specs.declared.calls.Call.TheVariants as call
 use Rattle.wasmi_operands.specs.declared.error.LineError.{LineError}

@@ -22,7 +22,7 @@ use Rattle.wasmi_laws.proofs.LocationLemmas.{others_stay_in_runs}
 use Rattle.wasmi_laws.specs.Places.{MemoryAt, NumberStore, StoresAreReadBack, StoresKeepOtherBytes, load_of, store_call, stored_part, stored_size, MemoriesGrowAlike, TablesGrowAlike, MemoriesReadAlike, MemoriesWriteAlike}
 use Rattle.wasmi_meter.specs.Limiter.{Rules}
 use Rattle.wasmi_ops.specs.ScalarOps.{as_raw, signed_raw, loaded_raw, stored_bytes}
-use Rattle.wasmi_ops.specs.declared.scalar.access.StoreOp.{StoreOp}
+use Rattle.wasmi_ops.specs.declared.scalar.StoreOp.{StoreOp}
 use Rattle.wasmi_raw.specs.RawVal.{raw_of}
 use Rattle.wasmi_raw.specs.declared.raw.RawVal.{RawVal}
 use Rattle.wasmi_store.specs.Memory.{MemoryValue}
@@ -30,7 +30,7 @@ use Rattle.wasmi_types.specs.Numbers.{le_bytes}
 use Rattle.wasmi_types.specs.declared.trap.TrapCode.{TrapCode}
 use Rattle.wasmi_types.specs.Access.{at}
 use Rattle.wasmi_meter.specs.declared.error.MemoryError.TheVariants.{OutOfBoundsAccess}
-use Rattle.wasmi_ops.specs.declared.scalar.access.StoreOp.TheVariants as store
+use Rattle.wasmi_ops.specs.declared.scalar.StoreOp.TheVariants as store
 
 -- a number cut twice to as many bits
 cut_twice : (n k : ℕ) → n % 2 ^ k % 2 ^ k ≡ n % 2 ^ k

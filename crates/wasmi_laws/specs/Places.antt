@@ -4,8 +4,8 @@ use Rattle.std.specs.Prelude.{◌≡◌, ◌⊎◌, ◌*◌, ◌+◌, ◌%◌, �
 use Rattle.wasmi_raw.specs.declared.raw.RawVal.{RawVal}
 use Rattle.wasmi_raw.specs.RawVal.{raw_of}
 use Rattle.wasmi_access.specs.LoadStore.{IsSameOutside}
-use Rattle.wasmi_ops.specs.declared.scalar.access.LoadOp.{LoadOp}
-use Rattle.wasmi_ops.specs.declared.scalar.access.StoreOp.{StoreOp}
+use Rattle.wasmi_ops.specs.declared.scalar.LoadOp.{LoadOp}
+use Rattle.wasmi_ops.specs.declared.scalar.StoreOp.{StoreOp}
 use Rattle.wasmi_typed.specs.Global.{GlobalInstance}
 use Rattle.wasmi_typed.specs.declared.global.Mutability.TheVariants.{Const}
 use Rattle.wasmi_meter.specs.Limiter.{Rules}
@@ -28,8 +28,8 @@ use Rattle.wasmi_meter.specs.declared.error.TableError.{TableError}
 use Rattle.wasmi_store.specs.Growth.{metered_value}
 use Rattle.wasmi_core.specs.declared.calls.Call.TheVariants.{GrowMemory, GrowTable, Read, Write}
 use Rattle.wasmi_core.specs.Effects.{reply_of}
-use Rattle.wasmi_ops.specs.declared.scalar.access.LoadOp.TheVariants as load
-use Rattle.wasmi_ops.specs.declared.scalar.access.StoreOp.TheVariants as store
+use Rattle.wasmi_ops.specs.declared.scalar.LoadOp.TheVariants as load
+use Rattle.wasmi_ops.specs.declared.scalar.StoreOp.TheVariants as store
 use Rattle.wasmi_core.specs.declared.calls.Call.TheVariants as call
 
 -- an index of a machine: of a memory, a table, an element segment or a global, by the order of their making, or of a

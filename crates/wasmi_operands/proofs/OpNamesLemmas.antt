@@ -2,17 +2,8 @@
 use Rattle.std.proofs.Common.{◌≡◌, ℕ, List, map, refl, true}
 use denote.Enum.Bare.{Bare}
 use denote.Enum.Declared.{Record}
-use Rattle.wasmi_ops.specs.declared.scalar.access.TheConstants.{LOADS, STORES}
-use Rattle.wasmi_ops.specs.declared.scalar.unary.TheConstants.{SCALAR_UNARIES}
-use Rattle.wasmi_ops.specs.declared.scalar.binary.TheConstants.{SCALAR_BINARIES}
-use Rattle.wasmi_ops.specs.declared.vector.make.TheConstants.{MAKES}
-use Rattle.wasmi_ops.specs.declared.vector.unary.TheConstants.{UNARIES}
-use Rattle.wasmi_ops.specs.declared.vector.binary.TheConstants.{BINARIES}
-use Rattle.wasmi_ops.specs.declared.vector.ternary.TheConstants.{TERNARIES}
-use Rattle.wasmi_ops.specs.declared.vector.shift.TheConstants.{SHIFTS}
-use Rattle.wasmi_ops.specs.declared.vector.test.TheConstants.{TESTS}
-use Rattle.wasmi_ops.specs.declared.vector.lane_kind.TheConstants.{EXTRACTIONS, REPLACEMENTS, LANE_LOADS, LANE_STORES}
-use Rattle.wasmi_ops.specs.declared.vector.access.TheConstants.{VECTOR_LOADS}
+use Rattle.wasmi_ops.specs.declared.scalar.TheConstants.{LOADS, STORES, SCALAR_UNARIES, SCALAR_BINARIES}
+use Rattle.wasmi_ops.specs.declared.vector.TheConstants.{MAKES, UNARIES, BINARIES, TERNARIES, SHIFTS, TESTS, EXTRACTIONS, REPLACEMENTS, LANE_LOADS, LANE_STORES, VECTOR_LOADS}
 use Rattle.wasmi_ops.specs.ScalarOps.{load_name, store_name, scalar_unary_name, scalar_binary_name}
 use Rattle.wasmi_ops.specs.VectorOps.{make_name, unary_name, binary_name, ternary_name, shift_name, test_name, vector_load_name}
 use Rattle.wasmi_ops.specs.LaneOps.{extract_name, extract_op, replace_name, replace_op, load_lane_name, load_lane_op, store_lane_name, store_lane_op}

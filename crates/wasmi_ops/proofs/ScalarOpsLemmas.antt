@@ -9,8 +9,8 @@ use Rattle.wasmi_raw.specs.declared.raw.RawVal.{RawVal}
 use Rattle.wasmi_raw.specs.RawVal.{raw_of, raw_of_vector}
 use Rattle.wasmi_access.specs.LoadStore.{loaded}
 use Rattle.wasmi_ops.specs.ScalarOps.{as_raw, signed_raw, RawLoad, loaded_raw}
-use Rattle.wasmi_ops.specs.declared.scalar.access.LoadOp.{LoadOp}
-use Rattle.wasmi_ops.specs.declared.scalar.access.LoadOp.TheVariants as load
+use Rattle.wasmi_ops.specs.declared.scalar.LoadOp.{LoadOp}
+use Rattle.wasmi_ops.specs.declared.scalar.LoadOp.TheVariants as load
 
 -- each load has what the load of any number of bytes has, whatever value they stand for
 each_load : (P : RawLoad → Type 0)

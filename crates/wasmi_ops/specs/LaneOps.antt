@@ -4,23 +4,23 @@ use Rattle.wasmi_types.specs.Numbers.{w8, w16, w32, w64}
 use Rattle.std.specs.Int.{cast_unsigned}
 use Rattle.wasmi_raw.specs.declared.raw.RawVal.{RawVal}
 use Rattle.wasmi_raw.specs.RawVal.{raw_of, signed_in}
-use Rattle.wasmi_ops.specs.declared.vector.lane.ExtractOp.{ExtractOp}
-use Rattle.wasmi_ops.specs.declared.vector.lane.ReplaceOp.{ReplaceOp}
-use Rattle.wasmi_ops.specs.declared.vector.access.LoadLaneOp.{LoadLaneOp}
-use Rattle.wasmi_ops.specs.declared.vector.access.StoreLaneOp.{StoreLaneOp}
-use Rattle.wasmi_ops.specs.declared.vector.lane_kind.ExtractKind.{ExtractKind}
-use Rattle.wasmi_ops.specs.declared.vector.lane_kind.ReplaceKind.{ReplaceKind}
-use Rattle.wasmi_ops.specs.declared.vector.lane_kind.LoadLaneKind.{LoadLaneKind}
-use Rattle.wasmi_ops.specs.declared.vector.lane_kind.StoreLaneKind.{StoreLaneKind}
+use Rattle.wasmi_ops.specs.declared.vector.ExtractOp.{ExtractOp}
+use Rattle.wasmi_ops.specs.declared.vector.ReplaceOp.{ReplaceOp}
+use Rattle.wasmi_ops.specs.declared.vector.LoadLaneOp.{LoadLaneOp}
+use Rattle.wasmi_ops.specs.declared.vector.StoreLaneOp.{StoreLaneOp}
+use Rattle.wasmi_ops.specs.declared.vector.ExtractKind.{ExtractKind}
+use Rattle.wasmi_ops.specs.declared.vector.ReplaceKind.{ReplaceKind}
+use Rattle.wasmi_ops.specs.declared.vector.LoadLaneKind.{LoadLaneKind}
+use Rattle.wasmi_ops.specs.declared.vector.StoreLaneKind.{StoreLaneKind}
 use Rattle.wasmi_lanewise.specs.VectorTable as vector
-use Rattle.wasmi_ops.specs.declared.vector.lane.ExtractOp.TheVariants as extract
-use Rattle.wasmi_ops.specs.declared.vector.lane.ReplaceOp.TheVariants as replace
-use Rattle.wasmi_ops.specs.declared.vector.access.LoadLaneOp.TheVariants as load_lane
-use Rattle.wasmi_ops.specs.declared.vector.access.StoreLaneOp.TheVariants as store_lane
-use Rattle.wasmi_ops.specs.declared.vector.lane_kind.ExtractKind.TheVariants as extract_kind
-use Rattle.wasmi_ops.specs.declared.vector.lane_kind.ReplaceKind.TheVariants as replace_kind
-use Rattle.wasmi_ops.specs.declared.vector.lane_kind.LoadLaneKind.TheVariants as load_lane_kind
-use Rattle.wasmi_ops.specs.declared.vector.lane_kind.StoreLaneKind.TheVariants as store_lane_kind
+use Rattle.wasmi_ops.specs.declared.vector.ExtractOp.TheVariants as extract
+use Rattle.wasmi_ops.specs.declared.vector.ReplaceOp.TheVariants as replace
+use Rattle.wasmi_ops.specs.declared.vector.LoadLaneOp.TheVariants as load_lane
+use Rattle.wasmi_ops.specs.declared.vector.StoreLaneOp.TheVariants as store_lane
+use Rattle.wasmi_ops.specs.declared.vector.ExtractKind.TheVariants as extract_kind
+use Rattle.wasmi_ops.specs.declared.vector.ReplaceKind.TheVariants as replace_kind
+use Rattle.wasmi_ops.specs.declared.vector.LoadLaneKind.TheVariants as load_lane_kind
+use Rattle.wasmi_ops.specs.declared.vector.StoreLaneKind.TheVariants as store_lane_kind
 
 -- the lane that an instruction takes from a vector, as a raw value
 abbrev pub extracted_raw : ExtractOp → ℕ → RawVal

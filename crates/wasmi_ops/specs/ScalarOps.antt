@@ -5,17 +5,17 @@ use Rattle.wasmi_types.specs.declared.trap.TrapCode.{TrapCode}
 use Rattle.wasmi_raw.specs.declared.raw.RawVal.{RawVal}
 use Rattle.wasmi_raw.specs.RawVal.{raw_of, signed_in, unsigned_in, raw_of_vector, vector_in}
 use Rattle.wasmi_scalar.specs.Numerics.{iclz, ictz, ipopcnt, ieqz, iadd, isub, imul, idiv_s, idiv_u, irem_s, irem_u, iand, ior, ixor, ishl, ishr_s, ishr_u, irotl, irotr, ieq, ine, ilt_s, ilt_u, igt_s, igt_u, ile_s, ile_u, ige_s, ige_u, add128, sub128}
-use Rattle.wasmi_ops.specs.declared.scalar.unary.ScalarUnaryOp.{ScalarUnaryOp}
-use Rattle.wasmi_ops.specs.declared.scalar.binary.ScalarBinaryOp.{ScalarBinaryOp}
+use Rattle.wasmi_ops.specs.declared.scalar.ScalarUnaryOp.{ScalarUnaryOp}
+use Rattle.wasmi_ops.specs.declared.scalar.ScalarBinaryOp.{ScalarBinaryOp}
 use mir.Val.{bits}
 use Rattle.wasmi_types.specs.Numbers.{le_bytes}
 use Rattle.wasmi_access.specs.LoadStore.{loaded}
-use Rattle.wasmi_ops.specs.declared.scalar.access.LoadOp.{LoadOp}
-use Rattle.wasmi_ops.specs.declared.scalar.access.StoreOp.{StoreOp}
-use Rattle.wasmi_ops.specs.declared.scalar.unary.ScalarUnaryOp.TheVariants as unary
-use Rattle.wasmi_ops.specs.declared.scalar.binary.ScalarBinaryOp.TheVariants as binary
-use Rattle.wasmi_ops.specs.declared.scalar.access.LoadOp.TheVariants as load
-use Rattle.wasmi_ops.specs.declared.scalar.access.StoreOp.TheVariants as store
+use Rattle.wasmi_ops.specs.declared.scalar.LoadOp.{LoadOp}
+use Rattle.wasmi_ops.specs.declared.scalar.StoreOp.{StoreOp}
+use Rattle.wasmi_ops.specs.declared.scalar.ScalarUnaryOp.TheVariants as unary
+use Rattle.wasmi_ops.specs.declared.scalar.ScalarBinaryOp.TheVariants as binary
+use Rattle.wasmi_ops.specs.declared.scalar.LoadOp.TheVariants as load
+use Rattle.wasmi_ops.specs.declared.scalar.StoreOp.TheVariants as store
 
 -- the raw value of a signed number of a width
 abbrev pub signed_raw : Width → ℤ → RawVal

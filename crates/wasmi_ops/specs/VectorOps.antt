@@ -1,32 +1,32 @@
 -- The vector instructions: a row for each, its name and what it gives.
 use Rattle.std.specs.Prelude.{ℕ, List, codes, Result}
 use Rattle.wasmi_types.specs.Numbers.{w8, w16, w32, w64, le_bytes}
-use Rattle.wasmi_ops.specs.declared.vector.unary.UnaryOp.{UnaryOp}
-use Rattle.wasmi_ops.specs.declared.vector.binary.BinaryOp.{BinaryOp}
-use Rattle.wasmi_ops.specs.declared.vector.ternary.TernaryOp.{TernaryOp}
-use Rattle.wasmi_ops.specs.declared.vector.shift.ShiftOp.{ShiftOp}
+use Rattle.wasmi_ops.specs.declared.vector.UnaryOp.{UnaryOp}
+use Rattle.wasmi_ops.specs.declared.vector.BinaryOp.{BinaryOp}
+use Rattle.wasmi_ops.specs.declared.vector.TernaryOp.{TernaryOp}
+use Rattle.wasmi_ops.specs.declared.vector.ShiftOp.{ShiftOp}
 use Rattle.std.specs.Int.{from_bool}
 use Rattle.wasmi_raw.specs.declared.raw.RawVal.{RawVal}
 use Rattle.wasmi_raw.specs.RawVal.{raw_of, signed_in, unsigned_in}
-use Rattle.wasmi_ops.specs.declared.vector.test.TestOp.{TestOp}
-use Rattle.wasmi_ops.specs.declared.vector.make.MakeOp.{MakeOp}
+use Rattle.wasmi_ops.specs.declared.vector.TestOp.{TestOp}
+use Rattle.wasmi_ops.specs.declared.vector.MakeOp.{MakeOp}
 use Rattle.wasmi_types.specs.declared.trap.TrapCode.{TrapCode}
 use Rattle.wasmi_access.specs.LoadStore.{loaded}
 use Rattle.wasmi_lanes.specs.Vector.{lane, splat_of, with_lane}
-use Rattle.wasmi_ops.specs.declared.vector.access.VectorLoadOp.{VectorLoadOp}
-use Rattle.wasmi_ops.specs.declared.vector.access.LoadLaneOp.{LoadLaneOp}
-use Rattle.wasmi_ops.specs.declared.vector.access.StoreLaneOp.{StoreLaneOp}
+use Rattle.wasmi_ops.specs.declared.vector.VectorLoadOp.{VectorLoadOp}
+use Rattle.wasmi_ops.specs.declared.vector.LoadLaneOp.{LoadLaneOp}
+use Rattle.wasmi_ops.specs.declared.vector.StoreLaneOp.{StoreLaneOp}
 use Rattle.wasmi_lanewise.specs.VectorTable as vector
 use Rattle.wasmi_simd.specs.WideningTable as widening
-use Rattle.wasmi_ops.specs.declared.vector.unary.UnaryOp.TheVariants as unary
-use Rattle.wasmi_ops.specs.declared.vector.binary.BinaryOp.TheVariants as binary
-use Rattle.wasmi_ops.specs.declared.vector.ternary.TernaryOp.TheVariants as ternary
-use Rattle.wasmi_ops.specs.declared.vector.shift.ShiftOp.TheVariants as shift
-use Rattle.wasmi_ops.specs.declared.vector.test.TestOp.TheVariants as test
-use Rattle.wasmi_ops.specs.declared.vector.make.MakeOp.TheVariants as make
-use Rattle.wasmi_ops.specs.declared.vector.access.VectorLoadOp.TheVariants as load
-use Rattle.wasmi_ops.specs.declared.vector.access.LoadLaneOp.TheVariants as load_lane
-use Rattle.wasmi_ops.specs.declared.vector.access.StoreLaneOp.TheVariants as store_lane
+use Rattle.wasmi_ops.specs.declared.vector.UnaryOp.TheVariants as unary
+use Rattle.wasmi_ops.specs.declared.vector.BinaryOp.TheVariants as binary
+use Rattle.wasmi_ops.specs.declared.vector.TernaryOp.TheVariants as ternary
+use Rattle.wasmi_ops.specs.declared.vector.ShiftOp.TheVariants as shift
+use Rattle.wasmi_ops.specs.declared.vector.TestOp.TheVariants as test
+use Rattle.wasmi_ops.specs.declared.vector.MakeOp.TheVariants as make
+use Rattle.wasmi_ops.specs.declared.vector.VectorLoadOp.TheVariants as load
+use Rattle.wasmi_ops.specs.declared.vector.LoadLaneOp.TheVariants as load_lane
+use Rattle.wasmi_ops.specs.declared.vector.StoreLaneOp.TheVariants as store_lane
 
 -- each instruction of one vector: its name, and what it gives
 abbrev pub unary_row : UnaryOp → List ℕ × (ℕ → ℕ)

@@ -8,18 +8,12 @@ mod rows;
 mod scalar;
 mod vector;
 
-pub use scalar::access::{LOADS, LoadOp, STORES, StoreOp};
-pub use scalar::binary::{SCALAR_BINARIES, ScalarBinaryOp};
-pub use scalar::unary::{SCALAR_UNARIES, ScalarUnaryOp};
-pub use vector::access::{LoadLaneOp, StoreLaneOp, VECTOR_LOADS, VectorLoadOp};
-pub use vector::binary::{BINARIES, BinaryOp};
-pub use vector::lane::{ExtractOp, ReplaceOp};
-pub use vector::lane_kind::{
-    EXTRACTIONS, ExtractKind, LANE_LOADS, LANE_STORES, LoadLaneKind, REPLACEMENTS, ReplaceKind,
-    StoreLaneKind,
+pub use scalar::{
+    LOADS, LoadOp, SCALAR_BINARIES, SCALAR_UNARIES, STORES, ScalarBinaryOp, ScalarUnaryOp, StoreOp,
 };
-pub use vector::make::{MAKES, MakeOp};
-pub use vector::shift::{SHIFTS, ShiftOp};
-pub use vector::ternary::{TERNARIES, TernaryOp};
-pub use vector::test::{TESTS, TestOp};
-pub use vector::unary::{UNARIES, UnaryOp};
+pub use vector::{
+    BINARIES, BinaryOp, EXTRACTIONS, ExtractKind, ExtractOp, LANE_LOADS, LANE_STORES, LoadLaneKind,
+    LoadLaneOp, MAKES, MakeOp, REPLACEMENTS, ReplaceKind, ReplaceOp, SHIFTS, ShiftOp,
+    StoreLaneKind, StoreLaneOp, TERNARIES, TESTS, TernaryOp, TestOp, UNARIES, UnaryOp,
+    VECTOR_LOADS, VectorLoadOp,
+};

@@ -62,276 +62,294 @@ mod rows {
     pub(crate) use on_lane;
 }
 mod scalar {
-    //! The scalar instructions, on raw values.
+    //! The scalar instructions, on raw values, and the loads and stores that take a pointer and an
+    //! offset.
 
-    pub mod access {
-        //! The scalar loads and stores as values: a variant for each function that takes a pointer and an
-        //! offset.
+    mod wide {
+        //! The instructions of the wide-arithmetic proposal, on raw values.
 
-        use crate::proved::accesses::access::effective_address;
-        use crate::proved::accesses::wasm;
-        use crate::proved::ops::rows::{calls, names};
-        use crate::proved::raw::{RawVal, ReadAs};
-        use crate::proved::types::TrapCode;
+        use crate::proved::raw::{RawVal, V128};
+        use crate::proved::scalar::wasm;
 
-        /// A scalar load.
-        #[derive(Clone, Copy, Debug, PartialEq, Eq)]
-        pub enum LoadOp {
-            /// [`i32_load8_s`](crate::wasm::i32_load8_s)
-            I32Load8S,
-            /// [`i32_load8_u`](crate::wasm::i32_load8_u)
-            I32Load8U,
-            /// [`i32_load16_s`](crate::wasm::i32_load16_s)
-            I32Load16S,
-            /// [`i32_load16_u`](crate::wasm::i32_load16_u)
-            I32Load16U,
-            /// [`i64_load8_s`](crate::wasm::i64_load8_s)
-            I64Load8S,
-            /// [`i64_load8_u`](crate::wasm::i64_load8_u)
-            I64Load8U,
-            /// [`i64_load16_s`](crate::wasm::i64_load16_s)
-            I64Load16S,
-            /// [`i64_load16_u`](crate::wasm::i64_load16_u)
-            I64Load16U,
-            /// [`i64_load32_s`](crate::wasm::i64_load32_s)
-            I64Load32S,
-            /// [`i64_load32_u`](crate::wasm::i64_load32_u)
-            I64Load32U,
-            /// [`load_u32`](crate::wasm::load_u32)
-            LoadU32,
-            /// [`load_u64`](crate::wasm::load_u64)
-            LoadU64,
+        /// The sum modulo 2 to the power 128.
+        ///
+        /// # Contract
+        ///
+        /// ```text
+        /// ensures: result ≡ raw_of_vector (add128 (vector_in lhs) (vector_in rhs))
+        /// ```
+        ///
+        /// Definitions: [`raw_of_vector`](crate::specs::raw::RawVal#raw_of_vector), [`add128`](crate::specs::scalar::Numerics#add128), [`vector_in`](crate::specs::raw::RawVal#vector_in).
+        #[inline]
+        pub fn i64_add128(lhs: RawVal, rhs: RawVal) -> RawVal {
+            let (lhs_lo, lhs_hi) = words(lhs);
+            let (rhs_lo, rhs_hi) = words(rhs);
+            of_words(wasm::i64_add128(lhs_lo, lhs_hi, rhs_lo, rhs_hi))
         }
 
-        /// The rows of `LOADS`.
-        macro_rules! loads {
-    ($make:ident! $($with:tt)*) => { $make! { [$($with)*] wasm [?.into()] {
-        I32Load8S i32_load8_s, I32Load8U i32_load8_u,
-        I32Load16S i32_load16_s, I32Load16U i32_load16_u,
-        I64Load8S i64_load8_s, I64Load8U i64_load8_u,
-        I64Load16S i64_load16_s, I64Load16U i64_load16_u,
-        I64Load32S i64_load32_s, I64Load32U i64_load32_u,
-        LoadU32 load_u32, LoadU64 load_u64,
-    } } };
-}
-
-        /// The scalar loads by name, in the order of the C library's numbers.
-        pub const LOADS: [(&str, LoadOp); 12] = loads!(names! LoadOp);
-
-        impl LoadOp {
-            /// Loads from `ptr + offset`. The only error is `MemoryOutOfBounds`.
-            ///
-            /// # Contract
-            ///
-            /// ```text
-            /// ensures: result ≡ loaded_raw self memory.now (ptr + offset)
-            /// ```
-            ///
-            /// Definitions: [`loaded_raw`](crate::specs::ops::ScalarOps#loaded_raw).
-            #[inline(always)]
-            pub fn load(self, memory: &[u8], ptr: u64, offset: u64) -> Result<RawVal, TrapCode> {
-                // The address is tested once, and not in the arm of each load.
-                let address = effective_address(ptr, offset)?;
-                if address > memory.len() {
-                    return Err(TrapCode::MemoryOutOfBounds);
-                }
-                self.load_front(&memory[address..])
-            }
-
-            /// Loads from the front of some bytes.
-            ///
-            /// # Contract
-            ///
-            /// ```text
-            /// ensures: result ≡ loaded_raw self bytes.now 0
-            /// ```
-            ///
-            /// Definitions: [`loaded_raw`](crate::specs::ops::ScalarOps#loaded_raw).
-            #[inline(always)]
-            fn load_front(self, bytes: &[u8]) -> Result<RawVal, TrapCode> {
-                Ok(loads!(calls! self(bytes, 0, 0)))
-            }
+        /// The difference modulo 2 to the power 128.
+        ///
+        /// # Contract
+        ///
+        /// ```text
+        /// ensures: result ≡ raw_of_vector (sub128 (vector_in lhs) (vector_in rhs))
+        /// ```
+        ///
+        /// Definitions: [`raw_of_vector`](crate::specs::raw::RawVal#raw_of_vector), [`sub128`](crate::specs::scalar::Numerics#sub128), [`vector_in`](crate::specs::raw::RawVal#vector_in).
+        #[inline]
+        pub fn i64_sub128(lhs: RawVal, rhs: RawVal) -> RawVal {
+            let (lhs_lo, lhs_hi) = words(lhs);
+            let (rhs_lo, rhs_hi) = words(rhs);
+            of_words(wasm::i64_sub128(lhs_lo, lhs_hi, rhs_lo, rhs_hi))
         }
 
-        /// A scalar store.
-        #[derive(Clone, Copy, Debug, PartialEq, Eq)]
-        pub enum StoreOp {
-            /// [`i32_store8`](crate::wasm::i32_store8)
-            I32Store8,
-            /// [`i32_store16`](crate::wasm::i32_store16)
-            I32Store16,
-            /// [`i64_store8`](crate::wasm::i64_store8)
-            I64Store8,
-            /// [`i64_store16`](crate::wasm::i64_store16)
-            I64Store16,
-            /// [`i64_store32`](crate::wasm::i64_store32)
-            I64Store32,
-            /// [`store32`](crate::wasm::store32)
-            Store32,
-            /// [`store64`](crate::wasm::store64)
-            Store64,
+        /// The whole product of two numbers read signed.
+        ///
+        /// # Contract
+        ///
+        /// ```text
+        /// ensures: result ≡ raw_of_vector (cast_unsigned w128 (lhs *ℤ rhs))
+        /// ```
+        ///
+        /// Definitions: [`raw_of_vector`](crate::specs::raw::RawVal#raw_of_vector).
+        #[inline]
+        pub fn i64_mul_wide_s(lhs: i64, rhs: i64) -> RawVal {
+            of_words(wasm::i64_mul_wide_s(lhs, rhs))
         }
 
-        /// The rows of `STORES`.
-        macro_rules! stores {
-    ($make:ident! $($with:tt)*) => { $make! { [$($with)*] wasm [] {
-        I32Store8 i32_store8, I32Store16 i32_store16,
-        I64Store8 i64_store8, I64Store16 i64_store16, I64Store32 i64_store32,
-        Store32 store32, Store64 store64,
-    } } };
-}
+        /// The whole product of two numbers read unsigned.
+        ///
+        /// # Contract
+        ///
+        /// ```text
+        /// ensures: result ≡ raw_of_vector (cast_unsigned w64 lhs * cast_unsigned w64 rhs)
+        /// ```
+        ///
+        /// Definitions: [`raw_of_vector`](crate::specs::raw::RawVal#raw_of_vector).
+        #[inline]
+        pub fn i64_mul_wide_u(lhs: i64, rhs: i64) -> RawVal {
+            of_words(wasm::i64_mul_wide_u(lhs, rhs))
+        }
 
-        /// The scalar stores by name, in the order of the C library's numbers.
-        pub const STORES: [(&str, StoreOp); 7] = stores!(names! StoreOp);
+        /// The low and the high word of a raw value.
+        ///
+        /// # Contract
+        ///
+        /// ```text
+        /// ensures: unsigned_of result.0 result.1 ≡ vector_in raw
+        /// ```
+        ///
+        /// Definitions: [`unsigned_of`](crate::specs::scalar::Numerics#unsigned_of), [`vector_in`](crate::specs::raw::RawVal#vector_in).
+        #[inline]
+        fn words(raw: RawVal) -> (i64, i64) {
+            (raw.lo.cast_signed(), raw.hi.cast_signed())
+        }
 
-        impl StoreOp {
-            /// Stores a value at `ptr + offset`. The only error is `MemoryOutOfBounds`, and then nothing is
-            /// written.
-            ///
-            /// # Contract
-            ///
-            /// ```text
-            /// ensures: IsStore memory.old (ptr + offset) (stored_bytes self value) memory.new result
-            /// ```
-            ///
-            /// Definitions: [`IsStore`](crate::specs::accesses::LoadStore#IsStore), [`stored_bytes`](crate::specs::ops::ScalarOps#stored_bytes).
-            #[inline(always)]
-            pub fn store(
-                self,
-                memory: &mut [u8],
-                ptr: u64,
-                offset: u64,
-                value: RawVal,
-            ) -> Result<(), TrapCode> {
-                let address = effective_address(ptr, offset)?;
-                stores!(calls! self(memory, address as u64, 0, value.read_as()))
-            }
+        /// The raw value of a low and a high word.
+        ///
+        /// # Contract
+        ///
+        /// ```text
+        /// ensures: result ≡ raw_of_vector (unsigned_of pair.0 pair.1)
+        /// ```
+        ///
+        /// Definitions: [`raw_of_vector`](crate::specs::raw::RawVal#raw_of_vector), [`unsigned_of`](crate::specs::scalar::Numerics#unsigned_of).
+        #[inline]
+        fn of_words(pair: (i64, i64)) -> RawVal {
+            RawVal::from(V128::from_word_pair(
+                pair.0.cast_unsigned(),
+                pair.1.cast_unsigned(),
+            ))
         }
     }
-    pub mod binary {
-        //! The scalar instructions of two operands.
 
-        use crate::proved::ops::rows::{calls, names};
-        use crate::proved::ops::scalar::wide;
-        use crate::proved::raw::{RawVal, ReadAs};
-        use crate::proved::scalar::wasm;
-        use crate::proved::types::TrapCode;
+    use crate::proved::accesses::access::effective_address;
+    use crate::proved::accesses::wasm as accesses;
+    use crate::proved::ops::rows::{calls, names};
+    use crate::proved::raw::{RawVal, ReadAs};
+    use crate::proved::scalar::wasm;
+    use crate::proved::types::TrapCode;
 
-        /// A scalar instruction of two operands.
-        #[derive(Clone, Copy, Debug, PartialEq, Eq)]
-        pub enum ScalarBinaryOp {
-            /// [`i32_add`](crate::wasm::i32_add)
-            I32Add,
-            /// [`i32_sub`](crate::wasm::i32_sub)
-            I32Sub,
-            /// [`i32_mul`](crate::wasm::i32_mul)
-            I32Mul,
-            /// [`i32_bitand`](crate::wasm::i32_bitand)
-            I32Bitand,
-            /// [`i32_bitor`](crate::wasm::i32_bitor)
-            I32Bitor,
-            /// [`i32_bitxor`](crate::wasm::i32_bitxor)
-            I32Bitxor,
-            /// [`i32_shl`](crate::wasm::i32_shl)
-            I32Shl,
-            /// [`i32_shr_s`](crate::wasm::i32_shr_s)
-            I32ShrS,
-            /// [`i32_shr_u`](crate::wasm::i32_shr_u)
-            I32ShrU,
-            /// [`i32_rotl`](crate::wasm::i32_rotl)
-            I32Rotl,
-            /// [`i32_rotr`](crate::wasm::i32_rotr)
-            I32Rotr,
-            /// [`i32_div_s`](crate::wasm::i32_div_s)
-            I32DivS,
-            /// [`i32_div_u`](crate::wasm::i32_div_u)
-            I32DivU,
-            /// [`i32_rem_s`](crate::wasm::i32_rem_s)
-            I32RemS,
-            /// [`i32_rem_u`](crate::wasm::i32_rem_u)
-            I32RemU,
-            /// [`i32_eq`](crate::wasm::i32_eq)
-            I32Eq,
-            /// [`i32_ne`](crate::wasm::i32_ne)
-            I32Ne,
-            /// [`i32_lt_s`](crate::wasm::i32_lt_s)
-            I32LtS,
-            /// [`i32_lt_u`](crate::wasm::i32_lt_u)
-            I32LtU,
-            /// [`i32_le_s`](crate::wasm::i32_le_s)
-            I32LeS,
-            /// [`i32_le_u`](crate::wasm::i32_le_u)
-            I32LeU,
-            /// [`i32_gt_s`](crate::wasm::i32_gt_s)
-            I32GtS,
-            /// [`i32_gt_u`](crate::wasm::i32_gt_u)
-            I32GtU,
-            /// [`i32_ge_s`](crate::wasm::i32_ge_s)
-            I32GeS,
-            /// [`i32_ge_u`](crate::wasm::i32_ge_u)
-            I32GeU,
-            /// [`i64_add`](crate::wasm::i64_add)
-            I64Add,
-            /// [`i64_sub`](crate::wasm::i64_sub)
-            I64Sub,
-            /// [`i64_mul`](crate::wasm::i64_mul)
-            I64Mul,
-            /// [`i64_bitand`](crate::wasm::i64_bitand)
-            I64Bitand,
-            /// [`i64_bitor`](crate::wasm::i64_bitor)
-            I64Bitor,
-            /// [`i64_bitxor`](crate::wasm::i64_bitxor)
-            I64Bitxor,
-            /// [`i64_shl`](crate::wasm::i64_shl)
-            I64Shl,
-            /// [`i64_shr_s`](crate::wasm::i64_shr_s)
-            I64ShrS,
-            /// [`i64_shr_u`](crate::wasm::i64_shr_u)
-            I64ShrU,
-            /// [`i64_rotl`](crate::wasm::i64_rotl)
-            I64Rotl,
-            /// [`i64_rotr`](crate::wasm::i64_rotr)
-            I64Rotr,
-            /// [`i64_div_s`](crate::wasm::i64_div_s)
-            I64DivS,
-            /// [`i64_div_u`](crate::wasm::i64_div_u)
-            I64DivU,
-            /// [`i64_rem_s`](crate::wasm::i64_rem_s)
-            I64RemS,
-            /// [`i64_rem_u`](crate::wasm::i64_rem_u)
-            I64RemU,
-            /// [`i64_eq`](crate::wasm::i64_eq)
-            I64Eq,
-            /// [`i64_ne`](crate::wasm::i64_ne)
-            I64Ne,
-            /// [`i64_lt_s`](crate::wasm::i64_lt_s)
-            I64LtS,
-            /// [`i64_lt_u`](crate::wasm::i64_lt_u)
-            I64LtU,
-            /// [`i64_le_s`](crate::wasm::i64_le_s)
-            I64LeS,
-            /// [`i64_le_u`](crate::wasm::i64_le_u)
-            I64LeU,
-            /// [`i64_gt_s`](crate::wasm::i64_gt_s)
-            I64GtS,
-            /// [`i64_gt_u`](crate::wasm::i64_gt_u)
-            I64GtU,
-            /// [`i64_ge_s`](crate::wasm::i64_ge_s)
-            I64GeS,
-            /// [`i64_ge_u`](crate::wasm::i64_ge_u)
-            I64GeU,
-            /// [`i64_add128`](crate::wasm::i64_add128)
-            I64Add128,
-            /// [`i64_sub128`](crate::wasm::i64_sub128)
-            I64Sub128,
-            /// [`i64_mul_wide_s`](crate::wasm::i64_mul_wide_s)
-            I64MulWideS,
-            /// [`i64_mul_wide_u`](crate::wasm::i64_mul_wide_u)
-            I64MulWideU,
+    /// A scalar instruction of one operand.
+    #[derive(Clone, Copy, Debug, PartialEq, Eq)]
+    pub enum ScalarUnaryOp {
+        /// [`i32_clz`](crate::wasm::i32_clz)
+        I32Clz,
+        /// [`i32_ctz`](crate::wasm::i32_ctz)
+        I32Ctz,
+        /// [`i32_popcnt`](crate::wasm::i32_popcnt)
+        I32Popcnt,
+        /// [`i32_eqz`](crate::wasm::i32_eqz)
+        I32Eqz,
+        /// [`i64_clz`](crate::wasm::i64_clz)
+        I64Clz,
+        /// [`i64_ctz`](crate::wasm::i64_ctz)
+        I64Ctz,
+        /// [`i64_popcnt`](crate::wasm::i64_popcnt)
+        I64Popcnt,
+        /// [`i64_eqz`](crate::wasm::i64_eqz)
+        I64Eqz,
+        /// [`i32_wrap_i64`](crate::wasm::i32_wrap_i64)
+        I32WrapI64,
+        /// [`i64_extend_i32_s`](crate::wasm::i64_extend_i32_s)
+        I64ExtendI32S,
+        /// [`i64_extend_i32_u`](crate::wasm::i64_extend_i32_u)
+        I64ExtendI32U,
+        /// [`i32_extend8_s`](crate::wasm::i32_extend8_s)
+        I32Extend8S,
+        /// [`i32_extend16_s`](crate::wasm::i32_extend16_s)
+        I32Extend16S,
+        /// [`i64_extend8_s`](crate::wasm::i64_extend8_s)
+        I64Extend8S,
+        /// [`i64_extend16_s`](crate::wasm::i64_extend16_s)
+        I64Extend16S,
+        /// [`i64_extend32_s`](crate::wasm::i64_extend32_s)
+        I64Extend32S,
+    }
+
+    macro_rules! scalar_unaries {
+    ($make:ident! $($with:tt)*) => { $make! { [$($with)*] wasm [.into()] {
+        I32Clz i32_clz, I32Ctz i32_ctz, I32Popcnt i32_popcnt, I32Eqz i32_eqz,
+        I64Clz i64_clz, I64Ctz i64_ctz, I64Popcnt i64_popcnt, I64Eqz i64_eqz,
+        I32WrapI64 i32_wrap_i64, I64ExtendI32S i64_extend_i32_s, I64ExtendI32U i64_extend_i32_u,
+        I32Extend8S i32_extend8_s, I32Extend16S i32_extend16_s,
+        I64Extend8S i64_extend8_s, I64Extend16S i64_extend16_s, I64Extend32S i64_extend32_s,
+    } } };
+}
+
+    /// The scalar instructions of one operand by name, in the order of the C library's numbers.
+    pub const SCALAR_UNARIES: [(&str, ScalarUnaryOp); 16] = scalar_unaries!(names! ScalarUnaryOp);
+
+    impl ScalarUnaryOp {
+        /// The result for an operand in a raw value. A Boolean is 0 or 1.
+        ///
+        /// # Contract
+        ///
+        /// ```text
+        /// ensures: result ≡ unary_raw self raw
+        /// ```
+        ///
+        /// Definitions: [`unary_raw`](crate::specs::ops::ScalarOps#unary_raw).
+        #[inline]
+        pub fn apply(self, raw: RawVal) -> RawVal {
+            scalar_unaries!(calls! self(raw.read_as()))
         }
+    }
 
-        /// The rows of `SCALAR_BINARIES`.
-        macro_rules! scalar_binaries {
+    /// A scalar instruction of two operands.
+    #[derive(Clone, Copy, Debug, PartialEq, Eq)]
+    pub enum ScalarBinaryOp {
+        /// [`i32_add`](crate::wasm::i32_add)
+        I32Add,
+        /// [`i32_sub`](crate::wasm::i32_sub)
+        I32Sub,
+        /// [`i32_mul`](crate::wasm::i32_mul)
+        I32Mul,
+        /// [`i32_bitand`](crate::wasm::i32_bitand)
+        I32Bitand,
+        /// [`i32_bitor`](crate::wasm::i32_bitor)
+        I32Bitor,
+        /// [`i32_bitxor`](crate::wasm::i32_bitxor)
+        I32Bitxor,
+        /// [`i32_shl`](crate::wasm::i32_shl)
+        I32Shl,
+        /// [`i32_shr_s`](crate::wasm::i32_shr_s)
+        I32ShrS,
+        /// [`i32_shr_u`](crate::wasm::i32_shr_u)
+        I32ShrU,
+        /// [`i32_rotl`](crate::wasm::i32_rotl)
+        I32Rotl,
+        /// [`i32_rotr`](crate::wasm::i32_rotr)
+        I32Rotr,
+        /// [`i32_div_s`](crate::wasm::i32_div_s)
+        I32DivS,
+        /// [`i32_div_u`](crate::wasm::i32_div_u)
+        I32DivU,
+        /// [`i32_rem_s`](crate::wasm::i32_rem_s)
+        I32RemS,
+        /// [`i32_rem_u`](crate::wasm::i32_rem_u)
+        I32RemU,
+        /// [`i32_eq`](crate::wasm::i32_eq)
+        I32Eq,
+        /// [`i32_ne`](crate::wasm::i32_ne)
+        I32Ne,
+        /// [`i32_lt_s`](crate::wasm::i32_lt_s)
+        I32LtS,
+        /// [`i32_lt_u`](crate::wasm::i32_lt_u)
+        I32LtU,
+        /// [`i32_le_s`](crate::wasm::i32_le_s)
+        I32LeS,
+        /// [`i32_le_u`](crate::wasm::i32_le_u)
+        I32LeU,
+        /// [`i32_gt_s`](crate::wasm::i32_gt_s)
+        I32GtS,
+        /// [`i32_gt_u`](crate::wasm::i32_gt_u)
+        I32GtU,
+        /// [`i32_ge_s`](crate::wasm::i32_ge_s)
+        I32GeS,
+        /// [`i32_ge_u`](crate::wasm::i32_ge_u)
+        I32GeU,
+        /// [`i64_add`](crate::wasm::i64_add)
+        I64Add,
+        /// [`i64_sub`](crate::wasm::i64_sub)
+        I64Sub,
+        /// [`i64_mul`](crate::wasm::i64_mul)
+        I64Mul,
+        /// [`i64_bitand`](crate::wasm::i64_bitand)
+        I64Bitand,
+        /// [`i64_bitor`](crate::wasm::i64_bitor)
+        I64Bitor,
+        /// [`i64_bitxor`](crate::wasm::i64_bitxor)
+        I64Bitxor,
+        /// [`i64_shl`](crate::wasm::i64_shl)
+        I64Shl,
+        /// [`i64_shr_s`](crate::wasm::i64_shr_s)
+        I64ShrS,
+        /// [`i64_shr_u`](crate::wasm::i64_shr_u)
+        I64ShrU,
+        /// [`i64_rotl`](crate::wasm::i64_rotl)
+        I64Rotl,
+        /// [`i64_rotr`](crate::wasm::i64_rotr)
+        I64Rotr,
+        /// [`i64_div_s`](crate::wasm::i64_div_s)
+        I64DivS,
+        /// [`i64_div_u`](crate::wasm::i64_div_u)
+        I64DivU,
+        /// [`i64_rem_s`](crate::wasm::i64_rem_s)
+        I64RemS,
+        /// [`i64_rem_u`](crate::wasm::i64_rem_u)
+        I64RemU,
+        /// [`i64_eq`](crate::wasm::i64_eq)
+        I64Eq,
+        /// [`i64_ne`](crate::wasm::i64_ne)
+        I64Ne,
+        /// [`i64_lt_s`](crate::wasm::i64_lt_s)
+        I64LtS,
+        /// [`i64_lt_u`](crate::wasm::i64_lt_u)
+        I64LtU,
+        /// [`i64_le_s`](crate::wasm::i64_le_s)
+        I64LeS,
+        /// [`i64_le_u`](crate::wasm::i64_le_u)
+        I64LeU,
+        /// [`i64_gt_s`](crate::wasm::i64_gt_s)
+        I64GtS,
+        /// [`i64_gt_u`](crate::wasm::i64_gt_u)
+        I64GtU,
+        /// [`i64_ge_s`](crate::wasm::i64_ge_s)
+        I64GeS,
+        /// [`i64_ge_u`](crate::wasm::i64_ge_u)
+        I64GeU,
+        /// [`i64_add128`](crate::wasm::i64_add128)
+        I64Add128,
+        /// [`i64_sub128`](crate::wasm::i64_sub128)
+        I64Sub128,
+        /// [`i64_mul_wide_s`](crate::wasm::i64_mul_wide_s)
+        I64MulWideS,
+        /// [`i64_mul_wide_u`](crate::wasm::i64_mul_wide_u)
+        I64MulWideU,
+    }
+
+    macro_rules! scalar_binaries {
     ($make:ident! $($with:tt)*) => { $make! { [$($with)*]
         wasm [.into()] {
             I32Add i32_add, I32Sub i32_sub, I32Mul i32_mul,
@@ -364,575 +382,540 @@ mod scalar {
     } };
 }
 
-        /// The scalar instructions of two operands by name, in the order of the C library's numbers.
-        pub const SCALAR_BINARIES: [(&str, ScalarBinaryOp); 54] =
-            scalar_binaries!(names! ScalarBinaryOp);
+    /// The scalar instructions of two operands by name, in the order of the C library's numbers.
+    pub const SCALAR_BINARIES: [(&str, ScalarBinaryOp); 54] =
+        scalar_binaries!(names! ScalarBinaryOp);
 
-        impl ScalarBinaryOp {
-            /// The result for two operands in raw values. A Boolean is 0 or 1; the operands of 128 bits,
-            /// and results of them, are the two words of a raw value.
-            ///
-            /// Divisions and remainders alone can trap: by zero with `IntegerDivisionByZero`, and a signed
-            /// division of the least number by -1 with `IntegerOverflow`.
-            ///
-            /// # Contract
-            ///
-            /// ```text
-            /// ensures: result ≡ binary_raw self lhs rhs
-            /// ```
-            ///
-            /// Definitions: [`binary_raw`](crate::specs::ops::ScalarOps#binary_raw).
-            #[inline]
-            pub fn apply(self, lhs: RawVal, rhs: RawVal) -> Result<RawVal, TrapCode> {
-                Ok(scalar_binaries!(calls! self(lhs.read_as(), rhs.read_as())))
-            }
+    impl ScalarBinaryOp {
+        /// The result for two operands in raw values. A Boolean is 0 or 1; the operands of 128 bits,
+        /// and results of them, are the two words of a raw value.
+        ///
+        /// Divisions and remainders alone can trap: by zero with `IntegerDivisionByZero`, and a signed
+        /// division of the least number by -1 with `IntegerOverflow`.
+        ///
+        /// # Contract
+        ///
+        /// ```text
+        /// ensures: result ≡ binary_raw self lhs rhs
+        /// ```
+        ///
+        /// Definitions: [`binary_raw`](crate::specs::ops::ScalarOps#binary_raw).
+        #[inline]
+        pub fn apply(self, lhs: RawVal, rhs: RawVal) -> Result<RawVal, TrapCode> {
+            Ok(scalar_binaries!(calls! self(lhs.read_as(), rhs.read_as())))
         }
     }
-    pub mod unary {
-        //! The scalar instructions of one operand.
 
-        use crate::proved::ops::rows::{calls, names};
-        use crate::proved::raw::{RawVal, ReadAs};
-        use crate::proved::scalar::wasm;
+    /// A scalar load.
+    #[derive(Clone, Copy, Debug, PartialEq, Eq)]
+    pub enum LoadOp {
+        /// [`i32_load8_s`](crate::wasm::i32_load8_s)
+        I32Load8S,
+        /// [`i32_load8_u`](crate::wasm::i32_load8_u)
+        I32Load8U,
+        /// [`i32_load16_s`](crate::wasm::i32_load16_s)
+        I32Load16S,
+        /// [`i32_load16_u`](crate::wasm::i32_load16_u)
+        I32Load16U,
+        /// [`i64_load8_s`](crate::wasm::i64_load8_s)
+        I64Load8S,
+        /// [`i64_load8_u`](crate::wasm::i64_load8_u)
+        I64Load8U,
+        /// [`i64_load16_s`](crate::wasm::i64_load16_s)
+        I64Load16S,
+        /// [`i64_load16_u`](crate::wasm::i64_load16_u)
+        I64Load16U,
+        /// [`i64_load32_s`](crate::wasm::i64_load32_s)
+        I64Load32S,
+        /// [`i64_load32_u`](crate::wasm::i64_load32_u)
+        I64Load32U,
+        /// [`load_u32`](crate::wasm::load_u32)
+        LoadU32,
+        /// [`load_u64`](crate::wasm::load_u64)
+        LoadU64,
+    }
 
-        /// A scalar instruction of one operand.
-        #[derive(Clone, Copy, Debug, PartialEq, Eq)]
-        pub enum ScalarUnaryOp {
-            /// [`i32_clz`](crate::wasm::i32_clz)
-            I32Clz,
-            /// [`i32_ctz`](crate::wasm::i32_ctz)
-            I32Ctz,
-            /// [`i32_popcnt`](crate::wasm::i32_popcnt)
-            I32Popcnt,
-            /// [`i32_eqz`](crate::wasm::i32_eqz)
-            I32Eqz,
-            /// [`i64_clz`](crate::wasm::i64_clz)
-            I64Clz,
-            /// [`i64_ctz`](crate::wasm::i64_ctz)
-            I64Ctz,
-            /// [`i64_popcnt`](crate::wasm::i64_popcnt)
-            I64Popcnt,
-            /// [`i64_eqz`](crate::wasm::i64_eqz)
-            I64Eqz,
-            /// [`i32_wrap_i64`](crate::wasm::i32_wrap_i64)
-            I32WrapI64,
-            /// [`i64_extend_i32_s`](crate::wasm::i64_extend_i32_s)
-            I64ExtendI32S,
-            /// [`i64_extend_i32_u`](crate::wasm::i64_extend_i32_u)
-            I64ExtendI32U,
-            /// [`i32_extend8_s`](crate::wasm::i32_extend8_s)
-            I32Extend8S,
-            /// [`i32_extend16_s`](crate::wasm::i32_extend16_s)
-            I32Extend16S,
-            /// [`i64_extend8_s`](crate::wasm::i64_extend8_s)
-            I64Extend8S,
-            /// [`i64_extend16_s`](crate::wasm::i64_extend16_s)
-            I64Extend16S,
-            /// [`i64_extend32_s`](crate::wasm::i64_extend32_s)
-            I64Extend32S,
-        }
-
-        /// The rows of `SCALAR_UNARIES`.
-        macro_rules! scalar_unaries {
-    ($make:ident! $($with:tt)*) => { $make! { [$($with)*] wasm [.into()] {
-        I32Clz i32_clz, I32Ctz i32_ctz, I32Popcnt i32_popcnt, I32Eqz i32_eqz,
-        I64Clz i64_clz, I64Ctz i64_ctz, I64Popcnt i64_popcnt, I64Eqz i64_eqz,
-        I32WrapI64 i32_wrap_i64, I64ExtendI32S i64_extend_i32_s, I64ExtendI32U i64_extend_i32_u,
-        I32Extend8S i32_extend8_s, I32Extend16S i32_extend16_s,
-        I64Extend8S i64_extend8_s, I64Extend16S i64_extend16_s, I64Extend32S i64_extend32_s,
+    macro_rules! loads {
+    ($make:ident! $($with:tt)*) => { $make! { [$($with)*] accesses [?.into()] {
+        I32Load8S i32_load8_s, I32Load8U i32_load8_u,
+        I32Load16S i32_load16_s, I32Load16U i32_load16_u,
+        I64Load8S i64_load8_s, I64Load8U i64_load8_u,
+        I64Load16S i64_load16_s, I64Load16U i64_load16_u,
+        I64Load32S i64_load32_s, I64Load32U i64_load32_u,
+        LoadU32 load_u32, LoadU64 load_u64,
     } } };
 }
 
-        /// The scalar instructions of one operand by name, in the order of the C library's numbers.
-        pub const SCALAR_UNARIES: [(&str, ScalarUnaryOp); 16] =
-            scalar_unaries!(names! ScalarUnaryOp);
+    /// The scalar loads by name, in the order of the C library's numbers.
+    pub const LOADS: [(&str, LoadOp); 12] = loads!(names! LoadOp);
 
-        impl ScalarUnaryOp {
-            /// The result for an operand in a raw value. A Boolean is 0 or 1.
-            ///
-            /// # Contract
-            ///
-            /// ```text
-            /// ensures: result ≡ unary_raw self raw
-            /// ```
-            ///
-            /// Definitions: [`unary_raw`](crate::specs::ops::ScalarOps#unary_raw).
-            #[inline]
-            pub fn apply(self, raw: RawVal) -> RawVal {
-                scalar_unaries!(calls! self(raw.read_as()))
+    impl LoadOp {
+        /// Loads from `ptr + offset`. The only error is `MemoryOutOfBounds`.
+        ///
+        /// # Contract
+        ///
+        /// ```text
+        /// ensures: result ≡ loaded_raw self memory.now (ptr + offset)
+        /// ```
+        ///
+        /// Definitions: [`loaded_raw`](crate::specs::ops::ScalarOps#loaded_raw).
+        #[inline(always)]
+        pub fn load(self, memory: &[u8], ptr: u64, offset: u64) -> Result<RawVal, TrapCode> {
+            // The address is tested once, and not in the arm of each load.
+            let address = effective_address(ptr, offset)?;
+            if address > memory.len() {
+                return Err(TrapCode::MemoryOutOfBounds);
             }
+            self.load_front(&memory[address..])
+        }
+
+        /// Loads from the front of some bytes.
+        ///
+        /// # Contract
+        ///
+        /// ```text
+        /// ensures: result ≡ loaded_raw self bytes.now 0
+        /// ```
+        ///
+        /// Definitions: [`loaded_raw`](crate::specs::ops::ScalarOps#loaded_raw).
+        #[inline(always)]
+        fn load_front(self, bytes: &[u8]) -> Result<RawVal, TrapCode> {
+            Ok(loads!(calls! self(bytes, 0, 0)))
         }
     }
-    mod wide {
-        //! The instructions of the wide-arithmetic proposal, on raw values.
 
-        use crate::proved::raw::{RawVal, V128};
-        use crate::proved::scalar::wasm;
+    /// A scalar store.
+    #[derive(Clone, Copy, Debug, PartialEq, Eq)]
+    pub enum StoreOp {
+        /// [`i32_store8`](crate::wasm::i32_store8)
+        I32Store8,
+        /// [`i32_store16`](crate::wasm::i32_store16)
+        I32Store16,
+        /// [`i64_store8`](crate::wasm::i64_store8)
+        I64Store8,
+        /// [`i64_store16`](crate::wasm::i64_store16)
+        I64Store16,
+        /// [`i64_store32`](crate::wasm::i64_store32)
+        I64Store32,
+        /// [`store32`](crate::wasm::store32)
+        Store32,
+        /// [`store64`](crate::wasm::store64)
+        Store64,
+    }
 
-        /// The sum modulo 2 to the power 128.
+    macro_rules! stores {
+    ($make:ident! $($with:tt)*) => { $make! { [$($with)*] accesses [] {
+        I32Store8 i32_store8, I32Store16 i32_store16,
+        I64Store8 i64_store8, I64Store16 i64_store16, I64Store32 i64_store32,
+        Store32 store32, Store64 store64,
+    } } };
+}
+
+    /// The scalar stores by name, in the order of the C library's numbers.
+    pub const STORES: [(&str, StoreOp); 7] = stores!(names! StoreOp);
+
+    impl StoreOp {
+        /// Stores a value at `ptr + offset`. The only error is `MemoryOutOfBounds`, and then nothing is
+        /// written.
         ///
         /// # Contract
         ///
         /// ```text
-        /// ensures: result ≡ raw_of_vector (add128 (vector_in lhs) (vector_in rhs))
+        /// ensures: IsStore memory.old (ptr + offset) (stored_bytes self value) memory.new result
         /// ```
         ///
-        /// Definitions: [`raw_of_vector`](crate::specs::raw::RawVal#raw_of_vector), [`add128`](crate::specs::scalar::Numerics#add128), [`vector_in`](crate::specs::raw::RawVal#vector_in).
-        #[inline]
-        pub fn i64_add128(lhs: RawVal, rhs: RawVal) -> RawVal {
-            let (lhs_lo, lhs_hi) = words(lhs);
-            let (rhs_lo, rhs_hi) = words(rhs);
-            let (lo, hi) = wasm::i64_add128(lhs_lo, lhs_hi, rhs_lo, rhs_hi);
-            of_words(lo, hi)
-        }
-
-        /// The difference modulo 2 to the power 128.
-        ///
-        /// # Contract
-        ///
-        /// ```text
-        /// ensures: result ≡ raw_of_vector (sub128 (vector_in lhs) (vector_in rhs))
-        /// ```
-        ///
-        /// Definitions: [`raw_of_vector`](crate::specs::raw::RawVal#raw_of_vector), [`sub128`](crate::specs::scalar::Numerics#sub128), [`vector_in`](crate::specs::raw::RawVal#vector_in).
-        #[inline]
-        pub fn i64_sub128(lhs: RawVal, rhs: RawVal) -> RawVal {
-            let (lhs_lo, lhs_hi) = words(lhs);
-            let (rhs_lo, rhs_hi) = words(rhs);
-            let (lo, hi) = wasm::i64_sub128(lhs_lo, lhs_hi, rhs_lo, rhs_hi);
-            of_words(lo, hi)
-        }
-
-        /// The whole product of two numbers read signed.
-        ///
-        /// # Contract
-        ///
-        /// ```text
-        /// ensures: result ≡ raw_of_vector (cast_unsigned w128 (lhs *ℤ rhs))
-        /// ```
-        ///
-        /// Definitions: [`raw_of_vector`](crate::specs::raw::RawVal#raw_of_vector).
-        #[inline]
-        pub fn i64_mul_wide_s(lhs: i64, rhs: i64) -> RawVal {
-            let (lo, hi) = wasm::i64_mul_wide_s(lhs, rhs);
-            of_words(lo, hi)
-        }
-
-        /// The whole product of two numbers read unsigned.
-        ///
-        /// # Contract
-        ///
-        /// ```text
-        /// ensures: result ≡ raw_of_vector (cast_unsigned w64 lhs * cast_unsigned w64 rhs)
-        /// ```
-        ///
-        /// Definitions: [`raw_of_vector`](crate::specs::raw::RawVal#raw_of_vector).
-        #[inline]
-        pub fn i64_mul_wide_u(lhs: i64, rhs: i64) -> RawVal {
-            let (lo, hi) = wasm::i64_mul_wide_u(lhs, rhs);
-            of_words(lo, hi)
-        }
-
-        /// The low and the high word of a raw value.
-        ///
-        /// # Contract
-        ///
-        /// ```text
-        /// ensures: unsigned_of result.0 result.1 ≡ vector_in raw
-        /// ```
-        ///
-        /// Definitions: [`unsigned_of`](crate::specs::scalar::Numerics#unsigned_of), [`vector_in`](crate::specs::raw::RawVal#vector_in).
-        #[inline]
-        fn words(raw: RawVal) -> (i64, i64) {
-            (raw.lo.cast_signed(), raw.hi.cast_signed())
-        }
-
-        /// The raw value of a low and a high word.
-        ///
-        /// # Contract
-        ///
-        /// ```text
-        /// ensures: result ≡ raw_of_vector (unsigned_of lo hi)
-        /// ```
-        ///
-        /// Definitions: [`raw_of_vector`](crate::specs::raw::RawVal#raw_of_vector), [`unsigned_of`](crate::specs::scalar::Numerics#unsigned_of).
-        #[inline]
-        fn of_words(lo: i64, hi: i64) -> RawVal {
-            RawVal::from(V128::from_word_pair(lo.cast_unsigned(), hi.cast_unsigned()))
+        /// Definitions: [`IsStore`](crate::specs::accesses::LoadStore#IsStore), [`stored_bytes`](crate::specs::ops::ScalarOps#stored_bytes).
+        #[inline(always)]
+        pub fn store(
+            self,
+            memory: &mut [u8],
+            ptr: u64,
+            offset: u64,
+            value: RawVal,
+        ) -> Result<(), TrapCode> {
+            let address = effective_address(ptr, offset)?;
+            stores!(calls! self(memory, address as u64, 0, value.read_as()))
         }
     }
 }
 mod vector {
-    //! The vector instructions, on vectors and raw values.
+    //! The vector instructions, on vectors and raw values. A kind is an instruction on one lane without
+    //! the lane's index: what a name or a number alone tells.
 
-    pub mod access {
-        //! The loads and stores of vectors.
+    use crate::proved::lanes::{ImmLaneIdx2, ImmLaneIdx4, ImmLaneIdx8, ImmLaneIdx16};
+    use crate::proved::lanewise::simd as lanewise;
+    use crate::proved::ops::rows::{calls, names, on_lane};
+    use crate::proved::raw::{RawVal, ReadAs, V128};
+    use crate::proved::types::TrapCode;
+    use crate::proved::vector_access::simd as access;
+    use crate::proved::widening::simd;
 
-        use crate::proved::lanes::{ImmLaneIdx2, ImmLaneIdx4, ImmLaneIdx8, ImmLaneIdx16};
-        use crate::proved::ops::rows::{calls, names};
-        use crate::proved::raw::V128;
-        use crate::proved::types::TrapCode;
-        use crate::proved::vector_access::simd as access;
-
-        /// A load of a vector.
-        #[derive(Clone, Copy, Debug, PartialEq, Eq)]
-        pub enum VectorLoadOp {
-            /// [`v128_load`](crate::simd::v128_load)
-            V128Load,
-            /// [`v128_load8x8_s`](crate::simd::v128_load8x8_s)
-            V128Load8x8S,
-            /// [`v128_load8x8_u`](crate::simd::v128_load8x8_u)
-            V128Load8x8U,
-            /// [`v128_load16x4_s`](crate::simd::v128_load16x4_s)
-            V128Load16x4S,
-            /// [`v128_load16x4_u`](crate::simd::v128_load16x4_u)
-            V128Load16x4U,
-            /// [`v128_load32x2_s`](crate::simd::v128_load32x2_s)
-            V128Load32x2S,
-            /// [`v128_load32x2_u`](crate::simd::v128_load32x2_u)
-            V128Load32x2U,
-            /// [`v128_load8_splat`](crate::simd::v128_load8_splat)
-            V128Load8Splat,
-            /// [`v128_load16_splat`](crate::simd::v128_load16_splat)
-            V128Load16Splat,
-            /// [`v128_load32_splat`](crate::simd::v128_load32_splat)
-            V128Load32Splat,
-            /// [`v128_load64_splat`](crate::simd::v128_load64_splat)
-            V128Load64Splat,
-            /// [`v128_load32_zero`](crate::simd::v128_load32_zero)
-            V128Load32Zero,
-            /// [`v128_load64_zero`](crate::simd::v128_load64_zero)
-            V128Load64Zero,
-        }
-
-        /// The rows of `VECTOR_LOADS`.
-        macro_rules! vector_loads {
-    ($make:ident! $($with:tt)*) => { $make! { [$($with)*] access [] {
-        V128Load v128_load, V128Load8x8S v128_load8x8_s, V128Load8x8U v128_load8x8_u,
-        V128Load16x4S v128_load16x4_s, V128Load16x4U v128_load16x4_u,
-        V128Load32x2S v128_load32x2_s, V128Load32x2U v128_load32x2_u,
-        V128Load8Splat v128_load8_splat, V128Load16Splat v128_load16_splat,
-        V128Load32Splat v128_load32_splat, V128Load64Splat v128_load64_splat,
-        V128Load32Zero v128_load32_zero, V128Load64Zero v128_load64_zero,
-    } } };
-}
-
-        /// The loads of a vector by name, in the order of the C library's numbers.
-        pub const VECTOR_LOADS: [(&str, VectorLoadOp); 13] = vector_loads!(names! VectorLoadOp);
-
-        impl VectorLoadOp {
-            /// Loads from `ptr + offset`. The only error is `MemoryOutOfBounds`.
-            ///
-            /// # Contract
-            ///
-            /// ```text
-            /// ensures: result ≡ loaded_vector self memory.now (ptr + offset)
-            /// ```
-            ///
-            /// Definitions: [`loaded_vector`](crate::specs::ops::VectorOps#loaded_vector).
-            #[inline]
-            pub fn load(self, memory: &[u8], ptr: u64, offset: u64) -> Result<V128, TrapCode> {
-                vector_loads!(calls! self(memory, ptr, offset))
-            }
-        }
-
-        /// A load of one lane of a vector, with its index.
-        #[derive(Clone, Copy, Debug, PartialEq, Eq)]
-        pub enum LoadLaneOp {
-            /// [`v128_load8_lane`](crate::simd::v128_load8_lane)
-            V128Load8Lane(ImmLaneIdx16),
-            /// [`v128_load16_lane`](crate::simd::v128_load16_lane)
-            V128Load16Lane(ImmLaneIdx8),
-            /// [`v128_load32_lane`](crate::simd::v128_load32_lane)
-            V128Load32Lane(ImmLaneIdx4),
-            /// [`v128_load64_lane`](crate::simd::v128_load64_lane)
-            V128Load64Lane(ImmLaneIdx2),
-        }
-
-        /// The rows of `LANE_LOADS`.
-        macro_rules! lane_loads {
-    ($make:ident! $($with:tt)*) => { $make! { [$($with)*] access [] {
-        V128Load8Lane v128_load8_lane, V128Load16Lane v128_load16_lane,
-        V128Load32Lane v128_load32_lane, V128Load64Lane v128_load64_lane,
-    } } };
-}
-
-        impl LoadLaneOp {
-            /// The vector with the lane loaded from `ptr + offset`. The only error is `MemoryOutOfBounds`.
-            ///
-            /// # Contract
-            ///
-            /// ```text
-            /// ensures: result ≡ loaded_lane self vector memory.now (ptr + offset)
-            /// ```
-            ///
-            /// Definitions: [`loaded_lane`](crate::specs::ops::VectorOps#loaded_lane).
-            #[inline]
-            pub fn load(
-                self,
-                memory: &[u8],
-                ptr: u64,
-                offset: u64,
-                vector: V128,
-            ) -> Result<V128, TrapCode> {
-                lane_loads!(calls! self(lane) (memory, ptr, offset, vector, lane))
-            }
-        }
-
-        /// A store of one lane of a vector, with its index.
-        #[derive(Clone, Copy, Debug, PartialEq, Eq)]
-        pub enum StoreLaneOp {
-            /// [`v128_store8_lane`](crate::simd::v128_store8_lane)
-            V128Store8Lane(ImmLaneIdx16),
-            /// [`v128_store16_lane`](crate::simd::v128_store16_lane)
-            V128Store16Lane(ImmLaneIdx8),
-            /// [`v128_store32_lane`](crate::simd::v128_store32_lane)
-            V128Store32Lane(ImmLaneIdx4),
-            /// [`v128_store64_lane`](crate::simd::v128_store64_lane)
-            V128Store64Lane(ImmLaneIdx2),
-        }
-
-        /// The rows of `LANE_STORES`.
-        macro_rules! lane_stores {
-    ($make:ident! $($with:tt)*) => { $make! { [$($with)*] access [] {
-        V128Store8Lane v128_store8_lane, V128Store16Lane v128_store16_lane,
-        V128Store32Lane v128_store32_lane, V128Store64Lane v128_store64_lane,
-    } } };
-}
-
-        impl StoreLaneOp {
-            /// Stores the lane at `ptr + offset`. The only error is `MemoryOutOfBounds`, and then nothing
-            /// is written.
-            ///
-            /// # Contract
-            ///
-            /// ```text
-            /// ensures: IsStore memory.old (ptr + offset) (stored_lane self vector) memory.new result
-            /// ```
-            ///
-            /// Definitions: [`IsStore`](crate::specs::accesses::LoadStore#IsStore), [`stored_lane`](crate::specs::ops::VectorOps#stored_lane).
-            #[inline]
-            pub fn store(
-                self,
-                memory: &mut [u8],
-                ptr: u64,
-                offset: u64,
-                vector: V128,
-            ) -> Result<(), TrapCode> {
-                lane_stores!(calls! self(lane) (memory, ptr, offset, vector, lane))
-            }
-        }
-
-        pub(crate) use lane_loads;
-        pub(crate) use lane_stores;
+    /// A vector instruction whose operand is an item.
+    #[derive(Clone, Copy, Debug, PartialEq, Eq)]
+    pub enum MakeOp {
+        /// [`i8x16_splat`](crate::simd::i8x16_splat)
+        I8x16Splat,
+        /// [`i16x8_splat`](crate::simd::i16x8_splat)
+        I16x8Splat,
+        /// [`i32x4_splat`](crate::simd::i32x4_splat)
+        I32x4Splat,
+        /// [`i64x2_splat`](crate::simd::i64x2_splat)
+        I64x2Splat,
+        /// [`v128_widen8x8_s`](crate::simd::v128_widen8x8_s)
+        V128Widen8x8S,
+        /// [`v128_widen8x8_u`](crate::simd::v128_widen8x8_u)
+        V128Widen8x8U,
+        /// [`v128_widen16x4_s`](crate::simd::v128_widen16x4_s)
+        V128Widen16x4S,
+        /// [`v128_widen16x4_u`](crate::simd::v128_widen16x4_u)
+        V128Widen16x4U,
+        /// [`v128_widen32x2_s`](crate::simd::v128_widen32x2_s)
+        V128Widen32x2S,
+        /// [`v128_widen32x2_u`](crate::simd::v128_widen32x2_u)
+        V128Widen32x2U,
+        /// [`v128_low32_zero`](crate::simd::v128_low32_zero)
+        V128Low32Zero,
+        /// [`v128_low64_zero`](crate::simd::v128_low64_zero)
+        V128Low64Zero,
     }
-    pub mod binary {
-        //! The vector instructions of two operands.
 
-        use crate::proved::lanewise::simd as lanewise;
-        use crate::proved::ops::rows::{calls, names};
-        use crate::proved::raw::V128;
-        use crate::proved::widening::simd;
-
-        /// A vector instruction of two operands.
-        #[derive(Clone, Copy, Debug, PartialEq, Eq)]
-        pub enum BinaryOp {
-            /// [`i8x16_add`](crate::simd::i8x16_add)
-            I8x16Add,
-            /// [`i16x8_add`](crate::simd::i16x8_add)
-            I16x8Add,
-            /// [`i32x4_add`](crate::simd::i32x4_add)
-            I32x4Add,
-            /// [`i64x2_add`](crate::simd::i64x2_add)
-            I64x2Add,
-            /// [`i8x16_sub`](crate::simd::i8x16_sub)
-            I8x16Sub,
-            /// [`i16x8_sub`](crate::simd::i16x8_sub)
-            I16x8Sub,
-            /// [`i32x4_sub`](crate::simd::i32x4_sub)
-            I32x4Sub,
-            /// [`i64x2_sub`](crate::simd::i64x2_sub)
-            I64x2Sub,
-            /// [`i8x16_mul`](crate::simd::i8x16_mul)
-            I8x16Mul,
-            /// [`i16x8_mul`](crate::simd::i16x8_mul)
-            I16x8Mul,
-            /// [`i32x4_mul`](crate::simd::i32x4_mul)
-            I32x4Mul,
-            /// [`i64x2_mul`](crate::simd::i64x2_mul)
-            I64x2Mul,
-            /// [`i8x16_add_sat_s`](crate::simd::i8x16_add_sat_s)
-            I8x16AddSatS,
-            /// [`i8x16_add_sat_u`](crate::simd::i8x16_add_sat_u)
-            I8x16AddSatU,
-            /// [`i16x8_add_sat_s`](crate::simd::i16x8_add_sat_s)
-            I16x8AddSatS,
-            /// [`i16x8_add_sat_u`](crate::simd::i16x8_add_sat_u)
-            I16x8AddSatU,
-            /// [`i8x16_sub_sat_s`](crate::simd::i8x16_sub_sat_s)
-            I8x16SubSatS,
-            /// [`i8x16_sub_sat_u`](crate::simd::i8x16_sub_sat_u)
-            I8x16SubSatU,
-            /// [`i16x8_sub_sat_s`](crate::simd::i16x8_sub_sat_s)
-            I16x8SubSatS,
-            /// [`i16x8_sub_sat_u`](crate::simd::i16x8_sub_sat_u)
-            I16x8SubSatU,
-            /// [`i16x8_q15mulr_sat_s`](crate::simd::i16x8_q15mulr_sat_s)
-            I16x8Q15mulrSatS,
-            /// [`i8x16_min_s`](crate::simd::i8x16_min_s)
-            I8x16MinS,
-            /// [`i8x16_min_u`](crate::simd::i8x16_min_u)
-            I8x16MinU,
-            /// [`i16x8_min_s`](crate::simd::i16x8_min_s)
-            I16x8MinS,
-            /// [`i16x8_min_u`](crate::simd::i16x8_min_u)
-            I16x8MinU,
-            /// [`i32x4_min_s`](crate::simd::i32x4_min_s)
-            I32x4MinS,
-            /// [`i32x4_min_u`](crate::simd::i32x4_min_u)
-            I32x4MinU,
-            /// [`i8x16_max_s`](crate::simd::i8x16_max_s)
-            I8x16MaxS,
-            /// [`i8x16_max_u`](crate::simd::i8x16_max_u)
-            I8x16MaxU,
-            /// [`i16x8_max_s`](crate::simd::i16x8_max_s)
-            I16x8MaxS,
-            /// [`i16x8_max_u`](crate::simd::i16x8_max_u)
-            I16x8MaxU,
-            /// [`i32x4_max_s`](crate::simd::i32x4_max_s)
-            I32x4MaxS,
-            /// [`i32x4_max_u`](crate::simd::i32x4_max_u)
-            I32x4MaxU,
-            /// [`i8x16_avgr_u`](crate::simd::i8x16_avgr_u)
-            I8x16AvgrU,
-            /// [`i16x8_avgr_u`](crate::simd::i16x8_avgr_u)
-            I16x8AvgrU,
-            /// [`v128_and`](crate::simd::v128_and)
-            V128And,
-            /// [`v128_or`](crate::simd::v128_or)
-            V128Or,
-            /// [`v128_xor`](crate::simd::v128_xor)
-            V128Xor,
-            /// [`v128_andnot`](crate::simd::v128_andnot)
-            V128Andnot,
-            /// [`i8x16_eq`](crate::simd::i8x16_eq)
-            I8x16Eq,
-            /// [`i16x8_eq`](crate::simd::i16x8_eq)
-            I16x8Eq,
-            /// [`i32x4_eq`](crate::simd::i32x4_eq)
-            I32x4Eq,
-            /// [`i64x2_eq`](crate::simd::i64x2_eq)
-            I64x2Eq,
-            /// [`i8x16_ne`](crate::simd::i8x16_ne)
-            I8x16Ne,
-            /// [`i16x8_ne`](crate::simd::i16x8_ne)
-            I16x8Ne,
-            /// [`i32x4_ne`](crate::simd::i32x4_ne)
-            I32x4Ne,
-            /// [`i64x2_ne`](crate::simd::i64x2_ne)
-            I64x2Ne,
-            /// [`i8x16_lt_s`](crate::simd::i8x16_lt_s)
-            I8x16LtS,
-            /// [`i16x8_lt_s`](crate::simd::i16x8_lt_s)
-            I16x8LtS,
-            /// [`i32x4_lt_s`](crate::simd::i32x4_lt_s)
-            I32x4LtS,
-            /// [`i64x2_lt_s`](crate::simd::i64x2_lt_s)
-            I64x2LtS,
-            /// [`i8x16_lt_u`](crate::simd::i8x16_lt_u)
-            I8x16LtU,
-            /// [`i16x8_lt_u`](crate::simd::i16x8_lt_u)
-            I16x8LtU,
-            /// [`i32x4_lt_u`](crate::simd::i32x4_lt_u)
-            I32x4LtU,
-            /// [`i8x16_le_s`](crate::simd::i8x16_le_s)
-            I8x16LeS,
-            /// [`i16x8_le_s`](crate::simd::i16x8_le_s)
-            I16x8LeS,
-            /// [`i32x4_le_s`](crate::simd::i32x4_le_s)
-            I32x4LeS,
-            /// [`i64x2_le_s`](crate::simd::i64x2_le_s)
-            I64x2LeS,
-            /// [`i8x16_le_u`](crate::simd::i8x16_le_u)
-            I8x16LeU,
-            /// [`i16x8_le_u`](crate::simd::i16x8_le_u)
-            I16x8LeU,
-            /// [`i32x4_le_u`](crate::simd::i32x4_le_u)
-            I32x4LeU,
-            /// [`i8x16_gt_s`](crate::simd::i8x16_gt_s)
-            I8x16GtS,
-            /// [`i16x8_gt_s`](crate::simd::i16x8_gt_s)
-            I16x8GtS,
-            /// [`i32x4_gt_s`](crate::simd::i32x4_gt_s)
-            I32x4GtS,
-            /// [`i64x2_gt_s`](crate::simd::i64x2_gt_s)
-            I64x2GtS,
-            /// [`i8x16_gt_u`](crate::simd::i8x16_gt_u)
-            I8x16GtU,
-            /// [`i16x8_gt_u`](crate::simd::i16x8_gt_u)
-            I16x8GtU,
-            /// [`i32x4_gt_u`](crate::simd::i32x4_gt_u)
-            I32x4GtU,
-            /// [`i8x16_ge_s`](crate::simd::i8x16_ge_s)
-            I8x16GeS,
-            /// [`i16x8_ge_s`](crate::simd::i16x8_ge_s)
-            I16x8GeS,
-            /// [`i32x4_ge_s`](crate::simd::i32x4_ge_s)
-            I32x4GeS,
-            /// [`i64x2_ge_s`](crate::simd::i64x2_ge_s)
-            I64x2GeS,
-            /// [`i8x16_ge_u`](crate::simd::i8x16_ge_u)
-            I8x16GeU,
-            /// [`i16x8_ge_u`](crate::simd::i16x8_ge_u)
-            I16x8GeU,
-            /// [`i32x4_ge_u`](crate::simd::i32x4_ge_u)
-            I32x4GeU,
-            /// [`i8x16_swizzle`](crate::simd::i8x16_swizzle)
-            I8x16Swizzle,
-            /// [`i16x8_extmul_low_i8x16_s`](crate::simd::i16x8_extmul_low_i8x16_s)
-            I16x8ExtmulLowI8x16S,
-            /// [`i16x8_extmul_low_i8x16_u`](crate::simd::i16x8_extmul_low_i8x16_u)
-            I16x8ExtmulLowI8x16U,
-            /// [`i16x8_extmul_high_i8x16_s`](crate::simd::i16x8_extmul_high_i8x16_s)
-            I16x8ExtmulHighI8x16S,
-            /// [`i16x8_extmul_high_i8x16_u`](crate::simd::i16x8_extmul_high_i8x16_u)
-            I16x8ExtmulHighI8x16U,
-            /// [`i32x4_extmul_low_i16x8_s`](crate::simd::i32x4_extmul_low_i16x8_s)
-            I32x4ExtmulLowI16x8S,
-            /// [`i32x4_extmul_low_i16x8_u`](crate::simd::i32x4_extmul_low_i16x8_u)
-            I32x4ExtmulLowI16x8U,
-            /// [`i32x4_extmul_high_i16x8_s`](crate::simd::i32x4_extmul_high_i16x8_s)
-            I32x4ExtmulHighI16x8S,
-            /// [`i32x4_extmul_high_i16x8_u`](crate::simd::i32x4_extmul_high_i16x8_u)
-            I32x4ExtmulHighI16x8U,
-            /// [`i64x2_extmul_low_i32x4_s`](crate::simd::i64x2_extmul_low_i32x4_s)
-            I64x2ExtmulLowI32x4S,
-            /// [`i64x2_extmul_low_i32x4_u`](crate::simd::i64x2_extmul_low_i32x4_u)
-            I64x2ExtmulLowI32x4U,
-            /// [`i64x2_extmul_high_i32x4_s`](crate::simd::i64x2_extmul_high_i32x4_s)
-            I64x2ExtmulHighI32x4S,
-            /// [`i64x2_extmul_high_i32x4_u`](crate::simd::i64x2_extmul_high_i32x4_u)
-            I64x2ExtmulHighI32x4U,
-            /// [`i8x16_narrow_i16x8_s`](crate::simd::i8x16_narrow_i16x8_s)
-            I8x16NarrowI16x8S,
-            /// [`i8x16_narrow_i16x8_u`](crate::simd::i8x16_narrow_i16x8_u)
-            I8x16NarrowI16x8U,
-            /// [`i16x8_narrow_i32x4_s`](crate::simd::i16x8_narrow_i32x4_s)
-            I16x8NarrowI32x4S,
-            /// [`i16x8_narrow_i32x4_u`](crate::simd::i16x8_narrow_i32x4_u)
-            I16x8NarrowI32x4U,
-            /// [`i32x4_dot_i16x8_s`](crate::simd::i32x4_dot_i16x8_s)
-            I32x4DotI16x8S,
-            /// [`i16x8_relaxed_dot_i8x16_i7x16_s`](crate::simd::i16x8_relaxed_dot_i8x16_i7x16_s)
-            I16x8RelaxedDotI8x16I7x16S,
-            /// [`i8x16_relaxed_swizzle`](crate::simd::i8x16_relaxed_swizzle)
-            I8x16RelaxedSwizzle,
-            /// [`i16x8_relaxed_q15mulr_s`](crate::simd::i16x8_relaxed_q15mulr_s)
-            I16x8RelaxedQ15mulrS,
+    macro_rules! makes {
+    ($make:ident! $($with:tt)*) => { $make! { [$($with)*]
+        lanewise [] {
+            I8x16Splat i8x16_splat, I16x8Splat i16x8_splat,
+            I32x4Splat i32x4_splat, I64x2Splat i64x2_splat,
         }
+        simd [] {
+            V128Widen8x8S v128_widen8x8_s, V128Widen8x8U v128_widen8x8_u,
+            V128Widen16x4S v128_widen16x4_s, V128Widen16x4U v128_widen16x4_u,
+            V128Widen32x2S v128_widen32x2_s, V128Widen32x2U v128_widen32x2_u,
+            V128Low32Zero v128_low32_zero, V128Low64Zero v128_low64_zero,
+        }
+    } };
+}
 
-        /// The rows of `BINARIES`.
-        macro_rules! binaries {
+    /// What makes a vector of an item, by name, in the order of the C library's numbers.
+    pub const MAKES: [(&str, MakeOp); 12] = makes!(names! MakeOp);
+
+    impl MakeOp {
+        /// The vector that is made of an item in a raw value.
+        ///
+        /// # Contract
+        ///
+        /// ```text
+        /// ensures: result ≡ made_vector self raw
+        /// ```
+        ///
+        /// Definitions: [`made_vector`](crate::specs::ops::VectorOps#made_vector).
+        #[inline]
+        pub fn apply(self, raw: RawVal) -> V128 {
+            makes!(calls! self(raw.read_as()))
+        }
+    }
+
+    /// A vector instruction of one operand.
+    #[derive(Clone, Copy, Debug, PartialEq, Eq)]
+    pub enum UnaryOp {
+        /// [`v128_not`](crate::simd::v128_not)
+        V128Not,
+        /// [`i8x16_neg`](crate::simd::i8x16_neg)
+        I8x16Neg,
+        /// [`i16x8_neg`](crate::simd::i16x8_neg)
+        I16x8Neg,
+        /// [`i32x4_neg`](crate::simd::i32x4_neg)
+        I32x4Neg,
+        /// [`i64x2_neg`](crate::simd::i64x2_neg)
+        I64x2Neg,
+        /// [`i8x16_abs`](crate::simd::i8x16_abs)
+        I8x16Abs,
+        /// [`i16x8_abs`](crate::simd::i16x8_abs)
+        I16x8Abs,
+        /// [`i32x4_abs`](crate::simd::i32x4_abs)
+        I32x4Abs,
+        /// [`i64x2_abs`](crate::simd::i64x2_abs)
+        I64x2Abs,
+        /// [`i8x16_popcnt`](crate::simd::i8x16_popcnt)
+        I8x16Popcnt,
+        /// [`i16x8_extend_low_i8x16_s`](crate::simd::i16x8_extend_low_i8x16_s)
+        I16x8ExtendLowI8x16S,
+        /// [`i16x8_extend_low_i8x16_u`](crate::simd::i16x8_extend_low_i8x16_u)
+        I16x8ExtendLowI8x16U,
+        /// [`i16x8_extend_high_i8x16_s`](crate::simd::i16x8_extend_high_i8x16_s)
+        I16x8ExtendHighI8x16S,
+        /// [`i16x8_extend_high_i8x16_u`](crate::simd::i16x8_extend_high_i8x16_u)
+        I16x8ExtendHighI8x16U,
+        /// [`i32x4_extend_low_i16x8_s`](crate::simd::i32x4_extend_low_i16x8_s)
+        I32x4ExtendLowI16x8S,
+        /// [`i32x4_extend_low_i16x8_u`](crate::simd::i32x4_extend_low_i16x8_u)
+        I32x4ExtendLowI16x8U,
+        /// [`i32x4_extend_high_i16x8_s`](crate::simd::i32x4_extend_high_i16x8_s)
+        I32x4ExtendHighI16x8S,
+        /// [`i32x4_extend_high_i16x8_u`](crate::simd::i32x4_extend_high_i16x8_u)
+        I32x4ExtendHighI16x8U,
+        /// [`i64x2_extend_low_i32x4_s`](crate::simd::i64x2_extend_low_i32x4_s)
+        I64x2ExtendLowI32x4S,
+        /// [`i64x2_extend_low_i32x4_u`](crate::simd::i64x2_extend_low_i32x4_u)
+        I64x2ExtendLowI32x4U,
+        /// [`i64x2_extend_high_i32x4_s`](crate::simd::i64x2_extend_high_i32x4_s)
+        I64x2ExtendHighI32x4S,
+        /// [`i64x2_extend_high_i32x4_u`](crate::simd::i64x2_extend_high_i32x4_u)
+        I64x2ExtendHighI32x4U,
+        /// [`i16x8_extadd_pairwise_i8x16_s`](crate::simd::i16x8_extadd_pairwise_i8x16_s)
+        I16x8ExtaddPairwiseI8x16S,
+        /// [`i16x8_extadd_pairwise_i8x16_u`](crate::simd::i16x8_extadd_pairwise_i8x16_u)
+        I16x8ExtaddPairwiseI8x16U,
+        /// [`i32x4_extadd_pairwise_i16x8_s`](crate::simd::i32x4_extadd_pairwise_i16x8_s)
+        I32x4ExtaddPairwiseI16x8S,
+        /// [`i32x4_extadd_pairwise_i16x8_u`](crate::simd::i32x4_extadd_pairwise_i16x8_u)
+        I32x4ExtaddPairwiseI16x8U,
+    }
+
+    macro_rules! unaries {
+    ($make:ident! $($with:tt)*) => { $make! { [$($with)*]
+        lanewise [] {
+            V128Not v128_not,
+            I8x16Neg i8x16_neg, I16x8Neg i16x8_neg, I32x4Neg i32x4_neg, I64x2Neg i64x2_neg,
+            I8x16Abs i8x16_abs, I16x8Abs i16x8_abs, I32x4Abs i32x4_abs, I64x2Abs i64x2_abs,
+            I8x16Popcnt i8x16_popcnt,
+        }
+        simd [] {
+            I16x8ExtendLowI8x16S i16x8_extend_low_i8x16_s,
+            I16x8ExtendLowI8x16U i16x8_extend_low_i8x16_u,
+            I16x8ExtendHighI8x16S i16x8_extend_high_i8x16_s,
+            I16x8ExtendHighI8x16U i16x8_extend_high_i8x16_u,
+            I32x4ExtendLowI16x8S i32x4_extend_low_i16x8_s,
+            I32x4ExtendLowI16x8U i32x4_extend_low_i16x8_u,
+            I32x4ExtendHighI16x8S i32x4_extend_high_i16x8_s,
+            I32x4ExtendHighI16x8U i32x4_extend_high_i16x8_u,
+            I64x2ExtendLowI32x4S i64x2_extend_low_i32x4_s,
+            I64x2ExtendLowI32x4U i64x2_extend_low_i32x4_u,
+            I64x2ExtendHighI32x4S i64x2_extend_high_i32x4_s,
+            I64x2ExtendHighI32x4U i64x2_extend_high_i32x4_u,
+            I16x8ExtaddPairwiseI8x16S i16x8_extadd_pairwise_i8x16_s,
+            I16x8ExtaddPairwiseI8x16U i16x8_extadd_pairwise_i8x16_u,
+            I32x4ExtaddPairwiseI16x8S i32x4_extadd_pairwise_i16x8_s,
+            I32x4ExtaddPairwiseI16x8U i32x4_extadd_pairwise_i16x8_u,
+        }
+    } };
+}
+
+    /// The instructions of one vector by name, in the order of the C library's numbers.
+    pub const UNARIES: [(&str, UnaryOp); 26] = unaries!(names! UnaryOp);
+
+    impl UnaryOp {
+        /// The result for an operand.
+        ///
+        /// # Contract
+        ///
+        /// ```text
+        /// ensures: result ≡ unary_vector self a
+        /// ```
+        ///
+        /// Definitions: [`unary_vector`](crate::specs::ops::VectorOps#unary_vector).
+        #[inline]
+        pub fn apply(self, a: V128) -> V128 {
+            unaries!(calls! self(a))
+        }
+    }
+
+    /// A vector instruction of two operands.
+    #[derive(Clone, Copy, Debug, PartialEq, Eq)]
+    pub enum BinaryOp {
+        /// [`i8x16_add`](crate::simd::i8x16_add)
+        I8x16Add,
+        /// [`i16x8_add`](crate::simd::i16x8_add)
+        I16x8Add,
+        /// [`i32x4_add`](crate::simd::i32x4_add)
+        I32x4Add,
+        /// [`i64x2_add`](crate::simd::i64x2_add)
+        I64x2Add,
+        /// [`i8x16_sub`](crate::simd::i8x16_sub)
+        I8x16Sub,
+        /// [`i16x8_sub`](crate::simd::i16x8_sub)
+        I16x8Sub,
+        /// [`i32x4_sub`](crate::simd::i32x4_sub)
+        I32x4Sub,
+        /// [`i64x2_sub`](crate::simd::i64x2_sub)
+        I64x2Sub,
+        /// [`i8x16_mul`](crate::simd::i8x16_mul)
+        I8x16Mul,
+        /// [`i16x8_mul`](crate::simd::i16x8_mul)
+        I16x8Mul,
+        /// [`i32x4_mul`](crate::simd::i32x4_mul)
+        I32x4Mul,
+        /// [`i64x2_mul`](crate::simd::i64x2_mul)
+        I64x2Mul,
+        /// [`i8x16_add_sat_s`](crate::simd::i8x16_add_sat_s)
+        I8x16AddSatS,
+        /// [`i8x16_add_sat_u`](crate::simd::i8x16_add_sat_u)
+        I8x16AddSatU,
+        /// [`i16x8_add_sat_s`](crate::simd::i16x8_add_sat_s)
+        I16x8AddSatS,
+        /// [`i16x8_add_sat_u`](crate::simd::i16x8_add_sat_u)
+        I16x8AddSatU,
+        /// [`i8x16_sub_sat_s`](crate::simd::i8x16_sub_sat_s)
+        I8x16SubSatS,
+        /// [`i8x16_sub_sat_u`](crate::simd::i8x16_sub_sat_u)
+        I8x16SubSatU,
+        /// [`i16x8_sub_sat_s`](crate::simd::i16x8_sub_sat_s)
+        I16x8SubSatS,
+        /// [`i16x8_sub_sat_u`](crate::simd::i16x8_sub_sat_u)
+        I16x8SubSatU,
+        /// [`i16x8_q15mulr_sat_s`](crate::simd::i16x8_q15mulr_sat_s)
+        I16x8Q15mulrSatS,
+        /// [`i8x16_min_s`](crate::simd::i8x16_min_s)
+        I8x16MinS,
+        /// [`i8x16_min_u`](crate::simd::i8x16_min_u)
+        I8x16MinU,
+        /// [`i16x8_min_s`](crate::simd::i16x8_min_s)
+        I16x8MinS,
+        /// [`i16x8_min_u`](crate::simd::i16x8_min_u)
+        I16x8MinU,
+        /// [`i32x4_min_s`](crate::simd::i32x4_min_s)
+        I32x4MinS,
+        /// [`i32x4_min_u`](crate::simd::i32x4_min_u)
+        I32x4MinU,
+        /// [`i8x16_max_s`](crate::simd::i8x16_max_s)
+        I8x16MaxS,
+        /// [`i8x16_max_u`](crate::simd::i8x16_max_u)
+        I8x16MaxU,
+        /// [`i16x8_max_s`](crate::simd::i16x8_max_s)
+        I16x8MaxS,
+        /// [`i16x8_max_u`](crate::simd::i16x8_max_u)
+        I16x8MaxU,
+        /// [`i32x4_max_s`](crate::simd::i32x4_max_s)
+        I32x4MaxS,
+        /// [`i32x4_max_u`](crate::simd::i32x4_max_u)
+        I32x4MaxU,
+        /// [`i8x16_avgr_u`](crate::simd::i8x16_avgr_u)
+        I8x16AvgrU,
+        /// [`i16x8_avgr_u`](crate::simd::i16x8_avgr_u)
+        I16x8AvgrU,
+        /// [`v128_and`](crate::simd::v128_and)
+        V128And,
+        /// [`v128_or`](crate::simd::v128_or)
+        V128Or,
+        /// [`v128_xor`](crate::simd::v128_xor)
+        V128Xor,
+        /// [`v128_andnot`](crate::simd::v128_andnot)
+        V128Andnot,
+        /// [`i8x16_eq`](crate::simd::i8x16_eq)
+        I8x16Eq,
+        /// [`i16x8_eq`](crate::simd::i16x8_eq)
+        I16x8Eq,
+        /// [`i32x4_eq`](crate::simd::i32x4_eq)
+        I32x4Eq,
+        /// [`i64x2_eq`](crate::simd::i64x2_eq)
+        I64x2Eq,
+        /// [`i8x16_ne`](crate::simd::i8x16_ne)
+        I8x16Ne,
+        /// [`i16x8_ne`](crate::simd::i16x8_ne)
+        I16x8Ne,
+        /// [`i32x4_ne`](crate::simd::i32x4_ne)
+        I32x4Ne,
+        /// [`i64x2_ne`](crate::simd::i64x2_ne)
+        I64x2Ne,
+        /// [`i8x16_lt_s`](crate::simd::i8x16_lt_s)
+        I8x16LtS,
+        /// [`i16x8_lt_s`](crate::simd::i16x8_lt_s)
+        I16x8LtS,
+        /// [`i32x4_lt_s`](crate::simd::i32x4_lt_s)
+        I32x4LtS,
+        /// [`i64x2_lt_s`](crate::simd::i64x2_lt_s)
+        I64x2LtS,
+        /// [`i8x16_lt_u`](crate::simd::i8x16_lt_u)
+        I8x16LtU,
+        /// [`i16x8_lt_u`](crate::simd::i16x8_lt_u)
+        I16x8LtU,
+        /// [`i32x4_lt_u`](crate::simd::i32x4_lt_u)
+        I32x4LtU,
+        /// [`i8x16_le_s`](crate::simd::i8x16_le_s)
+        I8x16LeS,
+        /// [`i16x8_le_s`](crate::simd::i16x8_le_s)
+        I16x8LeS,
+        /// [`i32x4_le_s`](crate::simd::i32x4_le_s)
+        I32x4LeS,
+        /// [`i64x2_le_s`](crate::simd::i64x2_le_s)
+        I64x2LeS,
+        /// [`i8x16_le_u`](crate::simd::i8x16_le_u)
+        I8x16LeU,
+        /// [`i16x8_le_u`](crate::simd::i16x8_le_u)
+        I16x8LeU,
+        /// [`i32x4_le_u`](crate::simd::i32x4_le_u)
+        I32x4LeU,
+        /// [`i8x16_gt_s`](crate::simd::i8x16_gt_s)
+        I8x16GtS,
+        /// [`i16x8_gt_s`](crate::simd::i16x8_gt_s)
+        I16x8GtS,
+        /// [`i32x4_gt_s`](crate::simd::i32x4_gt_s)
+        I32x4GtS,
+        /// [`i64x2_gt_s`](crate::simd::i64x2_gt_s)
+        I64x2GtS,
+        /// [`i8x16_gt_u`](crate::simd::i8x16_gt_u)
+        I8x16GtU,
+        /// [`i16x8_gt_u`](crate::simd::i16x8_gt_u)
+        I16x8GtU,
+        /// [`i32x4_gt_u`](crate::simd::i32x4_gt_u)
+        I32x4GtU,
+        /// [`i8x16_ge_s`](crate::simd::i8x16_ge_s)
+        I8x16GeS,
+        /// [`i16x8_ge_s`](crate::simd::i16x8_ge_s)
+        I16x8GeS,
+        /// [`i32x4_ge_s`](crate::simd::i32x4_ge_s)
+        I32x4GeS,
+        /// [`i64x2_ge_s`](crate::simd::i64x2_ge_s)
+        I64x2GeS,
+        /// [`i8x16_ge_u`](crate::simd::i8x16_ge_u)
+        I8x16GeU,
+        /// [`i16x8_ge_u`](crate::simd::i16x8_ge_u)
+        I16x8GeU,
+        /// [`i32x4_ge_u`](crate::simd::i32x4_ge_u)
+        I32x4GeU,
+        /// [`i8x16_swizzle`](crate::simd::i8x16_swizzle)
+        I8x16Swizzle,
+        /// [`i16x8_extmul_low_i8x16_s`](crate::simd::i16x8_extmul_low_i8x16_s)
+        I16x8ExtmulLowI8x16S,
+        /// [`i16x8_extmul_low_i8x16_u`](crate::simd::i16x8_extmul_low_i8x16_u)
+        I16x8ExtmulLowI8x16U,
+        /// [`i16x8_extmul_high_i8x16_s`](crate::simd::i16x8_extmul_high_i8x16_s)
+        I16x8ExtmulHighI8x16S,
+        /// [`i16x8_extmul_high_i8x16_u`](crate::simd::i16x8_extmul_high_i8x16_u)
+        I16x8ExtmulHighI8x16U,
+        /// [`i32x4_extmul_low_i16x8_s`](crate::simd::i32x4_extmul_low_i16x8_s)
+        I32x4ExtmulLowI16x8S,
+        /// [`i32x4_extmul_low_i16x8_u`](crate::simd::i32x4_extmul_low_i16x8_u)
+        I32x4ExtmulLowI16x8U,
+        /// [`i32x4_extmul_high_i16x8_s`](crate::simd::i32x4_extmul_high_i16x8_s)
+        I32x4ExtmulHighI16x8S,
+        /// [`i32x4_extmul_high_i16x8_u`](crate::simd::i32x4_extmul_high_i16x8_u)
+        I32x4ExtmulHighI16x8U,
+        /// [`i64x2_extmul_low_i32x4_s`](crate::simd::i64x2_extmul_low_i32x4_s)
+        I64x2ExtmulLowI32x4S,
+        /// [`i64x2_extmul_low_i32x4_u`](crate::simd::i64x2_extmul_low_i32x4_u)
+        I64x2ExtmulLowI32x4U,
+        /// [`i64x2_extmul_high_i32x4_s`](crate::simd::i64x2_extmul_high_i32x4_s)
+        I64x2ExtmulHighI32x4S,
+        /// [`i64x2_extmul_high_i32x4_u`](crate::simd::i64x2_extmul_high_i32x4_u)
+        I64x2ExtmulHighI32x4U,
+        /// [`i8x16_narrow_i16x8_s`](crate::simd::i8x16_narrow_i16x8_s)
+        I8x16NarrowI16x8S,
+        /// [`i8x16_narrow_i16x8_u`](crate::simd::i8x16_narrow_i16x8_u)
+        I8x16NarrowI16x8U,
+        /// [`i16x8_narrow_i32x4_s`](crate::simd::i16x8_narrow_i32x4_s)
+        I16x8NarrowI32x4S,
+        /// [`i16x8_narrow_i32x4_u`](crate::simd::i16x8_narrow_i32x4_u)
+        I16x8NarrowI32x4U,
+        /// [`i32x4_dot_i16x8_s`](crate::simd::i32x4_dot_i16x8_s)
+        I32x4DotI16x8S,
+        /// [`i16x8_relaxed_dot_i8x16_i7x16_s`](crate::simd::i16x8_relaxed_dot_i8x16_i7x16_s)
+        I16x8RelaxedDotI8x16I7x16S,
+        /// [`i8x16_relaxed_swizzle`](crate::simd::i8x16_relaxed_swizzle)
+        I8x16RelaxedSwizzle,
+        /// [`i16x8_relaxed_q15mulr_s`](crate::simd::i16x8_relaxed_q15mulr_s)
+        I16x8RelaxedQ15mulrS,
+    }
+
+    macro_rules! binaries {
     ($make:ident! $($with:tt)*) => { $make! { [$($with)*]
         lanewise [] {
             I8x16Add i8x16_add, I16x8Add i16x8_add, I32x4Add i32x4_add, I64x2Add i64x2_add,
@@ -983,421 +966,43 @@ mod vector {
     } };
 }
 
-        /// The instructions of two vectors by name, in the order of the C library's numbers.
-        pub const BINARIES: [(&str, BinaryOp); 96] = binaries!(names! BinaryOp);
+    /// The instructions of two vectors by name, in the order of the C library's numbers.
+    pub const BINARIES: [(&str, BinaryOp); 96] = binaries!(names! BinaryOp);
 
-        impl BinaryOp {
-            /// The result for two operands.
-            ///
-            /// # Contract
-            ///
-            /// ```text
-            /// ensures: result ≡ binary_vector self a b
-            /// ```
-            ///
-            /// Definitions: [`binary_vector`](crate::specs::ops::VectorOps#binary_vector).
-            #[inline]
-            pub fn apply(self, a: V128, b: V128) -> V128 {
-                binaries!(calls! self(a, b))
-            }
+    impl BinaryOp {
+        /// The result for two operands.
+        ///
+        /// # Contract
+        ///
+        /// ```text
+        /// ensures: result ≡ binary_vector self a b
+        /// ```
+        ///
+        /// Definitions: [`binary_vector`](crate::specs::ops::VectorOps#binary_vector).
+        #[inline]
+        pub fn apply(self, a: V128, b: V128) -> V128 {
+            binaries!(calls! self(a, b))
         }
     }
-    pub mod lane {
-        //! The vector instructions on one lane.
 
-        use crate::proved::lanes::{ImmLaneIdx2, ImmLaneIdx4, ImmLaneIdx8, ImmLaneIdx16};
-        use crate::proved::lanewise::simd as lanewise;
-        use crate::proved::ops::rows::calls;
-        use crate::proved::raw::{RawVal, ReadAs, V128};
-
-        /// A lane that is taken from a vector, with its index.
-        #[derive(Clone, Copy, Debug, PartialEq, Eq)]
-        pub enum ExtractOp {
-            /// [`i8x16_extract_lane_s`](crate::simd::i8x16_extract_lane_s)
-            I8x16ExtractLaneS(ImmLaneIdx16),
-            /// [`i8x16_extract_lane_u`](crate::simd::i8x16_extract_lane_u)
-            I8x16ExtractLaneU(ImmLaneIdx16),
-            /// [`i16x8_extract_lane_s`](crate::simd::i16x8_extract_lane_s)
-            I16x8ExtractLaneS(ImmLaneIdx8),
-            /// [`i16x8_extract_lane_u`](crate::simd::i16x8_extract_lane_u)
-            I16x8ExtractLaneU(ImmLaneIdx8),
-            /// [`i32x4_extract_lane`](crate::simd::i32x4_extract_lane)
-            I32x4ExtractLane(ImmLaneIdx4),
-            /// [`i64x2_extract_lane`](crate::simd::i64x2_extract_lane)
-            I64x2ExtractLane(ImmLaneIdx2),
-        }
-
-        /// The rows of `EXTRACTIONS`.
-        macro_rules! extractions {
-    ($make:ident! $($with:tt)*) => { $make! { [$($with)*] lanewise [.into()] {
-        I8x16ExtractLaneS i8x16_extract_lane_s, I8x16ExtractLaneU i8x16_extract_lane_u,
-        I16x8ExtractLaneS i16x8_extract_lane_s, I16x8ExtractLaneU i16x8_extract_lane_u,
-        I32x4ExtractLane i32x4_extract_lane, I64x2ExtractLane i64x2_extract_lane,
-    } } };
-}
-
-        impl ExtractOp {
-            /// The lane in the low bits of a raw value: one of 8 or 16 bits extended to 32, by its sign
-            /// (`_s`) or by zeros (`_u`), one of 32 or 64 bits as it is. All higher bits are 0.
-            ///
-            /// # Contract
-            ///
-            /// ```text
-            /// ensures: result ≡ extracted_raw self a
-            /// ```
-            ///
-            /// Definitions: [`extracted_raw`](crate::specs::ops::LaneOps#extracted_raw).
-            #[inline]
-            pub fn apply(self, a: V128) -> RawVal {
-                extractions!(calls! self(lane) (a, lane))
-            }
-        }
-
-        /// A lane of a vector that takes an item, with its index.
-        #[derive(Clone, Copy, Debug, PartialEq, Eq)]
-        pub enum ReplaceOp {
-            /// [`i8x16_replace_lane`](crate::simd::i8x16_replace_lane)
-            I8x16ReplaceLane(ImmLaneIdx16),
-            /// [`i16x8_replace_lane`](crate::simd::i16x8_replace_lane)
-            I16x8ReplaceLane(ImmLaneIdx8),
-            /// [`i32x4_replace_lane`](crate::simd::i32x4_replace_lane)
-            I32x4ReplaceLane(ImmLaneIdx4),
-            /// [`i64x2_replace_lane`](crate::simd::i64x2_replace_lane)
-            I64x2ReplaceLane(ImmLaneIdx2),
-        }
-
-        /// The rows of `REPLACEMENTS`.
-        macro_rules! replacements {
-    ($make:ident! $($with:tt)*) => { $make! { [$($with)*] lanewise [] {
-        I8x16ReplaceLane i8x16_replace_lane, I16x8ReplaceLane i16x8_replace_lane,
-        I32x4ReplaceLane i32x4_replace_lane, I64x2ReplaceLane i64x2_replace_lane,
-    } } };
-}
-
-        impl ReplaceOp {
-            /// The vector with an item of a raw value in the lane.
-            ///
-            /// # Contract
-            ///
-            /// ```text
-            /// ensures: result ≡ replaced_vector self a raw
-            /// ```
-            ///
-            /// Definitions: [`replaced_vector`](crate::specs::ops::LaneOps#replaced_vector).
-            #[inline]
-            pub fn apply(self, a: V128, raw: RawVal) -> V128 {
-                replacements!(calls! self(lane) (a, lane, raw.read_as()))
-            }
-        }
-
-        pub(crate) use extractions;
-        pub(crate) use replacements;
+    /// A vector instruction of three operands.
+    #[derive(Clone, Copy, Debug, PartialEq, Eq)]
+    pub enum TernaryOp {
+        /// [`v128_bitselect`](crate::simd::v128_bitselect)
+        V128Bitselect,
+        /// [`i8x16_relaxed_laneselect`](crate::simd::i8x16_relaxed_laneselect)
+        I8x16RelaxedLaneselect,
+        /// [`i16x8_relaxed_laneselect`](crate::simd::i16x8_relaxed_laneselect)
+        I16x8RelaxedLaneselect,
+        /// [`i32x4_relaxed_laneselect`](crate::simd::i32x4_relaxed_laneselect)
+        I32x4RelaxedLaneselect,
+        /// [`i64x2_relaxed_laneselect`](crate::simd::i64x2_relaxed_laneselect)
+        I64x2RelaxedLaneselect,
+        /// [`i32x4_relaxed_dot_i8x16_i7x16_add_s`](crate::simd::i32x4_relaxed_dot_i8x16_i7x16_add_s)
+        I32x4RelaxedDotI8x16I7x16AddS,
     }
-    pub mod lane_kind {
-        //! The instructions on one lane without the lane's index: what a name or a number alone tells.
 
-        use crate::proved::ops::rows::{names, on_lane};
-        use crate::proved::ops::vector::access::{
-            LoadLaneOp, StoreLaneOp, lane_loads, lane_stores,
-        };
-        use crate::proved::ops::vector::lane::{ExtractOp, ReplaceOp, extractions, replacements};
-
-        /// A lane that is taken from a vector, whatever the lane.
-        #[derive(Clone, Copy, Debug, PartialEq, Eq)]
-        pub enum ExtractKind {
-            /// [`i8x16_extract_lane_s`](crate::simd::i8x16_extract_lane_s)
-            I8x16ExtractLaneS,
-            /// [`i8x16_extract_lane_u`](crate::simd::i8x16_extract_lane_u)
-            I8x16ExtractLaneU,
-            /// [`i16x8_extract_lane_s`](crate::simd::i16x8_extract_lane_s)
-            I16x8ExtractLaneS,
-            /// [`i16x8_extract_lane_u`](crate::simd::i16x8_extract_lane_u)
-            I16x8ExtractLaneU,
-            /// [`i32x4_extract_lane`](crate::simd::i32x4_extract_lane)
-            I32x4ExtractLane,
-            /// [`i64x2_extract_lane`](crate::simd::i64x2_extract_lane)
-            I64x2ExtractLane,
-        }
-
-        /// The extractions of a lane by name, in the order of the C library's numbers.
-        pub const EXTRACTIONS: [(&str, ExtractKind); 6] = extractions!(names! ExtractKind);
-
-        impl ExtractKind {
-            /// The instruction on the lane of an index, if there is such a lane.
-            ///
-            /// # Contract
-            ///
-            /// ```text
-            /// ensures: result ≡ extract_op self lane
-            /// ```
-            ///
-            /// Definitions: [`extract_op`](crate::specs::ops::LaneOps#extract_op).
-            #[inline]
-            pub fn on(self, lane: u8) -> Option<ExtractOp> {
-                extractions!(on_lane! self ExtractOp lane)
-            }
-        }
-
-        /// A lane of a vector that takes an item, whatever the lane.
-        #[derive(Clone, Copy, Debug, PartialEq, Eq)]
-        pub enum ReplaceKind {
-            /// [`i8x16_replace_lane`](crate::simd::i8x16_replace_lane)
-            I8x16ReplaceLane,
-            /// [`i16x8_replace_lane`](crate::simd::i16x8_replace_lane)
-            I16x8ReplaceLane,
-            /// [`i32x4_replace_lane`](crate::simd::i32x4_replace_lane)
-            I32x4ReplaceLane,
-            /// [`i64x2_replace_lane`](crate::simd::i64x2_replace_lane)
-            I64x2ReplaceLane,
-        }
-
-        /// The replacements of a lane by name, in the order of the C library's numbers.
-        pub const REPLACEMENTS: [(&str, ReplaceKind); 4] = replacements!(names! ReplaceKind);
-
-        impl ReplaceKind {
-            /// The instruction on the lane of an index, if there is such a lane.
-            ///
-            /// # Contract
-            ///
-            /// ```text
-            /// ensures: result ≡ replace_op self lane
-            /// ```
-            ///
-            /// Definitions: [`replace_op`](crate::specs::ops::LaneOps#replace_op).
-            #[inline]
-            pub fn on(self, lane: u8) -> Option<ReplaceOp> {
-                replacements!(on_lane! self ReplaceOp lane)
-            }
-        }
-
-        /// A load of one lane of a vector, whatever the lane.
-        #[derive(Clone, Copy, Debug, PartialEq, Eq)]
-        pub enum LoadLaneKind {
-            /// [`v128_load8_lane`](crate::simd::v128_load8_lane)
-            V128Load8Lane,
-            /// [`v128_load16_lane`](crate::simd::v128_load16_lane)
-            V128Load16Lane,
-            /// [`v128_load32_lane`](crate::simd::v128_load32_lane)
-            V128Load32Lane,
-            /// [`v128_load64_lane`](crate::simd::v128_load64_lane)
-            V128Load64Lane,
-        }
-
-        /// The loads of a lane by name, in the order of the C library's numbers.
-        pub const LANE_LOADS: [(&str, LoadLaneKind); 4] = lane_loads!(names! LoadLaneKind);
-
-        impl LoadLaneKind {
-            /// The instruction on the lane of an index, if there is such a lane.
-            ///
-            /// # Contract
-            ///
-            /// ```text
-            /// ensures: result ≡ load_lane_op self lane
-            /// ```
-            ///
-            /// Definitions: [`load_lane_op`](crate::specs::ops::LaneOps#load_lane_op).
-            #[inline]
-            pub fn on(self, lane: u8) -> Option<LoadLaneOp> {
-                lane_loads!(on_lane! self LoadLaneOp lane)
-            }
-        }
-
-        /// A store of one lane of a vector, whatever the lane.
-        #[derive(Clone, Copy, Debug, PartialEq, Eq)]
-        pub enum StoreLaneKind {
-            /// [`v128_store8_lane`](crate::simd::v128_store8_lane)
-            V128Store8Lane,
-            /// [`v128_store16_lane`](crate::simd::v128_store16_lane)
-            V128Store16Lane,
-            /// [`v128_store32_lane`](crate::simd::v128_store32_lane)
-            V128Store32Lane,
-            /// [`v128_store64_lane`](crate::simd::v128_store64_lane)
-            V128Store64Lane,
-        }
-
-        /// The stores of a lane by name, in the order of the C library's numbers.
-        pub const LANE_STORES: [(&str, StoreLaneKind); 4] = lane_stores!(names! StoreLaneKind);
-
-        impl StoreLaneKind {
-            /// The instruction on the lane of an index, if there is such a lane.
-            ///
-            /// # Contract
-            ///
-            /// ```text
-            /// ensures: result ≡ store_lane_op self lane
-            /// ```
-            ///
-            /// Definitions: [`store_lane_op`](crate::specs::ops::LaneOps#store_lane_op).
-            #[inline]
-            pub fn on(self, lane: u8) -> Option<StoreLaneOp> {
-                lane_stores!(on_lane! self StoreLaneOp lane)
-            }
-        }
-    }
-    pub mod make {
-        //! The vector instructions that make a vector of an item.
-
-        use crate::proved::lanewise::simd as lanewise;
-        use crate::proved::ops::rows::{calls, names};
-        use crate::proved::raw::{RawVal, ReadAs, V128};
-        use crate::proved::widening::simd;
-
-        /// A vector instruction whose operand is an item.
-        #[derive(Clone, Copy, Debug, PartialEq, Eq)]
-        pub enum MakeOp {
-            /// [`i8x16_splat`](crate::simd::i8x16_splat)
-            I8x16Splat,
-            /// [`i16x8_splat`](crate::simd::i16x8_splat)
-            I16x8Splat,
-            /// [`i32x4_splat`](crate::simd::i32x4_splat)
-            I32x4Splat,
-            /// [`i64x2_splat`](crate::simd::i64x2_splat)
-            I64x2Splat,
-            /// [`v128_widen8x8_s`](crate::simd::v128_widen8x8_s)
-            V128Widen8x8S,
-            /// [`v128_widen8x8_u`](crate::simd::v128_widen8x8_u)
-            V128Widen8x8U,
-            /// [`v128_widen16x4_s`](crate::simd::v128_widen16x4_s)
-            V128Widen16x4S,
-            /// [`v128_widen16x4_u`](crate::simd::v128_widen16x4_u)
-            V128Widen16x4U,
-            /// [`v128_widen32x2_s`](crate::simd::v128_widen32x2_s)
-            V128Widen32x2S,
-            /// [`v128_widen32x2_u`](crate::simd::v128_widen32x2_u)
-            V128Widen32x2U,
-            /// [`v128_low32_zero`](crate::simd::v128_low32_zero)
-            V128Low32Zero,
-            /// [`v128_low64_zero`](crate::simd::v128_low64_zero)
-            V128Low64Zero,
-        }
-
-        /// The rows of `MAKES`.
-        macro_rules! makes {
-    ($make:ident! $($with:tt)*) => { $make! { [$($with)*]
-        lanewise [] {
-            I8x16Splat i8x16_splat, I16x8Splat i16x8_splat,
-            I32x4Splat i32x4_splat, I64x2Splat i64x2_splat,
-        }
-        simd [] {
-            V128Widen8x8S v128_widen8x8_s, V128Widen8x8U v128_widen8x8_u,
-            V128Widen16x4S v128_widen16x4_s, V128Widen16x4U v128_widen16x4_u,
-            V128Widen32x2S v128_widen32x2_s, V128Widen32x2U v128_widen32x2_u,
-            V128Low32Zero v128_low32_zero, V128Low64Zero v128_low64_zero,
-        }
-    } };
-}
-
-        /// What makes a vector of an item, by name, in the order of the C library's numbers.
-        pub const MAKES: [(&str, MakeOp); 12] = makes!(names! MakeOp);
-
-        impl MakeOp {
-            /// The vector that is made of an item in a raw value.
-            ///
-            /// # Contract
-            ///
-            /// ```text
-            /// ensures: result ≡ made_vector self raw
-            /// ```
-            ///
-            /// Definitions: [`made_vector`](crate::specs::ops::VectorOps#made_vector).
-            #[inline]
-            pub fn apply(self, raw: RawVal) -> V128 {
-                makes!(calls! self(raw.read_as()))
-            }
-        }
-    }
-    pub mod shift {
-        //! The shifts of lanes.
-
-        use crate::proved::ops::rows::{calls, names};
-        use crate::proved::raw::V128;
-        use crate::proved::widening::simd;
-
-        /// A shift of the lanes of a vector, by an amount modulo their width.
-        #[derive(Clone, Copy, Debug, PartialEq, Eq)]
-        pub enum ShiftOp {
-            /// [`i8x16_shl`](crate::simd::i8x16_shl)
-            I8x16Shl,
-            /// [`i8x16_shr_s`](crate::simd::i8x16_shr_s)
-            I8x16ShrS,
-            /// [`i8x16_shr_u`](crate::simd::i8x16_shr_u)
-            I8x16ShrU,
-            /// [`i16x8_shl`](crate::simd::i16x8_shl)
-            I16x8Shl,
-            /// [`i16x8_shr_s`](crate::simd::i16x8_shr_s)
-            I16x8ShrS,
-            /// [`i16x8_shr_u`](crate::simd::i16x8_shr_u)
-            I16x8ShrU,
-            /// [`i32x4_shl`](crate::simd::i32x4_shl)
-            I32x4Shl,
-            /// [`i32x4_shr_s`](crate::simd::i32x4_shr_s)
-            I32x4ShrS,
-            /// [`i32x4_shr_u`](crate::simd::i32x4_shr_u)
-            I32x4ShrU,
-            /// [`i64x2_shl`](crate::simd::i64x2_shl)
-            I64x2Shl,
-            /// [`i64x2_shr_s`](crate::simd::i64x2_shr_s)
-            I64x2ShrS,
-            /// [`i64x2_shr_u`](crate::simd::i64x2_shr_u)
-            I64x2ShrU,
-        }
-
-        /// The rows of `SHIFTS`.
-        macro_rules! shifts {
-    ($make:ident! $($with:tt)*) => { $make! { [$($with)*] simd [] {
-        I8x16Shl i8x16_shl, I8x16ShrS i8x16_shr_s, I8x16ShrU i8x16_shr_u,
-        I16x8Shl i16x8_shl, I16x8ShrS i16x8_shr_s, I16x8ShrU i16x8_shr_u,
-        I32x4Shl i32x4_shl, I32x4ShrS i32x4_shr_s, I32x4ShrU i32x4_shr_u,
-        I64x2Shl i64x2_shl, I64x2ShrS i64x2_shr_s, I64x2ShrU i64x2_shr_u,
-    } } };
-}
-
-        /// The shifts of lanes by name, in the order of the C library's numbers.
-        pub const SHIFTS: [(&str, ShiftOp); 12] = shifts!(names! ShiftOp);
-
-        impl ShiftOp {
-            /// The result for an operand and an amount.
-            ///
-            /// # Contract
-            ///
-            /// ```text
-            /// ensures: result ≡ shifted_vector self a amount
-            /// ```
-            ///
-            /// Definitions: [`shifted_vector`](crate::specs::ops::VectorOps#shifted_vector).
-            #[inline]
-            pub fn apply(self, a: V128, amount: u32) -> V128 {
-                shifts!(calls! self(a, amount))
-            }
-        }
-    }
-    pub mod ternary {
-        //! The vector instructions of three operands.
-
-        use crate::proved::lanewise::simd as lanewise;
-        use crate::proved::ops::rows::{calls, names};
-        use crate::proved::raw::V128;
-        use crate::proved::widening::simd;
-
-        /// A vector instruction of three operands.
-        #[derive(Clone, Copy, Debug, PartialEq, Eq)]
-        pub enum TernaryOp {
-            /// [`v128_bitselect`](crate::simd::v128_bitselect)
-            V128Bitselect,
-            /// [`i8x16_relaxed_laneselect`](crate::simd::i8x16_relaxed_laneselect)
-            I8x16RelaxedLaneselect,
-            /// [`i16x8_relaxed_laneselect`](crate::simd::i16x8_relaxed_laneselect)
-            I16x8RelaxedLaneselect,
-            /// [`i32x4_relaxed_laneselect`](crate::simd::i32x4_relaxed_laneselect)
-            I32x4RelaxedLaneselect,
-            /// [`i64x2_relaxed_laneselect`](crate::simd::i64x2_relaxed_laneselect)
-            I64x2RelaxedLaneselect,
-            /// [`i32x4_relaxed_dot_i8x16_i7x16_add_s`](crate::simd::i32x4_relaxed_dot_i8x16_i7x16_add_s)
-            I32x4RelaxedDotI8x16I7x16AddS,
-        }
-
-        /// The rows of `TERNARIES`.
-        macro_rules! ternaries {
+    macro_rules! ternaries {
     ($make:ident! $($with:tt)*) => { $make! { [$($with)*]
         lanewise [] {
             V128Bitselect v128_bitselect,
@@ -1412,57 +1017,106 @@ mod vector {
     } };
 }
 
-        /// The instructions of three vectors by name, in the order of the C library's numbers.
-        pub const TERNARIES: [(&str, TernaryOp); 6] = ternaries!(names! TernaryOp);
+    /// The instructions of three vectors by name, in the order of the C library's numbers.
+    pub const TERNARIES: [(&str, TernaryOp); 6] = ternaries!(names! TernaryOp);
 
-        impl TernaryOp {
-            /// The result for three operands.
-            ///
-            /// # Contract
-            ///
-            /// ```text
-            /// ensures: result ≡ ternary_vector self a b c
-            /// ```
-            ///
-            /// Definitions: [`ternary_vector`](crate::specs::ops::VectorOps#ternary_vector).
-            #[inline]
-            pub fn apply(self, a: V128, b: V128, c: V128) -> V128 {
-                ternaries!(calls! self(a, b, c))
-            }
+    impl TernaryOp {
+        /// The result for three operands.
+        ///
+        /// # Contract
+        ///
+        /// ```text
+        /// ensures: result ≡ ternary_vector self a b c
+        /// ```
+        ///
+        /// Definitions: [`ternary_vector`](crate::specs::ops::VectorOps#ternary_vector).
+        #[inline]
+        pub fn apply(self, a: V128, b: V128, c: V128) -> V128 {
+            ternaries!(calls! self(a, b, c))
         }
     }
-    pub mod test {
-        //! The tests of vectors.
 
-        use crate::proved::ops::rows::{calls, names};
-        use crate::proved::raw::{RawVal, V128};
-        use crate::proved::widening::simd;
+    /// A shift of the lanes of a vector, by an amount modulo their width.
+    #[derive(Clone, Copy, Debug, PartialEq, Eq)]
+    pub enum ShiftOp {
+        /// [`i8x16_shl`](crate::simd::i8x16_shl)
+        I8x16Shl,
+        /// [`i8x16_shr_s`](crate::simd::i8x16_shr_s)
+        I8x16ShrS,
+        /// [`i8x16_shr_u`](crate::simd::i8x16_shr_u)
+        I8x16ShrU,
+        /// [`i16x8_shl`](crate::simd::i16x8_shl)
+        I16x8Shl,
+        /// [`i16x8_shr_s`](crate::simd::i16x8_shr_s)
+        I16x8ShrS,
+        /// [`i16x8_shr_u`](crate::simd::i16x8_shr_u)
+        I16x8ShrU,
+        /// [`i32x4_shl`](crate::simd::i32x4_shl)
+        I32x4Shl,
+        /// [`i32x4_shr_s`](crate::simd::i32x4_shr_s)
+        I32x4ShrS,
+        /// [`i32x4_shr_u`](crate::simd::i32x4_shr_u)
+        I32x4ShrU,
+        /// [`i64x2_shl`](crate::simd::i64x2_shl)
+        I64x2Shl,
+        /// [`i64x2_shr_s`](crate::simd::i64x2_shr_s)
+        I64x2ShrS,
+        /// [`i64x2_shr_u`](crate::simd::i64x2_shr_u)
+        I64x2ShrU,
+    }
 
-        /// A test of a vector, or its mask.
-        #[derive(Clone, Copy, Debug, PartialEq, Eq)]
-        pub enum TestOp {
-            /// [`i8x16_all_true`](crate::simd::i8x16_all_true)
-            I8x16AllTrue,
-            /// [`i16x8_all_true`](crate::simd::i16x8_all_true)
-            I16x8AllTrue,
-            /// [`i32x4_all_true`](crate::simd::i32x4_all_true)
-            I32x4AllTrue,
-            /// [`i64x2_all_true`](crate::simd::i64x2_all_true)
-            I64x2AllTrue,
-            /// [`v128_any_true`](crate::simd::v128_any_true)
-            V128AnyTrue,
-            /// [`i8x16_bitmask`](crate::simd::i8x16_bitmask)
-            I8x16Bitmask,
-            /// [`i16x8_bitmask`](crate::simd::i16x8_bitmask)
-            I16x8Bitmask,
-            /// [`i32x4_bitmask`](crate::simd::i32x4_bitmask)
-            I32x4Bitmask,
-            /// [`i64x2_bitmask`](crate::simd::i64x2_bitmask)
-            I64x2Bitmask,
+    macro_rules! shifts {
+    ($make:ident! $($with:tt)*) => { $make! { [$($with)*] simd [] {
+        I8x16Shl i8x16_shl, I8x16ShrS i8x16_shr_s, I8x16ShrU i8x16_shr_u,
+        I16x8Shl i16x8_shl, I16x8ShrS i16x8_shr_s, I16x8ShrU i16x8_shr_u,
+        I32x4Shl i32x4_shl, I32x4ShrS i32x4_shr_s, I32x4ShrU i32x4_shr_u,
+        I64x2Shl i64x2_shl, I64x2ShrS i64x2_shr_s, I64x2ShrU i64x2_shr_u,
+    } } };
+}
+
+    /// The shifts of lanes by name, in the order of the C library's numbers.
+    pub const SHIFTS: [(&str, ShiftOp); 12] = shifts!(names! ShiftOp);
+
+    impl ShiftOp {
+        /// The result for an operand and an amount.
+        ///
+        /// # Contract
+        ///
+        /// ```text
+        /// ensures: result ≡ shifted_vector self a amount
+        /// ```
+        ///
+        /// Definitions: [`shifted_vector`](crate::specs::ops::VectorOps#shifted_vector).
+        #[inline]
+        pub fn apply(self, a: V128, amount: u32) -> V128 {
+            shifts!(calls! self(a, amount))
         }
+    }
 
-        /// The rows of `TESTS`.
-        macro_rules! tests {
+    /// A test of a vector, or its mask.
+    #[derive(Clone, Copy, Debug, PartialEq, Eq)]
+    pub enum TestOp {
+        /// [`i8x16_all_true`](crate::simd::i8x16_all_true)
+        I8x16AllTrue,
+        /// [`i16x8_all_true`](crate::simd::i16x8_all_true)
+        I16x8AllTrue,
+        /// [`i32x4_all_true`](crate::simd::i32x4_all_true)
+        I32x4AllTrue,
+        /// [`i64x2_all_true`](crate::simd::i64x2_all_true)
+        I64x2AllTrue,
+        /// [`v128_any_true`](crate::simd::v128_any_true)
+        V128AnyTrue,
+        /// [`i8x16_bitmask`](crate::simd::i8x16_bitmask)
+        I8x16Bitmask,
+        /// [`i16x8_bitmask`](crate::simd::i16x8_bitmask)
+        I16x8Bitmask,
+        /// [`i32x4_bitmask`](crate::simd::i32x4_bitmask)
+        I32x4Bitmask,
+        /// [`i64x2_bitmask`](crate::simd::i64x2_bitmask)
+        I64x2Bitmask,
+    }
+
+    macro_rules! tests {
     ($make:ident! $($with:tt)*) => { $make! { [$($with)*] simd [.into()] {
         I8x16AllTrue i8x16_all_true, I16x8AllTrue i16x8_all_true,
         I32x4AllTrue i32x4_all_true, I64x2AllTrue i64x2_all_true,
@@ -1472,153 +1126,388 @@ mod vector {
     } } };
 }
 
-        /// The tests and masks of a vector by name, in the order of the C library's numbers.
-        pub const TESTS: [(&str, TestOp); 9] = tests!(names! TestOp);
+    /// The tests and masks of a vector by name, in the order of the C library's numbers.
+    pub const TESTS: [(&str, TestOp); 9] = tests!(names! TestOp);
 
-        impl TestOp {
-            /// The Boolean, as 0 or 1, or the mask.
-            ///
-            /// # Contract
-            ///
-            /// ```text
-            /// ensures: result ≡ tested_raw self a
-            /// ```
-            ///
-            /// Definitions: [`tested_raw`](crate::specs::ops::VectorOps#tested_raw).
-            #[inline]
-            pub fn apply(self, a: V128) -> RawVal {
-                tests!(calls! self(a))
-            }
+    impl TestOp {
+        /// The Boolean, as 0 or 1, or the mask.
+        ///
+        /// # Contract
+        ///
+        /// ```text
+        /// ensures: result ≡ tested_raw self a
+        /// ```
+        ///
+        /// Definitions: [`tested_raw`](crate::specs::ops::VectorOps#tested_raw).
+        #[inline]
+        pub fn apply(self, a: V128) -> RawVal {
+            tests!(calls! self(a))
         }
     }
-    pub mod unary {
-        //! The vector instructions of one operand.
 
-        use crate::proved::lanewise::simd as lanewise;
-        use crate::proved::ops::rows::{calls, names};
-        use crate::proved::raw::V128;
-        use crate::proved::widening::simd;
+    /// A lane that is taken from a vector, with its index.
+    #[derive(Clone, Copy, Debug, PartialEq, Eq)]
+    pub enum ExtractOp {
+        /// [`i8x16_extract_lane_s`](crate::simd::i8x16_extract_lane_s)
+        I8x16ExtractLaneS(ImmLaneIdx16),
+        /// [`i8x16_extract_lane_u`](crate::simd::i8x16_extract_lane_u)
+        I8x16ExtractLaneU(ImmLaneIdx16),
+        /// [`i16x8_extract_lane_s`](crate::simd::i16x8_extract_lane_s)
+        I16x8ExtractLaneS(ImmLaneIdx8),
+        /// [`i16x8_extract_lane_u`](crate::simd::i16x8_extract_lane_u)
+        I16x8ExtractLaneU(ImmLaneIdx8),
+        /// [`i32x4_extract_lane`](crate::simd::i32x4_extract_lane)
+        I32x4ExtractLane(ImmLaneIdx4),
+        /// [`i64x2_extract_lane`](crate::simd::i64x2_extract_lane)
+        I64x2ExtractLane(ImmLaneIdx2),
+    }
 
-        /// A vector instruction of one operand.
-        #[derive(Clone, Copy, Debug, PartialEq, Eq)]
-        pub enum UnaryOp {
-            /// [`v128_not`](crate::simd::v128_not)
-            V128Not,
-            /// [`i8x16_neg`](crate::simd::i8x16_neg)
-            I8x16Neg,
-            /// [`i16x8_neg`](crate::simd::i16x8_neg)
-            I16x8Neg,
-            /// [`i32x4_neg`](crate::simd::i32x4_neg)
-            I32x4Neg,
-            /// [`i64x2_neg`](crate::simd::i64x2_neg)
-            I64x2Neg,
-            /// [`i8x16_abs`](crate::simd::i8x16_abs)
-            I8x16Abs,
-            /// [`i16x8_abs`](crate::simd::i16x8_abs)
-            I16x8Abs,
-            /// [`i32x4_abs`](crate::simd::i32x4_abs)
-            I32x4Abs,
-            /// [`i64x2_abs`](crate::simd::i64x2_abs)
-            I64x2Abs,
-            /// [`i8x16_popcnt`](crate::simd::i8x16_popcnt)
-            I8x16Popcnt,
-            /// [`i16x8_extend_low_i8x16_s`](crate::simd::i16x8_extend_low_i8x16_s)
-            I16x8ExtendLowI8x16S,
-            /// [`i16x8_extend_low_i8x16_u`](crate::simd::i16x8_extend_low_i8x16_u)
-            I16x8ExtendLowI8x16U,
-            /// [`i16x8_extend_high_i8x16_s`](crate::simd::i16x8_extend_high_i8x16_s)
-            I16x8ExtendHighI8x16S,
-            /// [`i16x8_extend_high_i8x16_u`](crate::simd::i16x8_extend_high_i8x16_u)
-            I16x8ExtendHighI8x16U,
-            /// [`i32x4_extend_low_i16x8_s`](crate::simd::i32x4_extend_low_i16x8_s)
-            I32x4ExtendLowI16x8S,
-            /// [`i32x4_extend_low_i16x8_u`](crate::simd::i32x4_extend_low_i16x8_u)
-            I32x4ExtendLowI16x8U,
-            /// [`i32x4_extend_high_i16x8_s`](crate::simd::i32x4_extend_high_i16x8_s)
-            I32x4ExtendHighI16x8S,
-            /// [`i32x4_extend_high_i16x8_u`](crate::simd::i32x4_extend_high_i16x8_u)
-            I32x4ExtendHighI16x8U,
-            /// [`i64x2_extend_low_i32x4_s`](crate::simd::i64x2_extend_low_i32x4_s)
-            I64x2ExtendLowI32x4S,
-            /// [`i64x2_extend_low_i32x4_u`](crate::simd::i64x2_extend_low_i32x4_u)
-            I64x2ExtendLowI32x4U,
-            /// [`i64x2_extend_high_i32x4_s`](crate::simd::i64x2_extend_high_i32x4_s)
-            I64x2ExtendHighI32x4S,
-            /// [`i64x2_extend_high_i32x4_u`](crate::simd::i64x2_extend_high_i32x4_u)
-            I64x2ExtendHighI32x4U,
-            /// [`i16x8_extadd_pairwise_i8x16_s`](crate::simd::i16x8_extadd_pairwise_i8x16_s)
-            I16x8ExtaddPairwiseI8x16S,
-            /// [`i16x8_extadd_pairwise_i8x16_u`](crate::simd::i16x8_extadd_pairwise_i8x16_u)
-            I16x8ExtaddPairwiseI8x16U,
-            /// [`i32x4_extadd_pairwise_i16x8_s`](crate::simd::i32x4_extadd_pairwise_i16x8_s)
-            I32x4ExtaddPairwiseI16x8S,
-            /// [`i32x4_extadd_pairwise_i16x8_u`](crate::simd::i32x4_extadd_pairwise_i16x8_u)
-            I32x4ExtaddPairwiseI16x8U,
-        }
-
-        /// The rows of `UNARIES`.
-        macro_rules! unaries {
-    ($make:ident! $($with:tt)*) => { $make! { [$($with)*]
-        lanewise [] {
-            V128Not v128_not,
-            I8x16Neg i8x16_neg, I16x8Neg i16x8_neg, I32x4Neg i32x4_neg, I64x2Neg i64x2_neg,
-            I8x16Abs i8x16_abs, I16x8Abs i16x8_abs, I32x4Abs i32x4_abs, I64x2Abs i64x2_abs,
-            I8x16Popcnt i8x16_popcnt,
-        }
-        simd [] {
-            I16x8ExtendLowI8x16S i16x8_extend_low_i8x16_s,
-            I16x8ExtendLowI8x16U i16x8_extend_low_i8x16_u,
-            I16x8ExtendHighI8x16S i16x8_extend_high_i8x16_s,
-            I16x8ExtendHighI8x16U i16x8_extend_high_i8x16_u,
-            I32x4ExtendLowI16x8S i32x4_extend_low_i16x8_s,
-            I32x4ExtendLowI16x8U i32x4_extend_low_i16x8_u,
-            I32x4ExtendHighI16x8S i32x4_extend_high_i16x8_s,
-            I32x4ExtendHighI16x8U i32x4_extend_high_i16x8_u,
-            I64x2ExtendLowI32x4S i64x2_extend_low_i32x4_s,
-            I64x2ExtendLowI32x4U i64x2_extend_low_i32x4_u,
-            I64x2ExtendHighI32x4S i64x2_extend_high_i32x4_s,
-            I64x2ExtendHighI32x4U i64x2_extend_high_i32x4_u,
-            I16x8ExtaddPairwiseI8x16S i16x8_extadd_pairwise_i8x16_s,
-            I16x8ExtaddPairwiseI8x16U i16x8_extadd_pairwise_i8x16_u,
-            I32x4ExtaddPairwiseI16x8S i32x4_extadd_pairwise_i16x8_s,
-            I32x4ExtaddPairwiseI16x8U i32x4_extadd_pairwise_i16x8_u,
-        }
-    } };
+    macro_rules! extractions {
+    ($make:ident! $($with:tt)*) => { $make! { [$($with)*] lanewise [.into()] {
+        I8x16ExtractLaneS i8x16_extract_lane_s, I8x16ExtractLaneU i8x16_extract_lane_u,
+        I16x8ExtractLaneS i16x8_extract_lane_s, I16x8ExtractLaneU i16x8_extract_lane_u,
+        I32x4ExtractLane i32x4_extract_lane, I64x2ExtractLane i64x2_extract_lane,
+    } } };
 }
 
-        /// The instructions of one vector by name, in the order of the C library's numbers.
-        pub const UNARIES: [(&str, UnaryOp); 26] = unaries!(names! UnaryOp);
+    impl ExtractOp {
+        /// The lane in the low bits of a raw value: one of 8 or 16 bits extended to 32, by its sign
+        /// (`_s`) or by zeros (`_u`), one of 32 or 64 bits as it is. All higher bits are 0.
+        ///
+        /// # Contract
+        ///
+        /// ```text
+        /// ensures: result ≡ extracted_raw self a
+        /// ```
+        ///
+        /// Definitions: [`extracted_raw`](crate::specs::ops::LaneOps#extracted_raw).
+        #[inline]
+        pub fn apply(self, a: V128) -> RawVal {
+            extractions!(calls! self(lane) (a, lane))
+        }
+    }
 
-        impl UnaryOp {
-            /// The result for an operand.
-            ///
-            /// # Contract
-            ///
-            /// ```text
-            /// ensures: result ≡ unary_vector self a
-            /// ```
-            ///
-            /// Definitions: [`unary_vector`](crate::specs::ops::VectorOps#unary_vector).
-            #[inline]
-            pub fn apply(self, a: V128) -> V128 {
-                unaries!(calls! self(a))
-            }
+    /// A lane that is taken from a vector, whatever the lane.
+    #[derive(Clone, Copy, Debug, PartialEq, Eq)]
+    pub enum ExtractKind {
+        /// [`i8x16_extract_lane_s`](crate::simd::i8x16_extract_lane_s)
+        I8x16ExtractLaneS,
+        /// [`i8x16_extract_lane_u`](crate::simd::i8x16_extract_lane_u)
+        I8x16ExtractLaneU,
+        /// [`i16x8_extract_lane_s`](crate::simd::i16x8_extract_lane_s)
+        I16x8ExtractLaneS,
+        /// [`i16x8_extract_lane_u`](crate::simd::i16x8_extract_lane_u)
+        I16x8ExtractLaneU,
+        /// [`i32x4_extract_lane`](crate::simd::i32x4_extract_lane)
+        I32x4ExtractLane,
+        /// [`i64x2_extract_lane`](crate::simd::i64x2_extract_lane)
+        I64x2ExtractLane,
+    }
+
+    /// The extractions of a lane by name, in the order of the C library's numbers.
+    pub const EXTRACTIONS: [(&str, ExtractKind); 6] = extractions!(names! ExtractKind);
+
+    impl ExtractKind {
+        /// The instruction on the lane of an index, if there is such a lane.
+        ///
+        /// # Contract
+        ///
+        /// ```text
+        /// ensures: result ≡ extract_op self lane
+        /// ```
+        ///
+        /// Definitions: [`extract_op`](crate::specs::ops::LaneOps#extract_op).
+        #[inline]
+        pub fn on(self, lane: u8) -> Option<ExtractOp> {
+            extractions!(on_lane! self ExtractOp lane)
+        }
+    }
+
+    /// A lane of a vector that takes an item, with its index.
+    #[derive(Clone, Copy, Debug, PartialEq, Eq)]
+    pub enum ReplaceOp {
+        /// [`i8x16_replace_lane`](crate::simd::i8x16_replace_lane)
+        I8x16ReplaceLane(ImmLaneIdx16),
+        /// [`i16x8_replace_lane`](crate::simd::i16x8_replace_lane)
+        I16x8ReplaceLane(ImmLaneIdx8),
+        /// [`i32x4_replace_lane`](crate::simd::i32x4_replace_lane)
+        I32x4ReplaceLane(ImmLaneIdx4),
+        /// [`i64x2_replace_lane`](crate::simd::i64x2_replace_lane)
+        I64x2ReplaceLane(ImmLaneIdx2),
+    }
+
+    macro_rules! replacements {
+    ($make:ident! $($with:tt)*) => { $make! { [$($with)*] lanewise [] {
+        I8x16ReplaceLane i8x16_replace_lane, I16x8ReplaceLane i16x8_replace_lane,
+        I32x4ReplaceLane i32x4_replace_lane, I64x2ReplaceLane i64x2_replace_lane,
+    } } };
+}
+
+    impl ReplaceOp {
+        /// The vector with an item of a raw value in the lane.
+        ///
+        /// # Contract
+        ///
+        /// ```text
+        /// ensures: result ≡ replaced_vector self a raw
+        /// ```
+        ///
+        /// Definitions: [`replaced_vector`](crate::specs::ops::LaneOps#replaced_vector).
+        #[inline]
+        pub fn apply(self, a: V128, raw: RawVal) -> V128 {
+            replacements!(calls! self(lane) (a, lane, raw.read_as()))
+        }
+    }
+
+    /// A lane of a vector that takes an item, whatever the lane.
+    #[derive(Clone, Copy, Debug, PartialEq, Eq)]
+    pub enum ReplaceKind {
+        /// [`i8x16_replace_lane`](crate::simd::i8x16_replace_lane)
+        I8x16ReplaceLane,
+        /// [`i16x8_replace_lane`](crate::simd::i16x8_replace_lane)
+        I16x8ReplaceLane,
+        /// [`i32x4_replace_lane`](crate::simd::i32x4_replace_lane)
+        I32x4ReplaceLane,
+        /// [`i64x2_replace_lane`](crate::simd::i64x2_replace_lane)
+        I64x2ReplaceLane,
+    }
+
+    /// The replacements of a lane by name, in the order of the C library's numbers.
+    pub const REPLACEMENTS: [(&str, ReplaceKind); 4] = replacements!(names! ReplaceKind);
+
+    impl ReplaceKind {
+        /// The instruction on the lane of an index, if there is such a lane.
+        ///
+        /// # Contract
+        ///
+        /// ```text
+        /// ensures: result ≡ replace_op self lane
+        /// ```
+        ///
+        /// Definitions: [`replace_op`](crate::specs::ops::LaneOps#replace_op).
+        #[inline]
+        pub fn on(self, lane: u8) -> Option<ReplaceOp> {
+            replacements!(on_lane! self ReplaceOp lane)
+        }
+    }
+
+    /// A load of a vector.
+    #[derive(Clone, Copy, Debug, PartialEq, Eq)]
+    pub enum VectorLoadOp {
+        /// [`v128_load`](crate::simd::v128_load)
+        V128Load,
+        /// [`v128_load8x8_s`](crate::simd::v128_load8x8_s)
+        V128Load8x8S,
+        /// [`v128_load8x8_u`](crate::simd::v128_load8x8_u)
+        V128Load8x8U,
+        /// [`v128_load16x4_s`](crate::simd::v128_load16x4_s)
+        V128Load16x4S,
+        /// [`v128_load16x4_u`](crate::simd::v128_load16x4_u)
+        V128Load16x4U,
+        /// [`v128_load32x2_s`](crate::simd::v128_load32x2_s)
+        V128Load32x2S,
+        /// [`v128_load32x2_u`](crate::simd::v128_load32x2_u)
+        V128Load32x2U,
+        /// [`v128_load8_splat`](crate::simd::v128_load8_splat)
+        V128Load8Splat,
+        /// [`v128_load16_splat`](crate::simd::v128_load16_splat)
+        V128Load16Splat,
+        /// [`v128_load32_splat`](crate::simd::v128_load32_splat)
+        V128Load32Splat,
+        /// [`v128_load64_splat`](crate::simd::v128_load64_splat)
+        V128Load64Splat,
+        /// [`v128_load32_zero`](crate::simd::v128_load32_zero)
+        V128Load32Zero,
+        /// [`v128_load64_zero`](crate::simd::v128_load64_zero)
+        V128Load64Zero,
+    }
+
+    macro_rules! vector_loads {
+    ($make:ident! $($with:tt)*) => { $make! { [$($with)*] access [] {
+        V128Load v128_load, V128Load8x8S v128_load8x8_s, V128Load8x8U v128_load8x8_u,
+        V128Load16x4S v128_load16x4_s, V128Load16x4U v128_load16x4_u,
+        V128Load32x2S v128_load32x2_s, V128Load32x2U v128_load32x2_u,
+        V128Load8Splat v128_load8_splat, V128Load16Splat v128_load16_splat,
+        V128Load32Splat v128_load32_splat, V128Load64Splat v128_load64_splat,
+        V128Load32Zero v128_load32_zero, V128Load64Zero v128_load64_zero,
+    } } };
+}
+
+    /// The loads of a vector by name, in the order of the C library's numbers.
+    pub const VECTOR_LOADS: [(&str, VectorLoadOp); 13] = vector_loads!(names! VectorLoadOp);
+
+    impl VectorLoadOp {
+        /// Loads from `ptr + offset`. The only error is `MemoryOutOfBounds`.
+        ///
+        /// # Contract
+        ///
+        /// ```text
+        /// ensures: result ≡ loaded_vector self memory.now (ptr + offset)
+        /// ```
+        ///
+        /// Definitions: [`loaded_vector`](crate::specs::ops::VectorOps#loaded_vector).
+        #[inline]
+        pub fn load(self, memory: &[u8], ptr: u64, offset: u64) -> Result<V128, TrapCode> {
+            vector_loads!(calls! self(memory, ptr, offset))
+        }
+    }
+
+    /// A load of one lane of a vector, with its index.
+    #[derive(Clone, Copy, Debug, PartialEq, Eq)]
+    pub enum LoadLaneOp {
+        /// [`v128_load8_lane`](crate::simd::v128_load8_lane)
+        V128Load8Lane(ImmLaneIdx16),
+        /// [`v128_load16_lane`](crate::simd::v128_load16_lane)
+        V128Load16Lane(ImmLaneIdx8),
+        /// [`v128_load32_lane`](crate::simd::v128_load32_lane)
+        V128Load32Lane(ImmLaneIdx4),
+        /// [`v128_load64_lane`](crate::simd::v128_load64_lane)
+        V128Load64Lane(ImmLaneIdx2),
+    }
+
+    macro_rules! lane_loads {
+    ($make:ident! $($with:tt)*) => { $make! { [$($with)*] access [] {
+        V128Load8Lane v128_load8_lane, V128Load16Lane v128_load16_lane,
+        V128Load32Lane v128_load32_lane, V128Load64Lane v128_load64_lane,
+    } } };
+}
+
+    impl LoadLaneOp {
+        /// The vector with the lane loaded from `ptr + offset`. The only error is `MemoryOutOfBounds`.
+        ///
+        /// # Contract
+        ///
+        /// ```text
+        /// ensures: result ≡ loaded_lane self vector memory.now (ptr + offset)
+        /// ```
+        ///
+        /// Definitions: [`loaded_lane`](crate::specs::ops::VectorOps#loaded_lane).
+        #[inline]
+        pub fn load(
+            self,
+            memory: &[u8],
+            ptr: u64,
+            offset: u64,
+            vector: V128,
+        ) -> Result<V128, TrapCode> {
+            lane_loads!(calls! self(lane) (memory, ptr, offset, vector, lane))
+        }
+    }
+
+    /// A load of one lane of a vector, whatever the lane.
+    #[derive(Clone, Copy, Debug, PartialEq, Eq)]
+    pub enum LoadLaneKind {
+        /// [`v128_load8_lane`](crate::simd::v128_load8_lane)
+        V128Load8Lane,
+        /// [`v128_load16_lane`](crate::simd::v128_load16_lane)
+        V128Load16Lane,
+        /// [`v128_load32_lane`](crate::simd::v128_load32_lane)
+        V128Load32Lane,
+        /// [`v128_load64_lane`](crate::simd::v128_load64_lane)
+        V128Load64Lane,
+    }
+
+    /// The loads of a lane by name, in the order of the C library's numbers.
+    pub const LANE_LOADS: [(&str, LoadLaneKind); 4] = lane_loads!(names! LoadLaneKind);
+
+    impl LoadLaneKind {
+        /// The instruction on the lane of an index, if there is such a lane.
+        ///
+        /// # Contract
+        ///
+        /// ```text
+        /// ensures: result ≡ load_lane_op self lane
+        /// ```
+        ///
+        /// Definitions: [`load_lane_op`](crate::specs::ops::LaneOps#load_lane_op).
+        #[inline]
+        pub fn on(self, lane: u8) -> Option<LoadLaneOp> {
+            lane_loads!(on_lane! self LoadLaneOp lane)
+        }
+    }
+
+    /// A store of one lane of a vector, with its index.
+    #[derive(Clone, Copy, Debug, PartialEq, Eq)]
+    pub enum StoreLaneOp {
+        /// [`v128_store8_lane`](crate::simd::v128_store8_lane)
+        V128Store8Lane(ImmLaneIdx16),
+        /// [`v128_store16_lane`](crate::simd::v128_store16_lane)
+        V128Store16Lane(ImmLaneIdx8),
+        /// [`v128_store32_lane`](crate::simd::v128_store32_lane)
+        V128Store32Lane(ImmLaneIdx4),
+        /// [`v128_store64_lane`](crate::simd::v128_store64_lane)
+        V128Store64Lane(ImmLaneIdx2),
+    }
+
+    macro_rules! lane_stores {
+    ($make:ident! $($with:tt)*) => { $make! { [$($with)*] access [] {
+        V128Store8Lane v128_store8_lane, V128Store16Lane v128_store16_lane,
+        V128Store32Lane v128_store32_lane, V128Store64Lane v128_store64_lane,
+    } } };
+}
+
+    impl StoreLaneOp {
+        /// Stores the lane at `ptr + offset`. The only error is `MemoryOutOfBounds`, and then nothing
+        /// is written.
+        ///
+        /// # Contract
+        ///
+        /// ```text
+        /// ensures: IsStore memory.old (ptr + offset) (stored_lane self vector) memory.new result
+        /// ```
+        ///
+        /// Definitions: [`IsStore`](crate::specs::accesses::LoadStore#IsStore), [`stored_lane`](crate::specs::ops::VectorOps#stored_lane).
+        #[inline]
+        pub fn store(
+            self,
+            memory: &mut [u8],
+            ptr: u64,
+            offset: u64,
+            vector: V128,
+        ) -> Result<(), TrapCode> {
+            lane_stores!(calls! self(lane) (memory, ptr, offset, vector, lane))
+        }
+    }
+
+    /// A store of one lane of a vector, whatever the lane.
+    #[derive(Clone, Copy, Debug, PartialEq, Eq)]
+    pub enum StoreLaneKind {
+        /// [`v128_store8_lane`](crate::simd::v128_store8_lane)
+        V128Store8Lane,
+        /// [`v128_store16_lane`](crate::simd::v128_store16_lane)
+        V128Store16Lane,
+        /// [`v128_store32_lane`](crate::simd::v128_store32_lane)
+        V128Store32Lane,
+        /// [`v128_store64_lane`](crate::simd::v128_store64_lane)
+        V128Store64Lane,
+    }
+
+    /// The stores of a lane by name, in the order of the C library's numbers.
+    pub const LANE_STORES: [(&str, StoreLaneKind); 4] = lane_stores!(names! StoreLaneKind);
+
+    impl StoreLaneKind {
+        /// The instruction on the lane of an index, if there is such a lane.
+        ///
+        /// # Contract
+        ///
+        /// ```text
+        /// ensures: result ≡ store_lane_op self lane
+        /// ```
+        ///
+        /// Definitions: [`store_lane_op`](crate::specs::ops::LaneOps#store_lane_op).
+        #[inline]
+        pub fn on(self, lane: u8) -> Option<StoreLaneOp> {
+            lane_stores!(on_lane! self StoreLaneOp lane)
         }
     }
 }
 
-pub use scalar::access::{LOADS, LoadOp, STORES, StoreOp};
-pub use scalar::binary::{SCALAR_BINARIES, ScalarBinaryOp};
-pub use scalar::unary::{SCALAR_UNARIES, ScalarUnaryOp};
-pub use vector::access::{LoadLaneOp, StoreLaneOp, VECTOR_LOADS, VectorLoadOp};
-pub use vector::binary::{BINARIES, BinaryOp};
-pub use vector::lane::{ExtractOp, ReplaceOp};
-pub use vector::lane_kind::{
-    EXTRACTIONS, ExtractKind, LANE_LOADS, LANE_STORES, LoadLaneKind, REPLACEMENTS, ReplaceKind,
-    StoreLaneKind,
+pub use scalar::{
+    LOADS, LoadOp, SCALAR_BINARIES, SCALAR_UNARIES, STORES, ScalarBinaryOp, ScalarUnaryOp, StoreOp,
 };
-pub use vector::make::{MAKES, MakeOp};
-pub use vector::shift::{SHIFTS, ShiftOp};
-pub use vector::ternary::{TERNARIES, TernaryOp};
-pub use vector::test::{TESTS, TestOp};
-pub use vector::unary::{UNARIES, UnaryOp};
+pub use vector::{
+    BINARIES, BinaryOp, EXTRACTIONS, ExtractKind, ExtractOp, LANE_LOADS, LANE_STORES, LoadLaneKind,
+    LoadLaneOp, MAKES, MakeOp, REPLACEMENTS, ReplaceKind, ReplaceOp, SHIFTS, ShiftOp,
+    StoreLaneKind, StoreLaneOp, TERNARIES, TESTS, TernaryOp, TestOp, UNARIES, UnaryOp,
+    VECTOR_LOADS, VectorLoadOp,
+};

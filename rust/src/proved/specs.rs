@@ -1428,23 +1428,23 @@ use Rattle.wasmi_types.specs.Numbers.{w8, w16, w32, w64}
 use Rattle.std.specs.Int.{cast_unsigned}
 use Rattle.wasmi_raw.specs.declared.raw.RawVal.{RawVal}
 use Rattle.wasmi_raw.specs.RawVal.{<a href="../../raw/RawVal/index.html#raw_of">raw_of</a>, <a href="../../raw/RawVal/index.html#signed_in">signed_in</a>}
-use Rattle.wasmi_ops.specs.declared.<a href="../../lanes/Vector/index.html#lane">vector.lane</a>.ExtractOp.{ExtractOp}
-use Rattle.wasmi_ops.specs.declared.<a href="../../lanes/Vector/index.html#lane">vector.lane</a>.ReplaceOp.{ReplaceOp}
-use Rattle.wasmi_ops.specs.declared.vector.access.LoadLaneOp.{LoadLaneOp}
-use Rattle.wasmi_ops.specs.declared.vector.access.StoreLaneOp.{StoreLaneOp}
-use Rattle.wasmi_ops.specs.declared.vector.lane_kind.ExtractKind.{ExtractKind}
-use Rattle.wasmi_ops.specs.declared.vector.lane_kind.ReplaceKind.{ReplaceKind}
-use Rattle.wasmi_ops.specs.declared.vector.lane_kind.LoadLaneKind.{LoadLaneKind}
-use Rattle.wasmi_ops.specs.declared.vector.lane_kind.StoreLaneKind.{StoreLaneKind}
+use Rattle.wasmi_ops.specs.declared.vector.ExtractOp.{ExtractOp}
+use Rattle.wasmi_ops.specs.declared.vector.ReplaceOp.{ReplaceOp}
+use Rattle.wasmi_ops.specs.declared.vector.LoadLaneOp.{LoadLaneOp}
+use Rattle.wasmi_ops.specs.declared.vector.StoreLaneOp.{StoreLaneOp}
+use Rattle.wasmi_ops.specs.declared.vector.ExtractKind.{ExtractKind}
+use Rattle.wasmi_ops.specs.declared.vector.ReplaceKind.{ReplaceKind}
+use Rattle.wasmi_ops.specs.declared.vector.LoadLaneKind.{LoadLaneKind}
+use Rattle.wasmi_ops.specs.declared.vector.StoreLaneKind.{StoreLaneKind}
 use Rattle.wasmi_lanewise.specs.VectorTable as vector
-use Rattle.wasmi_ops.specs.declared.<a href="../../lanes/Vector/index.html#lane">vector.lane</a>.ExtractOp.TheVariants as extract
-use Rattle.wasmi_ops.specs.declared.<a href="../../lanes/Vector/index.html#lane">vector.lane</a>.ReplaceOp.TheVariants as replace
-use Rattle.wasmi_ops.specs.declared.vector.access.LoadLaneOp.TheVariants as load_lane
-use Rattle.wasmi_ops.specs.declared.vector.access.StoreLaneOp.TheVariants as store_lane
-use Rattle.wasmi_ops.specs.declared.vector.lane_kind.ExtractKind.TheVariants as extract_kind
-use Rattle.wasmi_ops.specs.declared.vector.lane_kind.ReplaceKind.TheVariants as replace_kind
-use Rattle.wasmi_ops.specs.declared.vector.lane_kind.LoadLaneKind.TheVariants as load_lane_kind
-use Rattle.wasmi_ops.specs.declared.vector.lane_kind.StoreLaneKind.TheVariants as store_lane_kind
+use Rattle.wasmi_ops.specs.declared.vector.ExtractOp.TheVariants as extract
+use Rattle.wasmi_ops.specs.declared.vector.ReplaceOp.TheVariants as replace
+use Rattle.wasmi_ops.specs.declared.vector.LoadLaneOp.TheVariants as load_lane
+use Rattle.wasmi_ops.specs.declared.vector.StoreLaneOp.TheVariants as store_lane
+use Rattle.wasmi_ops.specs.declared.vector.ExtractKind.TheVariants as extract_kind
+use Rattle.wasmi_ops.specs.declared.vector.ReplaceKind.TheVariants as replace_kind
+use Rattle.wasmi_ops.specs.declared.vector.LoadLaneKind.TheVariants as load_lane_kind
+use Rattle.wasmi_ops.specs.declared.vector.StoreLaneKind.TheVariants as store_lane_kind
 
 -- the lane that an instruction takes from a vector, as a raw value
 abbrev pub <b id="extracted_raw">extracted_raw</b> : ExtractOp → ℕ → RawVal
@@ -1538,17 +1538,17 @@ use Rattle.wasmi_types.specs.declared.trap.TrapCode.{TrapCode}
 use Rattle.wasmi_raw.specs.declared.raw.RawVal.{RawVal}
 use Rattle.wasmi_raw.specs.RawVal.{<a href="../../raw/RawVal/index.html#raw_of">raw_of</a>, <a href="../../raw/RawVal/index.html#signed_in">signed_in</a>, <a href="../../raw/RawVal/index.html#unsigned_in">unsigned_in</a>, <a href="../../raw/RawVal/index.html#raw_of_vector">raw_of_vector</a>, <a href="../../raw/RawVal/index.html#vector_in">vector_in</a>}
 use Rattle.wasmi_scalar.specs.Numerics.{<a href="../../scalar/Numerics/index.html#iclz">iclz</a>, <a href="../../scalar/Numerics/index.html#ictz">ictz</a>, <a href="../../scalar/Numerics/index.html#ipopcnt">ipopcnt</a>, <a href="../../scalar/Numerics/index.html#ieqz">ieqz</a>, <a href="../../scalar/Numerics/index.html#iadd">iadd</a>, <a href="../../scalar/Numerics/index.html#isub">isub</a>, <a href="../../scalar/Numerics/index.html#imul">imul</a>, <a href="../../scalar/Numerics/index.html#idiv_s">idiv_s</a>, <a href="../../scalar/Numerics/index.html#idiv_u">idiv_u</a>, <a href="../../scalar/Numerics/index.html#irem_s">irem_s</a>, <a href="../../scalar/Numerics/index.html#irem_u">irem_u</a>, <a href="../../scalar/Numerics/index.html#iand">iand</a>, <a href="../../scalar/Numerics/index.html#ior">ior</a>, <a href="../../scalar/Numerics/index.html#ixor">ixor</a>, <a href="../../scalar/Numerics/index.html#ishl">ishl</a>, <a href="../../scalar/Numerics/index.html#ishr_s">ishr_s</a>, <a href="../../scalar/Numerics/index.html#ishr_u">ishr_u</a>, <a href="../../scalar/Numerics/index.html#irotl">irotl</a>, <a href="../../scalar/Numerics/index.html#irotr">irotr</a>, <a href="../../scalar/Numerics/index.html#ieq">ieq</a>, <a href="../../scalar/Numerics/index.html#ine">ine</a>, <a href="../../scalar/Numerics/index.html#ilt_s">ilt_s</a>, <a href="../../scalar/Numerics/index.html#ilt_u">ilt_u</a>, <a href="../../scalar/Numerics/index.html#igt_s">igt_s</a>, <a href="../../scalar/Numerics/index.html#igt_u">igt_u</a>, <a href="../../scalar/Numerics/index.html#ile_s">ile_s</a>, <a href="../../scalar/Numerics/index.html#ile_u">ile_u</a>, <a href="../../scalar/Numerics/index.html#ige_s">ige_s</a>, <a href="../../scalar/Numerics/index.html#ige_u">ige_u</a>, <a href="../../scalar/Numerics/index.html#add128">add128</a>, <a href="../../scalar/Numerics/index.html#sub128">sub128</a>}
-use Rattle.wasmi_ops.specs.declared.scalar.unary.ScalarUnaryOp.{ScalarUnaryOp}
-use Rattle.wasmi_ops.specs.declared.scalar.binary.ScalarBinaryOp.{ScalarBinaryOp}
+use Rattle.wasmi_ops.specs.declared.scalar.ScalarUnaryOp.{ScalarUnaryOp}
+use Rattle.wasmi_ops.specs.declared.scalar.ScalarBinaryOp.{ScalarBinaryOp}
 use mir.Val.{bits}
 use Rattle.wasmi_types.specs.Numbers.{<a href="../../types/Numbers/index.html#le_bytes">le_bytes</a>}
 use Rattle.wasmi_access.specs.LoadStore.{<a href="../../accesses/LoadStore/index.html#loaded">loaded</a>}
-use Rattle.wasmi_ops.specs.declared.scalar.access.LoadOp.{LoadOp}
-use Rattle.wasmi_ops.specs.declared.scalar.access.StoreOp.{StoreOp}
-use Rattle.wasmi_ops.specs.declared.scalar.unary.ScalarUnaryOp.TheVariants as unary
-use Rattle.wasmi_ops.specs.declared.scalar.binary.ScalarBinaryOp.TheVariants as binary
-use Rattle.wasmi_ops.specs.declared.scalar.access.LoadOp.TheVariants as load
-use Rattle.wasmi_ops.specs.declared.scalar.access.StoreOp.TheVariants as store
+use Rattle.wasmi_ops.specs.declared.scalar.LoadOp.{LoadOp}
+use Rattle.wasmi_ops.specs.declared.scalar.StoreOp.{StoreOp}
+use Rattle.wasmi_ops.specs.declared.scalar.ScalarUnaryOp.TheVariants as unary
+use Rattle.wasmi_ops.specs.declared.scalar.ScalarBinaryOp.TheVariants as binary
+use Rattle.wasmi_ops.specs.declared.scalar.LoadOp.TheVariants as load
+use Rattle.wasmi_ops.specs.declared.scalar.StoreOp.TheVariants as store
 
 -- the raw value of a signed number of a width
 abbrev pub <b id="signed_raw">signed_raw</b> : Width → ℤ → RawVal
@@ -1752,32 +1752,32 @@ abbrev pub <b id="store_name">store_name</b> : StoreOp → List ℕ
 
 <pre><code>use Rattle.std.specs.Prelude.{ℕ, List, codes, Result}
 use Rattle.wasmi_types.specs.Numbers.{w8, w16, w32, w64, <a href="../../types/Numbers/index.html#le_bytes">le_bytes</a>}
-use Rattle.wasmi_ops.specs.declared.vector.unary.UnaryOp.{UnaryOp}
-use Rattle.wasmi_ops.specs.declared.vector.binary.BinaryOp.{BinaryOp}
-use Rattle.wasmi_ops.specs.declared.vector.ternary.TernaryOp.{TernaryOp}
-use Rattle.wasmi_ops.specs.declared.vector.shift.ShiftOp.{ShiftOp}
+use Rattle.wasmi_ops.specs.declared.vector.UnaryOp.{UnaryOp}
+use Rattle.wasmi_ops.specs.declared.vector.BinaryOp.{BinaryOp}
+use Rattle.wasmi_ops.specs.declared.vector.TernaryOp.{TernaryOp}
+use Rattle.wasmi_ops.specs.declared.vector.ShiftOp.{ShiftOp}
 use Rattle.std.specs.Int.{from_bool}
 use Rattle.wasmi_raw.specs.declared.raw.RawVal.{RawVal}
 use Rattle.wasmi_raw.specs.RawVal.{<a href="../../raw/RawVal/index.html#raw_of">raw_of</a>, <a href="../../raw/RawVal/index.html#signed_in">signed_in</a>, <a href="../../raw/RawVal/index.html#unsigned_in">unsigned_in</a>}
-use Rattle.wasmi_ops.specs.declared.vector.test.TestOp.{TestOp}
-use Rattle.wasmi_ops.specs.declared.vector.make.MakeOp.{MakeOp}
+use Rattle.wasmi_ops.specs.declared.vector.TestOp.{TestOp}
+use Rattle.wasmi_ops.specs.declared.vector.MakeOp.{MakeOp}
 use Rattle.wasmi_types.specs.declared.trap.TrapCode.{TrapCode}
 use Rattle.wasmi_access.specs.LoadStore.{<a href="../../accesses/LoadStore/index.html#loaded">loaded</a>}
 use Rattle.wasmi_lanes.specs.Vector.{<a href="../../lanes/Vector/index.html#lane">lane</a>, <a href="../../lanes/Vector/index.html#splat_of">splat_of</a>, <a href="../../lanes/Vector/index.html#with_lane">with_lane</a>}
-use Rattle.wasmi_ops.specs.declared.vector.access.VectorLoadOp.{VectorLoadOp}
-use Rattle.wasmi_ops.specs.declared.vector.access.LoadLaneOp.{LoadLaneOp}
-use Rattle.wasmi_ops.specs.declared.vector.access.StoreLaneOp.{StoreLaneOp}
+use Rattle.wasmi_ops.specs.declared.vector.VectorLoadOp.{VectorLoadOp}
+use Rattle.wasmi_ops.specs.declared.vector.LoadLaneOp.{LoadLaneOp}
+use Rattle.wasmi_ops.specs.declared.vector.StoreLaneOp.{StoreLaneOp}
 use Rattle.wasmi_lanewise.specs.VectorTable as vector
 use Rattle.wasmi_simd.specs.WideningTable as widening
-use Rattle.wasmi_ops.specs.declared.vector.unary.UnaryOp.TheVariants as unary
-use Rattle.wasmi_ops.specs.declared.vector.binary.BinaryOp.TheVariants as binary
-use Rattle.wasmi_ops.specs.declared.vector.ternary.TernaryOp.TheVariants as ternary
-use Rattle.wasmi_ops.specs.declared.vector.shift.ShiftOp.TheVariants as shift
-use Rattle.wasmi_ops.specs.declared.vector.test.TestOp.TheVariants as test
-use Rattle.wasmi_ops.specs.declared.vector.make.MakeOp.TheVariants as make
-use Rattle.wasmi_ops.specs.declared.vector.access.VectorLoadOp.TheVariants as load
-use Rattle.wasmi_ops.specs.declared.vector.access.LoadLaneOp.TheVariants as load_lane
-use Rattle.wasmi_ops.specs.declared.vector.access.StoreLaneOp.TheVariants as store_lane
+use Rattle.wasmi_ops.specs.declared.vector.UnaryOp.TheVariants as unary
+use Rattle.wasmi_ops.specs.declared.vector.BinaryOp.TheVariants as binary
+use Rattle.wasmi_ops.specs.declared.vector.TernaryOp.TheVariants as ternary
+use Rattle.wasmi_ops.specs.declared.vector.ShiftOp.TheVariants as shift
+use Rattle.wasmi_ops.specs.declared.vector.TestOp.TheVariants as test
+use Rattle.wasmi_ops.specs.declared.vector.MakeOp.TheVariants as make
+use Rattle.wasmi_ops.specs.declared.vector.VectorLoadOp.TheVariants as load
+use Rattle.wasmi_ops.specs.declared.vector.LoadLaneOp.TheVariants as load_lane
+use Rattle.wasmi_ops.specs.declared.vector.StoreLaneOp.TheVariants as store_lane
 
 -- each instruction of one vector: its name, and what it gives
 abbrev pub <b id="unary_row">unary_row</b> : UnaryOp → List ℕ × (ℕ → ℕ)
@@ -4180,7 +4180,7 @@ use Rattle.wasmi_store.specs.Memory.{<a href="../../store/Memory/index.html#Memo
 use Rattle.wasmi_core.specs.declared.calls.Reply.{Reply}
 use Rattle.wasmi_core.specs.declared.calls.Reply.TheVariants.{Done, Value, Number, Bytes, Memory, Trap, NoSuch, NoRegion, NoRoom}
 use Rattle.wasmi_core.specs.declared.slots.Slot.{Slot}
-use Rattle.wasmi_ops.specs.declared.scalar.access.LoadOp.{LoadOp}
+use Rattle.wasmi_ops.specs.declared.scalar.LoadOp.{LoadOp}
 use Rattle.wasmi_ops.specs.ScalarOps.{<a href="../../ops/ScalarOps/index.html#loaded_raw">loaded_raw</a>}
 use Rattle.wasmi_core.specs.State.{<a href="../../machine/State/index.html#MemoryPart">MemoryPart</a>, <a href="../../machine/State/index.html#live_at">live_at</a>}
 use Rattle.wasmi_core.specs.Effects.{<a href="../../machine/Effects/index.html#reply_of">reply_of</a>, <a href="../../machine/Effects/index.html#OnLive">OnLive</a>, <a href="../../machine/Effects/index.html#Creates">Creates</a>, <a href="../../machine/Effects/index.html#ChangesAt">ChangesAt</a>}
@@ -4246,8 +4246,8 @@ use Rattle.wasmi_types.specs.declared.trap.TrapCode.{TrapCode}
 use Rattle.wasmi_raw.specs.declared.raw.RawVal.{RawVal}
 use Rattle.wasmi_raw.specs.RawVal.{<a href="../../raw/RawVal/index.html#vector_in">vector_in</a>, <a href="../../raw/RawVal/index.html#raw_of_vector">raw_of_vector</a>}
 use Rattle.wasmi_store.specs.Memory.{<a href="../../store/Memory/index.html#MemoryValue">MemoryValue</a>}
-use Rattle.wasmi_ops.specs.declared.vector.access.VectorLoadOp.{VectorLoadOp}
-use Rattle.wasmi_ops.specs.declared.vector.access.LoadLaneOp.{LoadLaneOp}
+use Rattle.wasmi_ops.specs.declared.vector.VectorLoadOp.{VectorLoadOp}
+use Rattle.wasmi_ops.specs.declared.vector.LoadLaneOp.{LoadLaneOp}
 use Rattle.wasmi_ops.specs.VectorOps.{<a href="../../ops/VectorOps/index.html#loaded_vector">loaded_vector</a>, <a href="../../ops/VectorOps/index.html#loaded_lane">loaded_lane</a>}
 use Rattle.wasmi_core.specs.declared.calls.Reply.{Reply}
 use Rattle.wasmi_core.specs.declared.calls.Reply.TheVariants.{Done, Value, Trap, NoSuch}
@@ -4814,19 +4814,19 @@ pub <b id="use">use</b> Rattle.wasmi_meter.specs.declared.fuel.CustomFuelCosts.{
 pub <b id="use">use</b> Rattle.wasmi_meter.specs.declared.limiter.Kind.{Kind}
 pub <b id="use">use</b> Rattle.wasmi_meter.specs.declared.quota.Quota.{Quota}
 pub <b id="use">use</b> Rattle.wasmi_store.specs.declared.table.element.SegmentError.{SegmentError}
-pub <b id="use">use</b> Rattle.wasmi_ops.specs.declared.scalar.access.LoadOp.{LoadOp}
-pub <b id="use">use</b> Rattle.wasmi_ops.specs.declared.scalar.access.StoreOp.{StoreOp}
-pub <b id="use">use</b> Rattle.wasmi_ops.specs.declared.vector.binary.BinaryOp.{BinaryOp}
-pub <b id="use">use</b> Rattle.wasmi_ops.specs.declared.vector.unary.UnaryOp.{UnaryOp}
-pub <b id="use">use</b> Rattle.wasmi_ops.specs.declared.vector.ternary.TernaryOp.{TernaryOp}
-pub <b id="use">use</b> Rattle.wasmi_ops.specs.declared.vector.shift.ShiftOp.{ShiftOp}
-pub <b id="use">use</b> Rattle.wasmi_ops.specs.declared.vector.test.TestOp.{TestOp}
-pub <b id="use">use</b> Rattle.wasmi_ops.specs.declared.vector.make.MakeOp.{MakeOp}
-pub <b id="use">use</b> Rattle.wasmi_ops.specs.declared.vector.lane.ExtractOp.{ExtractOp}
-pub <b id="use">use</b> Rattle.wasmi_ops.specs.declared.vector.lane.ReplaceOp.{ReplaceOp}
-pub <b id="use">use</b> Rattle.wasmi_ops.specs.declared.vector.access.VectorLoadOp.{VectorLoadOp}
-pub <b id="use">use</b> Rattle.wasmi_ops.specs.declared.vector.access.LoadLaneOp.{LoadLaneOp}
-pub <b id="use">use</b> Rattle.wasmi_ops.specs.declared.vector.access.StoreLaneOp.{StoreLaneOp}
+pub <b id="use">use</b> Rattle.wasmi_ops.specs.declared.scalar.LoadOp.{LoadOp}
+pub <b id="use">use</b> Rattle.wasmi_ops.specs.declared.scalar.StoreOp.{StoreOp}
+pub <b id="use">use</b> Rattle.wasmi_ops.specs.declared.vector.BinaryOp.{BinaryOp}
+pub <b id="use">use</b> Rattle.wasmi_ops.specs.declared.vector.UnaryOp.{UnaryOp}
+pub <b id="use">use</b> Rattle.wasmi_ops.specs.declared.vector.TernaryOp.{TernaryOp}
+pub <b id="use">use</b> Rattle.wasmi_ops.specs.declared.vector.ShiftOp.{ShiftOp}
+pub <b id="use">use</b> Rattle.wasmi_ops.specs.declared.vector.TestOp.{TestOp}
+pub <b id="use">use</b> Rattle.wasmi_ops.specs.declared.vector.MakeOp.{MakeOp}
+pub <b id="use">use</b> Rattle.wasmi_ops.specs.declared.vector.ExtractOp.{ExtractOp}
+pub <b id="use">use</b> Rattle.wasmi_ops.specs.declared.vector.ReplaceOp.{ReplaceOp}
+pub <b id="use">use</b> Rattle.wasmi_ops.specs.declared.vector.VectorLoadOp.{VectorLoadOp}
+pub <b id="use">use</b> Rattle.wasmi_ops.specs.declared.vector.LoadLaneOp.{LoadLaneOp}
+pub <b id="use">use</b> Rattle.wasmi_ops.specs.declared.vector.StoreLaneOp.{StoreLaneOp}
 pub <b id="use">use</b> Rattle.wasmi_core.specs.declared.calls.Call.{Call}
 pub <b id="use">use</b> Rattle.wasmi_core.specs.declared.calls.Reply.{Reply}
 pub <b id="use">use</b> Rattle.wasmi_core.specs.declared.slots.Slot.{Slot}
@@ -4907,8 +4907,8 @@ pub mod laws {
 use Rattle.wasmi_raw.specs.declared.raw.RawVal.{RawVal}
 use Rattle.wasmi_raw.specs.RawVal.{<a href="../../raw/RawVal/index.html#raw_of">raw_of</a>}
 use Rattle.wasmi_access.specs.LoadStore.{<a href="../../accesses/LoadStore/index.html#IsSameOutside">IsSameOutside</a>}
-use Rattle.wasmi_ops.specs.declared.scalar.access.LoadOp.{LoadOp}
-use Rattle.wasmi_ops.specs.declared.scalar.access.StoreOp.{StoreOp}
+use Rattle.wasmi_ops.specs.declared.scalar.LoadOp.{LoadOp}
+use Rattle.wasmi_ops.specs.declared.scalar.StoreOp.{StoreOp}
 use Rattle.wasmi_typed.specs.Global.{<a href="../../typed/Global/index.html#GlobalInstance">GlobalInstance</a>}
 use Rattle.wasmi_typed.specs.declared.global.Mutability.TheVariants.{Const}
 use Rattle.wasmi_meter.specs.Limiter.{<a href="../../meter/Limiter/index.html#Rules">Rules</a>}
@@ -4931,8 +4931,8 @@ use Rattle.wasmi_meter.specs.declared.error.TableError.{TableError}
 use Rattle.wasmi_store.specs.Growth.{<a href="../../store/Growth/index.html#metered_value">metered_value</a>}
 use Rattle.wasmi_core.specs.declared.calls.Call.TheVariants.{GrowMemory, GrowTable, Read, Write}
 use Rattle.wasmi_core.specs.Effects.{<a href="../../machine/Effects/index.html#reply_of">reply_of</a>}
-use Rattle.wasmi_ops.specs.declared.scalar.access.LoadOp.TheVariants as load
-use Rattle.wasmi_ops.specs.declared.scalar.access.StoreOp.TheVariants as store
+use Rattle.wasmi_ops.specs.declared.scalar.LoadOp.TheVariants as load
+use Rattle.wasmi_ops.specs.declared.scalar.StoreOp.TheVariants as store
 use Rattle.wasmi_core.specs.declared.calls.Call.TheVariants as call
 
 -- an index of a machine: of a memory, a table, an element segment or a global, by the order of their making, or of a

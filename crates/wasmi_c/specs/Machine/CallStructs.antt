@@ -24,7 +24,7 @@ use Rattle.wasmi_typed.specs.declared.global.Mutability.TheVariants.{Const, Var}
 use Rattle.wasmi_typed.specs.declared.typed_ref.TypedRawRef.{TypedRawRef}
 use Rattle.wasmi_store.specs.Memory.{MemoryTypeValue}
 use Rattle.wasmi_store.specs.Table.{TableTypeValue}
-use Rattle.wasmi_ops.specs.declared.vector.ternary.TheConstants.{TERNARIES}
+use Rattle.wasmi_ops.specs.declared.vector.TheConstants.{TERNARIES}
 use Rattle.wasmi_c.specs.Instruction.{load_numbered, store_numbered, binary_numbered, op_numbered, extraction_of, lane_load_of, lane_store_of, replacement_of, lanes_of, unary_numbered}
 use Rattle.wasmi_c.specs.declared.instruction.binary.Binary.{Binary}
 use Rattle.wasmi_c.specs.declared.instruction.binary.Binary.TheVariants as binary

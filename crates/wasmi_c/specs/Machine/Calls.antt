@@ -25,9 +25,9 @@ use Rattle.wasmi_c.specs.Types.{reference_type_of}
 use Rattle.wasmi_c.specs.declared.machine.call_struct.CallStruct.{CallStruct}
 use Rattle.wasmi_c.specs.declared.machine.limits.Totals.{Totals}
 use Rattle.wasmi_c.specs.declared.machine.reply_struct.ReplyStruct.{ReplyStruct}
-use Rattle.wasmi_ops.specs.declared.scalar.access.LoadOp.{LoadOp}
-use Rattle.wasmi_ops.specs.declared.scalar.access.StoreOp.{StoreOp}
-use Rattle.wasmi_ops.specs.declared.vector.binary.BinaryOp.{BinaryOp}
+use Rattle.wasmi_ops.specs.declared.scalar.LoadOp.{LoadOp}
+use Rattle.wasmi_ops.specs.declared.scalar.StoreOp.{StoreOp}
+use Rattle.wasmi_ops.specs.declared.vector.BinaryOp.{BinaryOp}
 use Rattle.wasmi_c.specs.Instruction.{load_numbered, store_numbered, binary_numbered}
 use Rattle.wasmi_c.specs.declared.instruction.binary.Binary.{Binary}
 use Rattle.wasmi_c.specs.declared.instruction.load.Load.{Load}

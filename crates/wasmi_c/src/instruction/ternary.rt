@@ -1,7 +1,7 @@
 //! The instructions of three vectors.
 ghost use Rattle.std.specs.Prelude.{◌≡◌, length};
 ghost use Rattle.wasmi_c.specs.Instruction.{Leaves, each_of_three, op_numbered, ternary_result, ternary_results, ternary_value};
-ghost use Rattle.wasmi_ops.specs.declared.vector.ternary.TheConstants.{TERNARIES};
+ghost use Rattle.wasmi_ops.specs.declared.vector.TheConstants.{TERNARIES};
 
 use crate::instruction::list::op_numbered;
 use crate::instruction::refusal::Refusal;

@@ -13,8 +13,7 @@ pub fn i64_add128(lhs: RawVal, rhs: RawVal) -> RawVal
 {
     let (lhs_lo, lhs_hi) = words(lhs);
     let (rhs_lo, rhs_hi) = words(rhs);
-    let (lo, hi) = wasm::i64_add128(lhs_lo, lhs_hi, rhs_lo, rhs_hi);
-    of_words(lo, hi)
+    of_words(wasm::i64_add128(lhs_lo, lhs_hi, rhs_lo, rhs_hi))
 }
 
 /// The difference modulo 2 to the power 128.
@@ -23,24 +22,21 @@ pub fn i64_sub128(lhs: RawVal, rhs: RawVal) -> RawVal
 {
     let (lhs_lo, lhs_hi) = words(lhs);
     let (rhs_lo, rhs_hi) = words(rhs);
-    let (lo, hi) = wasm::i64_sub128(lhs_lo, lhs_hi, rhs_lo, rhs_hi);
-    of_words(lo, hi)
+    of_words(wasm::i64_sub128(lhs_lo, lhs_hi, rhs_lo, rhs_hi))
 }
 
 /// The whole product of two numbers read signed.
 pub fn i64_mul_wide_s(lhs: i64, rhs: i64) -> RawVal
     ensures { result ≡ raw_of_vector (cast_unsigned w128 (lhs *ℤ rhs)) }
 {
-    let (lo, hi) = wasm::i64_mul_wide_s(lhs, rhs);
-    of_words(lo, hi)
+    of_words(wasm::i64_mul_wide_s(lhs, rhs))
 }
 
 /// The whole product of two numbers read unsigned.
 pub fn i64_mul_wide_u(lhs: i64, rhs: i64) -> RawVal
     ensures { result ≡ raw_of_vector (cast_unsigned w64 lhs * cast_unsigned w64 rhs) }
 {
-    let (lo, hi) = wasm::i64_mul_wide_u(lhs, rhs);
-    of_words(lo, hi)
+    of_words(wasm::i64_mul_wide_u(lhs, rhs))
 }
 
 /// The low and the high word of a raw value.
@@ -51,8 +47,8 @@ fn words(raw: RawVal) -> (i64, i64)
 }
 
 /// The raw value of a low and a high word.
-fn of_words(lo: i64, hi: i64) -> RawVal
-    ensures { result ≡ raw_of_vector (unsigned_of lo hi) }
+fn of_words(pair: (i64, i64)) -> RawVal
+    ensures { result ≡ raw_of_vector (unsigned_of pair.0 pair.1) }
 {
-    RawVal::from(V128::from_word_pair(lo.cast_unsigned(), hi.cast_unsigned()))
+    RawVal::from(V128::from_word_pair(pair.0.cast_unsigned(), pair.1.cast_unsigned()))
 }

@@ -2,7 +2,7 @@ use Rattle.std.proofs.Common.{◌≡◌, ◌-◌, ◌∙◌, length, take, drop,
 use Rattle.std.proofs.lemmas.List.{length-drop, take_all}
 use Rattle.wasmi_ops.specs.ScalarOps.{loaded_raw}
 use Rattle.wasmi_ops.proofs.ScalarOpsLemmas.{raw_front, raw_past}
-use Rattle.wasmi_ops.proofs.scalar.access.LoadOp.load.Goals as goal
+use Rattle.wasmi_ops.proofs.scalar.LoadOp.load.Goals as goal
 
 pub returns-then-address-memory : goal.returns-then-address-memory
 returns-then-address-memory c =
