@@ -105,12 +105,6 @@ module _ {A : Type 0} (item : Ghosts A) where
     each = λ i h. rw (sym (is_x i h), sym (is_y i h), sym (is_z i h)) (given i h);
   }
 
-  -- the number of an item that is all ones or all zeros
-  pub image_of_choice : (t : Bool)
-      → item.image (if t then item.ALL_ONES else item.ALL_ZEROS) ≡ (if t then 2 ^ bits item.width - 1 else 0)
-  image_of_choice true = item.laws.image_of_ones
-  image_of_choice false = item.laws.image_of_zeros
-
 -- the lanes of a vector that is made of lanes
 lanes_below : (w : Width) (f : ℕ → ℕ) (n : ℕ) → first_lanes w n f < 2 ^ (bits w * n)
 unfolding first_lanes

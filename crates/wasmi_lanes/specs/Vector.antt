@@ -85,7 +85,3 @@ ComputesLane {A} Fits image Makes row = (x z : A) → Fits x → Fits z → Make
 abbrev pub ComputesLaneOfTwo : {A : Type 0} → (A → Type 0) → (A → ℕ) → (A → A → A → Type 0) → (A → A → ℕ) → Type 0
 ComputesLaneOfTwo {A} Fits image Makes row =
     (x y z : A) → Fits x → Fits y → Fits z → Makes x y z → image z ≡ row x y
-
--- the Boolean that is made of two items in range is that of the test
-abbrev pub DecidesTest : {A : Type 0} → (A → Type 0) → (A → A → Bool → Type 0) → (A → A → Bool) → Type 0
-DecidesTest {A} Fits Makes test = (x y : A) (holds : Bool) → Fits x → Fits y → Makes x y holds → holds ≡ test x y

@@ -1,9 +1,8 @@
 //! Lane by lane work on whole vectors: each function gives the vector of whatever row its closure
 //! computes.
 
-ghost use Rattle.std.specs.Prelude.{◌≡◌, ℕ, ◌<◌, ◌-◌, ◌^◌, Bool, if◌then◌else◌};
-ghost use Rattle.wasmi_types.specs.Numbers.{bits};
-ghost use Rattle.wasmi_lanes.specs.Vector.{lane, unary_of_lanes, binary_of_lanes, comparison_of_lanes, splat_of, ComputesLane, ComputesLaneOfTwo, DecidesTest};
+ghost use Rattle.std.specs.Prelude.{◌≡◌, ℕ, ◌<◌};
+ghost use Rattle.wasmi_lanes.specs.Vector.{lane, unary_of_lanes, binary_of_lanes, splat_of, ComputesLane, ComputesLaneOfTwo};
 
 use crate::lanes::Lanes;
 use wasmi_raw::V128;
@@ -35,24 +34,6 @@ pub fn binary<L: Lanes, F: Fn(L::Item, L::Item) -> L::Item>(a: V128, b: V128, f:
 {
     L::from_v128(a)
         .lanewise_binary(L::from_v128(b), f)
-        .into_v128()
-}
-
-/// All ones in the lanes where `f` holds of the operands' lanes, else all zeros.
-#[inline(always)]
-pub fn comparison<L: Lanes, F: Fn(L::Item, L::Item) -> bool>(a: V128, b: V128, f: F) -> V128
-    requires callable { F.IsAlwaysCallable f }
-    ensures each { (i : ℕ) → i < L.LANES
-        → (holds : Bool)
-        × F.post f (L.Item.read (lane L.Item.width a i))
-        (L.Item.read (lane L.Item.width b i)) holds
-        × (lane L.Item.width result i ≡ (if holds then 2 ^ bits L.Item.width - 1 else 0)) }
-    ensures lanes { (test : L.Item → L.Item → Bool)
-        → DecidesTest L.Item.Fits (λ x y holds. F.post f x y holds) test
-        → result ≡ comparison_of_lanes L.Item.width L.Item.read test a b }
-{
-    L::from_v128(a)
-        .lanewise_comparison(L::from_v128(b), f)
         .into_v128()
 }
 

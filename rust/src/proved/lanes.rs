@@ -1257,30 +1257,6 @@ pub mod on_vectors {
             .into_v128()
     }
 
-    /// All ones in the lanes where `f` holds of the operands' lanes, else all zeros.
-    ///
-    /// # Contract
-    ///
-    /// ```text
-    /// requires callable: F.IsAlwaysCallable f
-    /// ensures each: (i : ℕ) → i < L.LANES
-    ///     → (holds : Bool)
-    ///     × F.post f (L.Item.read (lane L.Item.width a i))
-    ///     (L.Item.read (lane L.Item.width b i)) holds
-    ///     × (lane L.Item.width result i ≡ (if holds then 2 ^ bits L.Item.width - 1 else 0))
-    /// ensures lanes: (test : L.Item → L.Item → Bool)
-    ///     → DecidesTest L.Item.Fits (λ x y holds. F.post f x y holds) test
-    ///     → result ≡ comparison_of_lanes L.Item.width L.Item.read test a b
-    /// ```
-    ///
-    /// Definitions: [`lane`](crate::specs::lanes::Vector#lane), [`DecidesTest`](crate::specs::lanes::Vector#DecidesTest), [`comparison_of_lanes`](crate::specs::lanes::Vector#comparison_of_lanes).
-    #[inline(always)]
-    pub fn comparison<L: Lanes, F: Fn(L::Item, L::Item) -> bool>(a: V128, b: V128, f: F) -> V128 {
-        L::from_v128(a)
-            .lanewise_comparison(L::from_v128(b), f)
-            .into_v128()
-    }
-
     /// The vector with `value` in each lane.
     ///
     /// # Contract

@@ -957,10 +957,6 @@ abbrev pub <b id="ComputesLane">ComputesLane</b> : {A : Type 0} → (A → Type 
 abbrev pub <b id="ComputesLaneOfTwo">ComputesLaneOfTwo</b> : {A : Type 0} → (A → Type 0) → (A → ℕ) → (A → A → A → Type 0) → (A → A → ℕ) → Type 0
 <a href="../../lanes/Vector/index.html#ComputesLaneOfTwo">ComputesLaneOfTwo</a> {A} Fits image Makes row =
     (x y z : A) → Fits x → Fits y → Fits z → Makes x y z → image z ≡ row x y
-
--- the Boolean that is made of two items in range is that of the test
-abbrev pub <b id="DecidesTest">DecidesTest</b> : {A : Type 0} → (A → Type 0) → (A → A → Bool → Type 0) → (A → A → Bool) → Type 0
-<a href="../../lanes/Vector/index.html#DecidesTest">DecidesTest</a> {A} Fits Makes test = (x y : A) (holds : Bool) → Fits x → Fits y → Makes x y holds → holds ≡ test x y
 </code></pre>
 "####]
     pub mod Vector {}
