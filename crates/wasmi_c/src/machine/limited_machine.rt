@@ -234,11 +234,7 @@ impl LimitedMachine {
 fn references(alloc: Global, items: &[u32]) -> Result<Vec<RawRef>, AllocError>
     ensures { IfOk result (λ copy. copy.items ≡ items.now) }
 {
-    let mut copy = Vec::with_capacity(alloc, items.len())?;
-    for item in items {
-        copy.push_reserved(RawRef::from(*item));
-    }
-    Ok(copy)
+    items.iter().map(|item| RawRef::from(*item)).collect(alloc)
 }
 
 /// Copies the bytes of a memory from an offset on to the caller's.

@@ -91,11 +91,7 @@ pub(super) fn answers_of(alloc: Global, numbers: &[u8]) -> Result<Vec<LimiterAns
     requires known { All IsAnswer numbers.now }
     ensures answers { IfOk result (λ answers. answers.items ≡ map answer_of numbers.now) }
 {
-    let mut answers = Vec::with_capacity(alloc, numbers.len())?;
-    for number in numbers {
-        answers.push_reserved(answer(*number));
-    }
-    Ok(answers)
+    numbers.iter().map(|number| answer(*number)).collect(alloc)
 }
 
 /// The answer that a number below 4 stands for.
