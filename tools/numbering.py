@@ -25,9 +25,7 @@ TEXTS = {
 }
 HEAD = """\
 //! The number of each instruction of a shape that has several lists in `wasmi_ops`: its place among
-//! the rows.
-//!
-//! `tools/header` writes this file: first the numbers of `include/numbers.tsv`, then those of what
+//! the rows. `tools/header` writes this file: first the numbers of `include/numbers.tsv`, then what
 //! the lists have besides.
 
 """

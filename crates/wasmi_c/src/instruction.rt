@@ -1,8 +1,7 @@
-//! Each instruction by its number, on values and on arrays.
-//!
-//! `include/wasmi_core.h` has the table of numbers. A call returns 0 and writes; or it returns 255 if
-//! no instruction has the number, 253 if no lane has the index, 254 if the arrays differ in length,
-//! or the number of the trap, and writes nothing. On arrays each result has its trap.
+//! Each instruction by its number in `include/wasmi_core.h`, on values and on arrays. A call writes
+//! and returns 0; or it writes nothing, and returns 255 if no instruction has the number, 253 if no
+//! lane has the index, 254 if the arrays differ in length, or the number of the trap, which on
+//! arrays each result has.
 
 pub mod binary;
 pub mod lanes;

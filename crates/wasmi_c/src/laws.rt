@@ -14,8 +14,7 @@ pub fn settlements_are_growths<L: ResourceLimiter>()
     ensures tables { TableSettlementsAreGrowths (optional_rules L.rules) }
 {}
 
-/// A creation by the host's answers is a creation by all rules that allow these answers, as a
-/// growth is.
+/// A creation by the host's answers is one by all rules that allow these answers, as a growth is.
 pub fn settlements_are_creations<L: ResourceLimiter>()
     ensures memories { SettlementsAreCreations (optional_rules L.rules) }
     ensures tables { TableSettlementsAreCreations (optional_rules L.rules) }

@@ -1,6 +1,4 @@
-//! The calls for C, as a plain library: `wasmi_c_lib` exports each of them.
-//!
-//! What the calls take and give stands in the headers of `include/`.
+//! The calls for C, as a plain library: `wasmi_c_lib` exports each, and `include/` explains them.
 #![tactic(auto)]
 
 pub mod fuel;

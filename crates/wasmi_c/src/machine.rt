@@ -1,7 +1,5 @@
 //! A machine that C holds by a handle, from call to call, under a quota, a list of answers or no
-//! limiter.
-//!
-//! What the calls take and give stands in `include/wasmi_machine.h`.
+//! limiter. What the calls take and give stands in `include/wasmi_machine.h`.
 
 mod by_arguments;
 pub mod call_struct;

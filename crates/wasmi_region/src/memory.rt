@@ -1,6 +1,5 @@
-//! Linear memories whose bytes are the first of a region. The caller keeps a memory's type and its
-//! size in bytes, and passes them to each call with the region; the rest of the region is room to
-//! grow in place.
+//! Linear memories whose bytes are the first of a region; the rest of it is room to grow in place.
+//! The caller keeps a memory's type and its size in bytes, and passes them to each call.
 //!
 //! Own: upstream's memory borrows its static buffer for as long as it lives.
 ghost use Rattle.std.specs.Prelude.{◌≡◌, ◌≤◌, ◌+◌, ◌-◌, ◌*◌, ◌/◌, ℕ, length, take, drop, nat_le, OnOk, OnErr, IfOk, IfErr, Some, None, MatchOption, true, false};
@@ -65,9 +64,8 @@ pub fn make<L: ResourceLimiter>(
 
 /// Grows a memory of `size` bytes at the front of a region by `additional` pages of zeros, and
 /// returns the old size in pages; `size` becomes the new size in bytes. A growth by 0 pages changes
-/// nothing and asks no limiter.
-///
-/// The errors are those of [`wasmi_store::LinearMemory::grow`] on a lent region.
+/// nothing and asks no limiter. The errors are those of [`wasmi_store::LinearMemory::grow`] on a
+/// lent region.
 #[tactic(auto, using(std::proofs::lemmas::Bool::Decides::nat_tests))]
 pub fn grow<L: ResourceLimiter>(
     ty: MemoryType,
@@ -146,8 +144,7 @@ pub fn write(
     Ok(())
 }
 
-/// Fills `len` bytes from `dst` on with a value, of a memory of `size` bytes at the front of a
-/// region. The errors are those of [`wasmi_store::LinearMemory::fill`].
+/// Fills bytes of a memory of `size` bytes, as [`wasmi_store::LinearMemory::fill`] does.
 pub fn fill(
     region: &mut [u8],
     size: usize,
@@ -166,8 +163,7 @@ pub fn fill(
     fill_items(&mut region[..size], dst, value, len, OUTSIDE, fuel)
 }
 
-/// Copies `len` bytes from `src` on over those from `dst` on, of a memory of `size` bytes at the
-/// front of a region. The errors are those of [`wasmi_store::LinearMemory::copy_within`].
+/// Copies bytes of a memory of `size` bytes, as [`wasmi_store::LinearMemory::copy_within`] does.
 pub fn copy_within(
     region: &mut [u8],
     size: usize,
@@ -187,9 +183,7 @@ pub fn copy_within(
     copy_items_within(&mut region[..size], dst, src, len, OUTSIDE, fuel)
 }
 
-/// Copies `len` bytes of another memory, from `src` on, over those from `dst` on, of a memory of
-/// `size` bytes at the front of a region. The errors are those of
-/// [`wasmi_store::LinearMemory::copy`].
+/// Copies bytes to a memory of `size` bytes, as [`wasmi_store::LinearMemory::copy`] does.
 pub fn copy(
     region: &mut [u8],
     size: usize,
@@ -209,9 +203,7 @@ pub fn copy(
     copy_items(&mut region[..size], dst, source, src, len, OUTSIDE, fuel)
 }
 
-/// Copies `len` bytes of a data segment, from `src` on, over those from `dst` on, of a memory of
-/// `size` bytes at the front of a region. The errors are those of
-/// [`wasmi_store::LinearMemory::init`].
+/// Copies a segment to a memory of `size` bytes, as [`wasmi_store::LinearMemory::init`] does.
 pub fn init(
     region: &mut [u8],
     size: usize,

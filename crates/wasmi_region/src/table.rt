@@ -57,10 +57,8 @@ pub fn make<L: ResourceLimiter>(
 
 /// Grows a table of `size` elements at the front of a region by `delta`, each the given reference,
 /// and returns the old size; `size` becomes the new one. A growth by 0 changes nothing and asks no
-/// limiter.
-///
-/// The errors are those of [`wasmi_store::Table::grow_raw`], of which `OutOfSystemMemory` comes
-/// only if the region is shorter than the new size. The elements past the table are unchanged, and
+/// limiter. The errors are those of [`wasmi_store::Table::grow_raw`], of which `OutOfSystemMemory`
+/// comes only if the region is shorter than the new size. What lies past the table is unchanged, and
 /// after an error the whole region is.
 pub fn grow<L: ResourceLimiter>(
     ty: TableType,

@@ -46,9 +46,8 @@ pub mod laws {
     pub fn region_tables_are_tables<L: ResourceLimiter>() {}
 }
 pub mod memory {
-    //! Linear memories whose bytes are the first of a region. The caller keeps a memory's type and its
-    //! size in bytes, and passes them to each call with the region; the rest of the region is room to
-    //! grow in place.
+    //! Linear memories whose bytes are the first of a region; the rest of it is room to grow in place.
+    //! The caller keeps a memory's type and its size in bytes, and passes them to each call.
     //!
     //! Own: upstream's memory borrows its static buffer for as long as it lives.
 
@@ -130,9 +129,8 @@ pub mod memory {
 
     /// Grows a memory of `size` bytes at the front of a region by `additional` pages of zeros, and
     /// returns the old size in pages; `size` becomes the new size in bytes. A growth by 0 pages changes
-    /// nothing and asks no limiter.
-    ///
-    /// The errors are those of [`LinearMemory::grow`](crate::proved::store::LinearMemory::grow) on a lent region.
+    /// nothing and asks no limiter. The errors are those of [`LinearMemory::grow`](crate::proved::store::LinearMemory::grow) on a
+    /// lent region.
     ///
     /// # Panics
     ///
@@ -257,8 +255,7 @@ pub mod memory {
         Ok(())
     }
 
-    /// Fills `len` bytes from `dst` on with a value, of a memory of `size` bytes at the front of a
-    /// region. The errors are those of [`LinearMemory::fill`](crate::proved::store::LinearMemory::fill).
+    /// Fills bytes of a memory of `size` bytes, as [`LinearMemory::fill`](crate::proved::store::LinearMemory::fill) does.
     ///
     /// # Panics
     ///
@@ -292,8 +289,7 @@ pub mod memory {
         fill_items(&mut region[..size], dst, value, len, OUTSIDE, fuel)
     }
 
-    /// Copies `len` bytes from `src` on over those from `dst` on, of a memory of `size` bytes at the
-    /// front of a region. The errors are those of [`LinearMemory::copy_within`](crate::proved::store::LinearMemory::copy_within).
+    /// Copies bytes of a memory of `size` bytes, as [`LinearMemory::copy_within`](crate::proved::store::LinearMemory::copy_within) does.
     ///
     /// # Panics
     ///
@@ -328,9 +324,7 @@ pub mod memory {
         copy_items_within(&mut region[..size], dst, src, len, OUTSIDE, fuel)
     }
 
-    /// Copies `len` bytes of another memory, from `src` on, over those from `dst` on, of a memory of
-    /// `size` bytes at the front of a region. The errors are those of
-    /// [`LinearMemory::copy`](crate::proved::store::LinearMemory::copy).
+    /// Copies bytes to a memory of `size` bytes, as [`LinearMemory::copy`](crate::proved::store::LinearMemory::copy) does.
     ///
     /// # Panics
     ///
@@ -365,9 +359,7 @@ pub mod memory {
         copy_items(&mut region[..size], dst, source, src, len, OUTSIDE, fuel)
     }
 
-    /// Copies `len` bytes of a data segment, from `src` on, over those from `dst` on, of a memory of
-    /// `size` bytes at the front of a region. The errors are those of
-    /// [`LinearMemory::init`](crate::proved::store::LinearMemory::init).
+    /// Copies a segment to a memory of `size` bytes, as [`LinearMemory::init`](crate::proved::store::LinearMemory::init) does.
     ///
     /// # Panics
     ///
@@ -484,10 +476,8 @@ pub mod table {
 
     /// Grows a table of `size` elements at the front of a region by `delta`, each the given reference,
     /// and returns the old size; `size` becomes the new one. A growth by 0 changes nothing and asks no
-    /// limiter.
-    ///
-    /// The errors are those of [`Table::grow_raw`](crate::proved::store::Table::grow_raw), of which `OutOfSystemMemory` comes
-    /// only if the region is shorter than the new size. The elements past the table are unchanged, and
+    /// limiter. The errors are those of [`Table::grow_raw`](crate::proved::store::Table::grow_raw), of which `OutOfSystemMemory`
+    /// comes only if the region is shorter than the new size. What lies past the table is unchanged, and
     /// after an error the whole region is.
     ///
     /// # Panics

@@ -1,5 +1,5 @@
-//! What a machine replies to the calls that engines make most, with plain arguments. Each is one
-//! call of the machine's list; it leaves a status, and some a word in the caller's place.
+//! The calls of a machine's list that engines make most, with plain arguments: each leaves a
+//! status, and some a word in the caller's place.
 ghost use Rattle.std.specs.Prelude.{◌≡◌, ◌+◌, Some};
 ghost use Rattle.wasmi_meter.specs.AnyLimiter.{caps_of};
 ghost use Rattle.wasmi_core.specs.ValueEffects.{get_fuel_reply};

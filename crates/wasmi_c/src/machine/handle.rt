@@ -17,8 +17,7 @@ use crate::status::{DONE, HAS_MACHINE, NO_ANSWER, NO_MACHINE, NO_ROOM};
 use std::alloc::Global;
 use std::mem;
 
-/// What a call leaves of the machine of a handle and returns; or what is returned where there is
-/// none.
+/// What a call on the machine of a handle returns; or what is returned where there is none.
 #[macro_export]
 macro_rules! on_machine {
     ($handle:expr, $none:expr, $machine:ident => $call:expr) => {{

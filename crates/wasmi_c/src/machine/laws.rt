@@ -1,5 +1,4 @@
-//! What holds of all calls and lines by a handle. Each function does nothing: it states a law as
-//! its contract.
+//! What holds of all calls and lines by a handle: each function does nothing, and states a law.
 ghost use Rattle.wasmi_c.specs.Machine.Calls.{CallsAreRuns, MachineRunsJoin, QuotasAreKept};
 
 use wasmi_core::laws;

@@ -20,8 +20,7 @@ use wasmi_meter::{AnswerList, AnyLimiter, LimiterAnswer};
 use wasmi_raw::RawRef;
 use wasmi_script::write_lines;
 
-/// A machine with the limiter that it asks. A quota holds what the machine has, so the machine is
-/// within the caps at any time.
+/// A machine with the limiter that it asks. A quota holds what it has, so it is within its caps.
 #[derive(Drop)]
 pub struct LimitedMachine {
     pub(crate) machine: Machine<'static>,
@@ -146,8 +145,7 @@ impl LimitedMachine {
         })
     }
 
-    /// Makes an element segment of a copy of the caller's references, if the number is one of a
-    /// reference type.
+    /// Makes an element segment of a copy of the caller's references, if there is such a type.
     #[tactic(auto, unfolding(crate::specs::Machine::Calls::RepliesToCopy))]
     pub fn new_segment(&mut self, alloc: Global, ty: u8, items: &[u32]) -> ReplyStruct
         ensures step { RepliesToSegment ty items.now self.old result self.new }
@@ -162,8 +160,7 @@ impl LimitedMachine {
         self.reply_in_struct(&Call::NewSegment { ty, items })
     }
 
-    /// How many bytes and elements the machine has. A quota holds these numbers; without one they
-    /// are added up.
+    /// How many bytes and elements the machine has, as a quota holds them; else they are added up.
     pub fn totals(&self) -> Totals
         ensures { result ≡ totals_of self.now }
     {

@@ -173,8 +173,7 @@ pub fn status_of(reply: &Reply) -> u8
     }
 }
 
-/// The number of a reply: what was made, a size, fuel, how many bytes, or the fuel that a refused
-/// call needs; else 0.
+/// The number of a reply: an index, a size, fuel, how many bytes, or the fuel needed; else 0.
 fn number_of(reply: &Reply) -> u64
     ensures { result ≡ number_of reply.now }
 {

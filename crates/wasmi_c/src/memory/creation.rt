@@ -14,8 +14,7 @@ use wasmi_meter::{MemoryError, ResourceLimiter, ResourceLimiterRef};
 use wasmi_region::memory as region_memory;
 use wasmi_store::MemoryType;
 
-/// Makes a memory of this type under a limiter, and returns its size in bytes. The errors are those
-/// of [`wasmi_region::memory::make`].
+/// Makes a memory of this type under a limiter, as [`wasmi_region::memory::make`] does.
 pub fn make_under<L: ResourceLimiter>(
     ty: MemoryType,
     region: &mut [u8],

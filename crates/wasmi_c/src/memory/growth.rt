@@ -57,8 +57,7 @@ pub fn grow_under<L: ResourceLimiter>(
     leave_growth(grown, number)
 }
 
-/// Grows a memory by so many pages of zeros. `number` is set to the old size in pages, or to the
-/// fuel that is needed where less is left.
+/// Grows a memory by pages of zeros. `number` becomes the old size in pages, or the fuel needed.
 pub fn grow(
     memory: &mut MemoryNumbers,
     region: &mut [u8],
@@ -96,9 +95,8 @@ pub fn question(memory: &MemoryNumbers, region: &[u8], pages: u64, question: &mu
     ASKS
 }
 
-/// Grows a memory by so many pages of zeros, under a limiter that answers as the host says. If the
-/// answers are about other sizes than the growth's, nothing is written; else `answers` says whether
-/// the limiter was asked and is told.
+/// Grows a memory by pages of zeros, under a limiter that answers as the host says. If the answers
+/// are about other sizes, nothing is written; else they say if it was asked and told.
 pub fn settle(
     memory: &mut MemoryNumbers,
     region: &mut [u8],

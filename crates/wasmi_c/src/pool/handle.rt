@@ -15,8 +15,7 @@ use crate::status::{DONE, HAS_POOL, NO_POOL, NO_ROOM};
 use std::alloc::Global;
 use std::mem;
 
-/// What a call leaves of the pool of a handle and returns; or what is returned where there is
-/// none.
+/// What a call on the pool of a handle returns; or what is returned where there is none.
 #[macro_export]
 macro_rules! on_pool {
     ($handle:expr, $alloc:expr, $none:expr, $pool:ident => $call:expr) => {{

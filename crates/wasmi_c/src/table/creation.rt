@@ -13,8 +13,7 @@ use wasmi_meter::{ResourceLimiter, ResourceLimiterRef, TableError};
 use wasmi_region::table as region_table;
 use wasmi_store::TableType;
 
-/// Makes a table of this type under a limiter, and returns its size. The errors are those of
-/// [`wasmi_region::table::make`].
+/// Makes a table of this type under a limiter, as [`wasmi_region::table::make`] does.
 pub fn make_under<L: ResourceLimiter>(
     ty: TableType,
     region: &mut [u32],
@@ -33,9 +32,8 @@ pub fn make_under<L: ResourceLimiter>(
     made
 }
 
-/// Makes a table with one reference in each place at the front of a region, at the minimum of the
-/// numbers' type, and sets their size. It takes no fuel, and leaves the elements past the minimum
-/// alone.
+/// Makes a table of one reference at the front of a region, at the minimum of the numbers' type,
+/// and sets their size. It takes no fuel, and leaves the elements past the minimum alone.
 pub fn make(
     table: &mut TableNumbers,
     region: &mut [u32],

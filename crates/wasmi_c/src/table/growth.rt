@@ -60,8 +60,7 @@ pub fn grow_under<L: ResourceLimiter>(
     leave_growth(grown, number)
 }
 
-/// Grows a table by so many elements of one reference. `number` is set to the old size, or to the
-/// fuel that is needed where less is left.
+/// Grows a table by elements of one reference. `number` becomes the old size, or the fuel needed.
 pub fn grow(
     table: &mut TableNumbers,
     region: &mut [u32],
@@ -84,8 +83,7 @@ pub fn grow(
 }
 
 /// What a growth by so many elements asks a limiter, with the status `ASKS`; it asks nothing where
-/// it is by 0 (`DONE`), where there would be as many elements as indices, and where the
-/// numbers stand for no table.
+/// it is by 0 (`DONE`), where indices don't reach it, and where the numbers stand for no table.
 pub fn question(table: &TableNumbers, region: &[u32], delta: u64, question: &mut Question) -> u8
     ensures { AsksTableEmbedded table.now region.now delta result question.old question.new }
 {
@@ -100,9 +98,8 @@ pub fn question(table: &TableNumbers, region: &[u32], delta: u64, question: &mut
     ASKS
 }
 
-/// Grows a table by so many elements of one reference, under a limiter that answers as the host
-/// says. If the answers are about other sizes than the growth's, nothing is written; else `answers`
-/// says whether the limiter was asked and is told.
+/// Grows a table by elements of one reference, under a limiter that answers as the host says. If
+/// the answers are about other sizes, nothing is written; else they say if it was asked and told.
 pub fn settle(
     table: &mut TableNumbers,
     region: &mut [u32],
