@@ -48,8 +48,7 @@ impl fmt::Display for FuncTypeError {
 
 impl Error for FuncTypeError {}
 
-/// The type of a function: the types of its parameters and those of its results, at most 1,000
-/// each.
+/// The types of a function's parameters and of its results, at most 1,000 each.
 ///
 /// Up to 21 of them together stand in the value; more are shared by all clones of it.
 /// Core specification 2.3, function types. Upstream: `wasmi_core::FuncType`.
@@ -94,9 +93,6 @@ impl FuncType {
 
     /// Makes the type of a function with these parameters and results, which `read` reads: its
     /// contract says what each answer means.
-    ///
-    /// The iterator that `params` becomes can be read, and after its end the one that `results`
-    /// becomes.
     ///
     /// Upstream: `FuncType::new`, there of iterators that know their lengths.
     pub fn new<P, R>(alloc: Global, params: P, results: R) -> Result<Self, FuncTypeError>

@@ -38,11 +38,9 @@ impl IndexType {
     pub fn max_size(&self) -> u128
         ensures { result ≡ 2 ^ address_bits self.now }
     {
-        const MAX_SIZE_32: u128 = 1 << 32;
-        const MAX_SIZE_64: u128 = 1 << 64;
         match self {
-            Self::I32 => MAX_SIZE_32,
-            Self::I64 => MAX_SIZE_64,
+            Self::I32 => 1 << 32,
+            Self::I64 => 1 << 64,
         }
     }
 

@@ -48,18 +48,16 @@ impl<H: HostError> Trap<H> {
     pub fn new(message: String) -> Self
         ensures { result ≡ reason.Message message }
     {
-        Trap {
-            reason: TrapReason::Message(message),
-        }
+        let reason = TrapReason::Message(message);
+        Trap { reason }
     }
 
     /// An exit of the program with a status.
     pub fn i32_exit(status: i32) -> Self
         ensures { result ≡ reason.I32Exit status }
     {
-        Trap {
-            reason: TrapReason::I32Exit(status),
-        }
+        let reason = TrapReason::I32Exit(status);
+        Trap { reason }
     }
 
     /// The exit status, if this is an exit.
@@ -149,9 +147,8 @@ impl<H: HostError> From<TrapCode> for Trap<H> {
     ghost from_gives = { λ code trap. trap ≡ reason.InstructionTrap code };
 
     fn from(code: TrapCode) -> Self {
-        Trap {
-            reason: TrapReason::InstructionTrap(code),
-        }
+        let reason = TrapReason::InstructionTrap(code);
+        Trap { reason }
     }
 }
 
@@ -159,9 +156,8 @@ impl<H: HostError> From<H> for Trap<H> {
     ghost from_gives = { λ error trap. trap ≡ reason.Host error };
 
     fn from(error: H) -> Self {
-        Trap {
-            reason: TrapReason::Host(error),
-        }
+        let reason = TrapReason::Host(error);
+        Trap { reason }
     }
 }
 

@@ -44,8 +44,7 @@ mod func_type {
 
     impl Error for FuncTypeError {}
 
-    /// The type of a function: the types of its parameters and those of its results, at most 1,000
-    /// each.
+    /// The types of a function's parameters and of its results, at most 1,000 each.
     ///
     /// Up to 21 of them together stand in the value; more are shared by all clones of it.
     /// Core specification 2.3, function types. Upstream: `wasmi_core::FuncType`.
@@ -86,9 +85,6 @@ mod func_type {
     impl FuncType {
         /// Makes the type of a function with these parameters and results, which `read` reads: its
         /// contract says what each answer means.
-        ///
-        /// The iterator that `params` becomes can be read, and after its end the one that `results`
-        /// becomes.
         ///
         /// Upstream: `FuncType::new`, there of iterators that know their lengths.
         ///
@@ -654,11 +650,9 @@ mod index_ty {
         /// Definitions: [`address_bits`](crate::specs::types::Value#address_bits).
         #[inline]
         pub fn max_size(&self) -> u128 {
-            const MAX_SIZE_32: u128 = 1 << 32;
-            const MAX_SIZE_64: u128 = 1 << 64;
             match self {
-                Self::I32 => MAX_SIZE_32,
-                Self::I64 => MAX_SIZE_64,
+                Self::I32 => 1 << 32,
+                Self::I64 => 1 << 64,
             }
         }
 
@@ -726,9 +720,8 @@ mod trap {
         /// ```
         #[inline]
         pub fn new(message: String) -> Self {
-            Trap {
-                reason: TrapReason::Message(message),
-            }
+            let reason = TrapReason::Message(message);
+            Trap { reason }
         }
 
         /// An exit of the program with a status.
@@ -740,9 +733,8 @@ mod trap {
         /// ```
         #[inline]
         pub fn i32_exit(status: i32) -> Self {
-            Trap {
-                reason: TrapReason::I32Exit(status),
-            }
+            let reason = TrapReason::I32Exit(status);
+            Trap { reason }
         }
 
         /// The exit status, if this is an exit.
@@ -878,9 +870,8 @@ mod trap {
     impl<H: HostError> From<TrapCode> for Trap<H> {
         #[inline]
         fn from(code: TrapCode) -> Self {
-            Trap {
-                reason: TrapReason::InstructionTrap(code),
-            }
+            let reason = TrapReason::InstructionTrap(code);
+            Trap { reason }
         }
     }
 
@@ -892,9 +883,8 @@ mod trap {
     impl<H: HostError> From<H> for Trap<H> {
         #[inline]
         fn from(error: H) -> Self {
-            Trap {
-                reason: TrapReason::Host(error),
-            }
+            let reason = TrapReason::Host(error);
+            Trap { reason }
         }
     }
 
