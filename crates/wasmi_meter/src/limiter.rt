@@ -131,28 +131,21 @@ impl<L: ResourceLimiter> ResourceLimiter for Option<L> {
     fn instances(&self) -> usize
         ensures absent { self.now ≡ None → result ≡ usize.MAX }
     {
-        match self {
-            Some(limiter) => limiter.instances(),
-            None => usize::MAX,
-        }
+        self.as_ref()
+            .map_or(usize::MAX, |limiter| limiter.instances())
     }
 
     fn tables(&self) -> usize
         ensures absent { self.now ≡ None → result ≡ usize.MAX }
     {
-        match self {
-            Some(limiter) => limiter.tables(),
-            None => usize::MAX,
-        }
+        self.as_ref().map_or(usize::MAX, |limiter| limiter.tables())
     }
 
     fn memories(&self) -> usize
         ensures absent { self.now ≡ None → result ≡ usize.MAX }
     {
-        match self {
-            Some(limiter) => limiter.memories(),
-            None => usize::MAX,
-        }
+        self.as_ref()
+            .map_or(usize::MAX, |limiter| limiter.memories())
     }
 }
 

@@ -103,8 +103,7 @@ impl<R> LimiterRef<R> {
     pub fn into_resource_limiter(self) -> Option<R>
         ensures { result ≡ loan self }
     {
-        let LimiterRef { limiter } = self;
-        limiter
+        self.limiter
     }
 
     /// Ends the loan of a limiter that is there, as `into_resource_limiter` does.
@@ -114,10 +113,7 @@ impl<R> LimiterRef<R> {
         requires lent { IsSome (loan self) }
         ensures value { loan self ≡ Some result }
     {
-        match self.into_resource_limiter() {
-            Some(limiter) => limiter,
-            None => unreachable!(),
-        }
+        self.into_resource_limiter().unwrap()
     }
 
     /// The limiter, if there is one.

@@ -1457,10 +1457,8 @@ mod limiter {
         /// ```
         #[inline]
         fn instances(&self) -> usize {
-            match self {
-                Some(limiter) => limiter.instances(),
-                None => usize::MAX,
-            }
+            self.as_ref()
+                .map_or(usize::MAX, |limiter| limiter.instances())
         }
 
         /// # Contract
@@ -1470,10 +1468,7 @@ mod limiter {
         /// ```
         #[inline]
         fn tables(&self) -> usize {
-            match self {
-                Some(limiter) => limiter.tables(),
-                None => usize::MAX,
-            }
+            self.as_ref().map_or(usize::MAX, |limiter| limiter.tables())
         }
 
         /// # Contract
@@ -1483,10 +1478,8 @@ mod limiter {
         /// ```
         #[inline]
         fn memories(&self) -> usize {
-            match self {
-                Some(limiter) => limiter.memories(),
-                None => usize::MAX,
-            }
+            self.as_ref()
+                .map_or(usize::MAX, |limiter| limiter.memories())
         }
     }
 
@@ -1764,8 +1757,7 @@ mod limiter_ref {
         /// Definitions: [`loan`](crate::specs::meter::Limiter#loan).
         #[inline]
         pub fn into_resource_limiter(self) -> Option<R> {
-            let LimiterRef { limiter } = self;
-            limiter
+            self.limiter
         }
 
         /// Ends the loan of a limiter that is there, as `into_resource_limiter` does.
@@ -1787,10 +1779,7 @@ mod limiter_ref {
         #[inline]
         pub fn into_limiter(self) -> R {
             assert!(self.limiter.is_some(), "the reference lends no limiter");
-            match self.into_resource_limiter() {
-                Some(limiter) => limiter,
-                None => unreachable!(),
-            }
+            self.into_resource_limiter().unwrap()
         }
 
         /// The limiter, if there is one.
