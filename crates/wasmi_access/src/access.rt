@@ -1,8 +1,10 @@
 //! Loads and stores of any type that has little-endian bytes.
 //!
 //! A memory is a slice of bytes, and an address counts bytes from its start. An access to `ptr +
-//! offset` has the unbounded sum for its address. Upstream: the module `memory::access`, private
-//! there. Core specification: memory instructions, and the storage of integers under numerics.
+//! offset` has the unbounded sum for its address. The only error is `MemoryOutOfBounds`, where the
+//! memory ends before the last byte, and then nothing is written. Upstream: the module
+//! `memory::access`, private there. Core specification: memory instructions, and the storage of
+//! integers under numerics.
 
 ghost use Rattle.std.specs.Prelude.{◌≡◌, ℕ, ◌+◌, ◌*◌, ◌^◌, ◌≤◌, List, MatchResult, length, Some};
 ghost use Rattle.std.specs.Int.{int_wrap};
@@ -63,8 +65,6 @@ impl<const N: usize> ByteArray for [u8; N] {
 /// Upstream: `LoadInto`, private there.
 pub trait LoadInto: ByteArray {
     /// Copies the bytes at `address` into `self`.
-    ///
-    /// The only error is `MemoryOutOfBounds`, where the memory ends before the last byte.
     fn load_into(&mut self, memory: &[u8], address: usize) -> Result<(), TrapCode>
         ensures copied { IsCopy memory.now address Self.LEN (Self.bytes_of self.old)
             (Self.bytes_of self.new) result }
@@ -89,9 +89,6 @@ impl<const N: usize> LoadInto for [u8; N] {
 /// Upstream: `StoreFrom`, private there.
 pub trait StoreFrom: ByteArray {
     /// Copies `self` to the bytes at `address`.
-    ///
-    /// The only error is `MemoryOutOfBounds`, where the memory ends before the last byte; nothing
-    /// is written then.
     fn store_from(&self, memory: &mut [u8], address: usize) -> Result<(), TrapCode>
         ensures stored { IsStore memory.old address (Self.bytes_of self.now) memory.new result }
         ensures length { length (Self.bytes_of self.now) ≡ Self.LEN };
@@ -169,8 +166,6 @@ pub fn effective_address(ptr: u64, offset: u64) -> Result<usize, TrapCode>
 }
 
 /// The number at `ptr + offset`.
-///
-/// The only error is `MemoryOutOfBounds`.
 pub fn load<T>(memory: &[u8], ptr: u64, offset: u64) -> Result<T, TrapCode>
 where
     T: LittleEndianConvert,
@@ -184,8 +179,6 @@ where
 }
 
 /// The number at `address`.
-///
-/// The only error is `MemoryOutOfBounds`.
 pub fn load_at<T>(memory: &[u8], address: usize) -> Result<T, TrapCode>
 where
     T: LittleEndianConvert,
@@ -200,8 +193,6 @@ where
 }
 
 /// The number at `ptr + offset`, read as a `U` and extended to a `T`.
-///
-/// The only error is `MemoryOutOfBounds`.
 pub fn load_extend<T, U>(memory: &[u8], ptr: u64, offset: u64) -> Result<T, TrapCode>
 where
     T: Number,
@@ -215,8 +206,6 @@ where
 }
 
 /// The number at `address`, read as a `U` and extended to a `T`.
-///
-/// The only error is `MemoryOutOfBounds`.
 pub fn load_extend_at<T, U>(memory: &[u8], address: usize) -> Result<T, TrapCode>
 where
     T: Number,
@@ -230,8 +219,6 @@ where
 }
 
 /// Writes a number at `ptr + offset`.
-///
-/// The only error is `MemoryOutOfBounds`; nothing is written then.
 pub fn store<T>(memory: &mut [u8], ptr: u64, offset: u64, value: T) -> Result<(), TrapCode>
 where
     T: LittleEndianConvert + Drop,
@@ -243,8 +230,6 @@ where
 }
 
 /// Writes a number at `address`.
-///
-/// The only error is `MemoryOutOfBounds`; nothing is written then.
 pub fn store_at<T>(memory: &mut [u8], address: usize, value: T) -> Result<(), TrapCode>
 where
     T: LittleEndianConvert,
@@ -256,8 +241,6 @@ where
 }
 
 /// Writes a number at `ptr + offset`, wrapped to a `U`.
-///
-/// The only error is `MemoryOutOfBounds`; nothing is written then.
 pub fn store_wrap<T, U>(memory: &mut [u8], ptr: u64, offset: u64, value: T) -> Result<(), TrapCode>
 where
     T: WrapInto<U> + Drop,
@@ -270,8 +253,6 @@ where
 }
 
 /// Writes a number at `address`, wrapped to a `U`.
-///
-/// The only error is `MemoryOutOfBounds`; nothing is written then.
 pub fn store_wrap_at<T, U>(memory: &mut [u8], address: usize, value: T) -> Result<(), TrapCode>
 where
     T: WrapInto<U>,

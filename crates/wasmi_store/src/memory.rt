@@ -96,8 +96,7 @@ impl<'r> LinearMemory<&'r mut [u8]> {
         }
     }
 
-    /// As `new`, but borrows the limiter for this call alone, so that its state afterwards is
-    /// known.
+    /// As `new`, with a limiter that is known again after this call.
     pub fn new_lending<L: ResourceLimiter>(
         alloc: Global,
         ty: MemoryType,
@@ -220,8 +219,7 @@ impl<R: Region> LinearMemory<R> {
         Ok(old_pages)
     }
 
-    /// As `grow_metered`, but borrows the limiter for this call alone, so that its state afterwards
-    /// is known.
+    /// As `grow_metered`, with a limiter that is known again after this call.
     pub fn grow_lending<L: ResourceLimiter>(
         &mut self,
         additional: u64,

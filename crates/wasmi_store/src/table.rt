@@ -76,8 +76,7 @@ impl Table {
         }
     }
 
-    /// As `new`, but borrows the limiter for this call alone, so that its state afterwards is
-    /// known.
+    /// As `new`, with a limiter that is known again after this call.
     pub fn new_lending<L: ResourceLimiter>(
         alloc: Global,
         ty: TableType,
@@ -152,8 +151,7 @@ impl Table {
         self.grow_raw_metered(delta, init.raw, fuel, limiter)
     }
 
-    /// As `grow_metered`, but borrows the limiter for this call alone, so that its state afterwards
-    /// is known.
+    /// As `grow_metered`, with a limiter that is known again after this call.
     pub fn grow_lending<L: ResourceLimiter>(
         &mut self,
         delta: u64,

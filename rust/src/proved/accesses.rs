@@ -3,8 +3,10 @@ pub mod access {
     //! Loads and stores of any type that has little-endian bytes.
     //!
     //! A memory is a slice of bytes, and an address counts bytes from its start. An access to `ptr +
-    //! offset` has the unbounded sum for its address. Upstream: the module `memory::access`, private
-    //! there. Core specification: memory instructions, and the storage of integers under numerics.
+    //! offset` has the unbounded sum for its address. The only error is `MemoryOutOfBounds`, where the
+    //! memory ends before the last byte, and then nothing is written. Upstream: the module
+    //! `memory::access`, private there. Core specification: memory instructions, and the storage of
+    //! integers under numerics.
 
     use crate::proved::raw::Number;
     use crate::proved::types::TrapCode;
@@ -75,8 +77,6 @@ pub mod access {
     pub trait LoadInto: ByteArray {
         /// Copies the bytes at `address` into `self`.
         ///
-        /// The only error is `MemoryOutOfBounds`, where the memory ends before the last byte.
-        ///
         /// # Contract
         ///
         /// ```text
@@ -108,9 +108,6 @@ pub mod access {
     /// Upstream: `StoreFrom`, private there.
     pub trait StoreFrom: ByteArray {
         /// Copies `self` to the bytes at `address`.
-        ///
-        /// The only error is `MemoryOutOfBounds`, where the memory ends before the last byte; nothing
-        /// is written then.
         ///
         /// # Contract
         ///
@@ -224,8 +221,6 @@ pub mod access {
 
     /// The number at `ptr + offset`.
     ///
-    /// The only error is `MemoryOutOfBounds`.
-    ///
     /// # Contract
     ///
     /// ```text
@@ -246,8 +241,6 @@ pub mod access {
     }
 
     /// The number at `address`.
-    ///
-    /// The only error is `MemoryOutOfBounds`.
     ///
     /// # Contract
     ///
@@ -271,8 +264,6 @@ pub mod access {
 
     /// The number at `ptr + offset`, read as a `U` and extended to a `T`.
     ///
-    /// The only error is `MemoryOutOfBounds`.
-    ///
     /// # Contract
     ///
     /// ```text
@@ -293,8 +284,6 @@ pub mod access {
     }
 
     /// The number at `address`, read as a `U` and extended to a `T`.
-    ///
-    /// The only error is `MemoryOutOfBounds`.
     ///
     /// # Contract
     ///
@@ -317,8 +306,6 @@ pub mod access {
 
     /// Writes a number at `ptr + offset`.
     ///
-    /// The only error is `MemoryOutOfBounds`; nothing is written then.
-    ///
     /// # Contract
     ///
     /// ```text
@@ -338,8 +325,6 @@ pub mod access {
 
     /// Writes a number at `address`.
     ///
-    /// The only error is `MemoryOutOfBounds`; nothing is written then.
-    ///
     /// # Contract
     ///
     /// ```text
@@ -358,8 +343,6 @@ pub mod access {
     }
 
     /// Writes a number at `ptr + offset`, wrapped to a `U`.
-    ///
-    /// The only error is `MemoryOutOfBounds`; nothing is written then.
     ///
     /// # Contract
     ///
@@ -385,8 +368,6 @@ pub mod access {
     }
 
     /// Writes a number at `address`, wrapped to a `U`.
-    ///
-    /// The only error is `MemoryOutOfBounds`; nothing is written then.
     ///
     /// # Contract
     ///

@@ -1239,8 +1239,7 @@ mod memory {
             }
         }
 
-        /// As `new`, but borrows the limiter for this call alone, so that its state afterwards is
-        /// known.
+        /// As `new`, with a limiter that is known again after this call.
         ///
         /// # Contract
         ///
@@ -1417,8 +1416,7 @@ mod memory {
             Ok(old_pages)
         }
 
-        /// As `grow_metered`, but borrows the limiter for this call alone, so that its state afterwards
-        /// is known.
+        /// As `grow_metered`, with a limiter that is known again after this call.
         ///
         /// # Contract
         ///
@@ -2395,8 +2393,7 @@ mod table {
             }
         }
 
-        /// As `new`, but borrows the limiter for this call alone, so that its state afterwards is
-        /// known.
+        /// As `new`, with a limiter that is known again after this call.
         ///
         /// # Contract
         ///
@@ -2510,8 +2507,7 @@ mod table {
             self.grow_raw_metered(delta, init.raw, fuel, limiter)
         }
 
-        /// As `grow_metered`, but borrows the limiter for this call alone, so that its state afterwards
-        /// is known.
+        /// As `grow_metered`, with a limiter that is known again after this call.
         ///
         /// # Contract
         ///
