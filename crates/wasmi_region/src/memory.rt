@@ -2,7 +2,7 @@
 //! The caller keeps a memory's type and its size in bytes, and passes them to each call.
 //!
 //! Own: upstream's memory borrows its static buffer for as long as it lives.
-ghost use Rattle.std.specs.Prelude.{◌≡◌, ◌≤◌, ◌+◌, ◌-◌, ◌*◌, ◌/◌, ℕ, length, take, drop, nat_le, OnOk, OnErr, IfOk, IfErr, Some, None, MatchOption, true, false};
+ghost use Rattle.std.specs.Prelude.{◌≡◌, ◌≤◌, ◌+◌, ◌-◌, ◌*◌, ◌/◌, ℕ, length, take, drop, OnOk, OnErr, IfOk, IfErr, Some, None, MatchOption, true, false};
 ghost use Rattle.wasmi_types.specs.Access.{overwrite};
 ghost use Rattle.wasmi_meter.specs.Limiter.{optional_rules, lent_limiter, KeepsLoan};
 ghost use Rattle.wasmi_store.specs.Buffer.{Lent};
@@ -16,7 +16,7 @@ use wasmi_store::MemoryType;
 use wasmi_store::bulk::{MEMORY_OUTSIDE as OUTSIDE, copy_items, copy_items_within, fill_items};
 use wasmi_store::growth::{MEMORY_DENIED as DENIED, decide_growth, permitted_minimum};
 pub use wasmi_store::range::read_bytes;
-use wasmi_store::range::{fill_range, write_range};
+use wasmi_store::range::{fill_range, write_bytes};
 
 /// Whether a memory of a type may have `size` bytes: whole pages, as many as the type allows.
 pub fn is_sized(ty: MemoryType, size: usize) -> bool
@@ -99,7 +99,7 @@ pub fn grow<L: ResourceLimiter>(
         return Err(MemoryError::OutOfBoundsGrowth);
     };
     let maximum = ty.maximum_size();
-    let has_room = has_room(region, new_size);
+    let has_room = new_size <= region.len();
     decide_growth(old_size, new_size, maximum, has_room, fuel, limiter)?;
     fill_range(region, old_size, new_size, 0);
     *size = new_size;
@@ -137,11 +137,7 @@ pub fn write(
         × (region.new ≡ region.old)) }
     ensures len { length region.new ≡ length region.old }
 {
-    if size < offset || size - offset < source.len() {
-        return Err(MemoryError::OutOfBoundsAccess);
-    }
-    write_range(&mut region[..size], offset, source);
-    Ok(())
+    write_bytes(&mut region[..size], offset, source)
 }
 
 /// Fills bytes of a memory of `size` bytes, as [`wasmi_store::LinearMemory::fill`] does.
@@ -222,11 +218,4 @@ pub fn init(
 {
     let (src, len) = (u64::from(src), u64::from(len));
     copy_items(&mut region[..size], dst, segment, src, len, OUTSIDE, fuel)
-}
-
-/// Whether a region has `size` bytes.
-fn has_room(region: &[u8], size: usize) -> bool
-    ensures { result ≡ nat_le size (length region.now) }
-{
-    size <= region.len()
 }

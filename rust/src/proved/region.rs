@@ -59,7 +59,7 @@ pub mod memory {
     };
     use crate::proved::store::growth::{MEMORY_DENIED as DENIED, decide_growth, permitted_minimum};
     pub use crate::proved::store::range::read_bytes;
-    use crate::proved::store::range::{fill_range, write_range};
+    use crate::proved::store::range::{fill_range, write_bytes};
 
     /// Whether a memory of a type may have `size` bytes: whole pages, as many as the type allows.
     ///
@@ -179,7 +179,7 @@ pub mod memory {
             return Err(MemoryError::OutOfBoundsGrowth);
         };
         let maximum = ty.maximum_size();
-        let has_room = has_room(region, new_size);
+        let has_room = new_size <= region.len();
         decide_growth(old_size, new_size, maximum, has_room, fuel, limiter)?;
         fill_range(region, old_size, new_size, 0);
         *size = new_size;
@@ -248,11 +248,7 @@ pub mod memory {
             size <= region.len(),
             "the size is above the length of the region"
         );
-        if size < offset || size - offset < source.len() {
-            return Err(MemoryError::OutOfBoundsAccess);
-        }
-        write_range(&mut region[..size], offset, source);
-        Ok(())
+        write_bytes(&mut region[..size], offset, source)
     }
 
     /// Fills bytes of a memory of `size` bytes, as [`LinearMemory::fill`](crate::proved::store::LinearMemory::fill) does.
@@ -393,18 +389,6 @@ pub mod memory {
         );
         let (src, len) = (u64::from(src), u64::from(len));
         copy_items(&mut region[..size], dst, segment, src, len, OUTSIDE, fuel)
-    }
-
-    /// Whether a region has `size` bytes.
-    ///
-    /// # Contract
-    ///
-    /// ```text
-    /// ensures: result ≡ nat_le size (length region.now)
-    /// ```
-    #[inline]
-    fn has_room(region: &[u8], size: usize) -> bool {
-        size <= region.len()
     }
 }
 pub mod table {

@@ -17,7 +17,7 @@ returns-in_err-decide_growth-clause-grown g c =
     rw (p.1, p.2) (
     c.in_err-decide_growth.ensures.refused _ _ (omega (arith, c.if-additional-eq0.false))
     (asked_in c.args.ty _ _ c.requires.within _ c.in-Some.ensures.size c.maximum_size-maximum.ensures)
-    (room_is c.args.ty _ _ c.requires.within _ c.in-Some.ensures.size _ c.has_room-has_room.ensures)
+    (room_is c.args.ty _ _ c.requires.within _ c.in-Some.ensures.size _ refl)
     )
 
 pub returns-clause-grown : goal.returns-clause-grown
@@ -25,7 +25,7 @@ returns-clause-grown g c =
     let x = memory_in c.args.ty c.args.region.now c.args.size.now in
     let found = c.in-Some.ensures.size in
     let asked = asked_in c.args.ty _ _ c.requires.within c.args.additional found c.maximum_size-maximum.ensures in
-    let fits = room_is c.args.ty _ _ c.requires.within c.args.additional found _ c.has_room-has_room.ensures in
+    let fits = room_is c.args.ty _ _ c.requires.within c.args.additional found _ refl in
     grows_met
     (growth_permitted (optional_rules g.L.ResourceLimiter.rules) x c.args.fuel.now c.args.additional
     c.if-additional-eq0.false asked refl c.in_ok-decide_growth.ensures.permitted)
