@@ -1,7 +1,8 @@
 //! The kinds of calls, and their numbers.
 ghost use Rattle.std.specs.Prelude.{◌≡◌};
-ghost use Rattle.std.specs.List.{slice_get};
 ghost use Rattle.wasmi_c.specs.Machine.CallStructs.{kind_of};
+
+use crate::instruction::list::numbered;
 
 /// A kind of call.
 #[derive(Clone, Copy)]
@@ -112,13 +113,6 @@ impl Kind {
     pub fn from_number(number: u16) -> Option<Kind>
         ensures { result ≡ kind_of number }
     {
-        at(&KINDS, number)
+        numbered(&KINDS, number)
     }
-}
-
-/// The entry of a table at a number, if there is one.
-fn at<Entry: Copy>(table: &[Entry], number: u16) -> Option<Entry>
-    ensures { result ≡ slice_get table.now number }
-{
-    table.get(usize::from(number)).copied()
 }

@@ -5,7 +5,7 @@ ghost use Rattle.wasmi_store.specs.Memory.{MemoryTypeValue, in_bounds, page_byte
 ghost use Rattle.wasmi_region.specs.Memory.{memory_in};
 ghost use Rattle.wasmi_c.specs.Host.{is_about, memory_growth};
 ghost use Rattle.wasmi_c.specs.MemoryCalls.{AsksEmbedded, by_pages, of_memory};
-ghost use Rattle.wasmi_c.specs.Placement.{GrowsAs, GrowsBy, IsNone, SettlesBy, grown_number, status_of};
+ghost use Rattle.wasmi_c.specs.Placement.{GrowsAs, GrowsBy, IsNone, SettlesBy};
 ghost use Rattle.wasmi_c.specs.Numbers.{embedded, limiter_of, IsState, KeepsQuota};
 
 use crate::fuel::MeterNumbers;
@@ -14,23 +14,9 @@ use crate::memory::numbers::MemoryNumbers;
 use crate::quota::QuotaNumbers;
 use crate::range::type_or_return;
 use crate::status::{ASKS, DONE, MEMORY_GROWTH, OTHER_SIZE, memory_refusal};
-use wasmi_meter::{MemoryError, ResourceLimiter, ResourceLimiterRef};
+use wasmi_meter::{ResourceLimiter, ResourceLimiterRef};
 use wasmi_region::memory as region_memory;
 use wasmi_store::MemoryType;
-
-/// Leaves the number of a growth, and returns its status.
-fn leave_growth(outcome: Result<u64, MemoryError>, number: &mut u64) -> u8
-    ensures status { result ≡ status_of of_memory outcome }
-    ensures number { number.new ≡ grown_number of_memory outcome number.old }
-{
-    match outcome {
-        Ok(pages) => {
-            *number = pages;
-            DONE
-        }
-        Err(error) => memory_refusal(error, number),
-    }
-}
 
 /// Grows a memory of this type under a limiter.
 pub fn grow_under<L: ResourceLimiter>(
@@ -54,7 +40,13 @@ pub fn grow_under<L: ResourceLimiter>(
     let _limiter = lent.into_limiter();
     memory.size = size;
     meter.store_left(&fuel);
-    leave_growth(grown, number)
+    match grown {
+        Ok(old_size) => {
+            *number = old_size;
+            DONE
+        }
+        Err(error) => memory_refusal(error, number),
+    }
 }
 
 /// Grows a memory by pages of zeros. `number` becomes the old size in pages, or the fuel needed.

@@ -4,7 +4,7 @@ ghost use Rattle.wasmi_meter.specs.Capped.{quota_rules};
 ghost use Rattle.wasmi_store.specs.Table.{TableTypeValue, is_indexable};
 ghost use Rattle.wasmi_region.specs.Table.{table_in, region_growth};
 ghost use Rattle.wasmi_c.specs.Host.{is_about};
-ghost use Rattle.wasmi_c.specs.Placement.{GrowsAs, GrowsBy, IsNone, SettlesBy, grown_number, status_of};
+ghost use Rattle.wasmi_c.specs.Placement.{GrowsAs, GrowsBy, IsNone, SettlesBy};
 ghost use Rattle.wasmi_c.specs.Numbers.{embedded, limiter_of, IsTable, KeepsQuota};
 ghost use Rattle.wasmi_c.specs.TableCalls.{AsksTableEmbedded, by_elements, of_table};
 
@@ -14,23 +14,9 @@ use crate::quota::QuotaNumbers;
 use crate::range::type_or_return;
 use crate::status::{ASKS, DONE, OTHER_SIZE, TABLE_GROWTH, table_refusal};
 use crate::table::numbers::TableNumbers;
-use wasmi_meter::{ResourceLimiter, ResourceLimiterRef, TableError};
+use wasmi_meter::{ResourceLimiter, ResourceLimiterRef};
 use wasmi_region::table as region_table;
 use wasmi_store::TableType;
-
-/// Leaves the number of a growth, and returns its status.
-fn leave_growth(outcome: Result<u64, TableError>, number: &mut u64) -> u8
-    ensures status { result ≡ status_of of_table outcome }
-    ensures number { number.new ≡ grown_number of_table outcome number.old }
-{
-    match outcome {
-        Ok(old_size) => {
-            *number = old_size;
-            DONE
-        }
-        Err(error) => table_refusal(error, number),
-    }
-}
 
 /// Grows a table of this type under a limiter.
 pub fn grow_under<L: ResourceLimiter>(
@@ -57,7 +43,13 @@ pub fn grow_under<L: ResourceLimiter>(
     let _limiter = lent.into_limiter();
     table.size = size;
     meter.store_left(&fuel);
-    leave_growth(grown, number)
+    match grown {
+        Ok(old_size) => {
+            *number = old_size;
+            DONE
+        }
+        Err(error) => table_refusal(error, number),
+    }
 }
 
 /// Grows a table by elements of one reference. `number` becomes the old size, or the fuel needed.

@@ -4,10 +4,18 @@ use Rattle.wasmi_c.specs.MemoryCalls.{by_pages, of_memory}
 use Rattle.wasmi_c.proofs.PlacementLemmas.{grown_with}
 use Rattle.wasmi_c.proofs.memory.growth.grow_under.Goals as goal
 
-pub returns : goal.returns
-returns g c = record {
+pub returns-in-Ok : goal.returns-in-Ok
+returns-in-Ok g c = record {
   grown = grown_with of_memory (by_pages c.args.pages) c.args.ty (lent_limiter c.from-lent.result)
       (lent_limiter c.grow-grown.new.limiter) (search rules) (search rules) c.store_left.ensures
       (rw c.fuel-fuel.ensures at c.grow-grown.ensures.grown) (search rules) refl c.grow-grown.ensures.rest
-      c.grow-grown.ensures.refused (c.leave_growth.ensures.status, c.leave_growth.ensures.number);
+      c.grow-grown.ensures.refused (search rules);
+}
+
+pub returns-in-Err : goal.returns-in-Err
+returns-in-Err g c = record {
+  grown = grown_with of_memory (by_pages c.args.pages) c.args.ty (lent_limiter c.from-lent.result)
+      (lent_limiter c.grow-grown.new.limiter) (search rules) (search rules) c.store_left.ensures
+      (rw c.fuel-fuel.ensures at c.grow-grown.ensures.grown) (search rules) refl c.grow-grown.ensures.rest
+      c.grow-grown.ensures.refused (search rules);
 }
