@@ -143,6 +143,14 @@ refused_form word words error result is =
     (λ call names. subst (λ name. (a : (form_in forms name).0) × (form_in forms name).1 words a)
     names.0 (form words call names.1))
 
+-- the same, where the word is known by an equation
+pub refused_named : (name word : List ℕ) (words : LineWords) (error : LineError) (result : Result Call LineError)
+    → name ≡ word → result ≡ Err error
+    → Accepts {A = (form_in forms word).0} (Err error) ((form_in forms word).1 words)
+    → Accepts result (NamesAfter name words)
+refused_named name word words error result same is refused =
+    subst (λ name. Accepts result (NamesAfter name words)) (sym same) (refused_form word words error result is refused)
+
 -- the text of the word at a place, as the code takes the word
 text_at : (words : LineWords) (k : ℕ) (none : Bor (List ℕ)) → none.now ≡ [] → word_at words k ≡ (get_or words k none).now
 text_at [] k none empty = sym empty

@@ -1,5 +1,5 @@
 -- What the words of a command mean, and those of a memory type or a table type.
-use Rattle.std.specs.Prelude.{◌≡◌, ℕ, List, Option, ◌≤◌, length, codes, drop}
+use Rattle.std.specs.Prelude.{◌≡◌, ◌⊎◌, ℕ, List, Option, ◌≤◌, length, codes, drop}
 use Rattle.wasmi_types.specs.declared.index_ty.IndexType.{IndexType}
 use Rattle.wasmi_operands.specs.LineWords.{WritesNumber, WritesLimit, LineWords, WritesEach, word_at}
 use Rattle.wasmi_operands.specs.Names.{width_word, reference_word, value_word, mutability_word, WritesReference, IsName, NamesLane, WritesLanes}
@@ -196,3 +196,24 @@ WritesOperands words call = OperandsWrite (length words) (word_at words) call
 -- the word that a command begins with, and the words after it, name this call
 abbrev pub NamesAfter : List ℕ → LineWords → Call → Type 0
 NamesAfter name operands call = (command_word call ≡ name) × WritesOperands operands call
+
+-- a word that a command of the meter, of a global or of a register begins with
+abbrev pub IsValueWord : List ℕ → Type 0
+IsValueWord name = (name ≡ codes "fuel") ⊎ (name ≡ codes "left") ⊎ (name ≡ codes "global") ⊎ (name ≡ codes "gset")
+    ⊎ (name ≡ codes "gget") ⊎ (name ≡ codes "set") ⊎ (name ≡ codes "show")
+
+-- a word that a command of a memory begins with, or one that drops a memory or a table
+abbrev pub IsMemoryWord : List ℕ → Type 0
+IsMemoryWord name = (name ≡ codes "memory") ⊎ (name ≡ codes "lent") ⊎ (name ≡ codes "grow") ⊎ (name ≡ codes "drop") ⊎ (name ≡ codes "read")
+
+-- a word that a command begins with which loads or stores
+abbrev pub IsAccessWord : List ℕ → Type 0
+IsAccessWord name = (name ≡ codes "load") ⊎ (name ≡ codes "store") ⊎ (name ≡ codes "vload") ⊎ (name ≡ codes "vloadlane") ⊎ (name ≡ codes "vstore") ⊎ (name ≡ codes "vstorelane")
+
+-- a word that a command of a table begins with, or one that empties a segment
+abbrev pub IsTableWord : List ℕ → Type 0
+IsTableWord name = (name ≡ codes "table") ⊎ (name ≡ codes "tgrow") ⊎ (name ≡ codes "get") ⊎ (name ≡ codes "tset") ⊎ (name ≡ codes "init") ⊎ (name ≡ codes "copy") ⊎ (name ≡ codes "fill") ⊎ (name ≡ codes "empty")
+
+-- a word that a command of a vector instruction begins with
+abbrev pub IsVectorWord : List ℕ → Type 0
+IsVectorWord name = (name ≡ codes "make") ⊎ (name ≡ codes "unary") ⊎ (name ≡ codes "binary") ⊎ (name ≡ codes "ternary") ⊎ (name ≡ codes "shift") ⊎ (name ≡ codes "test") ⊎ (name ≡ codes "extract") ⊎ (name ≡ codes "replace") ⊎ (name ≡ codes "shuffle")

@@ -1,5 +1,13 @@
 //! The commands of a script, each of which is one call: what the words after its first say.
-#![tactic(auto, using(crate::proofs::CommandsLemmas::refused_form))]
+#![tactic(auto)]
+
+/// The call of a kind, each part of which is what an operand writes.
+macro_rules! call {
+    ($operands:ident, $count:ident => $kind:ident { $($part:ident),+ }) => {{
+        let ($($part),+) = operand::$count($operands)?;
+        Ok(Call::$kind { $($part),+ })
+    }};
+}
 
 pub mod access;
 pub mod memory;

@@ -1,6 +1,6 @@
 //! The script's lines: header lines, and then commands.
-ghost use Rattle.std.specs.Prelude.{◌≡◌, [], ℕ, ◌+◌, ◌-◌, ◌<◌, ◌≤◌, length, take, drop, codes, vec_len, IfOk, IfErr, OnOk, OnErr, ◌≢◌};
-ghost use Rattle.wasmi_operands.specs.LineWords.{Accepts, AcceptsWithMemory};
+ghost use Rattle.std.specs.Prelude.{◌≡◌, [], ℕ, ◌+◌, ◌-◌, ◌<◌, ◌≤◌, length, take, drop, vec_len, IfOk, IfErr, OnOk, OnErr};
+ghost use Rattle.wasmi_operands.specs.LineWords.{AcceptsWithMemory};
 ghost use Rattle.wasmi_grammar.specs.Commands.{NamesAfter};
 ghost use Rattle.wasmi_grammar.specs.Lines.{WritesScript, NamesLine, calls_of, IsParseError};
 
@@ -298,52 +298,25 @@ fn command(alloc: Global, name: &str, operands: &[&str]) -> Result<Call, LineErr
     match name {
         "write" => memory::write(alloc, operands),
         "segment" => table::new_segment(alloc, operands),
-        _ => command_in_place(name, operands),
-    }
-}
-
-/// The call of a command that takes no memory to read.
-fn command_in_place(name: &str, operands: &[&str]) -> Result<Call, LineError>
-    requires no_bytes { name.now ≢ codes "write" }
-    requires no_items { name.now ≢ codes "segment" }
-    ensures call { Accepts result (NamesAfter name.now operands.now) }
-{
-    match name {
-        "fuel" => values::set_fuel(operands),
-        "left" => values::get_fuel(operands),
-        "memory" => memory::new_memory(operands),
-        "lent" => memory::new_lent_memory(operands),
-        "grow" => memory::grow(operands),
-        "drop" => memory::drop_live(operands),
-        "read" => memory::read(operands),
-        "load" => access::load(operands),
-        "store" => access::store(operands),
-        "table" => table::new_table(operands),
-        "tgrow" => table::grow(operands),
-        "get" => table::get(operands),
-        "tset" => table::set(operands),
-        "init" => table::init(operands),
-        "copy" => table::copy(operands),
-        "fill" => table::fill(operands),
-        "empty" => table::empty(operands),
-        "global" => values::new_global(operands),
-        "gset" => values::set_global(operands),
-        "gget" => values::get_global(operands),
-        "set" => values::set_register(operands),
-        "show" => values::get_register(operands),
-        "make" => vector::make(operands),
-        "unary" => vector::unary(operands),
-        "binary" => vector::binary(operands),
-        "ternary" => vector::ternary(operands),
-        "shift" => vector::shift(operands),
-        "test" => vector::test(operands),
-        "extract" => vector::extract(operands),
-        "replace" => vector::replace(operands),
-        "shuffle" => vector::shuffle(operands),
-        "vload" => access::vector_load(operands),
-        "vloadlane" => access::load_lane(operands),
-        "vstore" => access::vector_store(operands),
-        "vstorelane" => access::store_lane(operands),
+        "fuel" | "left" | "global" | "gset" | "gget" | "set" | "show" => {
+            values::command(name, operands)
+        }
+        "memory" | "lent" | "grow" | "drop" | "read" => memory::command(name, operands),
+        "load" | "store" | "vload" | "vloadlane" | "vstore" | "vstorelane" => {
+            access::command(name, operands)
+        }
+        "table" | "tgrow" | "get" | "tset" | "init" | "copy" | "fill" | "empty" => {
+            table::command(name, operands)
+        }
+        "make"
+        | "unary"
+        | "binary"
+        | "ternary"
+        | "shift"
+        | "test"
+        | "extract"
+        | "replace"
+        | "shuffle" => vector::command(name, operands),
         _ => Err(LineError::BadCommand),
     }
 }

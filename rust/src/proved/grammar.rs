@@ -1,6 +1,14 @@
 //! The text of a script: what its lines say, and the script that they write.
 mod command {
     //! The commands of a script, each of which is one call: what the words after its first say.
+    /// The call of a kind, each part of which is what an operand writes.
+    macro_rules! call {
+    ($operands:ident, $count:ident => $kind:ident { $($part:ident),+ }) => {{
+        let ($($part),+) = operand::$count($operands)?;
+        Ok(Call::$kind { $($part),+ })
+    }};
+}
+
     pub mod access {
         //! Commands that load from a memory or store to it.
 
@@ -8,66 +16,35 @@ mod command {
         use crate::proved::operands::lane::{load_lane_op, store_lane_op};
         use crate::proved::operands::{LineError, operand};
 
-        /// `load NAME K PTR OFFSET`.
+        /// The call of a command that loads or stores.
         ///
         /// # Contract
         ///
         /// ```text
-        /// ensures: Accepts result (NamesAfter (codes "load") operands.now)
+        /// requires word: IsAccessWord name.now
+        /// ensures call: Accepts result (NamesAfter name.now operands.now)
         /// ```
         ///
-        /// Definitions: [`Accepts`](crate::specs::operands::LineWords#Accepts), [`NamesAfter`](crate::specs::grammar::Commands#NamesAfter).
+        /// Definitions: [`IsAccessWord`](crate::specs::grammar::Commands#IsAccessWord), [`Accepts`](crate::specs::operands::LineWords#Accepts), [`NamesAfter`](crate::specs::grammar::Commands#NamesAfter).
         #[inline]
-        pub fn load(operands: &[&str]) -> Result<Call, LineError> {
-            let (op, memory, ptr, offset) = operand::four(operands)?;
-            Ok(Call::Load {
-                op,
-                memory,
-                ptr,
-                offset,
-            })
-        }
-
-        /// `store NAME K PTR OFFSET LO`.
-        ///
-        /// # Contract
-        ///
-        /// ```text
-        /// ensures: Accepts result (NamesAfter (codes "store") operands.now)
-        /// ```
-        ///
-        /// Definitions: [`Accepts`](crate::specs::operands::LineWords#Accepts), [`NamesAfter`](crate::specs::grammar::Commands#NamesAfter).
-        #[inline]
-        pub fn store(operands: &[&str]) -> Result<Call, LineError> {
-            let (op, memory, ptr, offset, lo) = operand::five(operands)?;
-            Ok(Call::Store {
-                op,
-                memory,
-                ptr,
-                offset,
-                value: RawVal::from_bits64(lo),
-            })
-        }
-
-        /// `vload NAME D K PTR OFFSET`.
-        ///
-        /// # Contract
-        ///
-        /// ```text
-        /// ensures: Accepts result (NamesAfter (codes "vload") operands.now)
-        /// ```
-        ///
-        /// Definitions: [`Accepts`](crate::specs::operands::LineWords#Accepts), [`NamesAfter`](crate::specs::grammar::Commands#NamesAfter).
-        #[inline]
-        pub fn vector_load(operands: &[&str]) -> Result<Call, LineError> {
-            let (op, dst, memory, ptr, offset) = operand::five(operands)?;
-            Ok(Call::VectorLoad {
-                op,
-                dst,
-                memory,
-                ptr,
-                offset,
-            })
+        pub(crate) fn command(name: &str, operands: &[&str]) -> Result<Call, LineError> {
+            match name {
+                "load" => call!(operands, four => Load { op, memory, ptr, offset }),
+                "store" => {
+                    let (op, memory, ptr, offset, lo) = operand::five(operands)?;
+                    Ok(Call::Store {
+                        op,
+                        memory,
+                        ptr,
+                        offset,
+                        value: RawVal::from_bits64(lo),
+                    })
+                }
+                "vload" => call!(operands, five => VectorLoad { op, dst, memory, ptr, offset }),
+                "vloadlane" => load_lane(operands),
+                "vstore" => call!(operands, four => VectorStore { a, memory, ptr, offset }),
+                _ => store_lane(operands),
+            }
         }
 
         /// `vloadlane NAME D A LANE K PTR OFFSET`.
@@ -80,7 +57,7 @@ mod command {
         ///
         /// Definitions: [`Accepts`](crate::specs::operands::LineWords#Accepts), [`NamesAfter`](crate::specs::grammar::Commands#NamesAfter).
         #[inline]
-        pub fn load_lane(operands: &[&str]) -> Result<Call, LineError> {
+        fn load_lane(operands: &[&str]) -> Result<Call, LineError> {
             let &[name, dst, a, lane, memory, ptr, offset] = operands else {
                 return Err(LineError::BadCommand);
             };
@@ -89,26 +66,6 @@ mod command {
             Ok(Call::LoadLane {
                 op,
                 dst,
-                a,
-                memory,
-                ptr,
-                offset,
-            })
-        }
-
-        /// `vstore A K PTR OFFSET`.
-        ///
-        /// # Contract
-        ///
-        /// ```text
-        /// ensures: Accepts result (NamesAfter (codes "vstore") operands.now)
-        /// ```
-        ///
-        /// Definitions: [`Accepts`](crate::specs::operands::LineWords#Accepts), [`NamesAfter`](crate::specs::grammar::Commands#NamesAfter).
-        #[inline]
-        pub fn vector_store(operands: &[&str]) -> Result<Call, LineError> {
-            let (a, memory, ptr, offset) = operand::four(operands)?;
-            Ok(Call::VectorStore {
                 a,
                 memory,
                 ptr,
@@ -126,7 +83,7 @@ mod command {
         ///
         /// Definitions: [`Accepts`](crate::specs::operands::LineWords#Accepts), [`NamesAfter`](crate::specs::grammar::Commands#NamesAfter).
         #[inline]
-        pub fn store_lane(operands: &[&str]) -> Result<Call, LineError> {
+        fn store_lane(operands: &[&str]) -> Result<Call, LineError> {
             let &[name, a, lane, memory, ptr, offset] = operands else {
                 return Err(LineError::BadCommand);
             };
@@ -148,66 +105,25 @@ mod command {
         use crate::proved::operands::operand::{self, list_of};
         use crate::proved::operands::{LineError, number};
 
-        /// `memory MIN MAX LOG2 WIDTH`.
+        /// The call of a command of a memory, or of one that drops a memory or a table.
         ///
         /// # Contract
         ///
         /// ```text
-        /// ensures: Accepts result (NamesAfter (codes "memory") operands.now)
+        /// requires word: IsMemoryWord name.now
+        /// ensures call: Accepts result (NamesAfter name.now operands.now)
         /// ```
         ///
-        /// Definitions: [`Accepts`](crate::specs::operands::LineWords#Accepts), [`NamesAfter`](crate::specs::grammar::Commands#NamesAfter).
+        /// Definitions: [`IsMemoryWord`](crate::specs::grammar::Commands#IsMemoryWord), [`Accepts`](crate::specs::operands::LineWords#Accepts), [`NamesAfter`](crate::specs::grammar::Commands#NamesAfter).
         #[inline]
-        pub fn new_memory(operands: &[&str]) -> Result<Call, LineError> {
-            Ok(Call::NewMemory(memory_type(operands)?))
-        }
-
-        /// `lent MIN MAX LOG2 WIDTH`.
-        ///
-        /// # Contract
-        ///
-        /// ```text
-        /// ensures: Accepts result (NamesAfter (codes "lent") operands.now)
-        /// ```
-        ///
-        /// Definitions: [`Accepts`](crate::specs::operands::LineWords#Accepts), [`NamesAfter`](crate::specs::grammar::Commands#NamesAfter).
-        #[inline]
-        pub fn new_lent_memory(operands: &[&str]) -> Result<Call, LineError> {
-            Ok(Call::NewLentMemory(memory_type(operands)?))
-        }
-
-        /// `grow K PAGES`.
-        ///
-        /// # Contract
-        ///
-        /// ```text
-        /// ensures: Accepts result (NamesAfter (codes "grow") operands.now)
-        /// ```
-        ///
-        /// Definitions: [`Accepts`](crate::specs::operands::LineWords#Accepts), [`NamesAfter`](crate::specs::grammar::Commands#NamesAfter).
-        #[inline]
-        pub fn grow(operands: &[&str]) -> Result<Call, LineError> {
-            let (memory, pages) = operand::two(operands)?;
-            Ok(Call::GrowMemory { memory, pages })
-        }
-
-        /// `read K OFFSET LEN`.
-        ///
-        /// # Contract
-        ///
-        /// ```text
-        /// ensures: Accepts result (NamesAfter (codes "read") operands.now)
-        /// ```
-        ///
-        /// Definitions: [`Accepts`](crate::specs::operands::LineWords#Accepts), [`NamesAfter`](crate::specs::grammar::Commands#NamesAfter).
-        #[inline]
-        pub fn read(operands: &[&str]) -> Result<Call, LineError> {
-            let (memory, offset, len) = operand::three(operands)?;
-            Ok(Call::Read {
-                memory,
-                offset,
-                len,
-            })
+        pub(crate) fn command(name: &str, operands: &[&str]) -> Result<Call, LineError> {
+            match name {
+                "memory" => Ok(Call::NewMemory(memory_type(operands)?)),
+                "lent" => Ok(Call::NewLentMemory(memory_type(operands)?)),
+                "grow" => call!(operands, two => GrowMemory { memory, pages }),
+                "read" => call!(operands, three => Read { memory, offset, len }),
+                _ => drop_live(operands),
+            }
         }
 
         /// `write K OFFSET BYTE ...`, which may have no byte.
@@ -241,7 +157,7 @@ mod command {
         ///
         /// Definitions: [`Accepts`](crate::specs::operands::LineWords#Accepts), [`NamesAfter`](crate::specs::grammar::Commands#NamesAfter).
         #[inline]
-        pub fn drop_live(operands: &[&str]) -> Result<Call, LineError> {
+        fn drop_live(operands: &[&str]) -> Result<Call, LineError> {
             let [kind, index] = operands else {
                 return Err(LineError::BadCommand);
             };
@@ -302,6 +218,54 @@ mod command {
         use crate::proved::operands::LineError;
         use crate::proved::operands::operand::{self, Operand, list_of};
 
+        /// The call of a command of a table, or of one that empties a segment.
+        ///
+        /// # Contract
+        ///
+        /// ```text
+        /// requires word: IsTableWord name.now
+        /// ensures call: Accepts result (NamesAfter name.now operands.now)
+        /// ```
+        ///
+        /// Definitions: [`IsTableWord`](crate::specs::grammar::Commands#IsTableWord), [`Accepts`](crate::specs::operands::LineWords#Accepts), [`NamesAfter`](crate::specs::grammar::Commands#NamesAfter).
+        #[inline]
+        pub(crate) fn command(name: &str, operands: &[&str]) -> Result<Call, LineError> {
+            match name {
+                "table" => new_table(operands),
+                "tgrow" => {
+                    let (table, delta, ty, raw) = operand::four(operands)?;
+                    Ok(Call::GrowTable {
+                        table,
+                        delta,
+                        init: TypedRawRef::new(raw, ty),
+                    })
+                }
+                "get" => call!(operands, two => GetElement { table, index }),
+                "tset" => {
+                    let (table, index, ty, raw) = operand::four(operands)?;
+                    Ok(Call::SetElement {
+                        table,
+                        index,
+                        value: TypedRawRef::new(raw, ty),
+                    })
+                }
+                "init" => call!(operands, five => InitTable { table, segment, dst, src, len }),
+                "copy" => {
+                    call!(operands, five => CopyTable { dst_table, dst, src_table, src, len })
+                }
+                "fill" => {
+                    let (table, dst, ty, raw, len) = operand::five(operands)?;
+                    Ok(Call::FillTable {
+                        table,
+                        dst,
+                        value: TypedRawRef::new(raw, ty),
+                        len,
+                    })
+                }
+                _ => Ok(Call::DropItems(operand::one(operands)?)),
+            }
+        }
+
         /// `table T MIN X WIDTH T N`.
         ///
         /// # Contract
@@ -312,7 +276,7 @@ mod command {
         ///
         /// Definitions: [`Accepts`](crate::specs::operands::LineWords#Accepts), [`NamesAfter`](crate::specs::grammar::Commands#NamesAfter).
         #[inline]
-        pub fn new_table(operands: &[&str]) -> Result<Call, LineError> {
+        fn new_table(operands: &[&str]) -> Result<Call, LineError> {
             let &[element, min, max, width, init_ty, raw] = operands else {
                 return Err(LineError::BadCommand);
             };
@@ -321,121 +285,6 @@ mod command {
             Ok(Call::NewTable {
                 ty,
                 init: TypedRawRef::new(raw, init_ty),
-            })
-        }
-
-        /// `tgrow K DELTA T N`.
-        ///
-        /// # Contract
-        ///
-        /// ```text
-        /// ensures: Accepts result (NamesAfter (codes "tgrow") operands.now)
-        /// ```
-        ///
-        /// Definitions: [`Accepts`](crate::specs::operands::LineWords#Accepts), [`NamesAfter`](crate::specs::grammar::Commands#NamesAfter).
-        #[inline]
-        pub fn grow(operands: &[&str]) -> Result<Call, LineError> {
-            let (table, delta, ty, raw) = operand::four(operands)?;
-            Ok(Call::GrowTable {
-                table,
-                delta,
-                init: TypedRawRef::new(raw, ty),
-            })
-        }
-
-        /// `get K I`.
-        ///
-        /// # Contract
-        ///
-        /// ```text
-        /// ensures: Accepts result (NamesAfter (codes "get") operands.now)
-        /// ```
-        ///
-        /// Definitions: [`Accepts`](crate::specs::operands::LineWords#Accepts), [`NamesAfter`](crate::specs::grammar::Commands#NamesAfter).
-        #[inline]
-        pub fn get(operands: &[&str]) -> Result<Call, LineError> {
-            let (table, index) = operand::two(operands)?;
-            Ok(Call::GetElement { table, index })
-        }
-
-        /// `tset K I T N`.
-        ///
-        /// # Contract
-        ///
-        /// ```text
-        /// ensures: Accepts result (NamesAfter (codes "tset") operands.now)
-        /// ```
-        ///
-        /// Definitions: [`Accepts`](crate::specs::operands::LineWords#Accepts), [`NamesAfter`](crate::specs::grammar::Commands#NamesAfter).
-        #[inline]
-        pub fn set(operands: &[&str]) -> Result<Call, LineError> {
-            let (table, index, ty, raw) = operand::four(operands)?;
-            Ok(Call::SetElement {
-                table,
-                index,
-                value: TypedRawRef::new(raw, ty),
-            })
-        }
-
-        /// `init K SEGMENT DST SRC LEN`.
-        ///
-        /// # Contract
-        ///
-        /// ```text
-        /// ensures: Accepts result (NamesAfter (codes "init") operands.now)
-        /// ```
-        ///
-        /// Definitions: [`Accepts`](crate::specs::operands::LineWords#Accepts), [`NamesAfter`](crate::specs::grammar::Commands#NamesAfter).
-        #[inline]
-        pub fn init(operands: &[&str]) -> Result<Call, LineError> {
-            let (table, segment, dst, src, len) = operand::five(operands)?;
-            Ok(Call::InitTable {
-                table,
-                segment,
-                dst,
-                src,
-                len,
-            })
-        }
-
-        /// `copy K DST K SRC LEN`.
-        ///
-        /// # Contract
-        ///
-        /// ```text
-        /// ensures: Accepts result (NamesAfter (codes "copy") operands.now)
-        /// ```
-        ///
-        /// Definitions: [`Accepts`](crate::specs::operands::LineWords#Accepts), [`NamesAfter`](crate::specs::grammar::Commands#NamesAfter).
-        #[inline]
-        pub fn copy(operands: &[&str]) -> Result<Call, LineError> {
-            let (dst_table, dst, src_table, src, len) = operand::five(operands)?;
-            Ok(Call::CopyTable {
-                dst_table,
-                dst,
-                src_table,
-                src,
-                len,
-            })
-        }
-
-        /// `fill K DST T N LEN`.
-        ///
-        /// # Contract
-        ///
-        /// ```text
-        /// ensures: Accepts result (NamesAfter (codes "fill") operands.now)
-        /// ```
-        ///
-        /// Definitions: [`Accepts`](crate::specs::operands::LineWords#Accepts), [`NamesAfter`](crate::specs::grammar::Commands#NamesAfter).
-        #[inline]
-        pub fn fill(operands: &[&str]) -> Result<Call, LineError> {
-            let (table, dst, ty, raw, len) = operand::five(operands)?;
-            Ok(Call::FillTable {
-                table,
-                dst,
-                value: TypedRawRef::new(raw, ty),
-                len,
             })
         }
 
@@ -457,20 +306,6 @@ mod command {
                 ty: RefType::from_word(ty)?,
                 items: list_of(items)?,
             })
-        }
-
-        /// `empty K`.
-        ///
-        /// # Contract
-        ///
-        /// ```text
-        /// ensures: Accepts result (NamesAfter (codes "empty") operands.now)
-        /// ```
-        ///
-        /// Definitions: [`Accepts`](crate::specs::operands::LineWords#Accepts), [`NamesAfter`](crate::specs::grammar::Commands#NamesAfter).
-        #[inline]
-        pub fn empty(operands: &[&str]) -> Result<Call, LineError> {
-            Ok(Call::DropItems(operand::one(operands)?))
         }
 
         /// The table type of four words, if there is such a type.
@@ -538,118 +373,46 @@ mod command {
         use crate::proved::machine::{Call, GlobalType, RawVal, TypedRawVal};
         use crate::proved::operands::{LineError, operand};
 
-        /// `fuel N`.
+        /// The call of a command of the meter, of a global or of a register.
         ///
         /// # Contract
         ///
         /// ```text
-        /// ensures: Accepts result (NamesAfter (codes "fuel") operands.now)
+        /// requires word: IsValueWord name.now
+        /// ensures call: Accepts result (NamesAfter name.now operands.now)
         /// ```
         ///
-        /// Definitions: [`Accepts`](crate::specs::operands::LineWords#Accepts), [`NamesAfter`](crate::specs::grammar::Commands#NamesAfter).
+        /// Definitions: [`IsValueWord`](crate::specs::grammar::Commands#IsValueWord), [`Accepts`](crate::specs::operands::LineWords#Accepts), [`NamesAfter`](crate::specs::grammar::Commands#NamesAfter).
         #[inline]
-        pub fn set_fuel(operands: &[&str]) -> Result<Call, LineError> {
-            Ok(Call::SetFuel(operand::one(operands)?))
-        }
-
-        /// `left`.
-        ///
-        /// # Contract
-        ///
-        /// ```text
-        /// ensures: Accepts result (NamesAfter (codes "left") operands.now)
-        /// ```
-        ///
-        /// Definitions: [`Accepts`](crate::specs::operands::LineWords#Accepts), [`NamesAfter`](crate::specs::grammar::Commands#NamesAfter).
-        #[inline]
-        pub fn get_fuel(operands: &[&str]) -> Result<Call, LineError> {
-            if operands.is_empty() {
-                Ok(Call::GetFuel)
-            } else {
-                Err(LineError::BadCommand)
+        pub(crate) fn command(name: &str, operands: &[&str]) -> Result<Call, LineError> {
+            match name {
+                "fuel" => Ok(Call::SetFuel(operand::one(operands)?)),
+                "left" if operands.is_empty() => Ok(Call::GetFuel),
+                "left" => Err(LineError::BadCommand),
+                "global" => {
+                    let (content, mutability, lo, hi) = operand::four(operands)?;
+                    Ok(Call::NewGlobal {
+                        value: RawVal { lo, hi },
+                        ty: GlobalType::new(content, mutability),
+                    })
+                }
+                "gset" => {
+                    let (global, ty, lo, hi) = operand::four(operands)?;
+                    Ok(Call::SetGlobal {
+                        global,
+                        value: TypedRawVal::new(ty, RawVal { lo, hi }),
+                    })
+                }
+                "gget" => Ok(Call::GetGlobal(operand::one(operands)?)),
+                "set" => {
+                    let (dst, lo, hi) = operand::three(operands)?;
+                    Ok(Call::SetRegister {
+                        dst,
+                        value: RawVal { lo, hi },
+                    })
+                }
+                _ => Ok(Call::GetRegister(operand::one(operands)?)),
             }
-        }
-
-        /// `global V const|var LO HI`.
-        ///
-        /// # Contract
-        ///
-        /// ```text
-        /// ensures: Accepts result (NamesAfter (codes "global") operands.now)
-        /// ```
-        ///
-        /// Definitions: [`Accepts`](crate::specs::operands::LineWords#Accepts), [`NamesAfter`](crate::specs::grammar::Commands#NamesAfter).
-        #[inline]
-        pub fn new_global(operands: &[&str]) -> Result<Call, LineError> {
-            let (content, mutability, lo, hi) = operand::four(operands)?;
-            Ok(Call::NewGlobal {
-                value: RawVal { lo, hi },
-                ty: GlobalType::new(content, mutability),
-            })
-        }
-
-        /// `gset K V LO HI`.
-        ///
-        /// # Contract
-        ///
-        /// ```text
-        /// ensures: Accepts result (NamesAfter (codes "gset") operands.now)
-        /// ```
-        ///
-        /// Definitions: [`Accepts`](crate::specs::operands::LineWords#Accepts), [`NamesAfter`](crate::specs::grammar::Commands#NamesAfter).
-        #[inline]
-        pub fn set_global(operands: &[&str]) -> Result<Call, LineError> {
-            let (global, ty, lo, hi) = operand::four(operands)?;
-            Ok(Call::SetGlobal {
-                global,
-                value: TypedRawVal::new(ty, RawVal { lo, hi }),
-            })
-        }
-
-        /// `gget K`.
-        ///
-        /// # Contract
-        ///
-        /// ```text
-        /// ensures: Accepts result (NamesAfter (codes "gget") operands.now)
-        /// ```
-        ///
-        /// Definitions: [`Accepts`](crate::specs::operands::LineWords#Accepts), [`NamesAfter`](crate::specs::grammar::Commands#NamesAfter).
-        #[inline]
-        pub fn get_global(operands: &[&str]) -> Result<Call, LineError> {
-            Ok(Call::GetGlobal(operand::one(operands)?))
-        }
-
-        /// `set D LO HI`.
-        ///
-        /// # Contract
-        ///
-        /// ```text
-        /// ensures: Accepts result (NamesAfter (codes "set") operands.now)
-        /// ```
-        ///
-        /// Definitions: [`Accepts`](crate::specs::operands::LineWords#Accepts), [`NamesAfter`](crate::specs::grammar::Commands#NamesAfter).
-        #[inline]
-        pub fn set_register(operands: &[&str]) -> Result<Call, LineError> {
-            let (dst, lo, hi) = operand::three(operands)?;
-            Ok(Call::SetRegister {
-                dst,
-                value: RawVal { lo, hi },
-            })
-        }
-
-        /// `show A`.
-        ///
-        /// # Contract
-        ///
-        /// ```text
-        /// ensures: Accepts result (NamesAfter (codes "show") operands.now)
-        /// ```
-        ///
-        /// Definitions: [`Accepts`](crate::specs::operands::LineWords#Accepts), [`NamesAfter`](crate::specs::grammar::Commands#NamesAfter).
-        #[inline]
-        pub fn get_register(operands: &[&str]) -> Result<Call, LineError> {
-            Ok(Call::GetRegister(operand::one(operands)?))
         }
     }
     pub mod vector {
@@ -662,94 +425,29 @@ mod command {
         use crate::proved::operands::{LineError, number};
         use crate::rattle::ArrayExt;
 
-        /// `make NAME D A`.
+        /// The call of a command of a vector instruction.
         ///
         /// # Contract
         ///
         /// ```text
-        /// ensures: Accepts result (NamesAfter (codes "make") operands.now)
+        /// requires word: IsVectorWord name.now
+        /// ensures call: Accepts result (NamesAfter name.now operands.now)
         /// ```
         ///
-        /// Definitions: [`Accepts`](crate::specs::operands::LineWords#Accepts), [`NamesAfter`](crate::specs::grammar::Commands#NamesAfter).
+        /// Definitions: [`IsVectorWord`](crate::specs::grammar::Commands#IsVectorWord), [`Accepts`](crate::specs::operands::LineWords#Accepts), [`NamesAfter`](crate::specs::grammar::Commands#NamesAfter).
         #[inline]
-        pub fn make(operands: &[&str]) -> Result<Call, LineError> {
-            let (op, dst, a) = operand::three(operands)?;
-            Ok(Call::Make { op, dst, a })
-        }
-
-        /// `unary NAME D A`.
-        ///
-        /// # Contract
-        ///
-        /// ```text
-        /// ensures: Accepts result (NamesAfter (codes "unary") operands.now)
-        /// ```
-        ///
-        /// Definitions: [`Accepts`](crate::specs::operands::LineWords#Accepts), [`NamesAfter`](crate::specs::grammar::Commands#NamesAfter).
-        #[inline]
-        pub fn unary(operands: &[&str]) -> Result<Call, LineError> {
-            let (op, dst, a) = operand::three(operands)?;
-            Ok(Call::Unary { op, dst, a })
-        }
-
-        /// `binary NAME D A B`.
-        ///
-        /// # Contract
-        ///
-        /// ```text
-        /// ensures: Accepts result (NamesAfter (codes "binary") operands.now)
-        /// ```
-        ///
-        /// Definitions: [`Accepts`](crate::specs::operands::LineWords#Accepts), [`NamesAfter`](crate::specs::grammar::Commands#NamesAfter).
-        #[inline]
-        pub fn binary(operands: &[&str]) -> Result<Call, LineError> {
-            let (op, dst, a, b) = operand::four(operands)?;
-            Ok(Call::Binary { op, dst, a, b })
-        }
-
-        /// `ternary NAME D A B C`.
-        ///
-        /// # Contract
-        ///
-        /// ```text
-        /// ensures: Accepts result (NamesAfter (codes "ternary") operands.now)
-        /// ```
-        ///
-        /// Definitions: [`Accepts`](crate::specs::operands::LineWords#Accepts), [`NamesAfter`](crate::specs::grammar::Commands#NamesAfter).
-        #[inline]
-        pub fn ternary(operands: &[&str]) -> Result<Call, LineError> {
-            let (op, dst, a, b, c) = operand::five(operands)?;
-            Ok(Call::Ternary { op, dst, a, b, c })
-        }
-
-        /// `shift NAME D A N`.
-        ///
-        /// # Contract
-        ///
-        /// ```text
-        /// ensures: Accepts result (NamesAfter (codes "shift") operands.now)
-        /// ```
-        ///
-        /// Definitions: [`Accepts`](crate::specs::operands::LineWords#Accepts), [`NamesAfter`](crate::specs::grammar::Commands#NamesAfter).
-        #[inline]
-        pub fn shift(operands: &[&str]) -> Result<Call, LineError> {
-            let (op, dst, a, amount) = operand::four(operands)?;
-            Ok(Call::Shift { op, dst, a, amount })
-        }
-
-        /// `test NAME A`.
-        ///
-        /// # Contract
-        ///
-        /// ```text
-        /// ensures: Accepts result (NamesAfter (codes "test") operands.now)
-        /// ```
-        ///
-        /// Definitions: [`Accepts`](crate::specs::operands::LineWords#Accepts), [`NamesAfter`](crate::specs::grammar::Commands#NamesAfter).
-        #[inline]
-        pub fn test(operands: &[&str]) -> Result<Call, LineError> {
-            let (op, a) = operand::two(operands)?;
-            Ok(Call::Test { op, a })
+        pub(crate) fn command(name: &str, operands: &[&str]) -> Result<Call, LineError> {
+            match name {
+                "make" => call!(operands, three => Make { op, dst, a }),
+                "unary" => call!(operands, three => Unary { op, dst, a }),
+                "binary" => call!(operands, four => Binary { op, dst, a, b }),
+                "ternary" => call!(operands, five => Ternary { op, dst, a, b, c }),
+                "shift" => call!(operands, four => Shift { op, dst, a, amount }),
+                "test" => call!(operands, two => Test { op, a }),
+                "extract" => extract(operands),
+                "replace" => replace(operands),
+                _ => shuffle(operands),
+            }
         }
 
         /// `extract NAME A LANE`.
@@ -762,7 +460,7 @@ mod command {
         ///
         /// Definitions: [`Accepts`](crate::specs::operands::LineWords#Accepts), [`NamesAfter`](crate::specs::grammar::Commands#NamesAfter).
         #[inline]
-        pub fn extract(operands: &[&str]) -> Result<Call, LineError> {
+        fn extract(operands: &[&str]) -> Result<Call, LineError> {
             let &[name, a, lane] = operands else {
                 return Err(LineError::BadCommand);
             };
@@ -782,7 +480,7 @@ mod command {
         ///
         /// Definitions: [`Accepts`](crate::specs::operands::LineWords#Accepts), [`NamesAfter`](crate::specs::grammar::Commands#NamesAfter).
         #[inline]
-        pub fn replace(operands: &[&str]) -> Result<Call, LineError> {
+        fn replace(operands: &[&str]) -> Result<Call, LineError> {
             let &[name, dst, a, lane, item] = operands else {
                 return Err(LineError::BadCommand);
             };
@@ -802,7 +500,7 @@ mod command {
         ///
         /// Definitions: [`Accepts`](crate::specs::operands::LineWords#Accepts), [`NamesAfter`](crate::specs::grammar::Commands#NamesAfter).
         #[inline]
-        pub fn shuffle(operands: &[&str]) -> Result<Call, LineError> {
+        fn shuffle(operands: &[&str]) -> Result<Call, LineError> {
             let [dst, a, b, lanes @ ..] = operands else {
                 return Err(LineError::BadCommand);
             };
@@ -1467,59 +1165,18 @@ mod script {
         match name {
             "write" => memory::write(operands),
             "segment" => table::new_segment(operands),
-            _ => command_in_place(name, operands),
-        }
-    }
-
-    /// The call of a command that takes no memory to read.
-    ///
-    /// # Contract
-    ///
-    /// ```text
-    /// requires no_bytes: name.now ≢ codes "write"
-    /// requires no_items: name.now ≢ codes "segment"
-    /// ensures call: Accepts result (NamesAfter name.now operands.now)
-    /// ```
-    ///
-    /// Definitions: [`Accepts`](crate::specs::operands::LineWords#Accepts), [`NamesAfter`](crate::specs::grammar::Commands#NamesAfter).
-    #[inline]
-    fn command_in_place(name: &str, operands: &[&str]) -> Result<Call, LineError> {
-        match name {
-            "fuel" => values::set_fuel(operands),
-            "left" => values::get_fuel(operands),
-            "memory" => memory::new_memory(operands),
-            "lent" => memory::new_lent_memory(operands),
-            "grow" => memory::grow(operands),
-            "drop" => memory::drop_live(operands),
-            "read" => memory::read(operands),
-            "load" => access::load(operands),
-            "store" => access::store(operands),
-            "table" => table::new_table(operands),
-            "tgrow" => table::grow(operands),
-            "get" => table::get(operands),
-            "tset" => table::set(operands),
-            "init" => table::init(operands),
-            "copy" => table::copy(operands),
-            "fill" => table::fill(operands),
-            "empty" => table::empty(operands),
-            "global" => values::new_global(operands),
-            "gset" => values::set_global(operands),
-            "gget" => values::get_global(operands),
-            "set" => values::set_register(operands),
-            "show" => values::get_register(operands),
-            "make" => vector::make(operands),
-            "unary" => vector::unary(operands),
-            "binary" => vector::binary(operands),
-            "ternary" => vector::ternary(operands),
-            "shift" => vector::shift(operands),
-            "test" => vector::test(operands),
-            "extract" => vector::extract(operands),
-            "replace" => vector::replace(operands),
-            "shuffle" => vector::shuffle(operands),
-            "vload" => access::vector_load(operands),
-            "vloadlane" => access::load_lane(operands),
-            "vstore" => access::vector_store(operands),
-            "vstorelane" => access::store_lane(operands),
+            "fuel" | "left" | "global" | "gset" | "gget" | "set" | "show" => {
+                values::command(name, operands)
+            }
+            "memory" | "lent" | "grow" | "drop" | "read" => memory::command(name, operands),
+            "load" | "store" | "vload" | "vloadlane" | "vstore" | "vstorelane" => {
+                access::command(name, operands)
+            }
+            "table" | "tgrow" | "get" | "tset" | "init" | "copy" | "fill" | "empty" => {
+                table::command(name, operands)
+            }
+            "make" | "unary" | "binary" | "ternary" | "shift" | "test" | "extract" | "replace"
+            | "shuffle" => vector::command(name, operands),
             _ => Err(LineError::BadCommand),
         }
     }

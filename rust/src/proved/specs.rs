@@ -5836,7 +5836,7 @@ pub record <b id="WritesLanes">WritesLanes</b> (words : <a href="../../operands/
 pub mod grammar {
     #[doc = r####"What the words of a command mean, and those of a memory type or a table type.
 
-<pre><code>use Rattle.std.specs.Prelude.{◌≡◌, ℕ, List, Option, ◌≤◌, length, codes, drop}
+<pre><code>use Rattle.std.specs.Prelude.{◌≡◌, ◌⊎◌, ℕ, List, Option, ◌≤◌, length, codes, drop}
 use Rattle.wasmi_types.specs.declared.index_ty.IndexType.{IndexType}
 use Rattle.wasmi_operands.specs.LineWords.{<a href="../../operands/LineWords/index.html#WritesNumber">WritesNumber</a>, <a href="../../operands/LineWords/index.html#WritesLimit">WritesLimit</a>, <a href="../../operands/LineWords/index.html#LineWords">LineWords</a>, <a href="../../operands/LineWords/index.html#WritesEach">WritesEach</a>, <a href="../../operands/LineWords/index.html#word_at">word_at</a>}
 use Rattle.wasmi_operands.specs.Names.{<a href="../../operands/Names/index.html#width_word">width_word</a>, <a href="../../operands/Names/index.html#reference_word">reference_word</a>, <a href="../../operands/Names/index.html#value_word">value_word</a>, <a href="../../operands/Names/index.html#mutability_word">mutability_word</a>, <a href="../../operands/Names/index.html#WritesReference">WritesReference</a>, <a href="../../operands/Names/index.html#IsName">IsName</a>, <a href="../../operands/Names/index.html#NamesLane">NamesLane</a>, <a href="../../operands/Names/index.html#WritesLanes">WritesLanes</a>}
@@ -6033,6 +6033,27 @@ abbrev pub <b id="WritesOperands">WritesOperands</b> : <a href="../../operands/L
 -- the word that a command begins with, and the words after it, name this call
 abbrev pub <b id="NamesAfter">NamesAfter</b> : List ℕ → <a href="../../operands/LineWords/index.html#LineWords">LineWords</a> → Call → Type 0
 <a href="../../grammar/Commands/index.html#NamesAfter">NamesAfter</a> name operands call = (<a href="../../grammar/Commands/index.html#command_word">command_word</a> call ≡ name) × <a href="../../grammar/Commands/index.html#WritesOperands">WritesOperands</a> operands call
+
+-- a word that a command of the meter, of a global or of a register begins with
+abbrev pub <b id="IsValueWord">IsValueWord</b> : List ℕ → Type 0
+<a href="../../grammar/Commands/index.html#IsValueWord">IsValueWord</a> name = (name ≡ codes "fuel") ⊎ (name ≡ codes "left") ⊎ (name ≡ codes "global") ⊎ (name ≡ codes "gset")
+    ⊎ (name ≡ codes "gget") ⊎ (name ≡ codes "set") ⊎ (name ≡ codes "show")
+
+-- a word that a command of a memory begins with, or one that drops a memory or a table
+abbrev pub <b id="IsMemoryWord">IsMemoryWord</b> : List ℕ → Type 0
+<a href="../../grammar/Commands/index.html#IsMemoryWord">IsMemoryWord</a> name = (name ≡ codes "memory") ⊎ (name ≡ codes "lent") ⊎ (name ≡ codes "grow") ⊎ (name ≡ codes "drop") ⊎ (name ≡ codes "read")
+
+-- a word that a command begins with which loads or stores
+abbrev pub <b id="IsAccessWord">IsAccessWord</b> : List ℕ → Type 0
+<a href="../../grammar/Commands/index.html#IsAccessWord">IsAccessWord</a> name = (name ≡ codes "load") ⊎ (name ≡ codes "store") ⊎ (name ≡ codes "vload") ⊎ (name ≡ codes "vloadlane") ⊎ (name ≡ codes "vstore") ⊎ (name ≡ codes "vstorelane")
+
+-- a word that a command of a table begins with, or one that empties a segment
+abbrev pub <b id="IsTableWord">IsTableWord</b> : List ℕ → Type 0
+<a href="../../grammar/Commands/index.html#IsTableWord">IsTableWord</a> name = (name ≡ codes "table") ⊎ (name ≡ codes "tgrow") ⊎ (name ≡ codes "get") ⊎ (name ≡ codes "tset") ⊎ (name ≡ codes "init") ⊎ (name ≡ codes "copy") ⊎ (name ≡ codes "fill") ⊎ (name ≡ codes "empty")
+
+-- a word that a command of a vector instruction begins with
+abbrev pub <b id="IsVectorWord">IsVectorWord</b> : List ℕ → Type 0
+<a href="../../grammar/Commands/index.html#IsVectorWord">IsVectorWord</a> name = (name ≡ codes "make") ⊎ (name ≡ codes "unary") ⊎ (name ≡ codes "binary") ⊎ (name ≡ codes "ternary") ⊎ (name ≡ codes "shift") ⊎ (name ≡ codes "test") ⊎ (name ≡ codes "extract") ⊎ (name ≡ codes "replace") ⊎ (name ≡ codes "shuffle")
 </code></pre>
 "####]
     pub mod Commands {}

@@ -2,55 +2,38 @@
 
 ghost use Rattle.std.specs.Prelude.{codes};
 ghost use Rattle.wasmi_operands.specs.LineWords.{Accepts};
-ghost use Rattle.wasmi_grammar.specs.Commands.{NamesAfter};
+ghost use Rattle.wasmi_grammar.specs.Commands.{NamesAfter, IsAccessWord};
 
 use wasmi_core::{Call, RawVal};
 use wasmi_operands::lane::{load_lane_op, store_lane_op};
 use wasmi_operands::{LineError, operand};
 
-/// `load NAME K PTR OFFSET`.
-pub fn load(operands: &[&str]) -> Result<Call, LineError>
-    ensures { Accepts result (NamesAfter (codes "load") operands.now) }
+/// The call of a command that loads or stores.
+pub(crate) fn command(name: &str, operands: &[&str]) -> Result<Call, LineError>
+    requires word { IsAccessWord name.now }
+    ensures call { Accepts result (NamesAfter name.now operands.now) }
 {
-    let (op, memory, ptr, offset) = operand::four(operands)?;
-    Ok(Call::Load {
-        op,
-        memory,
-        ptr,
-        offset,
-    })
-}
-
-/// `store NAME K PTR OFFSET LO`.
-pub fn store(operands: &[&str]) -> Result<Call, LineError>
-    ensures { Accepts result (NamesAfter (codes "store") operands.now) }
-{
-    let (op, memory, ptr, offset, lo) = operand::five(operands)?;
-    Ok(Call::Store {
-        op,
-        memory,
-        ptr,
-        offset,
-        value: RawVal::from_bits64(lo),
-    })
-}
-
-/// `vload NAME D K PTR OFFSET`.
-pub fn vector_load(operands: &[&str]) -> Result<Call, LineError>
-    ensures { Accepts result (NamesAfter (codes "vload") operands.now) }
-{
-    let (op, dst, memory, ptr, offset) = operand::five(operands)?;
-    Ok(Call::VectorLoad {
-        op,
-        dst,
-        memory,
-        ptr,
-        offset,
-    })
+    match name {
+        "load" => call!(operands, four => Load { op, memory, ptr, offset }),
+        "store" => {
+            let (op, memory, ptr, offset, lo) = operand::five(operands)?;
+            Ok(Call::Store {
+                op,
+                memory,
+                ptr,
+                offset,
+                value: RawVal::from_bits64(lo),
+            })
+        }
+        "vload" => call!(operands, five => VectorLoad { op, dst, memory, ptr, offset }),
+        "vloadlane" => load_lane(operands),
+        "vstore" => call!(operands, four => VectorStore { a, memory, ptr, offset }),
+        _ => store_lane(operands),
+    }
 }
 
 /// `vloadlane NAME D A LANE K PTR OFFSET`.
-pub fn load_lane(operands: &[&str]) -> Result<Call, LineError>
+fn load_lane(operands: &[&str]) -> Result<Call, LineError>
     ensures { Accepts result (NamesAfter (codes "vloadlane") operands.now) }
 {
     let &[name, dst, a, lane, memory, ptr, offset] = operands else {
@@ -68,21 +51,8 @@ pub fn load_lane(operands: &[&str]) -> Result<Call, LineError>
     })
 }
 
-/// `vstore A K PTR OFFSET`.
-pub fn vector_store(operands: &[&str]) -> Result<Call, LineError>
-    ensures { Accepts result (NamesAfter (codes "vstore") operands.now) }
-{
-    let (a, memory, ptr, offset) = operand::four(operands)?;
-    Ok(Call::VectorStore {
-        a,
-        memory,
-        ptr,
-        offset,
-    })
-}
-
 /// `vstorelane NAME A LANE K PTR OFFSET`.
-pub fn store_lane(operands: &[&str]) -> Result<Call, LineError>
+fn store_lane(operands: &[&str]) -> Result<Call, LineError>
     ensures { Accepts result (NamesAfter (codes "vstorelane") operands.now) }
 {
     let &[name, a, lane, memory, ptr, offset] = operands else {

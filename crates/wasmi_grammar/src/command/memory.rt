@@ -2,45 +2,25 @@
 
 ghost use Rattle.std.specs.Prelude.{◌≡◌, codes, length};
 ghost use Rattle.wasmi_operands.specs.LineWords.{Accepts, AcceptsWithMemory, word_at};
-ghost use Rattle.wasmi_grammar.specs.Commands.{NamesAfter, HasSettings, NamesType};
+ghost use Rattle.wasmi_grammar.specs.Commands.{NamesAfter, HasSettings, IsMemoryWord, NamesType};
 
 use std::alloc::Global;
 use wasmi_core::{Call, IndexType, MemoryType};
 use wasmi_operands::operand::{self, list_of};
 use wasmi_operands::{LineError, number};
 
-/// `memory MIN MAX LOG2 WIDTH`.
-pub fn new_memory(operands: &[&str]) -> Result<Call, LineError>
-    ensures { Accepts result (NamesAfter (codes "memory") operands.now) }
+/// The call of a command of a memory, or of one that drops a memory or a table.
+pub(crate) fn command(name: &str, operands: &[&str]) -> Result<Call, LineError>
+    requires word { IsMemoryWord name.now }
+    ensures call { Accepts result (NamesAfter name.now operands.now) }
 {
-    Ok(Call::NewMemory(memory_type(operands)?))
-}
-
-/// `lent MIN MAX LOG2 WIDTH`.
-pub fn new_lent_memory(operands: &[&str]) -> Result<Call, LineError>
-    ensures { Accepts result (NamesAfter (codes "lent") operands.now) }
-{
-    Ok(Call::NewLentMemory(memory_type(operands)?))
-}
-
-/// `grow K PAGES`.
-pub fn grow(operands: &[&str]) -> Result<Call, LineError>
-    ensures { Accepts result (NamesAfter (codes "grow") operands.now) }
-{
-    let (memory, pages) = operand::two(operands)?;
-    Ok(Call::GrowMemory { memory, pages })
-}
-
-/// `read K OFFSET LEN`.
-pub fn read(operands: &[&str]) -> Result<Call, LineError>
-    ensures { Accepts result (NamesAfter (codes "read") operands.now) }
-{
-    let (memory, offset, len) = operand::three(operands)?;
-    Ok(Call::Read {
-        memory,
-        offset,
-        len,
-    })
+    match name {
+        "memory" => Ok(Call::NewMemory(memory_type(operands)?)),
+        "lent" => Ok(Call::NewLentMemory(memory_type(operands)?)),
+        "grow" => call!(operands, two => GrowMemory { memory, pages }),
+        "read" => call!(operands, three => Read { memory, offset, len }),
+        _ => drop_live(operands),
+    }
 }
 
 /// `write K OFFSET BYTE ...`, which may have no byte.
@@ -58,7 +38,7 @@ pub fn write(alloc: Global, operands: &[&str]) -> Result<Call, LineError>
 }
 
 /// `drop memory K` and `drop table K`.
-pub fn drop_live(operands: &[&str]) -> Result<Call, LineError>
+fn drop_live(operands: &[&str]) -> Result<Call, LineError>
     ensures { Accepts result (NamesAfter (codes "drop") operands.now) }
 {
     let [kind, index] = operands else {

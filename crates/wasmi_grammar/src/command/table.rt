@@ -3,15 +3,54 @@
 ghost use Rattle.std.specs.Prelude.{◌≡◌, ◌<◌, ◌^◌, codes, length, IfErr};
 ghost use Rattle.std.specs.Result.{OkIff};
 ghost use Rattle.wasmi_operands.specs.LineWords.{Accepts, AcceptsWithMemory, word_at};
-ghost use Rattle.wasmi_grammar.specs.Commands.{NamesAfter, HasLimits, NamesTableType};
+ghost use Rattle.wasmi_grammar.specs.Commands.{NamesAfter, HasLimits, IsTableWord, NamesTableType};
 
 use std::alloc::Global;
 use wasmi_core::{Call, IndexType, RefType, TableType, TypedRawRef};
 use wasmi_operands::LineError;
 use wasmi_operands::operand::{self, Operand, list_of};
 
+/// The call of a command of a table, or of one that empties a segment.
+pub(crate) fn command(name: &str, operands: &[&str]) -> Result<Call, LineError>
+    requires word { IsTableWord name.now }
+    ensures call { Accepts result (NamesAfter name.now operands.now) }
+{
+    match name {
+        "table" => new_table(operands),
+        "tgrow" => {
+            let (table, delta, ty, raw) = operand::four(operands)?;
+            Ok(Call::GrowTable {
+                table,
+                delta,
+                init: TypedRawRef::new(raw, ty),
+            })
+        }
+        "get" => call!(operands, two => GetElement { table, index }),
+        "tset" => {
+            let (table, index, ty, raw) = operand::four(operands)?;
+            Ok(Call::SetElement {
+                table,
+                index,
+                value: TypedRawRef::new(raw, ty),
+            })
+        }
+        "init" => call!(operands, five => InitTable { table, segment, dst, src, len }),
+        "copy" => call!(operands, five => CopyTable { dst_table, dst, src_table, src, len }),
+        "fill" => {
+            let (table, dst, ty, raw, len) = operand::five(operands)?;
+            Ok(Call::FillTable {
+                table,
+                dst,
+                value: TypedRawRef::new(raw, ty),
+                len,
+            })
+        }
+        _ => Ok(Call::DropItems(operand::one(operands)?)),
+    }
+}
+
 /// `table T MIN X WIDTH T N`.
-pub fn new_table(operands: &[&str]) -> Result<Call, LineError>
+fn new_table(operands: &[&str]) -> Result<Call, LineError>
     ensures { Accepts result (NamesAfter (codes "table") operands.now) }
 {
     let &[element, min, max, width, init_ty, raw] = operands else {
@@ -22,79 +61,6 @@ pub fn new_table(operands: &[&str]) -> Result<Call, LineError>
     Ok(Call::NewTable {
         ty,
         init: TypedRawRef::new(raw, init_ty),
-    })
-}
-
-/// `tgrow K DELTA T N`.
-pub fn grow(operands: &[&str]) -> Result<Call, LineError>
-    ensures { Accepts result (NamesAfter (codes "tgrow") operands.now) }
-{
-    let (table, delta, ty, raw) = operand::four(operands)?;
-    Ok(Call::GrowTable {
-        table,
-        delta,
-        init: TypedRawRef::new(raw, ty),
-    })
-}
-
-/// `get K I`.
-pub fn get(operands: &[&str]) -> Result<Call, LineError>
-    ensures { Accepts result (NamesAfter (codes "get") operands.now) }
-{
-    let (table, index) = operand::two(operands)?;
-    Ok(Call::GetElement { table, index })
-}
-
-/// `tset K I T N`.
-pub fn set(operands: &[&str]) -> Result<Call, LineError>
-    ensures { Accepts result (NamesAfter (codes "tset") operands.now) }
-{
-    let (table, index, ty, raw) = operand::four(operands)?;
-    Ok(Call::SetElement {
-        table,
-        index,
-        value: TypedRawRef::new(raw, ty),
-    })
-}
-
-/// `init K SEGMENT DST SRC LEN`.
-pub fn init(operands: &[&str]) -> Result<Call, LineError>
-    ensures { Accepts result (NamesAfter (codes "init") operands.now) }
-{
-    let (table, segment, dst, src, len) = operand::five(operands)?;
-    Ok(Call::InitTable {
-        table,
-        segment,
-        dst,
-        src,
-        len,
-    })
-}
-
-/// `copy K DST K SRC LEN`.
-pub fn copy(operands: &[&str]) -> Result<Call, LineError>
-    ensures { Accepts result (NamesAfter (codes "copy") operands.now) }
-{
-    let (dst_table, dst, src_table, src, len) = operand::five(operands)?;
-    Ok(Call::CopyTable {
-        dst_table,
-        dst,
-        src_table,
-        src,
-        len,
-    })
-}
-
-/// `fill K DST T N LEN`.
-pub fn fill(operands: &[&str]) -> Result<Call, LineError>
-    ensures { Accepts result (NamesAfter (codes "fill") operands.now) }
-{
-    let (table, dst, ty, raw, len) = operand::five(operands)?;
-    Ok(Call::FillTable {
-        table,
-        dst,
-        value: TypedRawRef::new(raw, ty),
-        len,
     })
 }
 
@@ -109,13 +75,6 @@ pub fn new_segment(alloc: Global, operands: &[&str]) -> Result<Call, LineError>
         ty: RefType::from_word(ty)?,
         items: list_of(alloc, items)?,
     })
-}
-
-/// `empty K`.
-pub fn empty(operands: &[&str]) -> Result<Call, LineError>
-    ensures { Accepts result (NamesAfter (codes "empty") operands.now) }
-{
-    Ok(Call::DropItems(operand::one(operands)?))
 }
 
 /// The table type of four words, if there is such a type.

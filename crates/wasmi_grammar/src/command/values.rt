@@ -1,73 +1,42 @@
 //! Commands of the meter, of globals and of registers.
 
-ghost use Rattle.std.specs.Prelude.{codes};
 ghost use Rattle.wasmi_operands.specs.LineWords.{Accepts};
-ghost use Rattle.wasmi_grammar.specs.Commands.{NamesAfter};
+ghost use Rattle.wasmi_grammar.specs.Commands.{NamesAfter, IsValueWord};
 
 use wasmi_core::{Call, GlobalType, RawVal, TypedRawVal};
 use wasmi_operands::{LineError, operand};
 
-/// `fuel N`.
-pub fn set_fuel(operands: &[&str]) -> Result<Call, LineError>
-    ensures { Accepts result (NamesAfter (codes "fuel") operands.now) }
+/// The call of a command of the meter, of a global or of a register.
+pub(crate) fn command(name: &str, operands: &[&str]) -> Result<Call, LineError>
+    requires word { IsValueWord name.now }
+    ensures call { Accepts result (NamesAfter name.now operands.now) }
 {
-    Ok(Call::SetFuel(operand::one(operands)?))
-}
-
-/// `left`.
-pub fn get_fuel(operands: &[&str]) -> Result<Call, LineError>
-    ensures { Accepts result (NamesAfter (codes "left") operands.now) }
-{
-    if operands.is_empty() {
-        Ok(Call::GetFuel)
-    } else {
-        Err(LineError::BadCommand)
+    match name {
+        "fuel" => Ok(Call::SetFuel(operand::one(operands)?)),
+        "left" if operands.is_empty() => Ok(Call::GetFuel),
+        "left" => Err(LineError::BadCommand),
+        "global" => {
+            let (content, mutability, lo, hi) = operand::four(operands)?;
+            Ok(Call::NewGlobal {
+                value: RawVal { lo, hi },
+                ty: GlobalType::new(content, mutability),
+            })
+        }
+        "gset" => {
+            let (global, ty, lo, hi) = operand::four(operands)?;
+            Ok(Call::SetGlobal {
+                global,
+                value: TypedRawVal::new(ty, RawVal { lo, hi }),
+            })
+        }
+        "gget" => Ok(Call::GetGlobal(operand::one(operands)?)),
+        "set" => {
+            let (dst, lo, hi) = operand::three(operands)?;
+            Ok(Call::SetRegister {
+                dst,
+                value: RawVal { lo, hi },
+            })
+        }
+        _ => Ok(Call::GetRegister(operand::one(operands)?)),
     }
-}
-
-/// `global V const|var LO HI`.
-pub fn new_global(operands: &[&str]) -> Result<Call, LineError>
-    ensures { Accepts result (NamesAfter (codes "global") operands.now) }
-{
-    let (content, mutability, lo, hi) = operand::four(operands)?;
-    Ok(Call::NewGlobal {
-        value: RawVal { lo, hi },
-        ty: GlobalType::new(content, mutability),
-    })
-}
-
-/// `gset K V LO HI`.
-pub fn set_global(operands: &[&str]) -> Result<Call, LineError>
-    ensures { Accepts result (NamesAfter (codes "gset") operands.now) }
-{
-    let (global, ty, lo, hi) = operand::four(operands)?;
-    Ok(Call::SetGlobal {
-        global,
-        value: TypedRawVal::new(ty, RawVal { lo, hi }),
-    })
-}
-
-/// `gget K`.
-pub fn get_global(operands: &[&str]) -> Result<Call, LineError>
-    ensures { Accepts result (NamesAfter (codes "gget") operands.now) }
-{
-    Ok(Call::GetGlobal(operand::one(operands)?))
-}
-
-/// `set D LO HI`.
-pub fn set_register(operands: &[&str]) -> Result<Call, LineError>
-    ensures { Accepts result (NamesAfter (codes "set") operands.now) }
-{
-    let (dst, lo, hi) = operand::three(operands)?;
-    Ok(Call::SetRegister {
-        dst,
-        value: RawVal { lo, hi },
-    })
-}
-
-/// `show A`.
-pub fn get_register(operands: &[&str]) -> Result<Call, LineError>
-    ensures { Accepts result (NamesAfter (codes "show") operands.now) }
-{
-    Ok(Call::GetRegister(operand::one(operands)?))
 }

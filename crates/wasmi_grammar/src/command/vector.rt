@@ -2,7 +2,7 @@
 
 ghost use Rattle.std.specs.Prelude.{codes};
 ghost use Rattle.wasmi_operands.specs.LineWords.{Accepts};
-ghost use Rattle.wasmi_grammar.specs.Commands.{NamesAfter};
+ghost use Rattle.wasmi_grammar.specs.Commands.{NamesAfter, IsVectorWord};
 ghost use Rattle.wasmi_operands.specs.Names.{WritesLanes};
 
 use wasmi_core::Call;
@@ -11,56 +11,26 @@ use wasmi_operands::lane::{extract_op, replace_op};
 use wasmi_operands::operand::{self, Operand};
 use wasmi_operands::{LineError, number};
 
-/// `make NAME D A`.
-pub fn make(operands: &[&str]) -> Result<Call, LineError>
-    ensures { Accepts result (NamesAfter (codes "make") operands.now) }
+/// The call of a command of a vector instruction.
+pub(crate) fn command(name: &str, operands: &[&str]) -> Result<Call, LineError>
+    requires word { IsVectorWord name.now }
+    ensures call { Accepts result (NamesAfter name.now operands.now) }
 {
-    let (op, dst, a) = operand::three(operands)?;
-    Ok(Call::Make { op, dst, a })
-}
-
-/// `unary NAME D A`.
-pub fn unary(operands: &[&str]) -> Result<Call, LineError>
-    ensures { Accepts result (NamesAfter (codes "unary") operands.now) }
-{
-    let (op, dst, a) = operand::three(operands)?;
-    Ok(Call::Unary { op, dst, a })
-}
-
-/// `binary NAME D A B`.
-pub fn binary(operands: &[&str]) -> Result<Call, LineError>
-    ensures { Accepts result (NamesAfter (codes "binary") operands.now) }
-{
-    let (op, dst, a, b) = operand::four(operands)?;
-    Ok(Call::Binary { op, dst, a, b })
-}
-
-/// `ternary NAME D A B C`.
-pub fn ternary(operands: &[&str]) -> Result<Call, LineError>
-    ensures { Accepts result (NamesAfter (codes "ternary") operands.now) }
-{
-    let (op, dst, a, b, c) = operand::five(operands)?;
-    Ok(Call::Ternary { op, dst, a, b, c })
-}
-
-/// `shift NAME D A N`.
-pub fn shift(operands: &[&str]) -> Result<Call, LineError>
-    ensures { Accepts result (NamesAfter (codes "shift") operands.now) }
-{
-    let (op, dst, a, amount) = operand::four(operands)?;
-    Ok(Call::Shift { op, dst, a, amount })
-}
-
-/// `test NAME A`.
-pub fn test(operands: &[&str]) -> Result<Call, LineError>
-    ensures { Accepts result (NamesAfter (codes "test") operands.now) }
-{
-    let (op, a) = operand::two(operands)?;
-    Ok(Call::Test { op, a })
+    match name {
+        "make" => call!(operands, three => Make { op, dst, a }),
+        "unary" => call!(operands, three => Unary { op, dst, a }),
+        "binary" => call!(operands, four => Binary { op, dst, a, b }),
+        "ternary" => call!(operands, five => Ternary { op, dst, a, b, c }),
+        "shift" => call!(operands, four => Shift { op, dst, a, amount }),
+        "test" => call!(operands, two => Test { op, a }),
+        "extract" => extract(operands),
+        "replace" => replace(operands),
+        _ => shuffle(operands),
+    }
 }
 
 /// `extract NAME A LANE`.
-pub fn extract(operands: &[&str]) -> Result<Call, LineError>
+fn extract(operands: &[&str]) -> Result<Call, LineError>
     ensures { Accepts result (NamesAfter (codes "extract") operands.now) }
 {
     let &[name, a, lane] = operands else {
@@ -73,7 +43,7 @@ pub fn extract(operands: &[&str]) -> Result<Call, LineError>
 }
 
 /// `replace NAME D A LANE B`.
-pub fn replace(operands: &[&str]) -> Result<Call, LineError>
+fn replace(operands: &[&str]) -> Result<Call, LineError>
     ensures { Accepts result (NamesAfter (codes "replace") operands.now) }
 {
     let &[name, dst, a, lane, item] = operands else {
@@ -86,7 +56,7 @@ pub fn replace(operands: &[&str]) -> Result<Call, LineError>
 }
 
 /// `shuffle D A B LANE ...`, with sixteen lanes.
-pub fn shuffle(operands: &[&str]) -> Result<Call, LineError>
+fn shuffle(operands: &[&str]) -> Result<Call, LineError>
     ensures { Accepts result (NamesAfter (codes "shuffle") operands.now) }
 {
     let [dst, a, b, lanes @ ..] = operands else {
