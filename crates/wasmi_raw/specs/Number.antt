@@ -19,3 +19,11 @@ pub record AreNumbers {Value : Type 0} (is_signed : Bool) (width : Width) (numbe
     (of_number : ℤ → Value) : Type 0 where
   pub of_its_number : (value : Value) → of_number (number value) ≡ value
   pub of_its_value : (z : ℤ) → IsInRange is_signed width z → number (of_number z) ≡ z
+
+-- an integer type: its sign, its width, and the numbers of its values
+pub record NumberType (Value : Type 0) : Type 0 where
+  pub is_signed : Bool
+  pub width : Width
+  pub number : Value → ℤ
+  pub of_number : ℤ → Value
+  pub laws : AreNumbers is_signed width number of_number

@@ -1,32 +1,55 @@
 //! The integer types, as contracts see them.
 
-ghost use Rattle.std.specs.Prelude.{ℤ, Bool, true, false, pos, unsigned_abs};
+ghost use Rattle.std.specs.Prelude.{ℤ, Bool};
 ghost use Rattle.std.specs.Int.{Width, w8, w16, w32, w64, w128};
-ghost use Rattle.wasmi_raw.specs.Number.{AreNumbers};
-ghost use Rattle.wasmi_raw.specs.NumberProofs.{signed_numbers, unsigned_numbers};
+ghost use Rattle.wasmi_raw.specs.Number.{AreNumbers, NumberType};
+ghost use Rattle.wasmi_raw.specs.NumberProofs.{signed_type, unsigned_type};
 
 mod sealed {
-    pub trait Sealed {}
+    pub trait Sealed {
+        /// The numbers of the type.
+        ghost numbers: { NumberType Self };
+    }
 
-    impl Sealed for i8 {}
+    impl Sealed for i8 {
+        ghost numbers = { signed_type w8 };
+    }
 
-    impl Sealed for i16 {}
+    impl Sealed for i16 {
+        ghost numbers = { signed_type w16 };
+    }
 
-    impl Sealed for i32 {}
+    impl Sealed for i32 {
+        ghost numbers = { signed_type w32 };
+    }
 
-    impl Sealed for i64 {}
+    impl Sealed for i64 {
+        ghost numbers = { signed_type w64 };
+    }
 
-    impl Sealed for i128 {}
+    impl Sealed for i128 {
+        ghost numbers = { signed_type w128 };
+    }
 
-    impl Sealed for u8 {}
+    impl Sealed for u8 {
+        ghost numbers = { unsigned_type w8 };
+    }
 
-    impl Sealed for u16 {}
+    impl Sealed for u16 {
+        ghost numbers = { unsigned_type w16 };
+    }
 
-    impl Sealed for u32 {}
+    impl Sealed for u32 {
+        ghost numbers = { unsigned_type w32 };
+    }
 
-    impl Sealed for u64 {}
+    impl Sealed for u64 {
+        ghost numbers = { unsigned_type w64 };
+    }
 
-    impl Sealed for u128 {}
+    impl Sealed for u128 {
+        ghost numbers = { unsigned_type w128 };
+    }
 }
 
 /// An integer type: its width, its sign, and the numbers that its values stand for.
@@ -51,122 +74,14 @@ pub trait Number: sealed::Sealed {
     ghost laws: { AreNumbers is_signed width number of_number };
 }
 
-impl Number for i8 {
-    ghost width = { w8 };
+impl<T: sealed::Sealed> Number for T {
+    ghost width = { T.numbers.width };
 
-    ghost is_signed = { true };
+    ghost is_signed = { T.numbers.is_signed };
 
-    ghost number = { λ value. value };
+    ghost number = { T.numbers.number };
 
-    ghost of_number = { λ number. number };
+    ghost of_number = { T.numbers.of_number };
 
-    ghost laws = { signed_numbers w8 };
-}
-
-impl Number for i16 {
-    ghost width = { w16 };
-
-    ghost is_signed = { true };
-
-    ghost number = { λ value. value };
-
-    ghost of_number = { λ number. number };
-
-    ghost laws = { signed_numbers w16 };
-}
-
-impl Number for i32 {
-    ghost width = { w32 };
-
-    ghost is_signed = { true };
-
-    ghost number = { λ value. value };
-
-    ghost of_number = { λ number. number };
-
-    ghost laws = { signed_numbers w32 };
-}
-
-impl Number for i64 {
-    ghost width = { w64 };
-
-    ghost is_signed = { true };
-
-    ghost number = { λ value. value };
-
-    ghost of_number = { λ number. number };
-
-    ghost laws = { signed_numbers w64 };
-}
-
-impl Number for i128 {
-    ghost width = { w128 };
-
-    ghost is_signed = { true };
-
-    ghost number = { λ value. value };
-
-    ghost of_number = { λ number. number };
-
-    ghost laws = { signed_numbers w128 };
-}
-
-impl Number for u8 {
-    ghost width = { w8 };
-
-    ghost is_signed = { false };
-
-    ghost number = { pos };
-
-    ghost of_number = { unsigned_abs };
-
-    ghost laws = { unsigned_numbers w8 };
-}
-
-impl Number for u16 {
-    ghost width = { w16 };
-
-    ghost is_signed = { false };
-
-    ghost number = { pos };
-
-    ghost of_number = { unsigned_abs };
-
-    ghost laws = { unsigned_numbers w16 };
-}
-
-impl Number for u32 {
-    ghost width = { w32 };
-
-    ghost is_signed = { false };
-
-    ghost number = { pos };
-
-    ghost of_number = { unsigned_abs };
-
-    ghost laws = { unsigned_numbers w32 };
-}
-
-impl Number for u64 {
-    ghost width = { w64 };
-
-    ghost is_signed = { false };
-
-    ghost number = { pos };
-
-    ghost of_number = { unsigned_abs };
-
-    ghost laws = { unsigned_numbers w64 };
-}
-
-impl Number for u128 {
-    ghost width = { w128 };
-
-    ghost is_signed = { false };
-
-    ghost number = { pos };
-
-    ghost of_number = { unsigned_abs };
-
-    ghost laws = { unsigned_numbers w128 };
+    ghost laws = { T.numbers.laws };
 }

@@ -174,21 +174,7 @@ impl ReadBack for NonZero<u64> {
     ghost read_back = { non_zero_u64_get };
 }
 
-impl OneWord for i8 {}
-
-impl OneWord for i16 {}
-
-impl OneWord for i32 {}
-
-impl OneWord for i64 {}
-
-impl OneWord for u8 {}
-
-impl OneWord for u16 {}
-
-impl OneWord for u32 {}
-
-impl OneWord for u64 {}
+impl<T: Number> OneWord for T {}
 
 impl OneWord for bool {}
 

@@ -351,6 +351,14 @@ mod number {
     //! The integer types, as contracts see them.
 
     mod sealed {
+        /// # Contract
+        ///
+        /// ```text
+        /// -- The numbers of the type.
+        /// numbers: NumberType Self
+        /// ```
+        ///
+        /// Definitions: [`NumberType`](crate::specs::raw::Number#NumberType).
         pub trait Sealed {}
 
         impl Sealed for i8 {}
@@ -401,102 +409,12 @@ mod number {
     /// # Contract
     ///
     /// ```text
-    /// width = w8
-    /// is_signed = true
-    /// number = λ value. value
-    /// of_number = λ number. number
+    /// width = T.numbers.width
+    /// is_signed = T.numbers.is_signed
+    /// number = T.numbers.number
+    /// of_number = T.numbers.of_number
     /// ```
-    impl Number for i8 {}
-
-    /// # Contract
-    ///
-    /// ```text
-    /// width = w16
-    /// is_signed = true
-    /// number = λ value. value
-    /// of_number = λ number. number
-    /// ```
-    impl Number for i16 {}
-
-    /// # Contract
-    ///
-    /// ```text
-    /// width = w32
-    /// is_signed = true
-    /// number = λ value. value
-    /// of_number = λ number. number
-    /// ```
-    impl Number for i32 {}
-
-    /// # Contract
-    ///
-    /// ```text
-    /// width = w64
-    /// is_signed = true
-    /// number = λ value. value
-    /// of_number = λ number. number
-    /// ```
-    impl Number for i64 {}
-
-    /// # Contract
-    ///
-    /// ```text
-    /// width = w128
-    /// is_signed = true
-    /// number = λ value. value
-    /// of_number = λ number. number
-    /// ```
-    impl Number for i128 {}
-
-    /// # Contract
-    ///
-    /// ```text
-    /// width = w8
-    /// is_signed = false
-    /// number = pos
-    /// of_number = unsigned_abs
-    /// ```
-    impl Number for u8 {}
-
-    /// # Contract
-    ///
-    /// ```text
-    /// width = w16
-    /// is_signed = false
-    /// number = pos
-    /// of_number = unsigned_abs
-    /// ```
-    impl Number for u16 {}
-
-    /// # Contract
-    ///
-    /// ```text
-    /// width = w32
-    /// is_signed = false
-    /// number = pos
-    /// of_number = unsigned_abs
-    /// ```
-    impl Number for u32 {}
-
-    /// # Contract
-    ///
-    /// ```text
-    /// width = w64
-    /// is_signed = false
-    /// number = pos
-    /// of_number = unsigned_abs
-    /// ```
-    impl Number for u64 {}
-
-    /// # Contract
-    ///
-    /// ```text
-    /// width = w128
-    /// is_signed = false
-    /// number = pos
-    /// of_number = unsigned_abs
-    /// ```
-    impl Number for u128 {}
+    impl<T: sealed::Sealed> Number for T {}
 }
 mod raw {
     //! Raw values, and what it means to read and write one.
@@ -1007,21 +925,7 @@ mod read_write {
         type Read = u64;
     }
 
-    impl OneWord for i8 {}
-
-    impl OneWord for i16 {}
-
-    impl OneWord for i32 {}
-
-    impl OneWord for i64 {}
-
-    impl OneWord for u8 {}
-
-    impl OneWord for u16 {}
-
-    impl OneWord for u32 {}
-
-    impl OneWord for u64 {}
+    impl<T: Number> OneWord for T {}
 
     impl OneWord for bool {}
 

@@ -453,31 +453,51 @@ abbrev pub <b id="number_of_bits">number_of_bits</b> : Bool → Width → ℕ �
 
 -- a type&#x27;s values and their numbers: `number` gives the number of a value, `of_number` the value of a number of the
 -- type
-pub record <b id="AreNumbers">AreNumbers</b> {Value : Type 0} (is_signed : Bool) (width : Width) (number : Value → ℤ)
-    (of_number : ℤ → Value) : Type 0 where
-  pub <b id="of_its_number">of_its_number</b> : (value : Value) → of_number (number value) ≡ value
-  pub <b id="of_its_value">of_its_value</b> : (z : ℤ) → <a href="../../raw/Number/index.html#IsInRange">IsInRange</a> is_signed width z → number (of_number z) ≡ z
+pub record <b id="AreNumbers">AreNumbers</b> {Value : Type 0} (<a href="../../raw/Number/index.html#is_signed">is_signed</a> : Bool) (<a href="../../raw/Number/index.html#width">width</a> : Width) (<a href="../../raw/Number/index.html#number">number</a> : Value → ℤ)
+    (<a href="../../raw/Number/index.html#of_number">of_number</a> : ℤ → Value) : Type 0 where
+  pub <b id="of_its_number">of_its_number</b> : (value : Value) → <a href="../../raw/Number/index.html#of_number">of_number</a> (<a href="../../raw/Number/index.html#number">number</a> value) ≡ value
+  pub <b id="of_its_value">of_its_value</b> : (z : ℤ) → <a href="../../raw/Number/index.html#IsInRange">IsInRange</a> <a href="../../raw/Number/index.html#is_signed">is_signed</a> <a href="../../raw/Number/index.html#width">width</a> z → <a href="../../raw/Number/index.html#number">number</a> (<a href="../../raw/Number/index.html#of_number">of_number</a> z) ≡ z
+
+-- an integer type: its sign, its width, and the numbers of its values
+pub record <b id="NumberType">NumberType</b> (Value : Type 0) : Type 0 where
+  pub <b id="is_signed">is_signed</b> : Bool
+  pub <b id="width">width</b> : Width
+  pub <b id="number">number</b> : Value → ℤ
+  pub <b id="of_number">of_number</b> : ℤ → Value
+  pub <b id="laws">laws</b> : <a href="../../raw/Number/index.html#AreNumbers">AreNumbers</a> <a href="../../raw/Number/index.html#is_signed">is_signed</a> <a href="../../raw/Number/index.html#width">width</a> <a href="../../raw/Number/index.html#number">number</a> <a href="../../raw/Number/index.html#of_number">of_number</a>
 </code></pre>
 "####]
     pub mod Number {}
     #[doc = r####"The integers of each width are the numbers of their types.
 
-<pre><code>use Rattle.std.specs.Prelude.{◌≡◌, ℤ, pos, negsuc, true, false, unsigned_abs, refl}
+<pre><code>use Rattle.std.specs.Prelude.{◌≡◌, ℕ, ℤ, pos, negsuc, true, false, unsigned_abs, refl}
 use Rattle.std.specs.Int.{Width}
-use Rattle.wasmi_raw.specs.Number.{<a href="../../raw/Number/index.html#IsInRange">IsInRange</a>, <a href="../../raw/Number/index.html#AreNumbers">AreNumbers</a>}
+use Rattle.wasmi_raw.specs.Number.{<a href="../../raw/Number/index.html#IsInRange">IsInRange</a>, <a href="../../raw/Number/index.html#NumberType">NumberType</a>}
 
--- a signed number is its own value
-pub <b id="signed_numbers">signed_numbers</b> : (w : Width) → <a href="../../raw/Number/index.html#AreNumbers">AreNumbers</a> true w (λ value. value) (λ number. number)
-<a href="../../raw/NumberProofs/index.html#signed_numbers">signed_numbers</a> w = record { of_its_number = λ _. refl; of_its_value = λ _ _. refl }
+-- the signed type of a width, each of whose numbers is its own value
+abbrev pub <b id="signed_type">signed_type</b> : Width → <a href="../../raw/Number/index.html#NumberType">NumberType</a> ℤ
+<a href="../../raw/NumberProofs/index.html#signed_type">signed_type</a> w = record {
+  is_signed = true;
+  width = w;
+  number = λ value. value;
+  of_number = λ number. number;
+  laws = record { of_its_number = λ _. refl; of_its_value = λ _ _. refl };
+}
 
 -- a number of an unsigned type is not negative
-unsigned_abs-is : (w : Width) (z : ℤ) → <a href="../../raw/Number/index.html#IsInRange">IsInRange</a> false w z → pos (unsigned_abs z) ≡ z
-unsigned_abs-is w (pos n) h = refl
-unsigned_abs-is w (negsuc n) h = absurd h
+pub <b id="unsigned_abs-is">unsigned_abs-is</b> : (w : Width) (z : ℤ) → <a href="../../raw/Number/index.html#IsInRange">IsInRange</a> false w z → pos (unsigned_abs z) ≡ z
+<a href="../../raw/NumberProofs/index.html#unsigned_abs-is">unsigned_abs-is</a> w (pos n) h = refl
+<a href="../../raw/NumberProofs/index.html#unsigned_abs-is">unsigned_abs-is</a> w (negsuc n) h = absurd h
 
--- the value of an unsigned number is its distance from 0
-pub <b id="unsigned_numbers">unsigned_numbers</b> : (w : Width) → <a href="../../raw/Number/index.html#AreNumbers">AreNumbers</a> false w pos unsigned_abs
-<a href="../../raw/NumberProofs/index.html#unsigned_numbers">unsigned_numbers</a> w = record { of_its_number = λ _. refl; of_its_value = unsigned_abs-is w }
+-- the unsigned type of a width, each of whose values is its number&#x27;s distance from 0
+abbrev pub <b id="unsigned_type">unsigned_type</b> : Width → <a href="../../raw/Number/index.html#NumberType">NumberType</a> ℕ
+<a href="../../raw/NumberProofs/index.html#unsigned_type">unsigned_type</a> w = record {
+  is_signed = false;
+  width = w;
+  number = pos;
+  of_number = unsigned_abs;
+  laws = record { of_its_number = λ _. refl; of_its_value = <a href="../../raw/NumberProofs/index.html#unsigned_abs-is">unsigned_abs-is</a> w };
+}
 </code></pre>
 "####]
     pub mod NumberProofs {}
