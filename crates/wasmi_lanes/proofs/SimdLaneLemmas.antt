@@ -1,12 +1,13 @@
 -- Lanes as std::simd computes them: the digits of a number, lanes that a comparison chooses, and sums.
-use Rattle.std.proofs.Common.{ℕ, ◌+◌, ◌-◌, ◌%◌, ◌<◌, ◌≡◌, List, [], ◌∷◌, length, get_or, map, replicate, refl, sym, ap, ◌∙◌, arith, Bool, false, cond, ltb, nat_lt, if◌then◌else◌, zero, suc, ◌*◌, ◌/◌, ◌^◌, ◌≤◌, subst, mul_comm, mul-suc, mul-zero, zero-mul, suc-mul, div-one}
+use Rattle.std.proofs.Common.{ℕ, ◌+◌, ◌-◌, ◌%◌, ◌<◌, ◌≡◌, List, [], ◌∷◌, length, get_or, map, replicate, refl, sym, ap, ◌∙◌, arith, Bool, false, cond, ltb, nat_lt, if◌then◌else◌, zero, suc, pos, ◌*◌, ◌/◌, ◌^◌, ◌≤◌, subst, mul_comm, mul-suc, mul-zero, zero-mul, suc-mul, div-one}
 use Rattle.std.specs.Simd.Lanes.{zip2, sel_l, digits_l, number_l, Each1}
 use Rattle.std.proofs.lemmas.Simd.{length-zip2, get_or-zip2, get_or-sel_l, get_or-replicate, length-replicate, Each1-from_get_or, tops_compared}
 use lib.Lanes.{top}
 use mir.Val.{hbits}
 use Rattle.std.proofs.Math.Nat.{mod-one, mul-add, mul-one, mod-eq_of_lt}
 use Rattle.std.proofs.lemmas.Nat.{mod-pow-add, div-mul-add, mod-mul-add, shr-shr, pow-add, mul-le}
-use Rattle.wasmi_types.specs.Numbers.{Width, w8, w16, w32, w64, bits}
+use Rattle.std.proofs.lemmas.List.{get_or-map}
+use Rattle.wasmi_types.specs.Numbers.{Width, w8, w16, w32, w64, bits, signed}
 use Rattle.wasmi_lanes.specs.Vector.{lane}
 
 module _ (w : Width) (n : ℕ) (a b chosen other : List ℕ) (long_a : length a ≡ n) (long_b : length b ≡ n)
@@ -110,6 +111,14 @@ number_of_digits b (suc n) v =
 pub read_at : (b n v : ℕ) (bytes : List ℕ) (i d : ℕ) → i < n → number_l 256 bytes ≡ v
     → get_or (digits_l (2 ^ b) n (number_l 256 bytes)) i d ≡ v / 2 ^ (b * i) % 2 ^ b
 read_at b n v bytes i d below is = digit_at b n (number_l 256 bytes) i d below ∙ ap (λ k. k / 2 ^ (b * i) % 2 ^ b) is
+
+-- lanes, read signed from the bytes of a vector
+pub signed_read_at : (w : Width) (n v : ℕ) (bytes : List ℕ) → length (digits_l (2 ^ bits w) n (number_l 256 bytes)) ≡ n
+    → number_l 256 bytes ≡ v → (i : ℕ) → i < n
+    → get_or (map (signed w) (digits_l (2 ^ bits w) n (number_l 256 bytes))) i (pos 0) ≡ signed w (lane w v i)
+signed_read_at w n v bytes long is i inside =
+    get_or-map (signed w) (digits_l (2 ^ bits w) n (number_l 256 bytes)) i 0 (pos 0) (omega arith)
+    ∙ ap (signed w) (read_at (bits w) n v bytes i 0 inside is)
 
 -- a lane of the vector whose number is that of xs
 pub lane_of_number : (w : Width) (n : ℕ) (xs : List ℕ) (r i : ℕ) → length xs ≡ n

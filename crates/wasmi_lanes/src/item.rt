@@ -30,10 +30,8 @@ pub trait LaneInteger: Copy {
     /// The item whose bits are all zeros.
     const ALL_ZEROS: Self;
 
-    /// The item whose bits are all ones, in contracts.
     ghost ALL_ONES: { Self };
 
-    /// The item whose bits are all zeros, in contracts.
     ghost ALL_ZEROS: { Self };
 
     /// The items are those of the lanes of the width.
@@ -195,11 +193,7 @@ impl LaneItem<8> for i16 {
 
     #[inline(always)]
     fn read_into(vector: V128, items: &mut [i16; 8]) {
-        let mut bits = [0; 8];
-        u16::read_into(vector, &mut bits);
-        for i in 0..8 {
-            items[i] = bits[i].cast_signed();
-        }
+        *items = i16x8::from_le_bytes(bytes_to_take_out(vector)).to_array();
     }
 
     #[inline(always)]
@@ -273,11 +267,7 @@ impl LaneItem<4> for i32 {
 
     #[inline(always)]
     fn read_into(vector: V128, items: &mut [i32; 4]) {
-        let mut bits = [0; 4];
-        u32::read_into(vector, &mut bits);
-        for i in 0..4 {
-            items[i] = bits[i].cast_signed();
-        }
+        *items = i32x4::from_le_bytes(bytes_to_take_out(vector)).to_array();
     }
 
     #[inline(always)]
@@ -351,11 +341,7 @@ impl LaneItem<2> for i64 {
 
     #[inline(always)]
     fn read_into(vector: V128, items: &mut [i64; 2]) {
-        let mut bits = [0; 2];
-        u64::read_into(vector, &mut bits);
-        for i in 0..2 {
-            items[i] = bits[i].cast_signed();
-        }
+        *items = i64x2::from_le_bytes(bytes_to_take_out(vector)).to_array();
     }
 
     #[inline(always)]

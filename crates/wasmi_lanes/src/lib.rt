@@ -5,10 +5,8 @@ mod index;
 mod item;
 mod lanes;
 pub mod laws;
-mod narrow;
 pub mod on_vectors;
 mod simd_lane;
-mod variable_lane;
 pub mod words;
 
 pub use index::{
@@ -17,9 +15,8 @@ pub use index::{
 };
 pub use item::{LaneInteger, LaneItem};
 pub use lanes::{
-    I8x16, I16x8, I32x4, I64x2, IntoLanes, LaneArray, Lanes, U8x16, U16x8, U32x4, U64x2,
+    FromNarrow, FromWide, I8x16, I16x8, I32x4, I64x2, IntoLanes, LaneArray, Lanes, Narrower, U8x16,
+    U16x8, U32x4, U64x2, clamped_i8, clamped_i16,
 };
-pub use narrow::{FromNarrow, FromWide, Narrower, clamped_i8, clamped_i16};
-pub use simd_lane::{SimdLane, bytes_of, from_bytes, from_u64x2, u64x2_of};
-pub use variable_lane::VariableLane;
+pub use simd_lane::{SimdLane, VariableLane, bytes_of, from_bytes, from_u64x2, u64x2_of};
 pub use words::WordLane;

@@ -3,8 +3,6 @@
 //! `tops` has the highest bit of each lane, and no other; the widths may be unequal. No carry or
 //! borrow leaves a lane: at each lane's highest bit the operands are made to leave room. A sum or a
 //! difference needs no top at the end of the word, where a carry or borrow is dropped.
-//!
-//! `WordLane` has these numbers for lanes of one width.
 
 ghost use Rattle.std.specs.Prelude.{◌≡◌, ℕ, ◌+◌, ◌-◌, ◌%◌, ◌^◌, ◌==◌, if◌then◌else◌, bit_and, refl};
 ghost use Rattle.wasmi_lanes.specs.Words.{field, IsLane, IsLastLane, IsWordLane};
@@ -55,19 +53,16 @@ pub trait WordLane: LaneInteger {
     /// The width of a lane.
     const BITS: u32;
 
-    /// The width of a lane, in contracts.
     ghost BITS: { ℕ };
 
     /// The highest bit of each lane of a word.
     const TOPS: u64;
 
-    /// The highest bit of each lane of a word, in contracts.
     ghost TOPS: { ℕ };
 
     /// The lowest bit of each lane of a word.
     const ONES: u64;
 
-    /// The lowest bit of each lane of a word, in contracts.
     ghost ONES: { ℕ };
 
     /// These are the numbers of the lanes of the width.

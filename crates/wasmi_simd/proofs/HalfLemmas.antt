@@ -12,7 +12,7 @@ use Rattle.std.specs.Int.{cast_unsigned, cast_signed}
 use Rattle.std.specs.Simd.Lanes.{digits_l, number_l, zip2}
 use Rattle.wasmi_types.specs.Numbers.{Width, w8, w16, bits, signed, wrap}
 use Rattle.wasmi_lanes.specs.Vector.{lane, unsigned}
-use Rattle.wasmi_lanes.proofs.SimdLaneLemmas.{digit_at, read_at, written_at}
+use Rattle.wasmi_lanes.proofs.SimdLaneLemmas.{digit_at, written_at}
 use Rattle.wasmi_lanes.proofs.TopLemmas.{xor_top}
 use Rattle.wasmi_lanes.proofs.VectorLemmas.{lane_below, lanes_make_vector}
 use Rattle.wasmi_simd.specs.WideningProofs.{IsWidening}
@@ -79,14 +79,6 @@ lower = record { place = λ i. omega arith }
 -- the upper half begins with lane n, where each half has n lanes
 pub upper : (n : ℕ) → IsHalf n (λ i. n + i)
 upper n = record { place = λ i. refl }
-
--- lanes, read signed from the bytes of a vector
-pub signed_read_at : (w : Width) (n v : ℕ) (bytes : List ℕ) → length (digits_l (2 ^ bits w) n (number_l 256 bytes)) ≡ n
-    → number_l 256 bytes ≡ v → (i : ℕ) → i < n
-    → get_or (map (signed w) (digits_l (2 ^ bits w) n (number_l 256 bytes))) i (pos 0) ≡ signed w (lane w v i)
-signed_read_at w n v bytes long is i inside =
-    get_or-map (signed w) (digits_l (2 ^ bits w) n (number_l 256 bytes)) i 0 (pos 0) (omega arith)
-    ∙ ap (signed w) (read_at (bits w) n v bytes i 0 inside is)
 
 module _ {narrow wide : Width} {n first : ℕ} {at : ℕ → ℕ} (widens : IsWidening narrow wide n)
     (half : IsHalf first at) where

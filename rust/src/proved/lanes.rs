@@ -157,9 +157,7 @@ mod item {
     /// image: Self → ℕ
     /// -- The item is in its type's range.
     /// Fits: Self → Type 0
-    /// -- The item whose bits are all ones, in contracts.
     /// ALL_ONES: Self
-    /// -- The item whose bits are all zeros, in contracts.
     /// ALL_ZEROS: Self
     /// -- The items are those of the lanes of the width.
     /// laws: ReadsLanes width read image Fits ALL_ONES ALL_ZEROS
@@ -326,11 +324,7 @@ mod item {
     impl LaneItem<8> for i16 {
         #[inline(always)]
         fn read_into(vector: V128, items: &mut [i16; 8]) {
-            let mut bits = [0; 8];
-            u16::read_into(vector, &mut bits);
-            for i in 0..8 {
-                items[i] = bits[i].cast_signed();
-            }
+            *items = i16x8::from_le_bytes(bytes_to_take_out(vector)).to_array();
         }
 
         #[inline(always)]
@@ -393,11 +387,7 @@ mod item {
     impl LaneItem<4> for i32 {
         #[inline(always)]
         fn read_into(vector: V128, items: &mut [i32; 4]) {
-            let mut bits = [0; 4];
-            u32::read_into(vector, &mut bits);
-            for i in 0..4 {
-                items[i] = bits[i].cast_signed();
-            }
+            *items = i32x4::from_le_bytes(bytes_to_take_out(vector)).to_array();
         }
 
         #[inline(always)]
@@ -460,11 +450,7 @@ mod item {
     impl LaneItem<2> for i64 {
         #[inline(always)]
         fn read_into(vector: V128, items: &mut [i64; 2]) {
-            let mut bits = [0; 2];
-            u64::read_into(vector, &mut bits);
-            for i in 0..2 {
-                items[i] = bits[i].cast_signed();
-            }
+            *items = i64x2::from_le_bytes(bytes_to_take_out(vector)).to_array();
         }
 
         #[inline(always)]
@@ -478,7 +464,7 @@ mod item {
     }
 }
 mod lanes {
-    //! Vectors as lanes of one item, and the lane types.
+    //! Vectors as lanes of one item, and the lane types; lanes made of narrower lanes, and of wider ones.
 
     use crate::proved::lanes::index::{
         CountsLanes, ImmLaneIdx, ImmLaneIdx2, ImmLaneIdx4, ImmLaneIdx8, ImmLaneIdx16, IntoLaneIdx,
@@ -494,11 +480,8 @@ mod lanes {
     /// ```text
     /// -- The item of the lane at an index.
     /// item: Self → ℕ → Self.Item
-    /// -- The number of lanes, in contracts.
     /// LANES: ℕ
-    /// -- The item whose bits are all ones, in contracts.
     /// ALL_ONES: Self.Item
-    /// -- The item whose bits are all zeros, in contracts.
     /// ALL_ZEROS: Self.Item
     /// -- The lanes make 128 bits, there are as many indices, and all ones and all zeros are those of the item's type.
     /// laws: AreWholeLanes Self.Item.width LANES Self.LaneIdx.COUNT ALL_ONES ALL_ZEROS
@@ -844,137 +827,6 @@ mod lanes {
 
         type LaneIdx = ImmLaneIdx16;
     }
-}
-#[cfg(any(doc, test))]
-pub mod laws {
-    //! Laws on lanes.
-
-    use crate::proved::lanes::lanes::Lanes;
-    use crate::proved::lanes::words::{word_add, word_differ, word_sub};
-
-    /// The lanes of the vector of some lanes are these lanes.
-    ///
-    /// # Contract
-    ///
-    /// ```text
-    /// ensures same: (i : ℕ) → i < L.LANES → L.item result i ≡ L.item lanes i
-    /// ```
-    #[inline]
-    pub fn lanes_there_and_back<L: Lanes>(lanes: L) -> L {
-        L::from_v128(lanes.into_v128())
-    }
-
-    /// Lane i of a vector that is made of lanes is the number of lane i, wrapped to the width of the
-    /// lanes.
-    ///
-    /// # Contract
-    ///
-    /// ```text
-    /// ensures made: (w : Width) (f : ℕ → ℕ) (i : ℕ) → i < 128 / bits w
-    ///     → lane w (from_lanes w f) i ≡ f i % 2 ^ bits w
-    /// ensures splat: (w : Width) (n i : ℕ) → i < 128 / bits w → n < 2 ^ bits w
-    ///     → lane w (splat_of w n) i ≡ n
-    /// ensures with_lane: (w : Width) (v k n i : ℕ) → i < 128 / bits w → n < 2 ^ bits w
-    ///     → lane w (with_lane w v k n) i ≡ (if i == k then n else lane w v i)
-    /// ```
-    ///
-    /// Definitions: [`lane`](crate::specs::lanes::Vector#lane), [`from_lanes`](crate::specs::lanes::Vector#from_lanes), [`splat_of`](crate::specs::lanes::Vector#splat_of), [`with_lane`](crate::specs::lanes::Vector#with_lane).
-    #[inline]
-    pub fn lanes_of_made_vector() {}
-
-    /// Lane i of a vector that a row of lanes names is the row of the operands' lanes i, wrapped to the
-    /// width of the lanes; `read` is how the operands' lanes are read.
-    ///
-    /// # Contract
-    ///
-    /// ```text
-    /// ensures unary: (read : ℕ → L.Item) (row : L.Item → ℕ) (a i : ℕ) → i < L.LANES
-    ///     → lane L.Item.width (unary_of_lanes L.Item.width read row a) i
-    ///     ≡ row (read (lane L.Item.width a i)) % 2 ^ bits L.Item.width
-    /// ensures binary: (read : ℕ → L.Item) (row : L.Item → L.Item → ℕ) (a b i : ℕ) → i < L.LANES
-    ///     → lane L.Item.width (binary_of_lanes L.Item.width read row a b) i
-    ///     ≡ row (read (lane L.Item.width a i))
-    ///     (read (lane L.Item.width b i)) % 2 ^ bits L.Item.width
-    /// ensures comparison: (read : ℕ → L.Item) (test : L.Item → L.Item → Bool) (a b i : ℕ)
-    ///     → i < L.LANES
-    ///     → lane L.Item.width (comparison_of_lanes L.Item.width read test a b) i
-    ///     ≡ (if test (read (lane L.Item.width a i))
-    ///     (read (lane L.Item.width b i)) then 2 ^ bits L.Item.width - 1 else 0)
-    /// ```
-    ///
-    /// Definitions: [`lane`](crate::specs::lanes::Vector#lane), [`unary_of_lanes`](crate::specs::lanes::Vector#unary_of_lanes), [`binary_of_lanes`](crate::specs::lanes::Vector#binary_of_lanes), [`comparison_of_lanes`](crate::specs::lanes::Vector#comparison_of_lanes).
-    #[inline]
-    pub fn lanes_of_rows<L: Lanes>() {}
-
-    /// A word is made of its lanes, whatever widths it is divided into.
-    ///
-    /// # Contract
-    ///
-    /// ```text
-    /// ensures: (widths : List ℕ) → sum widths ≡ 64
-    ///     → word ≡ word_of_lanes (λ start width. field start width word) 0 widths
-    /// ```
-    ///
-    /// Definitions: [`word_of_lanes`](crate::specs::lanes::Words#word_of_lanes), [`field`](crate::specs::lanes::Words#field).
-    #[inline]
-    pub fn word_is_made_of_lanes(word: u64) {}
-
-    /// The sums of the lanes of two words are the word of `word_add`.
-    ///
-    /// # Contract
-    ///
-    /// ```text
-    /// ensures: (widths : List ℕ) → AreLanes tops 0 widths
-    ///     → result ≡ word_of_lanes
-    ///     (λ start width. (field start width a + field start width b) % 2 ^ width) 0 widths
-    /// ```
-    ///
-    /// Definitions: [`AreLanes`](crate::specs::lanes::Words#AreLanes), [`word_of_lanes`](crate::specs::lanes::Words#word_of_lanes), [`field`](crate::specs::lanes::Words#field).
-    #[inline]
-    pub fn sums_of_lanes(a: u64, b: u64, tops: u64) -> u64 {
-        word_add(a, b, tops)
-    }
-
-    /// The differences of the lanes of two words are the word of `word_sub`.
-    ///
-    /// # Contract
-    ///
-    /// ```text
-    /// ensures: (widths : List ℕ) → AreLanes tops 0 widths
-    ///     → result ≡ word_of_lanes
-    ///     (λ start width. (field start width a + (2 ^ width - field start width b)) % 2 ^ width) 0
-    ///     widths
-    /// ```
-    ///
-    /// Definitions: [`AreLanes`](crate::specs::lanes::Words#AreLanes), [`word_of_lanes`](crate::specs::lanes::Words#word_of_lanes), [`field`](crate::specs::lanes::Words#field).
-    #[inline]
-    pub fn differences_of_lanes(a: u64, b: u64, tops: u64) -> u64 {
-        word_sub(a, b, tops)
-    }
-
-    /// The highest bits of the lanes in which two words differ are the word of `word_differ`.
-    ///
-    /// # Contract
-    ///
-    /// ```text
-    /// ensures: (widths : List ℕ) → AreLanes tops 0 widths
-    ///     → result ≡ word_of_lanes
-    ///     (λ start width. if field start width a == field start width b then 0 else 2 ^
-    ///     (width - 1)) 0 widths
-    /// ```
-    ///
-    /// Definitions: [`AreLanes`](crate::specs::lanes::Words#AreLanes), [`word_of_lanes`](crate::specs::lanes::Words#word_of_lanes), [`field`](crate::specs::lanes::Words#field).
-    #[inline]
-    pub fn tops_of_different_lanes(a: u64, b: u64, tops: u64) -> u64 {
-        word_differ(a, b, tops)
-    }
-}
-mod narrow {
-    //! Lanes made of narrower lanes, and of wider ones; numbers clamped to half of their width.
-
-    use crate::proved::lanes::index::{CountsLanes, ImmLaneIdx};
-    use crate::proved::lanes::item::LaneItem;
-    use crate::proved::lanes::lanes::{LaneArray, Lanes};
 
     /// An integer of which twice as many fill a vector as of `U`.
     ///
@@ -1208,6 +1060,130 @@ mod narrow {
         number.clamp(-32768, 32767) as i16
     }
 }
+#[cfg(any(doc, test))]
+pub mod laws {
+    //! Laws on lanes.
+
+    use crate::proved::lanes::lanes::Lanes;
+    use crate::proved::lanes::words::{word_add, word_differ, word_sub};
+
+    /// The lanes of the vector of some lanes are these lanes.
+    ///
+    /// # Contract
+    ///
+    /// ```text
+    /// ensures same: (i : ℕ) → i < L.LANES → L.item result i ≡ L.item lanes i
+    /// ```
+    #[inline]
+    pub fn lanes_there_and_back<L: Lanes>(lanes: L) -> L {
+        L::from_v128(lanes.into_v128())
+    }
+
+    /// Lane i of a vector that is made of lanes is the number of lane i, wrapped to the width of the
+    /// lanes.
+    ///
+    /// # Contract
+    ///
+    /// ```text
+    /// ensures made: (w : Width) (f : ℕ → ℕ) (i : ℕ) → i < 128 / bits w
+    ///     → lane w (from_lanes w f) i ≡ f i % 2 ^ bits w
+    /// ensures splat: (w : Width) (n i : ℕ) → i < 128 / bits w → n < 2 ^ bits w
+    ///     → lane w (splat_of w n) i ≡ n
+    /// ensures with_lane: (w : Width) (v k n i : ℕ) → i < 128 / bits w → n < 2 ^ bits w
+    ///     → lane w (with_lane w v k n) i ≡ (if i == k then n else lane w v i)
+    /// ```
+    ///
+    /// Definitions: [`lane`](crate::specs::lanes::Vector#lane), [`from_lanes`](crate::specs::lanes::Vector#from_lanes), [`splat_of`](crate::specs::lanes::Vector#splat_of), [`with_lane`](crate::specs::lanes::Vector#with_lane).
+    #[inline]
+    pub fn lanes_of_made_vector() {}
+
+    /// Lane i of a vector that a row of lanes names is the row of the operands' lanes i, wrapped to the
+    /// width of the lanes; `read` is how the operands' lanes are read.
+    ///
+    /// # Contract
+    ///
+    /// ```text
+    /// ensures unary: (read : ℕ → L.Item) (row : L.Item → ℕ) (a i : ℕ) → i < L.LANES
+    ///     → lane L.Item.width (unary_of_lanes L.Item.width read row a) i
+    ///     ≡ row (read (lane L.Item.width a i)) % 2 ^ bits L.Item.width
+    /// ensures binary: (read : ℕ → L.Item) (row : L.Item → L.Item → ℕ) (a b i : ℕ) → i < L.LANES
+    ///     → lane L.Item.width (binary_of_lanes L.Item.width read row a b) i
+    ///     ≡ row (read (lane L.Item.width a i))
+    ///     (read (lane L.Item.width b i)) % 2 ^ bits L.Item.width
+    /// ensures comparison: (read : ℕ → L.Item) (test : L.Item → L.Item → Bool) (a b i : ℕ)
+    ///     → i < L.LANES
+    ///     → lane L.Item.width (comparison_of_lanes L.Item.width read test a b) i
+    ///     ≡ (if test (read (lane L.Item.width a i))
+    ///     (read (lane L.Item.width b i)) then 2 ^ bits L.Item.width - 1 else 0)
+    /// ```
+    ///
+    /// Definitions: [`lane`](crate::specs::lanes::Vector#lane), [`unary_of_lanes`](crate::specs::lanes::Vector#unary_of_lanes), [`binary_of_lanes`](crate::specs::lanes::Vector#binary_of_lanes), [`comparison_of_lanes`](crate::specs::lanes::Vector#comparison_of_lanes).
+    #[inline]
+    pub fn lanes_of_rows<L: Lanes>() {}
+
+    /// A word is made of its lanes, whatever widths it is divided into.
+    ///
+    /// # Contract
+    ///
+    /// ```text
+    /// ensures: (widths : List ℕ) → sum widths ≡ 64
+    ///     → word ≡ word_of_lanes (λ start width. field start width word) 0 widths
+    /// ```
+    ///
+    /// Definitions: [`word_of_lanes`](crate::specs::lanes::Words#word_of_lanes), [`field`](crate::specs::lanes::Words#field).
+    #[inline]
+    pub fn word_is_made_of_lanes(word: u64) {}
+
+    /// The sums of the lanes of two words are the word of `word_add`.
+    ///
+    /// # Contract
+    ///
+    /// ```text
+    /// ensures: (widths : List ℕ) → AreLanes tops 0 widths
+    ///     → result ≡ word_of_lanes
+    ///     (λ start width. (field start width a + field start width b) % 2 ^ width) 0 widths
+    /// ```
+    ///
+    /// Definitions: [`AreLanes`](crate::specs::lanes::Words#AreLanes), [`word_of_lanes`](crate::specs::lanes::Words#word_of_lanes), [`field`](crate::specs::lanes::Words#field).
+    #[inline]
+    pub fn sums_of_lanes(a: u64, b: u64, tops: u64) -> u64 {
+        word_add(a, b, tops)
+    }
+
+    /// The differences of the lanes of two words are the word of `word_sub`.
+    ///
+    /// # Contract
+    ///
+    /// ```text
+    /// ensures: (widths : List ℕ) → AreLanes tops 0 widths
+    ///     → result ≡ word_of_lanes
+    ///     (λ start width. (field start width a + (2 ^ width - field start width b)) % 2 ^ width) 0
+    ///     widths
+    /// ```
+    ///
+    /// Definitions: [`AreLanes`](crate::specs::lanes::Words#AreLanes), [`word_of_lanes`](crate::specs::lanes::Words#word_of_lanes), [`field`](crate::specs::lanes::Words#field).
+    #[inline]
+    pub fn differences_of_lanes(a: u64, b: u64, tops: u64) -> u64 {
+        word_sub(a, b, tops)
+    }
+
+    /// The highest bits of the lanes in which two words differ are the word of `word_differ`.
+    ///
+    /// # Contract
+    ///
+    /// ```text
+    /// ensures: (widths : List ℕ) → AreLanes tops 0 widths
+    ///     → result ≡ word_of_lanes
+    ///     (λ start width. if field start width a == field start width b then 0 else 2 ^
+    ///     (width - 1)) 0 widths
+    /// ```
+    ///
+    /// Definitions: [`AreLanes`](crate::specs::lanes::Words#AreLanes), [`word_of_lanes`](crate::specs::lanes::Words#word_of_lanes), [`field`](crate::specs::lanes::Words#field).
+    #[inline]
+    pub fn tops_of_different_lanes(a: u64, b: u64, tops: u64) -> u64 {
+        word_differ(a, b, tops)
+    }
+}
 pub mod on_vectors {
     //! Lane by lane work on whole vectors: each function gives the vector of whatever row its closure
     //! computes.
@@ -1274,8 +1250,12 @@ pub mod on_vectors {
     }
 }
 mod simd_lane {
-    //! The lanes of a vector as a vector of `core::simd`.
+    //! The lanes of a vector as a vector of `core::simd`, and one of them at an index that is known only
+    //! when the program runs.
 
+    use crate::proved::lanes::index::{
+        ImmLaneIdx2, ImmLaneIdx4, ImmLaneIdx8, ImmLaneIdx16, IntoLaneIdx,
+    };
     use crate::proved::lanes::item::{LaneInteger, LaneItem};
     use crate::proved::raw::V128;
     use crate::rattle::simd::prelude::*;
@@ -1578,21 +1558,13 @@ mod simd_lane {
         let [low, high] = words.to_array();
         V128::from_word_pair(low, high)
     }
-}
-mod variable_lane {
-    //! One lane of a vector, at an index that is known only when the program runs.
-    //!
-    //! An array of the lanes would go through memory (docs/SPEED.md): the bytes of a lane are picked by
-    //! their indices, and a lane is put where the number of a lane is the index. What is made of the
-    //! index comes from tables, since what a general register makes has to go from there to a vector
-    //! register.
 
-    use crate::proved::lanes::index::{
-        ImmLaneIdx2, ImmLaneIdx4, ImmLaneIdx8, ImmLaneIdx16, IntoLaneIdx,
-    };
-    use crate::proved::lanes::simd_lane::{SimdLane, bytes_of};
-    use crate::proved::raw::V128;
-    use crate::rattle::simd::prelude::*;
+    // One lane, at an index that is known only when the program runs.
+    //
+    // An array of the lanes would go through memory (docs/SPEED.md): the bytes of a lane are picked by
+    // their indices, and a lane is put where the number of a lane is the index. What is made of the
+    // index comes from tables, since what a general register makes has to go from there to a vector
+    // register.
 
     /// An unsigned integer as which one lane of a vector is taken out or put in, at an index that is
     /// known only when the program runs. Core specification: `extract_lane`, `replace_lane`.
@@ -1783,8 +1755,6 @@ pub mod words {
     //! `tops` has the highest bit of each lane, and no other; the widths may be unequal. No carry or
     //! borrow leaves a lane: at each lane's highest bit the operands are made to leave room. A sum or a
     //! difference needs no top at the end of the word, where a carry or borrow is dropped.
-    //!
-    //! `WordLane` has these numbers for lanes of one width.
 
     use crate::proved::lanes::item::LaneInteger;
 
@@ -1849,11 +1819,8 @@ pub mod words {
     /// # Contract
     ///
     /// ```text
-    /// -- The width of a lane, in contracts.
     /// BITS: ℕ
-    /// -- The highest bit of each lane of a word, in contracts.
     /// TOPS: ℕ
-    /// -- The lowest bit of each lane of a word, in contracts.
     /// ONES: ℕ
     /// -- These are the numbers of the lanes of the width.
     /// laws: IsWordLane Self.width BITS TOPS ONES
@@ -1938,9 +1905,8 @@ pub use index::{
 };
 pub use item::{LaneInteger, LaneItem};
 pub use lanes::{
-    I8x16, I16x8, I32x4, I64x2, IntoLanes, LaneArray, Lanes, U8x16, U16x8, U32x4, U64x2,
+    FromNarrow, FromWide, I8x16, I16x8, I32x4, I64x2, IntoLanes, LaneArray, Lanes, Narrower, U8x16,
+    U16x8, U32x4, U64x2, clamped_i8, clamped_i16,
 };
-pub use narrow::{FromNarrow, FromWide, Narrower, clamped_i8, clamped_i16};
-pub use simd_lane::{SimdLane, bytes_of, from_bytes, from_u64x2, u64x2_of};
-pub use variable_lane::VariableLane;
+pub use simd_lane::{SimdLane, VariableLane, bytes_of, from_bytes, from_u64x2, u64x2_of};
 pub use words::WordLane;

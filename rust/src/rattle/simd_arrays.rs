@@ -19,6 +19,8 @@ pub mod prelude {
     pub type i16x8 = Simd<i16, 8>;
     /// 4 signed lanes of 32 bits.
     pub type i32x4 = Simd<i32, 4>;
+    /// 2 signed lanes of 64 bits.
+    pub type i64x2 = Simd<i64, 2>;
 }
 
 /// `N` lanes of an integer.
@@ -356,6 +358,7 @@ mod tests {
             ordered!(u16x8);
             ordered!(u32x4);
             ordered!(u64x2);
+            all.push(i64x2::from_array(i64x2::from_le_bytes(x).to_array()).to_le_bytes().to_array());
             all.push(x.extract::<0, 8>().cast::<u16>().to_le_bytes().to_array());
             all.push(x.extract::<8, 8>().cast::<u16>().to_le_bytes().to_array());
             let (a, b) = (u16x8::from_le_bytes(x), u16x8::from_le_bytes(y));

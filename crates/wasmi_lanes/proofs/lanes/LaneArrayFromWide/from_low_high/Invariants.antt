@@ -1,0 +1,10 @@
+use Rattle.std.proofs.Common.{ℕ, ◌<◌, ◌+◌, slice_index_or}
+use Rattle.wasmi_lanes.proofs.lanes.LaneArrayFromWide.from_low_high.Given as goal
+
+abbrev pub invariant-loop-i : goal.invariant-loop-i
+invariant-loop-i g l =
+    let default = g.T.LaneInteger.ALL_ZEROS in
+    let wide = g.U.LaneInteger.ALL_ZEROS in
+    ((k : ℕ) → k < l.i → goal.F-post g l.f (slice_index_or l.fn.low.items k wide) (slice_index_or l.items k default))
+    × ((k : ℕ) → k < l.i
+    → goal.F-post g l.f (slice_index_or l.fn.high.items k wide) (slice_index_or l.items (g.row.M + k) default))

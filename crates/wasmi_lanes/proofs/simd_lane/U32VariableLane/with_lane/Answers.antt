@@ -1,0 +1,11 @@
+use Rattle.std.proofs.Common.{replicate, ap, refl, ◌∙◌, rules}
+use Rattle.wasmi_types.specs.Numbers.{w32}
+use Rattle.wasmi_lanes.proofs.VariableLaneLemmas.{lane_written}
+use Rattle.wasmi_lanes.proofs.simd_lane.U32VariableLane.with_lane.Goals as goal
+
+pub returns : goal.returns
+returns c =
+    lane_written w32 4 c.args.vector c.args.at c.args.item c.lanes_of.result refl refl
+    (ap (replicate 4) (c.from-2.ensures ∙ c.from.ensures.0))
+    (record { long = search rules; are = c.lanes_of.ensures.lanes }) c.vector_of.ensures.lanes
+    c.vector_of.ensures.in_range
