@@ -43,24 +43,6 @@ pub struct Handle {
 impl Handle {
     ghost use Rattle.wasmi_c.specs.Machine.Caps.{IsCapped};
 
-    fn empty(alloc: Global) -> Handle
-        ensures { result.machine.held ≡ None }
-    {
-        Handle {
-            machine: MachineBox::from_held(HeldBox::empty(alloc)),
-            is_made: false,
-        }
-    }
-
-    fn from_box(machine: Box<LimitedMachine>) -> Handle
-        ensures { result.machine.held ≡ Some machine.entry.value }
-    {
-        Handle {
-            machine: MachineBox::from_held(HeldBox::from_box(machine)),
-            is_made: true,
-        }
-    }
-
     /// Whether there is a machine.
     pub fn is_made(&self) -> bool
         ensures { result ≡ is_some self.now.machine.held }
@@ -75,7 +57,11 @@ impl Handle {
             (λ machine. self.old.machine.held ≡ Some machine.value) }
         ensures left { self.new.machine.held ≡ None }
     {
-        let Handle { machine, is_made } = mem::replace(self, Handle::empty(alloc));
+        let none = Handle {
+            machine: MachineBox::from_held(HeldBox::empty(alloc)),
+            is_made: false,
+        };
+        let Handle { machine, is_made } = mem::replace(self, none);
         if is_made {
             Some(machine.into_held().into_box())
         } else {
@@ -92,10 +78,14 @@ impl Handle {
         ensures within { IsCapped machine.entry.value }
     {
         machine.show_within();
+        let made = Handle {
+            machine: MachineBox::from_held(HeldBox::from_box(machine)),
+            is_made: true,
+        };
         let Handle {
             machine,
             is_made: _,
-        } = mem::replace(self, Handle::from_box(machine));
+        } = mem::replace(self, made);
         machine.into_held().end();
     }
 

@@ -40,24 +40,6 @@ pub struct PoolHandle {
 impl PoolHandle {
     ghost use Rattle.wasmi_budget.specs.Pool.{IsWithinCaps};
 
-    fn empty(alloc: Global) -> PoolHandle
-        ensures { result.pool.held ≡ None }
-    {
-        PoolHandle {
-            pool: PoolBox::from_held(HeldBox::empty(alloc)),
-            is_made: false,
-        }
-    }
-
-    fn from_box(pool: Box<TenantPool>) -> PoolHandle
-        ensures { result.pool.held ≡ Some pool.value }
-    {
-        PoolHandle {
-            pool: PoolBox::from_held(HeldBox::from_box(pool)),
-            is_made: true,
-        }
-    }
-
     /// Whether there is a pool.
     pub fn is_made(&self) -> bool
         ensures { result ≡ is_some self.now.pool.held }
@@ -71,7 +53,11 @@ impl PoolHandle {
             (λ pool. self.old.pool.held ≡ Some pool.value) }
         ensures left { self.new.pool.held ≡ None }
     {
-        let PoolHandle { pool, is_made } = mem::replace(self, PoolHandle::empty(alloc));
+        let none = PoolHandle {
+            pool: PoolBox::from_held(HeldBox::empty(alloc)),
+            is_made: false,
+        };
+        let PoolHandle { pool, is_made } = mem::replace(self, none);
         if is_made {
             Some(pool.into_held().into_box())
         } else {
@@ -87,7 +73,11 @@ impl PoolHandle {
         ensures within { IsWithinCaps pool.value }
     {
         pool.show_within();
-        let PoolHandle { pool, is_made: _ } = mem::replace(self, PoolHandle::from_box(pool));
+        let made = PoolHandle {
+            pool: PoolBox::from_held(HeldBox::from_box(pool)),
+            is_made: true,
+        };
+        let PoolHandle { pool, is_made: _ } = mem::replace(self, made);
         pool.into_held().end();
     }
 
