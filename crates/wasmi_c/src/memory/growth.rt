@@ -121,14 +121,7 @@ fn are_about(
     ensures about { result ≡ is_about answers.now
         (memory_growth (memory_in ty region.now memory.now.size) pages) }
 {
-    if memory.size != answers.current {
-        return false;
-    }
-    if pages == 0 {
-        return true;
-    }
-    match region_memory::question(ty, memory.size, pages) {
-        Some((desired, _)) => desired == answers.desired,
-        None => true,
-    }
+    let asked = region_memory::question(ty, memory.size, pages);
+    let is_desired = asked.is_none_or(|(desired, _)| desired == answers.desired);
+    memory.size == answers.current && (pages == 0 || is_desired)
 }

@@ -126,14 +126,7 @@ fn are_about(
     ensures about { result ≡ is_about answers.now
         (region_growth (length region.now) delta _reference (table_in ty region.now table.now.size)) }
 {
-    if table.size != answers.current {
-        return false;
-    }
-    if delta == 0 {
-        return true;
-    }
-    match region_table::question(ty, table.size, delta) {
-        Some((desired, _)) => desired == answers.desired,
-        None => true,
-    }
+    let asked = region_table::question(ty, table.size, delta);
+    let is_desired = asked.is_none_or(|(desired, _)| desired == answers.desired);
+    table.size == answers.current && (delta == 0 || is_desired)
 }
