@@ -1,8 +1,8 @@
 //! A machine with the limiter that it asks.
-ghost use Rattle.std.specs.Prelude.{◌≡◌, IfOk, ◌↔◌, IsTrue, ℕ, List, OnErr};
+ghost use Rattle.std.specs.Prelude.{◌≡◌, IfOk, ◌↔◌, IsTrue, MatchResult, OnErr};
 ghost use Rattle.wasmi_meter.specs.AnyLimiter.{caps_of};
 ghost use Rattle.wasmi_core.specs.declared.calls.Call.TheVariants.{NewSegment, Write};
-ghost use Rattle.wasmi_c.specs.Machine.Calls.{ReadsOut, MachineRuns, RunsLines, WritesOut, no_header};
+ghost use Rattle.wasmi_c.specs.Machine.Calls.{ReadsOut, MachineRuns, RefusesLines, RunsLines, WritesOut, no_header};
 ghost use Rattle.wasmi_grammar.specs.Lines.{WritesScript};
 ghost use Rattle.wasmi_script.specs.Outcomes.{replies_text};
 
@@ -191,23 +191,10 @@ impl LimitedMachine {
         ensures lines { RunsLines lines.now self.old text.old result text.new self.new }
         ensures caps { caps_of self.new.limiter ≡ caps_of self.old.limiter }
     {
-        match parse(alloc, lines) {
-            Ok(script) => self.run_script(&script, text),
-            Err(ParseError::BadCommand { line }) => ReplyStruct::with_number(BAD_LINE, line as u64),
-            Err(ParseError::OutOfMemory) => ReplyStruct::only(NO_ROOM),
-        }
-    }
-
-    /// Runs a script without header lines, whatever lines write it.
-    #[tactic(auto, unfolding(crate::specs::Machine::Calls::RunsLines))]
-    fn run_script(&mut self, script: &Script, text: &mut [u8]) -> ReplyStruct
-        ensures lines { (lines : List ℕ) → WritesScript lines script.now
-            → RunsLines lines self.old text.old result text.new self.new }
-        ensures caps { caps_of self.new.limiter ≡ caps_of self.old.limiter }
-    {
-        if !is_empty(&script.header) {
-            return ReplyStruct::only(HEADER_LINE);
-        }
+        let script = match headless(alloc, lines) {
+            Ok(script) => script,
+            Err(refusal) => return refusal,
+        };
         let calls = script.parts.calls();
         let Ok(replies) = self.run(calls) else {
             return ReplyStruct::only(NO_ROOM);
@@ -252,8 +239,29 @@ pub(crate) fn read_out(
     }
 }
 
+/// The script that lines write, if it has no header lines; else why they aren't run.
+pub(crate) fn headless(alloc: Global, lines: &[u8]) -> Result<Script, ReplyStruct>
+    ensures { MatchResult result
+        (λ script. WritesScript lines.now script × (script.header ≡ no_header))
+        (λ refusal. RefusesLines lines.now refusal) }
+{
+    match parse(alloc, lines) {
+        Ok(script) => {
+            if is_empty(&script.header) {
+                Ok(script)
+            } else {
+                Err(ReplyStruct::only(HEADER_LINE))
+            }
+        }
+        Err(ParseError::BadCommand { line }) => {
+            Err(ReplyStruct::with_number(BAD_LINE, line as u64))
+        }
+        Err(ParseError::OutOfMemory) => Err(ReplyStruct::only(NO_ROOM)),
+    }
+}
+
 /// Whether there is no header line.
-pub(crate) fn is_empty(header: &Header) -> bool
+fn is_empty(header: &Header) -> bool
     ensures { IsTrue result ↔ (header.now ≡ no_header) }
 {
     header.meter.is_none() && header.limiter.is_none() && header.region.is_none()
@@ -264,8 +272,6 @@ pub(crate) fn write_out(calls: &[Call], replies: &[Reply], bytes: &mut [u8]) -> 
     ensures text { WritesOut (replies_text calls.now replies.now) bytes.old result bytes.new }
 {
     let length = write_lines(bytes, calls, replies);
-    if length == usize::MAX {
-        return ReplyStruct::with_number(TEXT_CUT, u64::MAX);
-    }
-    ReplyStruct::with_number(DONE, length as u64)
+    let status = if length == usize::MAX { TEXT_CUT } else { DONE };
+    ReplyStruct::with_number(status, length as u64)
 }

@@ -1,18 +1,17 @@
 //! A pool whose tenants are called by numbers and by lines.
-ghost use Rattle.std.specs.Prelude.{◌≡◌, ℕ, IfErr, IfOk, List};
+ghost use Rattle.std.specs.Prelude.{◌≡◌, IfErr, IfOk};
 ghost use Rattle.wasmi_core.specs.declared.calls.Call.TheVariants.{Write};
 
 use crate::machine::call_struct::CallStruct;
-use crate::machine::limited_machine::{is_empty, read_out, write_out};
+use crate::machine::limited_machine::{headless, read_out, write_out};
 use crate::machine::limits::{Limits, Totals};
 use crate::machine::reply_struct::ReplyStruct;
-use crate::status::{BAD_LINE, DONE, HEADER_LINE, NO_CALL, NO_ROOM, NO_TENANT};
+use crate::status::{DONE, NO_CALL, NO_ROOM, NO_TENANT};
 use std::alloc::Global;
 use std::marker::Model;
 use std::slice;
 use wasmi_budget::{Pool, PoolError};
 use wasmi_core::{Call, Machine, Reply};
-use wasmi_grammar::{ParseError, Script, parse};
 
 /// A pool whose tenants are called by numbers and by lines.
 #[derive(Drop)]
@@ -30,7 +29,6 @@ impl Model for TenantPool {
 
 impl TenantPool {
     ghost use Rattle.wasmi_budget.specs.Pool.{IsWithinCaps, RunsTenant};
-    ghost use Rattle.wasmi_grammar.specs.Lines.{WritesScript};
     ghost use Rattle.wasmi_c.specs.Pool.{AddsNewTenant, RefusesTenant, RunsTenantLines, TenantReadsOut, TenantReplies, TenantRepliesToCopy, TenantRepliesToStruct, new_pool, pool_totals, tenant_totals};
 
     /// A pool with these caps and no tenant. It takes no memory.
@@ -147,23 +145,10 @@ impl TenantPool {
         ensures step { RunsTenantLines tenant lines.now text.old result text.new self.old self.new }
         ensures caps { self.new.caps ≡ self.old.caps }
     {
-        match parse(alloc, lines) {
-            Ok(script) => self.run_script(tenant, &script, text),
-            Err(ParseError::BadCommand { line }) => ReplyStruct::with_number(BAD_LINE, line as u64),
-            Err(ParseError::OutOfMemory) => ReplyStruct::only(NO_ROOM),
-        }
-    }
-
-    /// Runs a script without header lines on the machine of a tenant, whatever lines write it.
-    #[tactic(auto, unfolding(crate::specs::Pool::RunsTenantLines))]
-    fn run_script(&mut self, tenant: usize, script: &Script, text: &mut [u8]) -> ReplyStruct
-        ensures step { (lines : List ℕ) → WritesScript lines script.now
-            → RunsTenantLines tenant lines text.old result text.new self.old self.new }
-        ensures caps { self.new.caps ≡ self.old.caps }
-    {
-        if !is_empty(&script.header) {
-            return ReplyStruct::only(HEADER_LINE);
-        }
+        let script = match headless(alloc, lines) {
+            Ok(script) => script,
+            Err(refusal) => return refusal,
+        };
         let calls = script.parts.calls();
         let replies = match self.run(tenant, calls) {
             Ok(replies) => replies,
@@ -176,15 +161,12 @@ impl TenantPool {
     pub fn tenant_totals(&self, tenant: usize) -> Totals
         ensures { result ≡ tenant_totals tenant self.now }
     {
-        match (
-            self.pool.held_bytes(tenant),
-            self.pool.held_elements(tenant),
-        ) {
-            (Some(bytes), Some(elements)) => {
-                Totals::from_amounts(DONE, u128::from(bytes), u128::from(elements))
-            }
-            _ => Totals::from_amounts(NO_TENANT, 0, 0),
-        }
+        let pool = &self.pool;
+        let held = (pool.held_bytes(tenant), pool.held_elements(tenant));
+        let (Some(bytes), Some(elements)) = held else {
+            return Totals::from_amounts(NO_TENANT, 0, 0);
+        };
+        Totals::from_amounts(DONE, u128::from(bytes), u128::from(elements))
     }
 
     /// What all tenants' machines have.
