@@ -11,7 +11,7 @@ use Rattle.std.specs.declared.option.Option.{Option}
 use Rattle.std.specs.Io.KnownBytes.{Appends}
 use Rattle.std.proofs.KnownBytes.{Appends-nil, Appends-trans}
 use Rattle.wasmi_script.specs.declared.printing.Printer.{Printer}
-use Rattle.wasmi_script.specs.Printing.{AppendsFront, AddsText, Prints, PrintsFront, PrintsOut, Sends, SendsFront, AddsToFront, FillsFront, HasFront}
+use Rattle.wasmi_script.specs.Printing.{AppendsFront, AddsText, Flushes, Prints, PrintsFront, PrintsOut, Sends, SendsFront, AddsToFront, FillsFront, HasFront}
 use Rattle.std.proofs.lemmas.Bool.{cases_lt}
 use Rattle.std.proofs.Math.Seq.{take-append-add}
 use borrow.Rule.Slice.PartMut.{put_mid}
@@ -148,16 +148,26 @@ module _ {W : Type 0} (contents : W → Option (List ℕ)) where
   err_last result p q r s t text is first = err_weaker result (prints_last p q r s t text is first)
 
   -- a text that is printed, and then what waits
-  pub prints_out : (p q r : Printer W) (text : List ℕ) → Prints contents p q text → Sends contents q r
+  prints_out : (p q r : Printer W) (text : List ℕ) → Prints contents p q text → Sends contents q r
       → PrintsOut contents p r text
   prints_out p q r text printed sent =
       record { writer = sent.writer ∙ printed.writer; sent = passes_flushed _ _ _ _ _ text printed.passed sent.sent }
 
   -- a text that is printed, and then a front of what waits
-  pub prints_out_front : (p q r : Printer W) (text : List ℕ) → Prints contents p q text → SendsFront contents q r
+  prints_out_front : (p q r : Printer W) (text : List ℕ) → Prints contents p q text → SendsFront contents q r
       → PrintsFront contents p r text
   prints_out_front p q r text printed sent =
       record { writer = sent.writer ∙ printed.writer; sent = front_flushed _ _ _ _ _ text printed.passed sent.sent }
+
+  -- a text that is printed or not, and then what waits if it is
+  pub flushed : {E : Type 0} (printed result : Result (Unit {0}) E) (p q r : Printer W) (text : List ℕ)
+      → OnOk printed (Prints contents p q text) → OnErr printed (PrintsFront contents p q text)
+      → Flushes contents printed q result r
+      → OnOk result (PrintsOut contents p r text) × OnErr result (PrintsFront contents p r text)
+  flushed (Ok x) (Ok y) p q r text ok front sent = (prints_out p q r text ok sent, tt)
+  flushed (Ok x) (Err e) p q r text ok front sent = (tt, prints_out_front p q r text ok sent)
+  flushed (Err e) (Ok y) p q r text ok front sent = absurd sent
+  flushed (Err e) (Err e') p q r text ok front same = (tt, subst (λ r. PrintsFront contents p r text) (sym same) front)
 
   -- a text waits beside what waited
   waits : (p q : Printer W) (text : List ℕ) → q.writer ≡ p.writer → q.chunk.bytes ≡ p.chunk.bytes ++ text

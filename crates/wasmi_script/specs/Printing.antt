@@ -1,5 +1,5 @@
 -- What of a text reaches a writer, or the front of bytes.
-use Rattle.std.specs.Prelude.{◌≡◌, ◌<◌, ℕ, List, ◌++◌, codes, length, IfSome, Option, ◌-◌, ◌^◌, [], take, drop, min, None, Some}
+use Rattle.std.specs.Prelude.{◌≡◌, ◌<◌, ℕ, List, ◌++◌, codes, length, IfSome, Result, Ok, Err, Option, ◌-◌, ◌^◌, [], take, drop, min, None, Some}
 use Rattle.std.specs.Io.KnownBytes.{Appends}
 use Rattle.wasmi_script.specs.declared.printing.Printer.{Printer}
 use Rattle.wasmi_script.specs.declared.printing.TheConstants.{LONGEST}
@@ -48,6 +48,14 @@ pub record Sends {W : Type 0} (contents : W → Option (List ℕ)) (old new : Pr
 pub record SendsFront {W : Type 0} (contents : W → Option (List ℕ)) (old new : Printer W) : Type 0 where
   pub writer : new.writer.ghost_name ≡ old.writer.ghost_name
   pub sent : AppendsFront (contents old.writer.now) (contents new.writer.now) old.chunk.bytes
+
+-- what waits is out if all texts were printed, or a front of it where the writer fails; else nothing more goes out
+abbrev pub Flushes : {W E : Type 0} → (W → Option (List ℕ)) → Result (Unit {0}) E → Printer W → Result (Unit {0}) E
+    → Printer W → Type 0
+Flushes contents (Ok x) old (Ok y) new = Sends contents old new
+Flushes contents (Ok x) old (Err e) new = SendsFront contents old new
+Flushes contents (Err e) old (Ok y) new = ⊥
+Flushes contents (Err e) old (Err e') new = new ≡ old
 
 -- as much of a text as fits stands at the front of bytes, and those after it stay
 abbrev pub FillsFront : List ℕ → List ℕ → List ℕ → Type 0

@@ -4,7 +4,7 @@ ghost use Rattle.wasmi_grammar.specs.declared.error.ParseError.TheVariants.{OutO
 ghost use Rattle.wasmi_script.specs.Texts.{error_text};
 ghost use Rattle.wasmi_script.specs.declared.error.ReplayError.TheVariants.{Parse};
 
-use std::alloc::{AllocError, AllocFailed};
+use std::alloc::AllocError;
 use std::fmt;
 use wasmi_grammar::ParseError;
 
@@ -38,14 +38,6 @@ impl From<AllocError> for ReplayError {
     ghost from_gives = { λ _ error. error ≡ Parse OutOfMemory };
 
     fn from(_: AllocError) -> Self {
-        ReplayError::Parse(ParseError::OutOfMemory)
-    }
-}
-
-impl<T: Drop> From<AllocFailed<T>> for ReplayError {
-    ghost from_gives = { λ _ error. error ≡ Parse OutOfMemory };
-
-    fn from(_: AllocFailed<T>) -> Self {
         ReplayError::Parse(ParseError::OutOfMemory)
     }
 }

@@ -1,7 +1,7 @@
 //! The lines that a replay prints, by its outcome, and the printer that they go through.
 ghost use Rattle.std.specs.Prelude.{◌≡◌, ◌+◌, ◌≤◌, [], length, Some, IsOk, OnOk, OnErr, IfSome};
 ghost use Rattle.std.specs.Io.KnownBytes.{Appends};
-ghost use Rattle.wasmi_script.specs.Printing.{AppendsFront, IsShort, Prints, PrintsFront, PrintsOut, Sends, SendsFront, line};
+ghost use Rattle.wasmi_script.specs.Printing.{AppendsFront, Flushes, IsShort, Prints, PrintsFront, Sends, SendsFront, line};
 ghost use Rattle.wasmi_script.specs.Texts.{reply_text, head_text, bytes_in};
 ghost use Rattle.wasmi_script.specs.Outcomes.{replies_text, tenants_text, held_text, outcome_text};
 
@@ -38,11 +38,15 @@ pub fn print<W: io::Write>(writer: &mut W, outcome: &Result<Replayed, ReplayErro
     ensures front { OnErr result
         (AppendsFront (W.contents writer.old) (W.contents writer.new) (outcome_text outcome.now)) }
 {
-    let mut printer = Printer::new(writer);
-    let printed = print_all(&mut printer, outcome);
+    let mut printer = Printer {
+        writer,
+        chunk: ArrayString::new(),
+    };
+    let printed = print_outcome(&mut printer, outcome);
+    let flushed = printer.flush(printed);
     // No effect at run time: the proof reads what the writer has from this use.
-    let _ = &*printer.into_writer();
-    printed
+    let _ = &*printer.writer;
+    flushed
 }
 
 /// Prints a line for each call with its reply, to the last byte.
@@ -52,40 +56,15 @@ pub fn print_lines<W: io::Write>(writer: &mut W, calls: &[Call], replies: &[Repl
     ensures front { OnErr result (AppendsFront (W.contents writer.old) (W.contents writer.new)
         (replies_text calls.now replies.now)) }
 {
-    let mut printer = Printer::new(writer);
-    let printed = print_all_replies(&mut printer, calls, replies);
+    let mut printer = Printer {
+        writer,
+        chunk: ArrayString::new(),
+    };
+    let printed = print_replies(&mut printer, calls, replies);
+    let flushed = printer.flush(printed);
     // No effect at run time: the proof reads what the writer has from this use.
-    let _ = &*printer.into_writer();
-    printed
-}
-
-/// Prints a line for each call with its reply, and flushes the writer.
-fn print_all_replies<W: io::Write>(
-    printer: &mut Printer<'_, W>,
-    calls: &[Call],
-    replies: &[Reply],
-) -> fmt::Result
-    ensures ok { OnOk result
-        (PrintsOut W.contents printer.old printer.new (replies_text calls.now replies.now)) }
-    ensures front { OnErr result
-        (PrintsFront W.contents printer.old printer.new (replies_text calls.now replies.now)) }
-{
-    print_replies(printer, calls, replies)?;
-    printer.flush()
-}
-
-/// Prints the outcome and flushes the writer.
-fn print_all<W: io::Write>(
-    printer: &mut Printer<'_, W>,
-    outcome: &Result<Replayed, ReplayError>,
-) -> fmt::Result
-    ensures ok { OnOk result
-        (PrintsOut W.contents printer.old printer.new (outcome_text outcome.now)) }
-    ensures front { OnErr result
-        (PrintsFront W.contents printer.old printer.new (outcome_text outcome.now)) }
-{
-    print_outcome(printer, outcome)?;
-    printer.flush()
+    let _ = &*printer.writer;
+    flushed
 }
 
 /// Prints a line for each call and what is held, or why the script isn't run.
@@ -216,18 +195,7 @@ pub struct Printer<'w, W> {
     chunk: ArrayString<CHUNK>,
 }
 
-impl<'w, W: io::Write> Printer<'w, W> {
-    /// Text that goes to this writer.
-    pub fn new(writer: &'w mut W) -> Self
-        ensures writer { result.writer ≡ writer.entry }
-        ensures chunk { result.chunk.bytes ≡ [] }
-    {
-        Printer {
-            writer,
-            chunk: ArrayString::new(),
-        }
-    }
-
+impl<W: io::Write> Printer<'_, W> {
     /// Prints a text of less than `LONGEST` bytes.
     pub fn print<D: Display + Drop>(&mut self, text: D) -> fmt::Result
         requires short { IsShort (D.output text) }
@@ -265,20 +233,13 @@ impl<'w, W: io::Write> Printer<'w, W> {
         Ok(())
     }
 
-    /// Sends what waits to the writer, and flushes it.
-    pub fn flush(&mut self) -> fmt::Result
-        ensures ok { OnOk result (Sends W.contents self.old self.new) }
-        ensures front { OnErr result (SendsFront W.contents self.old self.new) }
+    /// Sends what waits to the writer, and flushes it, if all texts were printed.
+    pub fn flush(&mut self, printed: fmt::Result) -> fmt::Result
+        ensures { Flushes W.contents printed self.old result self.new }
     {
+        printed?;
         self.send()?;
         self.writer.flush().map_err(|_| fmt::Error)
-    }
-
-    /// The writer.
-    pub fn into_writer(self) -> &'w mut W
-        ensures { result ≡ self.entry.writer }
-    {
-        self.writer
     }
 
     /// Sends what waits to the writer.

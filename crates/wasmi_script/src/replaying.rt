@@ -58,7 +58,7 @@ pub fn replay<R: io::Read, W: io::Write>(alloc: Global, reader: &mut R, writer: 
 fn outcome_of<R: io::Read>(alloc: Global, reader: &mut R) -> Result<Replayed, ReplayError>
     ensures outcome { IsOutcomeOfReader (R.remaining reader.old) result }
 {
-    let bytes = read(alloc, &mut CountedReader::new(reader))?;
+    let bytes = read(alloc, &mut CountedReader { reader, taken: 0 })?;
     let script = parse(alloc, bytes.as_slice())?;
     let ran = run_script(alloc, &script)?;
     Ok(Replayed { script, ran })
@@ -86,15 +86,7 @@ struct CountedReader<'r, R> {
     taken: usize,
 }
 
-impl<'r, R: io::Read> CountedReader<'r, R> {
-    /// A reader that took no turn yet.
-    fn new(reader: &'r mut R) -> Self
-        ensures reader { result.reader ≡ reader.entry }
-        ensures taken { result.taken ≡ 0 }
-    {
-        CountedReader { reader, taken: 0 }
-    }
-
+impl<R: io::Read> CountedReader<'_, R> {
     /// One turn more.
     fn turn(&mut self, buffer: &mut [u8]) -> io::Result<usize>
         requires turns { self.old.taken ≤ script_limit }

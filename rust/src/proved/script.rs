@@ -3,7 +3,7 @@ mod error {
     //! Why a script isn't run to its end.
 
     use crate::proved::grammar::ParseError;
-    use crate::rattle::alloc::{AllocError, AllocFailed};
+    use crate::rattle::alloc::AllocError;
     use std::fmt;
 
     /// Why a script isn't run. The text is what the program prints.
@@ -48,18 +48,6 @@ mod error {
     impl From<AllocError> for ReplayError {
         #[inline]
         fn from(_: AllocError) -> Self {
-            ReplayError::Parse(ParseError::OutOfMemory)
-        }
-    }
-
-    /// # Contract
-    ///
-    /// ```text
-    /// from_gives = λ _ error. error ≡ Parse OutOfMemory
-    /// ```
-    impl<T> From<AllocFailed<T>> for ReplayError {
-        #[inline]
-        fn from(_: AllocFailed<T>) -> Self {
             ReplayError::Parse(ParseError::OutOfMemory)
         }
     }
@@ -324,11 +312,15 @@ mod printing {
         writer: &mut W,
         outcome: &Result<Replayed, ReplayError>,
     ) -> fmt::Result {
-        let mut printer = Printer::new(writer);
-        let printed = print_all(&mut printer, outcome);
+        let mut printer = Printer {
+            writer,
+            chunk: ArrayString::new(),
+        };
+        let printed = print_outcome(&mut printer, outcome);
+        let flushed = printer.flush(printed);
         // No effect at run time: the proof reads what the writer has from this use.
-        let _ = &*printer.into_writer();
-        printed
+        let _ = &*printer.writer;
+        flushed
     }
 
     /// Prints a line for each call with its reply, to the last byte.
@@ -349,54 +341,15 @@ mod printing {
         calls: &[Call],
         replies: &[Reply],
     ) -> fmt::Result {
-        let mut printer = Printer::new(writer);
-        let printed = print_all_replies(&mut printer, calls, replies);
+        let mut printer = Printer {
+            writer,
+            chunk: ArrayString::new(),
+        };
+        let printed = print_replies(&mut printer, calls, replies);
+        let flushed = printer.flush(printed);
         // No effect at run time: the proof reads what the writer has from this use.
-        let _ = &*printer.into_writer();
-        printed
-    }
-
-    /// Prints a line for each call with its reply, and flushes the writer.
-    ///
-    /// # Contract
-    ///
-    /// ```text
-    /// ensures ok: OnOk result
-    ///     (PrintsOut W.contents printer.old printer.new (replies_text calls.now replies.now))
-    /// ensures front: OnErr result
-    ///     (PrintsFront W.contents printer.old printer.new (replies_text calls.now replies.now))
-    /// ```
-    ///
-    /// Definitions: [`PrintsOut`](crate::specs::script::Printing#PrintsOut), [`replies_text`](crate::specs::script::Outcomes#replies_text), [`PrintsFront`](crate::specs::script::Printing#PrintsFront).
-    #[inline]
-    fn print_all_replies<W: io::Write>(
-        printer: &mut Printer<'_, W>,
-        calls: &[Call],
-        replies: &[Reply],
-    ) -> fmt::Result {
-        print_replies(printer, calls, replies)?;
-        printer.flush()
-    }
-
-    /// Prints the outcome and flushes the writer.
-    ///
-    /// # Contract
-    ///
-    /// ```text
-    /// ensures ok: OnOk result
-    ///     (PrintsOut W.contents printer.old printer.new (outcome_text outcome.now))
-    /// ensures front: OnErr result
-    ///     (PrintsFront W.contents printer.old printer.new (outcome_text outcome.now))
-    /// ```
-    ///
-    /// Definitions: [`PrintsOut`](crate::specs::script::Printing#PrintsOut), [`outcome_text`](crate::specs::script::Outcomes#outcome_text), [`PrintsFront`](crate::specs::script::Printing#PrintsFront).
-    #[inline]
-    fn print_all<W: io::Write>(
-        printer: &mut Printer<'_, W>,
-        outcome: &Result<Replayed, ReplayError>,
-    ) -> fmt::Result {
-        print_outcome(printer, outcome)?;
-        printer.flush()
+        let _ = &*printer.writer;
+        flushed
     }
 
     /// Prints a line for each call and what is held, or why the script isn't run.
@@ -580,23 +533,7 @@ mod printing {
         chunk: ArrayString<CHUNK>,
     }
 
-    impl<'w, W: io::Write> Printer<'w, W> {
-        /// Text that goes to this writer.
-        ///
-        /// # Contract
-        ///
-        /// ```text
-        /// ensures writer: result.writer ≡ writer.entry
-        /// ensures chunk: result.chunk.bytes ≡ []
-        /// ```
-        #[inline]
-        pub fn new(writer: &'w mut W) -> Self {
-            Printer {
-                writer,
-                chunk: ArrayString::new(),
-            }
-        }
-
+    impl<W: io::Write> Printer<'_, W> {
         /// Prints a text of less than `LONGEST` bytes.
         ///
         /// # Contract
@@ -655,32 +592,20 @@ mod printing {
             Ok(())
         }
 
-        /// Sends what waits to the writer, and flushes it.
+        /// Sends what waits to the writer, and flushes it, if all texts were printed.
         ///
         /// # Contract
         ///
         /// ```text
-        /// ensures ok: OnOk result (Sends W.contents self.old self.new)
-        /// ensures front: OnErr result (SendsFront W.contents self.old self.new)
+        /// ensures: Flushes W.contents printed self.old result self.new
         /// ```
         ///
-        /// Definitions: [`Sends`](crate::specs::script::Printing#Sends), [`SendsFront`](crate::specs::script::Printing#SendsFront).
+        /// Definitions: [`Flushes`](crate::specs::script::Printing#Flushes).
         #[inline]
-        pub fn flush(&mut self) -> fmt::Result {
+        pub fn flush(&mut self, printed: fmt::Result) -> fmt::Result {
+            printed?;
             self.send()?;
             self.writer.flush().map_err(|_| fmt::Error)
-        }
-
-        /// The writer.
-        ///
-        /// # Contract
-        ///
-        /// ```text
-        /// ensures: result ≡ self.entry.writer
-        /// ```
-        #[inline]
-        pub fn into_writer(self) -> &'w mut W {
-            self.writer
         }
 
         /// Sends what waits to the writer.
@@ -804,7 +729,7 @@ mod replaying {
     /// Definitions: [`IsOutcomeOfReader`](crate::specs::script::Outcomes#IsOutcomeOfReader).
     #[inline]
     fn outcome_of<R: io::Read>(reader: &mut R) -> Result<Replayed, ReplayError> {
-        let bytes = read(&mut CountedReader::new(reader))?;
+        let bytes = read(&mut CountedReader { reader, taken: 0 })?;
         let script = parse(bytes.as_slice())?;
         let ran = run_script(&script)?;
         Ok(Replayed { script, ran })
@@ -838,20 +763,7 @@ mod replaying {
         taken: usize,
     }
 
-    impl<'r, R: io::Read> CountedReader<'r, R> {
-        /// A reader that took no turn yet.
-        ///
-        /// # Contract
-        ///
-        /// ```text
-        /// ensures reader: result.reader ≡ reader.entry
-        /// ensures taken: result.taken ≡ 0
-        /// ```
-        #[inline]
-        fn new(reader: &'r mut R) -> Self {
-            CountedReader { reader, taken: 0 }
-        }
-
+    impl<R: io::Read> CountedReader<'_, R> {
         /// One turn more.
         ///
         /// # Contract

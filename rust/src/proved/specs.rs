@@ -6597,7 +6597,7 @@ pub record <b id="Replays">Replays</b> (given old new : Option (List ℕ)) (stat
     pub mod Outcomes {}
     #[doc = r####"What of a text reaches a writer, or the front of bytes.
 
-<pre><code>use Rattle.std.specs.Prelude.{◌≡◌, ◌&lt;◌, ℕ, List, ◌++◌, codes, length, IfSome, Option, ◌-◌, ◌^◌, [], take, drop, min, None, Some}
+<pre><code>use Rattle.std.specs.Prelude.{◌≡◌, ◌&lt;◌, ℕ, List, ◌++◌, codes, length, IfSome, Result, Ok, Err, Option, ◌-◌, ◌^◌, [], take, drop, min, None, Some}
 use Rattle.std.specs.Io.KnownBytes.{Appends}
 use Rattle.wasmi_script.specs.declared.printing.Printer.{Printer}
 use Rattle.wasmi_script.specs.declared.printing.TheConstants.{LONGEST}
@@ -6646,6 +6646,14 @@ pub record <b id="Sends">Sends</b> {W : Type 0} (contents : W → Option (List �
 pub record <b id="SendsFront">SendsFront</b> {W : Type 0} (contents : W → Option (List ℕ)) (old new : Printer W) : Type 0 where
   pub <b id="writer">writer</b> : new.writer.ghost_name ≡ old.writer.ghost_name
   pub <b id="sent">sent</b> : <a href="../../script/Printing/index.html#AppendsFront">AppendsFront</a> (contents old.writer.now) (contents new.writer.now) old.chunk.bytes
+
+-- what waits is out if all texts were printed, or a front of it where the writer fails; else nothing more goes out
+abbrev pub <b id="Flushes">Flushes</b> : {W E : Type 0} → (W → Option (List ℕ)) → Result (Unit {0}) E → Printer W → Result (Unit {0}) E
+    → Printer W → Type 0
+<a href="../../script/Printing/index.html#Flushes">Flushes</a> contents (Ok x) old (Ok y) new = <a href="../../script/Printing/index.html#Sends">Sends</a> contents old new
+<a href="../../script/Printing/index.html#Flushes">Flushes</a> contents (Ok x) old (Err e) new = <a href="../../script/Printing/index.html#SendsFront">SendsFront</a> contents old new
+<a href="../../script/Printing/index.html#Flushes">Flushes</a> contents (Err e) old (Ok y) new = ⊥
+<a href="../../script/Printing/index.html#Flushes">Flushes</a> contents (Err e) old (Err e&#x27;) new = new ≡ old
 
 -- as much of a text as fits stands at the front of bytes, and those after it stay
 abbrev pub <b id="FillsFront">FillsFront</b> : List ℕ → List ℕ → List ℕ → Type 0

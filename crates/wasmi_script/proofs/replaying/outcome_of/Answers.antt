@@ -1,7 +1,7 @@
 use Rattle.std.proofs.Common.{◌≡◌, ◌≤◌, ℕ, Err, IfSome, List, Option, length, arith, rules, sym, ap, subst}
 use Rattle.wasmi_grammar.specs.declared.error.ParseError.TheVariants.{OutOfMemory}
 use Rattle.wasmi_script.specs.declared.error.ReplayError.TheVariants.{Parse}
-use Rattle.wasmi_script.specs.Outcomes.{IsReadError, script_limit, IsOutcomeOfReader}
+use Rattle.wasmi_script.specs.Outcomes.{script_limit, IsOutcomeOfReader}
 use Rattle.wasmi_script.proofs.OutcomesLemmas.{told_by, wanting, unread, unparsed}
 use Rattle.wasmi_script.proofs.replaying.outcome_of.Goals as goal
 
@@ -9,23 +9,18 @@ pub returns-in_err-bytes : goal.returns-in_err-bytes
 returns-in_err-bytes g c =
     let given = g.R.Read.remaining c.args.reader.now in
     let same : c.from_residual.result ≡ Err c.in_err-bytes.field-0.0 = search rules in
-    let refused : IsReadError given c.in_err-bytes.field-0.0 =
-    subst (λ r. IsReadError (g.R.Read.remaining r.now) c.in_err-bytes.field-0.0) c.new.ensures.reader
-    c.in_err-bytes.ensures.refused in
-    record { outcome = subst (IsOutcomeOfReader given) (sym same) (unread given _ refused) }
+    record { outcome = subst (IsOutcomeOfReader given) (sym same) (unread given _ c.in_err-bytes.ensures.refused) }
 
 -- bytes that are read whole are those that are left of a reader
-read_whole : {X : Type 0} (x y : X) (left : X → Option (List ℕ)) (items bytes : List ℕ) → x ≡ y → bytes ≡ items
-    → IfSome (left x) (λ told. items ≡ told) → IfSome (left y) (λ told. bytes ≡ told)
-read_whole x y left items bytes same is whole = subst (λ bs. IfSome (left y) (λ told. bs ≡ told)) (sym is)
-    (subst (λ r. IfSome (left r) (λ told. items ≡ told)) same whole)
+read_whole : (given : Option (List ℕ)) (items bytes : List ℕ) → bytes ≡ items → IfSome given (λ told. items ≡ told)
+    → IfSome given (λ told. bytes ≡ told)
+read_whole given items bytes is = subst (λ bs. IfSome given (λ told. bs ≡ told)) (sym is)
 
 pub returns-in_err-script : goal.returns-in_err-script
 returns-in_err-script g c =
     let given = g.R.Read.remaining c.args.reader.now in
     let same : c.from_residual-in_err-script.result ≡ Err (Parse c.in_err-script.field-0.0) = search rules in
-    let known = read_whole c.new.result.reader _ (λ r. g.R.Read.remaining r.now) _ c.as_slice.result.now
-    c.new.ensures.reader c.as_slice.ensures.value c.in_ok-bytes.ensures.whole in
+    let known = read_whole given _ c.as_slice.result.now c.as_slice.ensures.value c.in_ok-bytes.ensures.whole in
     let short : length c.as_slice.result.now ≤ script_limit =
     omega (arith, c.in_ok-bytes.ensures.bounded, ap length c.as_slice.ensures.value, c.in_ok-bytes.bytes.ok.0) in
     record {
@@ -43,8 +38,7 @@ pub returns : goal.returns
 returns g c =
     let given = g.R.Read.remaining c.args.reader.now in
     let bytes = c.as_slice.result.now in
-    let known = read_whole c.new.result.reader _ (λ r. g.R.Read.remaining r.now) _ bytes
-    c.new.ensures.reader c.as_slice.ensures.value c.in_ok-bytes.ensures.whole in
+    let known = read_whole given _ bytes c.as_slice.ensures.value c.in_ok-bytes.ensures.whole in
     let short : length bytes ≤ script_limit =
     omega (arith, c.in_ok-bytes.ensures.bounded, ap length c.as_slice.ensures.value, c.in_ok-bytes.bytes.ok.0) in
     record { outcome = (bytes, told_by given bytes known, (short, c.in_ok-script.ensures.script, c.in_ok-ran.ensures)) }
