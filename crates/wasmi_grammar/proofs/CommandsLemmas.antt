@@ -144,11 +144,11 @@ refused_form word words error result is =
     names.0 (form words call names.1))
 
 -- the same, where the word is known by an equation
-pub refused_named : (name word : List ℕ) (words : LineWords) (error : LineError) (result : Result Call LineError)
-    → name ≡ word → result ≡ Err error
+pub refused_named : {name word : List ℕ} (words : LineWords) {error : LineError} {result : Result Call LineError}
+    → result ≡ Err error → name ≡ word
     → Accepts {A = (form_in forms word).0} (Err error) ((form_in forms word).1 words)
     → Accepts result (NamesAfter name words)
-refused_named name word words error result same is refused =
+refused_named {name} {word} words {error} {result} is same refused =
     subst (λ name. Accepts result (NamesAfter name words)) (sym same) (refused_form word words error result is refused)
 
 -- the text of the word at a place, as the code takes the word

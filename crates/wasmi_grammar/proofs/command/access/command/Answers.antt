@@ -1,29 +1,20 @@
-use Rattle.std.proofs.Common.{codes, rules}
+use Rattle.std.proofs.Common.{rules}
 use Rattle.wasmi_operands.proofs.LineWordsLemmas.{refused_with}
 use Rattle.wasmi_grammar.proofs.CommandsLemmas.{refused_named}
 use Rattle.wasmi_grammar.proofs.command.access.command.Goals as goal
 
 pub returns-in_err-op-in-load : goal.returns-in_err-op-in-load
-returns-in_err-op-in-load c = record {
-  call = refused_named _ (codes "load") c.args.operands.now c.in_err-op-in-load.field-0.0 _ c.in-load.is (search rules)
-      c.in_err-op-in-load.ensures;
-}
+returns-in_err-op-in-load c = record { call = refused_named _ (search rules) c.in-load.is c.in_err-op-in-load.ensures }
 
 pub returns-in_err-op-in-vload : goal.returns-in_err-op-in-vload
-returns-in_err-op-in-vload c = record {
-  call = refused_named _ (codes "vload") c.args.operands.now c.in_err-op-in-vload.field-0.0 _ c.in-vload.is (search rules)
-      c.in_err-op-in-vload.ensures;
-}
+returns-in_err-op-in-vload c = record { call = refused_named _ (search rules) c.in-vload.is c.in_err-op-in-vload.ensures }
 
 pub returns-in_err-a-in-vstore : goal.returns-in_err-a-in-vstore
-returns-in_err-a-in-vstore c = record {
-  call = refused_named _ (codes "vstore") c.args.operands.now c.in_err-a-in-vstore.field-0.0 _ c.in-vstore.is (search rules)
-      c.in_err-a-in-vstore.ensures;
-}
+returns-in_err-a-in-vstore c = record { call = refused_named _ (search rules) c.in-vstore.is c.in_err-a-in-vstore.ensures }
 
 pub returns-in_err-op-in-store : goal.returns-in_err-op-in-store
 returns-in_err-op-in-store c = record {
-  call = refused_named _ (codes "store") c.args.operands.now c.in_err-op-in-store.field-0.0 _ c.in-store.is (search rules)
+  call = refused_named _ (search rules) c.in-store.is
       (refused_with c.in_err-op-in-store.field-0.0 _ _
       (λ a w. ((a.0, a.1, a.2, a.3, w.5), (w.0, w.1, w.2, w.3, w.4, w.6))) c.in_err-op-in-store.ensures);
 }
