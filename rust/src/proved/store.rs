@@ -427,23 +427,6 @@ mod memory {
             /// # Contract
             ///
             /// ```text
-            /// requires inside: end ≤ length (block R.bytes self.now)
-            /// ensures value: result.now ≡ take end (block R.bytes self.now)
-            /// ```
-            ///
-            /// Definitions: [`block`](crate::specs::store::Buffer#block).
-            #[inline]
-            fn front(&self, end: usize) -> &[u8] {
-                let whole = match self {
-                    Storage::Owned(bytes) => bytes.as_slice(),
-                    Storage::Lent(region) => region.whole(),
-                };
-                &whole[..end]
-            }
-
-            /// # Contract
-            ///
-            /// ```text
             /// requires inside: end ≤ length (block R.bytes self.old)
             /// ensures* writes_back: sem 𝓛 (Lends (the_row R.row) (Array u8 0) self.entry result
             ///     (block_refilled R.refilled self.old end))
@@ -493,7 +476,11 @@ mod memory {
             /// ```
             #[inline]
             pub fn data(&self) -> &[u8] {
-                self.storage.front(self.len)
+                let block = match &self.storage {
+                    Storage::Owned(bytes) => bytes.as_slice(),
+                    Storage::Lent(region) => region.whole(),
+                };
+                &block[..self.len]
             }
 
             /// The bytes, which may be overwritten.
@@ -601,13 +588,9 @@ mod memory {
             /// Definitions: [`zeros_in`](crate::specs::store::Buffer#zeros_in), [`Owned`](crate::specs::store::Buffer#Owned).
             #[inline]
             pub fn new(size: usize) -> Result<ByteBuffer<'r>, MemoryError> {
-                match Vec::filled(0u8, size) {
-                    Ok(bytes) => Ok(Buffer {
-                        storage: Storage::Owned(bytes),
-                        len: size,
-                    }),
-                    Err(_) => Err(MemoryError::OutOfSystemMemory),
-                }
+                let bytes = Vec::filled(0u8, size).map_err(|_| MemoryError::OutOfSystemMemory)?;
+                let storage = Storage::Owned(bytes);
+                Ok(Buffer { storage, len: size })
             }
 
             /// A buffer of `size` zeros at the front of a borrowed one. It allocates nothing, and the bytes
@@ -638,10 +621,8 @@ mod memory {
                 }
                 let front = &mut region[..size];
                 front.fill(0);
-                Ok(Buffer {
-                    storage: Storage::Lent(region),
-                    len: size,
-                })
+                let storage = Storage::Lent(region);
+                Ok(Buffer { storage, len: size })
             }
         }
     }
@@ -687,23 +668,6 @@ mod memory {
                 match self {
                     PageSize::Byte => 1,
                     PageSize::Wasm => 65536,
-                }
-            }
-
-            /// The number of whole pages in so many bytes. Each arm divides by a number that LLVM knows.
-            ///
-            /// # Contract
-            ///
-            /// ```text
-            /// ensures: result ≡ bytes / page_bytes self
-            /// ```
-            ///
-            /// Definitions: [`page_bytes`](crate::specs::store::Memory#page_bytes).
-            #[inline]
-            fn pages_in(self, bytes: u64) -> u64 {
-                match self {
-                    PageSize::Byte => bytes,
-                    PageSize::Wasm => bytes / 65536,
                 }
             }
 
@@ -921,7 +885,7 @@ mod memory {
             /// Definitions: [`page_bytes`](crate::specs::store::Memory#page_bytes).
             #[inline]
             pub(crate) fn pages_in(self, size: usize) -> u64 {
-                self.page.pages_in(size as u64)
+                size as u64 >> self.page.log2()
             }
 
             /// The number of bytes after a growth by `additional` pages, if the type allows it.

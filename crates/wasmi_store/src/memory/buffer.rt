@@ -67,17 +67,6 @@ impl<R: Region> Storage<R> {
     ghost use Rattle.wasmi_store.specs.Buffer.{block, block_refilled};
     ghost use Rattle.wasmi_store.specs.contracts.memory.buffer.Storage.{the_row};
 
-    fn front(&self, end: usize) -> &[u8]
-        requires inside { end ≤ length (block R.bytes self.now) }
-        ensures value { result.now ≡ take end (block R.bytes self.now) }
-    {
-        let whole = match self {
-            Storage::Owned(bytes) => bytes.as_slice(),
-            Storage::Lent(region) => region.whole(),
-        };
-        &whole[..end]
-    }
-
     fn front_mut(&mut self, end: usize) -> &mut [u8]
         requires inside { end ≤ length (block R.bytes self.old) }
         ensures* writes_back { sem 𝓛 (Lends (the_row R.row) (Array u8 0) self.entry result
@@ -131,7 +120,11 @@ impl<R: Region> Buffer<R> {
     pub fn data(&self) -> &[u8]
         ensures { result.now ≡ self.now.bytes }
     {
-        self.storage.front(self.len)
+        let block = match &self.storage {
+            Storage::Owned(bytes) => bytes.as_slice(),
+            Storage::Lent(region) => region.whole(),
+        };
+        &block[..self.len]
     }
 
     /// The bytes, which may be overwritten.
@@ -198,13 +191,9 @@ impl<'r> Buffer<&'r mut [u8]> {
         ensures ok { IfOk result (λ b. b ≡ zeros_in Owned size) }
         ensures err { IfErr result (λ e. e ≡ MemoryError.OutOfSystemMemory) }
     {
-        match vec![in alloc; 0u8; size] {
-            Ok(bytes) => Ok(Buffer {
-                storage: Storage::Owned(bytes),
-                len: size,
-            }),
-            Err(_) => Err(MemoryError::OutOfSystemMemory),
-        }
+        let bytes = vec![in alloc; 0u8; size].map_err(|_| MemoryError::OutOfSystemMemory)?;
+        let storage = Storage::Owned(bytes);
+        Ok(Buffer { storage, len: size })
     }
 
     /// A buffer of `size` zeros at the front of a borrowed one. It allocates nothing, and the bytes
@@ -225,9 +214,7 @@ impl<'r> Buffer<&'r mut [u8]> {
         }
         let front = &mut region[..size];
         front.fill(0);
-        Ok(Buffer {
-            storage: Storage::Lent(region),
-            len: size,
-        })
+        let storage = Storage::Lent(region);
+        Ok(Buffer { storage, len: size })
     }
 }

@@ -36,16 +36,6 @@ impl PageSize {
         }
     }
 
-    /// The number of whole pages in so many bytes. Each arm divides by a number that LLVM knows.
-    fn pages_in(self, bytes: u64) -> u64
-        ensures { result ≡ bytes / page_bytes self }
-    {
-        match self {
-            PageSize::Byte => bytes,
-            PageSize::Wasm => bytes / 65536,
-        }
-    }
-
     fn log2(self) -> u8
         ensures { result ≡ page_log2 self }
     {
@@ -178,7 +168,7 @@ impl MemoryType {
     pub fn pages_in(self, size: usize) -> u64
         ensures { result ≡ size / page_bytes self.page }
     {
-        self.page.pages_in(size as u64)
+        size as u64 >> self.page.log2()
     }
 
     /// The number of bytes after a growth by `additional` pages, if the type allows it.
