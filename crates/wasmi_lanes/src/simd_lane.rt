@@ -32,10 +32,6 @@ pub trait SimdLane: LaneInteger {
             → lane Self.width result i ≡ at items i }
         ensures in_range { result < 2 ^ 128 };
 
-    /// The same number in all lanes.
-    fn splat(number: Self) -> Self::Vector
-        ensures lanes { (i : ℕ) → i < lane_count Self.width → at result i ≡ Self.image number };
-
     /// The lanes moved by half of their range, so that as unsigned numbers they stand in the order
     /// of the signed ones.
     fn biased(items: Self::Vector) -> Self::Vector
@@ -68,11 +64,6 @@ impl SimdLane for u8 {
         from_bytes(items)
     }
 
-    #[inline(always)]
-    fn splat(number: u8) -> u8x16 {
-        u8x16::splat(number)
-    }
-
     #[tactic(auto, using(crate::proofs::SimdLaneLemmas::biased_8))]
     #[inline(always)]
     fn biased(items: u8x16) -> u8x16 {
@@ -98,11 +89,6 @@ impl SimdLane for u16 {
     #[inline(always)]
     fn vector_of(items: u16x8) -> V128 {
         u16::write_from(&items.to_array())
-    }
-
-    #[inline(always)]
-    fn splat(number: u16) -> u16x8 {
-        u16x8::splat(number)
     }
 
     #[inline(always)]
@@ -132,11 +118,6 @@ impl SimdLane for u32 {
     }
 
     #[inline(always)]
-    fn splat(number: u32) -> u32x4 {
-        u32x4::splat(number)
-    }
-
-    #[inline(always)]
     fn biased(items: u32x4) -> u32x4 {
         items + u32x4::splat(0x8000_0000)
     }
@@ -160,11 +141,6 @@ impl SimdLane for u64 {
     #[inline(always)]
     fn vector_of(items: u64x2) -> V128 {
         u64::write_from(&items.to_array())
-    }
-
-    #[inline(always)]
-    fn splat(number: u64) -> u64x2 {
-        u64x2::splat(number)
     }
 
     #[inline(always)]

@@ -1,12 +1,15 @@
 -- The order of lanes, and what is chosen by it. Numbers of w bits, moved by half of their range, stand in the order of
 -- the signed numbers with their bits.
-use Rattle.std.proofs.Common.{ℕ, ℤ, suc, ◌+◌, ◌-◌, ◌%◌, ◌^◌, ◌<◌, ◌≤◌, ◌≡◌, min, max, Bool, true, false, not, cond, if◌then◌else◌, ltb, leb, refl, sym, ap, ap₂, ◌∙◌, arith, inl, inr, pos, negsuc, unsigned_abs}
+use Rattle.std.proofs.Common.{ℕ, ℤ, suc, ◌+◌, ◌-◌, ◌*◌, ◌%◌, ◌^◌, ◌<◌, ◌≤◌, ◌≡◌, min, max, Bool, true, false, not, cond, if◌then◌else◌, ltb, leb, refl, sym, ap, ap₂, ◌∙◌, arith, inl, inr, pos, negsuc, unsigned_abs, mul_comm, suc-mul, le_refl}
+use Rattle.std.proofs.lemmas.Nat.{pow_pos, mul-le}
 use Rattle.std.specs.Int.{int_min, int_max, int_rem_euclid}
 use Rattle.std.specs.Int.RustNames.{int_lt, int_le}
 use Rattle.std.proofs.Math.Nat.{mod-eq_of_lt, add-mod_right}
 use Rattle.std.proofs.lemmas.Bool.{cases_lt, lt-ltb, le-ltb, le-leb, lt-leb, ltb-true, ltb-false}
 use Rattle.wasmi_types.specs.Numbers.{Width, w8, w16, w32, w64, bits, signed, wrap}
 use Rattle.wasmi_lanes.specs.Vector.{lane, lane_count, from_lanes, binary_of_lanes, comparison_of_lanes}
+use Rattle.wasmi_lanes.specs.Words.{field}
+use Rattle.wasmi_lanes.proofs.FieldLemmas.{field_not, field_of_zero}
 use Rattle.wasmi_lanes.proofs.VectorLemmas.{lanes_make_vector, lane_below, lane_count_fills}
 use Rattle.wasmi_lanewise.specs.VectorTable.{lt_u, le_u, lt_s, le_s, min_u, max_u, min_s, max_s}
 use mir.Syntax.{w128}
@@ -163,6 +166,29 @@ ones_where_at_most : (w : Width) (n p q : ℕ) → p < 2 ^ bits w → q < 2 ^ bi
     → (if ltb (biased w q) (biased w p) then 0 else n) ≡ (if int_le (signed w p) (signed w q) then n else 0)
 ones_where_at_most w n p q fits_p fits_q =
     ap (λ t. if t then 0 else n) (biased_is_less w q p fits_q fits_p) ∙ zeros_where_int_less (signed w p) (signed w q) n
+
+-- a lane of the vector of all ones
+pub lane_of_ones : (w : Width) (v i : ℕ) → v ≡ 2 ^ 128 - 1 → i < lane_count w → lane w v i ≡ 2 ^ bits w - 1
+unfolding field
+lane_of_ones w v i is inside =
+    let k : ℕ = bits w * i in
+    let within : k + bits w ≤ 128 =
+    omega (
+      arith,
+      lane_count_fills w,
+      mul-le (suc i) (bits w) (lane_count w) (bits w) inside (le_refl (bits w)),
+      suc-mul i (bits w),
+      mul_comm i (bits w),
+    ) in
+    let flipped : field k (bits w) (2 ^ 128 - 1 - 0) ≡ 2 ^ bits w - 1 - field k (bits w) 0 =
+    field_not k (bits w) 128 0 within (pow_pos 128) in
+    let whole : 2 ^ bits w - 1 - 0 ≡ 2 ^ bits w - 1 = omega arith in
+    ap (λ n. lane w n i) is ∙ flipped ∙ ap (λ n. 2 ^ bits w - 1 - n) (field_of_zero k (bits w)) ∙ whole
+
+-- a lane of the vector of all zeros
+pub lane_of_zeros : (w : Width) (v i : ℕ) → v ≡ 0 → lane w v i ≡ 0
+unfolding field
+lane_of_zeros w v i is = ap (λ n. lane w n i) is ∙ field_of_zero (bits w * i) (bits w)
 
 -- lanes that are chosen from two vectors, each with one number in all its lanes, are chosen from the two numbers
 pub chosen_numbers : {n : ℕ} (chosen other : ℕ) (test : ℕ → Bool) {r from_chosen from_other : ℕ → ℕ}

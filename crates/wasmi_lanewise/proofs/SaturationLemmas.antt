@@ -206,6 +206,14 @@ doubled_is h part fits = chosen (cases_lt ((h + 32768) % 65536) 49151) part
         ∙ ap (λ k. (h + k) % 65536) last
     chosen (inr above) (inr large) = absurd (omega arith)
 
+-- the largest half whose double fits, in each lane
+abbrev pub most : List ℕ
+most = replicate 8 16383
+
+-- a lane of these
+pub most_at : (i : ℕ) → i < 8 → get_or most i 0 ≡ 16383
+most_at i inside = get_or-replicate 8 i 16383 0 inside
+
 -- both halves of u together
 abbrev of_halves : ℕ → ℕ
 of_halves u = (doubled (u / 65536) + rounded (u % 65536)) % 65536

@@ -334,6 +334,7 @@ fn upper_halves(x: u16x8, y: u16x8) -> u16x8
 
 // Twice the lanes, read signed, and the largest number in the place of the one double that doesn't
 // fit, that of 2 to the power 14.
+#[tactic(auto, using(crate::proofs::SaturationLemmas::most_at))]
 #[inline(always)]
 fn twice(items: u16x8) -> u16x8
     ensures lanes { (i : ℕ) → i < 8 → slice_index result i
@@ -341,7 +342,7 @@ fn twice(items: u16x8) -> u16x8
         (if nat_lt ((slice_index items i + 0x8000) % 2 ^ 16) 0xbfff then slice_index items i
         else 0x3fff)) % 2 ^ 16 }
 {
-    let most = u16::splat(0x3fff);
+    let most = u16x8::splat(0x3fff);
     items + u16::choose_if_less(u16::biased(items), u16::biased(most), items, most)
 }
 
@@ -762,7 +763,7 @@ pub fn i16x8_splat(item: i16) -> V128
     ensures { result ≡ vector.splat w16 item }
 {
     // By a `std::simd` vector: LLVM puts eight plain lanes together by shifts.
-    u16::vector_of(u16::splat(item.cast_unsigned()))
+    u16::vector_of(u16x8::splat(item.cast_unsigned()))
 }
 
 /// The item in every lane.

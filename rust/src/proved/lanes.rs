@@ -1299,17 +1299,6 @@ mod simd_lane {
         /// Definitions: [`lane_count`](crate::specs::lanes::Vector#lane_count), [`lane`](crate::specs::lanes::Vector#lane).
         fn vector_of(items: Self::Vector) -> V128;
 
-        /// The same number in all lanes.
-        ///
-        /// # Contract
-        ///
-        /// ```text
-        /// ensures lanes: (i : ℕ) → i < lane_count Self.width → at result i ≡ Self.image number
-        /// ```
-        ///
-        /// Definitions: [`lane_count`](crate::specs::lanes::Vector#lane_count).
-        fn splat(number: Self) -> Self::Vector;
-
         /// The lanes moved by half of their range, so that as unsigned numbers they stand in the order
         /// of the signed ones.
         ///
@@ -1360,11 +1349,6 @@ mod simd_lane {
         }
 
         #[inline(always)]
-        fn splat(number: u8) -> u8x16 {
-            u8x16::splat(number)
-        }
-
-        #[inline(always)]
         fn biased(items: u8x16) -> u8x16 {
             items + u8x16::splat(0x80)
         }
@@ -1391,11 +1375,6 @@ mod simd_lane {
         #[inline(always)]
         fn vector_of(items: u16x8) -> V128 {
             u16::write_from(&items.to_array())
-        }
-
-        #[inline(always)]
-        fn splat(number: u16) -> u16x8 {
-            u16x8::splat(number)
         }
 
         #[inline(always)]
@@ -1428,11 +1407,6 @@ mod simd_lane {
         }
 
         #[inline(always)]
-        fn splat(number: u32) -> u32x4 {
-            u32x4::splat(number)
-        }
-
-        #[inline(always)]
         fn biased(items: u32x4) -> u32x4 {
             items + u32x4::splat(0x8000_0000)
         }
@@ -1459,11 +1433,6 @@ mod simd_lane {
         #[inline(always)]
         fn vector_of(items: u64x2) -> V128 {
             u64::write_from(&items.to_array())
-        }
-
-        #[inline(always)]
-        fn splat(number: u64) -> u64x2 {
-            u64x2::splat(number)
         }
 
         #[inline(always)]

@@ -142,12 +142,9 @@ pub mod simd {
         /// Definitions: [`lane_count`](crate::specs::lanes::Vector#lane_count), [`lane`](crate::specs::lanes::Vector#lane).
         #[inline(always)]
         fn ones_if_less<T: SimdLane>(a: T::Vector, b: T::Vector) -> V128 {
-            T::vector_of(T::choose_if_less(
-                a,
-                b,
-                T::splat(T::ALL_ONES),
-                T::splat(T::ALL_ZEROS),
-            ))
+            let ones = T::lanes_of(V128::from_word_pair(u64::MAX, u64::MAX));
+            let zeros = T::lanes_of(V128::from_word_pair(0, 0));
+            T::vector_of(T::choose_if_less(a, b, ones, zeros))
         }
 
         /// # Contract
@@ -162,12 +159,9 @@ pub mod simd {
         /// Definitions: [`lane_count`](crate::specs::lanes::Vector#lane_count), [`lane`](crate::specs::lanes::Vector#lane).
         #[inline(always)]
         fn zeros_if_less<T: SimdLane>(a: T::Vector, b: T::Vector) -> V128 {
-            T::vector_of(T::choose_if_less(
-                a,
-                b,
-                T::splat(T::ALL_ZEROS),
-                T::splat(T::ALL_ONES),
-            ))
+            let ones = T::lanes_of(V128::from_word_pair(u64::MAX, u64::MAX));
+            let zeros = T::lanes_of(V128::from_word_pair(0, 0));
+            T::vector_of(T::choose_if_less(a, b, zeros, ones))
         }
     }
     mod words {
@@ -945,7 +939,7 @@ pub mod simd {
     /// ```
     #[inline(always)]
     fn twice(items: u16x8) -> u16x8 {
-        let most = u16::splat(0x3fff);
+        let most = u16x8::splat(0x3fff);
         items + u16::choose_if_less(u16::biased(items), u16::biased(most), items, most)
     }
 
@@ -1752,7 +1746,7 @@ pub mod simd {
     #[inline]
     pub fn i16x8_splat(item: i16) -> V128 {
         // By a `core::simd` vector: LLVM puts eight plain lanes together by shifts.
-        u16::vector_of(u16::splat(item.cast_unsigned()))
+        u16::vector_of(u16x8::splat(item.cast_unsigned()))
     }
 
     /// The item in every lane.

@@ -78,7 +78,6 @@ pub(super) fn larger_s<T: SimdLane>(lhs: V128, rhs: V128) -> V128
     T::vector_of(T::choose_if_less(T::biased(b), T::biased(a), a, b))
 }
 
-#[tactic(auto, using(crate::proofs::OrderLemmas::chosen_numbers))]
 #[inline(always)]
 fn ones_if_less<T: SimdLane>(a: T::Vector, b: T::Vector) -> V128
     ensures lanes { (i : ℕ) → i < lane_count T.width
@@ -86,10 +85,11 @@ fn ones_if_less<T: SimdLane>(a: T::Vector, b: T::Vector) -> V128
         ≡ (if nat_lt (T.at a i) (T.at b i) then 2 ^ bits T.width - 1 else 0) }
     ensures in_range { result < 2 ^ 128 }
 {
-    T::vector_of(T::choose_if_less(a, b, T::splat(T::ALL_ONES), T::splat(T::ALL_ZEROS)))
+    let ones = T::lanes_of(V128::from_word_pair(u64::MAX, u64::MAX));
+    let zeros = T::lanes_of(V128::from_word_pair(0, 0));
+    T::vector_of(T::choose_if_less(a, b, ones, zeros))
 }
 
-#[tactic(auto, using(crate::proofs::OrderLemmas::chosen_numbers))]
 #[inline(always)]
 fn zeros_if_less<T: SimdLane>(a: T::Vector, b: T::Vector) -> V128
     ensures lanes { (i : ℕ) → i < lane_count T.width
@@ -97,5 +97,7 @@ fn zeros_if_less<T: SimdLane>(a: T::Vector, b: T::Vector) -> V128
         ≡ (if nat_lt (T.at a i) (T.at b i) then 0 else 2 ^ bits T.width - 1) }
     ensures in_range { result < 2 ^ 128 }
 {
-    T::vector_of(T::choose_if_less(a, b, T::splat(T::ALL_ZEROS), T::splat(T::ALL_ONES)))
+    let ones = T::lanes_of(V128::from_word_pair(u64::MAX, u64::MAX));
+    let zeros = T::lanes_of(V128::from_word_pair(0, 0));
+    T::vector_of(T::choose_if_less(a, b, zeros, ones))
 }

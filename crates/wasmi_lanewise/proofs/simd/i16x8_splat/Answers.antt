@@ -1,4 +1,5 @@
 use Rattle.std.proofs.Common.{◌∙◌, refl, arith}
+use Rattle.std.proofs.lemmas.Simd.{get_or-replicate}
 use Rattle.std.proofs.lemmas.Int.{ints, to_z-of_z}
 use Rattle.wasmi_types.specs.Numbers.{w16}
 use Rattle.wasmi_lanes.specs.Vector.{splat_of}
@@ -9,4 +10,7 @@ pub returns : goal.returns
 unfolding splat_of
 returns c =
     lanes_make_vector w16 8 c.vector_of.result _ refl c.vector_of.ensures.in_range
-    (λ i inside. c.vector_of.ensures.lanes i inside ∙ c.splat.ensures.lanes i inside ∙ grind (arith, ints, to_z-of_z, c.cast_unsigned.ensures))
+    (λ i inside.
+    c.vector_of.ensures.lanes i inside
+    ∙ get_or-replicate 8 i c.cast_unsigned.result 0 inside
+    ∙ grind (arith, ints, to_z-of_z, c.cast_unsigned.ensures))
