@@ -38,19 +38,15 @@ impl QuotaNumbers {
             2 => Some((Kind::Elements, self.last)),
             _ => None,
         };
-        Some(Quota::resume(
-            Amounts {
-                bytes: self.cap_bytes,
-                elements: self.cap_elements,
-            },
-            Holdings::resume(
-                Amounts {
-                    bytes: self.held_bytes,
-                    elements: self.held_elements,
-                },
-                last,
-            ),
-        ))
+        let caps = Amounts {
+            bytes: self.cap_bytes,
+            elements: self.cap_elements,
+        };
+        let held = Amounts {
+            bytes: self.held_bytes,
+            elements: self.held_elements,
+        };
+        Some(Quota::resume(caps, Holdings::resume(held, last)))
     }
 
     /// Stores what a quota that is on has become; the flag stays.

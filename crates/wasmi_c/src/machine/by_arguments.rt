@@ -2,7 +2,6 @@
 //! status, and some a word in the caller's place.
 ghost use Rattle.std.specs.Prelude.{◌≡◌, ◌+◌, Some};
 ghost use Rattle.wasmi_meter.specs.AnyLimiter.{caps_of};
-ghost use Rattle.wasmi_core.specs.ValueEffects.{get_fuel_reply};
 ghost use Rattle.wasmi_core.specs.MemoryEffects.{load_reply};
 ghost use Rattle.wasmi_core.specs.State.{live_at};
 ghost use Rattle.wasmi_core.specs.declared.calls.Call.TheVariants.{GetFuel, GrowMemory, Store};
@@ -55,17 +54,9 @@ impl LimitedMachine {
     pub fn fuel_left(&self, left: &mut u64) -> u8
         ensures { RepliesInWord (Some GetFuel) left.old self.now (result, left.new) self.now }
     {
-        leave(self.fuel_reply(), left)
-    }
-
-    /// The reply that tells the fuel that is left.
-    #[inline(always)]
-    fn fuel_reply(&self) -> Reply
-        ensures { result ≡ get_fuel_reply self.now.state.meter }
-    {
         match self.machine.fuel().get_fuel() {
-            Ok(amount) => Reply::Number(amount),
-            Err(error) => Reply::Fuel(error),
+            Ok(amount) => leave(Reply::Number(amount), left),
+            Err(error) => leave(Reply::Fuel(error), left),
         }
     }
 
