@@ -23,8 +23,7 @@ pub enum MeterLine {
 /// What a limiter line says. A script has at most one, of whatever kind.
 #[derive(Drop)]
 pub enum LimiterLine {
-    /// `quota B E`: the most bytes and the most elements that the limiter permits, of all memories
-    /// and of all tables together.
+    /// `quota B E`: the most bytes of all memories, and the most elements of all tables.
     Quota(Amounts),
     /// `answers W ...`, which may have no word: one for each question, in order.
     Answers(Vec<LimiterAnswer>),

@@ -1,9 +1,7 @@
-//! What holds of all texts and of the scripts that they write. These functions do nothing: each
-//! states a law as its contract.
+//! Laws of all texts and of the scripts that they write, each the contract of a function.
 ghost use Rattle.wasmi_grammar.specs.Meanings.{FirstBadLinesAreOne, TextsWriteOneScript, WrittenTextsHaveNoBadLine};
 
-/// Two scripts that one text writes say the same: the same header lines, the same parts, the same
-/// last tenant and the same calls. A list counts by its items, however it is held.
+/// Two scripts that one text writes say the same. A list counts by its items, however it is held.
 pub fn texts_write_one_script()
     ensures { TextsWriteOneScript }
 {}

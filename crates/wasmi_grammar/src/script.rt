@@ -24,8 +24,7 @@ pub struct Script {
     pub parts: Parts,
 }
 
-/// Calls by parts, which `as` lines separate: without one there is one part, tenant 0's. All calls
-/// stand in one list, so that a part takes no list of its own.
+/// Calls by parts, which `as` lines separate: without one there is one part, tenant 0's.
 #[derive(Drop)]
 pub struct Parts {
     /// The call of each command, in order.
@@ -166,8 +165,7 @@ impl Script {
         }
     }
 
-    /// Takes in one line's words. Header lines stand before all commands, at most one `meter` line,
-    /// one limiter line and one `region` line, and a line without words is skipped.
+    /// Takes in one line's words, which may be none. Header lines stand before all commands.
     fn take_line(&mut self, alloc: Global, words: &[&str]) -> Result<(), LineError>
         ensures ok { OnOk result (AddsWords self.old words.now self.new) }
         ensures refused { IfErr result (λ error. error ≡ LineError.BadCommand

@@ -182,26 +182,6 @@ mod command {
         #[inline]
         fn memory_type(words: &[&str]) -> Result<MemoryType, LineError> {
             let (minimum, maximum, page_size_log2, index) = operand::four(words)?;
-            type_of(index, minimum, maximum, page_size_log2)
-        }
-
-        /// The memory type of these settings, if there is such a type.
-        ///
-        /// # Contract
-        ///
-        /// ```text
-        /// ensures: Accepts result (HasSettings
-        ///     (record { index = index; minimum = minimum; maximum = maximum }) page_size_log2)
-        /// ```
-        ///
-        /// Definitions: [`Accepts`](crate::specs::operands::LineWords#Accepts), [`HasSettings`](crate::specs::grammar::Commands#HasSettings).
-        #[inline]
-        fn type_of(
-            index: IndexType,
-            minimum: u64,
-            maximum: Option<u64>,
-            page_size_log2: u8,
-        ) -> Result<MemoryType, LineError> {
             let mut builder = MemoryType::builder();
             builder
                 .min(minimum)
@@ -320,27 +300,8 @@ mod command {
         /// Definitions: [`Accepts`](crate::specs::operands::LineWords#Accepts), [`NamesTableType`](crate::specs::grammar::Commands#NamesTableType), [`word_at`](crate::specs::operands::LineWords#word_at).
         #[inline]
         fn table_type(words: &[&str]) -> Result<TableType, LineError> {
-            let (element, minimum, maximum, index) = operand::four(words)?;
-            type_of(index, element, minimum, maximum)
-        }
-
-        /// The table type of these limits, if there is such a type.
-        ///
-        /// # Contract
-        ///
-        /// ```text
-        /// ensures: Accepts result (HasLimits
-        ///     (record { index = index; minimum = minimum; maximum = maximum }) element)
-        /// ```
-        ///
-        /// Definitions: [`Accepts`](crate::specs::operands::LineWords#Accepts), [`HasLimits`](crate::specs::grammar::Commands#HasLimits).
-        #[inline]
-        fn type_of(
-            index: IndexType,
-            element: RefType,
-            minimum: u64,
-            maximum: Option<u64>,
-        ) -> Result<TableType, LineError> {
+            let (element, minimum, maximum, index) =
+                operand::four::<_, u64, Option<u64>, _>(words)?;
             if maximum.is_some_and(|most| most < minimum) {
                 return Err(LineError::BadCommand);
             }
@@ -579,8 +540,7 @@ mod header {
 
     /// What a limiter line says. A script has at most one, of whatever kind.
     pub enum LimiterLine {
-        /// `quota B E`: the most bytes and the most elements that the limiter permits, of all memories
-        /// and of all tables together.
+        /// `quota B E`: the most bytes of all memories, and the most elements of all tables.
         Quota(Amounts),
         /// `answers W ...`, which may have no word: one for each question, in order.
         Answers(Vec<LimiterAnswer>),
@@ -721,11 +681,9 @@ mod header {
 }
 #[cfg(any(doc, test))]
 pub mod laws {
-    //! What holds of all texts and of the scripts that they write. These functions do nothing: each
-    //! states a law as its contract.
+    //! Laws of all texts and of the scripts that they write, each the contract of a function.
 
-    /// Two scripts that one text writes say the same: the same header lines, the same parts, the same
-    /// last tenant and the same calls. A list counts by its items, however it is held.
+    /// Two scripts that one text writes say the same. A list counts by its items, however it is held.
     ///
     /// # Contract
     ///
@@ -783,8 +741,7 @@ mod script {
         pub parts: Parts,
     }
 
-    /// Calls by parts, which `as` lines separate: without one there is one part, tenant 0's. All calls
-    /// stand in one list, so that a part takes no list of its own.
+    /// Calls by parts, which `as` lines separate: without one there is one part, tenant 0's.
     ///
     /// # Model
     ///
@@ -972,8 +929,7 @@ mod script {
             }
         }
 
-        /// Takes in one line's words. Header lines stand before all commands, at most one `meter` line,
-        /// one limiter line and one `region` line, and a line without words is skipped.
+        /// Takes in one line's words, which may be none. Header lines stand before all commands.
         ///
         /// # Contract
         ///

@@ -2,7 +2,7 @@
 
 ghost use Rattle.std.specs.Prelude.{◌≡◌, codes, length};
 ghost use Rattle.wasmi_operands.specs.LineWords.{Accepts, AcceptsWithMemory, word_at};
-ghost use Rattle.wasmi_grammar.specs.Commands.{NamesAfter, HasSettings, IsMemoryWord, NamesType};
+ghost use Rattle.wasmi_grammar.specs.Commands.{NamesAfter, IsMemoryWord, NamesType};
 
 use std::alloc::Global;
 use wasmi_core::{Call, IndexType, MemoryType};
@@ -58,19 +58,6 @@ fn memory_type(words: &[&str]) -> Result<MemoryType, LineError>
         (word_at words.now 1) (word_at words.now 2) (word_at words.now 3) ty) }
 {
     let (minimum, maximum, page_size_log2, index) = operand::four(words)?;
-    type_of(index, minimum, maximum, page_size_log2)
-}
-
-/// The memory type of these settings, if there is such a type.
-fn type_of(
-    index: IndexType,
-    minimum: u64,
-    maximum: Option<u64>,
-    page_size_log2: u8,
-) -> Result<MemoryType, LineError>
-    ensures { Accepts result (HasSettings
-        (record { index = index; minimum = minimum; maximum = maximum }) page_size_log2) }
-{
     let mut builder = MemoryType::builder();
     builder
         .min(minimum)

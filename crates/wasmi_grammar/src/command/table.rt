@@ -3,7 +3,7 @@
 ghost use Rattle.std.specs.Prelude.{◌≡◌, ◌<◌, ◌^◌, codes, length, IfErr};
 ghost use Rattle.std.specs.Result.{OkIff};
 ghost use Rattle.wasmi_operands.specs.LineWords.{Accepts, AcceptsWithMemory, word_at};
-ghost use Rattle.wasmi_grammar.specs.Commands.{NamesAfter, HasLimits, IsTableWord, NamesTableType};
+ghost use Rattle.wasmi_grammar.specs.Commands.{NamesAfter, IsTableWord, NamesTableType};
 
 use std::alloc::Global;
 use wasmi_core::{Call, IndexType, RefType, TableType, TypedRawRef};
@@ -82,20 +82,7 @@ fn table_type(words: &[&str]) -> Result<TableType, LineError>
     ensures { Accepts result (λ ty. (length words.now ≡ 4) × NamesTableType (word_at words.now 0)
         (word_at words.now 1) (word_at words.now 2) (word_at words.now 3) ty) }
 {
-    let (element, minimum, maximum, index) = operand::four(words)?;
-    type_of(index, element, minimum, maximum)
-}
-
-/// The table type of these limits, if there is such a type.
-fn type_of(
-    index: IndexType,
-    element: RefType,
-    minimum: u64,
-    maximum: Option<u64>,
-) -> Result<TableType, LineError>
-    ensures { Accepts result (HasLimits
-        (record { index = index; minimum = minimum; maximum = maximum }) element) }
-{
+    let (element, minimum, maximum, index) = operand::four::<_, u64, Option<u64>, _>(words)?;
     if maximum.is_some_and(|most| most < minimum) {
         return Err(LineError::BadCommand);
     }
