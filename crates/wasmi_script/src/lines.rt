@@ -1,5 +1,4 @@
-//! The lines that a script prints for calls and their replies, in bytes that are there already:
-//! texts that are written to the front of bytes, one after the other, as far as they fit.
+//! The lines for calls and their replies, written to the front of bytes as far as they fit.
 ghost use Rattle.std.specs.Prelude.{◌≡◌, ◌-◌, ◌^◌, length, min};
 ghost use Rattle.std.specs.Fmt.{decimal};
 ghost use Rattle.wasmi_script.specs.Printing.{AddsToFront, FillsFront, number_text, line};

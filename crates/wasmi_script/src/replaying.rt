@@ -100,8 +100,7 @@ impl<R: io::Read> CountedReader<'_, R> {
     }
 }
 
-/// The bytes of the reader up to its end, in at most `LIMIT + 1` turns: a turn that gives nothing
-/// is the end.
+/// The bytes of the reader up to a turn that gives nothing, in at most `LIMIT + 1` turns.
 fn read<R: io::Read>(
     alloc: Global,
     reader: &mut CountedReader<'_, R>,

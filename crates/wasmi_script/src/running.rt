@@ -35,8 +35,7 @@ pub enum Held {
     Tenants(Pool<'static>),
 }
 
-/// Runs the script's calls on a new machine with its meter and its region, or its parts on a pool
-/// of machines.
+/// Runs the script's calls on a new machine, or its parts on a pool of new machines.
 pub fn run_script(alloc: Global, script: &Script) -> Result<Ran, AllocError>
     ensures { IfOk result (IsReplayOf script.now) }
 {

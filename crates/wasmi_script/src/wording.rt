@@ -180,8 +180,7 @@ impl Wording {
     }
 }
 
-/// The word for what the call makes. Only creations make anything, and `Made` answers no other
-/// call.
+/// The word for what the call makes. `Made` answers no call that isn't a creation.
 fn made_word(call: &Call) -> &'static str
     ensures { result.now ≡ kind_text call.now }
 {

@@ -66,54 +66,32 @@ mod error {
 }
 #[cfg(any(doc, test))]
 pub mod laws {
-    //! What holds of all scripts and of all that run them. These functions do nothing: each states a
-    //! law as its contract.
+    //! Laws of all scripts and of all that run them, each the contract of a function.
 
     use crate::proved::budget::laws::tenants_leave_no_choice;
     pub use crate::proved::grammar::laws::{
         first_bad_lines_are_one, texts_write_one_script, written_texts_have_no_bad_line,
     };
 
-    /// A limiter that answers from a list is deterministic.
-    ///
-    /// # Contract
-    ///
-    /// ```text
-    /// ensures: IsDeterministic answer_list_rules
-    /// ```
-    ///
-    /// Definitions: [`IsDeterministic`](crate::specs::machine::Determinism#IsDeterministic), [`answer_list_rules`](crate::specs::meter::AnswerList#answer_list_rules).
-    #[inline]
-    pub fn answers_leave_no_choice() {}
-
-    /// A limiter whose list has no `Complain` accepts each notice, and stays such a limiter.
-    ///
-    /// # Contract
-    ///
-    /// ```text
-    /// ensures: QuietListsAcceptNotices
-    /// ```
-    ///
-    /// Definitions: [`QuietListsAcceptNotices`](crate::specs::script::Decided#QuietListsAcceptNotices).
-    #[inline]
-    pub fn quiet_lists_accept_notices() {}
-
-    /// If no memory is refused, such a limiter makes runs deterministic: two runs of one list of calls
+    /// A limiter that answers from a list is deterministic. One whose list has no `Complain` accepts
+    /// each notice and stays such a limiter: if no memory is refused, two runs of one list of calls
     /// from one machine under it have the same replies and end alike.
     ///
     /// # Contract
     ///
     /// ```text
-    /// ensures: QuietListsDecideReplies
+    /// ensures choice: IsDeterministic answer_list_rules
+    /// ensures notices: QuietListsAcceptNotices
+    /// ensures replies: QuietListsDecideReplies
     /// ```
     ///
-    /// Definitions: [`QuietListsDecideReplies`](crate::specs::script::Decided#QuietListsDecideReplies).
+    /// Definitions: [`IsDeterministic`](crate::specs::machine::Determinism#IsDeterministic), [`answer_list_rules`](crate::specs::meter::AnswerList#answer_list_rules), [`QuietListsAcceptNotices`](crate::specs::script::Decided#QuietListsAcceptNotices), [`QuietListsDecideReplies`](crate::specs::script::Decided#QuietListsDecideReplies).
     #[inline]
     pub fn quiet_lists_decide_replies() {}
 
-    /// If no memory is refused and the reader doesn't fail, the bytes of the reader decide what is
-    /// printed and how the replay ends: two outcomes of them have the same text and the same status. A
-    /// word `complain` is left out: the answer to a notice hides whether memory was refused.
+    /// If no memory is refused and the reader doesn't fail, the bytes of the reader decide the text and
+    /// the status of an outcome. A word `complain` is left out: the answer to a notice hides whether
+    /// memory was refused.
     ///
     /// # Contract
     ///
@@ -128,8 +106,7 @@ pub mod laws {
     }
 }
 mod lines {
-    //! The lines that a script prints for calls and their replies, in bytes that are there already:
-    //! texts that are written to the front of bytes, one after the other, as far as they fit.
+    //! The lines for calls and their replies, written to the front of bytes as far as they fit.
 
     use crate::proved::machine::{Call, Reply};
     use crate::proved::script::printing::bytes_of;
@@ -784,8 +761,7 @@ mod replaying {
         }
     }
 
-    /// The bytes of the reader up to its end, in at most `LIMIT + 1` turns: a turn that gives nothing
-    /// is the end.
+    /// The bytes of the reader up to a turn that gives nothing, in at most `LIMIT + 1` turns.
     ///
     /// # Contract
     ///
@@ -849,8 +825,7 @@ mod running {
         Tenants(Pool<'static>),
     }
 
-    /// Runs the script's calls on a new machine with its meter and its region, or its parts on a pool
-    /// of machines.
+    /// Runs the script's calls on a new machine, or its parts on a pool of new machines.
     ///
     /// # Contract
     ///
@@ -1300,8 +1275,7 @@ mod wording {
         }
     }
 
-    /// The word for what the call makes. Only creations make anything, and `Made` answers no other
-    /// call.
+    /// The word for what the call makes. `Made` answers no call that isn't a creation.
     ///
     /// # Contract
     ///
