@@ -1,33 +1,12 @@
 -- What a limiter holds after what it permitted: a quota, and a recorder with its trace.
-use Rattle.std.specs.Prelude.{◌≡◌, ◌+◌, ℕ, Result, Ok, Err, length, ◌<◌, ◌⊎◌, ◌++◌, Bool, true, false, Some, List, [], ◌∷◌, slice_get, slice_set}
+use Rattle.std.specs.Prelude.{◌≡◌, ◌+◌, ℕ, Ok, Err, length, ◌<◌, ◌⊎◌, ◌++◌, Bool, true, false, Some, List, [], ◌∷◌, slice_get, slice_set}
 use Rattle.wasmi_meter.specs.declared.limiter.Kind.{Kind}
-use Rattle.wasmi_meter.specs.declared.quota.Quota.{Quota}
-use Rattle.wasmi_meter.specs.declared.error.MemoryError.{MemoryError}
-use Rattle.wasmi_meter.specs.declared.error.TableError.{TableError}
-use Rattle.wasmi_meter.specs.Capped.{amount_held, holdings, IsWithinCaps}
-use Rattle.wasmi_store.specs.Memory.{MemoryValue}
-use Rattle.wasmi_store.specs.Table.{TableValue, size_of}
 use Rattle.std.specs.Vec.{vec_capacity}
 use Rattle.wasmi_meter.specs.Limiter.{Question, Answer, kind_of, NoticeAnswer, Rules}
 use Rattle.wasmi_core.specs.Exchange.{NothingGrows}
 use Rattle.wasmi_law_callers.specs.declared.recorder.Event.{Event}
 use Rattle.wasmi_law_callers.specs.declared.recorder.Event.TheVariants.{Permitted, Failed}
 use Rattle.wasmi_law_callers.specs.declared.recorder.Recorder.{Recorder}
-
--- a quota holds more of a kind by what there is more of it, and one that is within its caps stays so
-pub record Counts (kind : Kind) (quota : Quota) (size : ℕ) (quota' : Quota) (size' : ℕ) : Type 0 where
-  pub held : amount_held (holdings quota') kind + size ≡ amount_held (holdings quota) kind + size'
-  pub within : IsWithinCaps quota → IsWithinCaps quota'
-
--- the bytes of a memory that was made, if it was
-abbrev pub bytes_made : Result MemoryValue MemoryError → ℕ
-bytes_made (Ok x) = length x.bytes
-bytes_made (Err error) = 0
-
--- the elements of a table that was made, if it was
-abbrev pub elements_made : Result TableValue TableError → ℕ
-elements_made (Ok x) = size_of x
-elements_made (Err error) = 0
 
 -- a permission is kept in the trace, which then has room for one failure; without room nothing is permitted
 abbrev pub KeepsPermission : Recorder → Event → Bool → Recorder → Type 0

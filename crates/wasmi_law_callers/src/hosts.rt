@@ -80,10 +80,7 @@ pub fn make_both(
     one_quota_holds_all();
     let of_memory = memory_creation::make(memory, bytes, quota);
     let of_table = table_creation::make(table, elements, 0, quota);
-    if of_memory != DONE || of_table != DONE {
-        return false;
-    }
-    true
+    of_memory == DONE && of_table == DONE
 }
 
 /// Grows a memory of this type by so many pages by the answers of a limiter of any type. If the

@@ -8,7 +8,7 @@ ghost use Rattle.wasmi_lanes.specs.Words.{field, word_of_lanes};
 ghost use Rattle.wasmi_simd.specs.WideningTable.{first_bits, holds_below};
 
 use wasmi_lanes::{ImmLaneIdx16, ImmLaneIdx32, Lanes, U8x16, laws as lane_laws, on_vectors};
-use wasmi_lanewise::simd::{i8x16_add, i8x16_gt_u, i8x16_replace_lane, i8x16_shuffle, i8x16_splat};
+use wasmi_lanewise::simd::{i8x16_add, i8x16_gt_u, i8x16_replace_lane, i8x16_shuffle};
 use wasmi_raw::V128;
 use wasmi_simd::laws as widening_laws;
 use wasmi_simd::simd::{
@@ -23,15 +23,6 @@ pub fn byte_in_each_lane(number: u8) -> V128
 {
     lane_laws::lanes_of_made_vector();
     on_vectors::splat::<U8x16>(number)
-}
-
-/// The bits of the number in each lane, which is read from there as it was.
-pub fn signed_byte_in_each_lane(number: i8) -> V128
-    ensures bits { (i : ℕ) → i < 16 → lane w8 result i ≡ wrap w8 number }
-    ensures read { (i : ℕ) → i < 16 → signed w8 (lane w8 result i) ≡ number }
-{
-    lane_laws::lanes_of_made_vector();
-    i8x16_splat(number)
 }
 
 /// Signed numbers in the range of a width are read as themselves once each is wrapped to it,

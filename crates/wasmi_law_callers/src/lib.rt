@@ -4,7 +4,6 @@
 
 pub mod hosts;
 pub mod lanes;
-pub mod lending;
 pub mod places;
 pub mod recorder;
 pub mod regions;

@@ -18,12 +18,12 @@ ghost use Rattle.wasmi_law_callers.specs.Runs.{KeepsCaps, RunsAlone, RunsBeside,
 
 use std::alloc::AllocError;
 use wasmi_budget::{Pool, PoolError, Tenant, laws as pool_laws};
-use wasmi_core::{Call, Machine, NoLimits, Quota, Reply, ResourceLimiter, laws, run_lending};
+use wasmi_core::{Call, Machine, Quota, Reply, ResourceLimiter, laws, run_lending};
 
 /// Makes one call. Where it is refused, the machine has the contents that it had; the spare region,
 /// unless a memory was to be made in it; and the meter, unless it is a growth that was paid before
-/// it ran out of memory: then the meter has its price less. If it is refused plainly, or is refused
-/// and makes nothing and lets nothing grow, neither the machine nor the limiter has changed.
+/// it ran out of memory: then the meter has its price less. A plain refusal, or one that makes
+/// nothing and lets nothing grow, changes neither the machine nor the limiter.
 pub fn call_refused<L: ResourceLimiter>(
     machine: &mut Machine,
     call: &Call,
@@ -65,11 +65,10 @@ pub fn run_refused<L: ResourceLimiter>(
     run_lending(machine, calls, limiter)
 }
 
-/// Makes calls, and knows what was paid for them, and how much they can have written. If none of
-/// them sets the fuel, what was left before is what is left after and what they were charged, which
-/// bounds what they have written. Whether or not there is memory for the replies, the meter has the
-/// costs that it had and is on or off as it was, and if no call sets the fuel, no more of it is
-/// left.
+/// Makes calls, and knows what was paid for them, how much they can have written, and that the
+/// meter keeps its costs and is on or off as it was. If none of them sets the fuel, no more of it
+/// is left, and what was left before is what is left after and what they were charged, which bounds
+/// what they have written.
 pub fn run_billed<L: ResourceLimiter>(
     machine: &mut Machine,
     calls: &[Call],
@@ -97,12 +96,11 @@ pub fn run_billed<L: ResourceLimiter>(
     run_lending(machine, calls, limiter)
 }
 
-/// Makes calls, and knows of each turn what the limiter was asked and told, and what has grown. A
-/// memory in a lent region that is to grow does so, or the limiter denies it, if its type and the
-/// region have place for it and it can be paid. If no reply tells of a denial, the limiter has
-/// permitted all that it was asked. Whether or not there is memory for the replies, each memory and
-/// each table that was there is at its index, with at least the size that it had, and the totals
-/// are at least what they were. One that was dropped counts with its last size.
+/// Makes calls, and knows of each turn what the limiter was asked and told, and what has grown: a
+/// memory in a lent region does so, or the limiter denies it, if its type and the region have place
+/// for it and it can be paid. If no reply tells of a denial, the limiter has permitted all that it
+/// was asked. Each memory and each table that was there is at its index, with at least the size
+/// that it had or was dropped with, and the totals are at least what they were.
 pub fn run_exchanged<L: ResourceLimiter>(
     machine: &mut Machine,
     calls: &[Call],
@@ -232,33 +230,10 @@ pub fn run_twice(
     Ok((first, second))
 }
 
-/// Makes the same calls on two equal machines without limits: if no reply is that memory ran out,
-/// the replies are the same, and the machines are equal again.
-pub fn run_twice_unlimited(
-    machine: &mut Machine,
-    other: &mut Machine,
-    calls: &[Call],
-) -> Result<(Vec<Reply>, Vec<Reply>), AllocError>
-    requires machines { other.old ≡ machine.old }
-    ensures same { IfOk result
-        (λ replies. NeitherIsOutOfMemory replies.0.items replies.1.items
-        → (replies.0.items ≡ replies.1.items) × (machine.new ≡ other.new)) }
-{
-    laws::no_limits_leave_no_choice();
-    laws::no_limits_accept_notices();
-    laws::replies_are_one::<NoLimits>();
-    let mut unlimited = NoLimits;
-    let first = run_lending(machine, calls, &mut unlimited)?;
-    let mut unlimited = NoLimits;
-    let second = run_lending(other, calls, &mut unlimited)?;
-    Ok((first, second))
-}
-
-/// Makes calls. If they fit whatever regions there are, as all do that neither make a memory in the
-/// spare region nor grow one, the replies are those of a machine whose memories are all its own. If
-/// they make one memory in the spare region, which is long enough for it, the reply is that of a
-/// machine that makes one of its own. Wherever the calls are cut, the first ones with as many
-/// replies are a run, and the others are a run from where that ends.
+/// Makes calls. If they fit whatever regions there are, the replies are those of a machine whose
+/// memories are all its own. If they make one memory in the spare region, which is long enough for
+/// it, the reply is that of a machine that makes one of its own. Wherever the calls are cut, the
+/// first ones with as many replies are a run, and the others are a run from where that ends.
 pub fn run_in_regions<L: ResourceLimiter>(
     machine: &mut Machine,
     calls: &[Call],
@@ -285,8 +260,8 @@ pub fn run_in_regions<L: ResourceLimiter>(
 
 /// Makes calls on the machine of a tenant: whatever comes of it, and whatever calls on the pool
 /// follow, the caps stay, and all machines together stay within them. If no reply tells of a
-/// denial, it is as if the tenant had a pool of its own with the same caps, and as if the other
-/// tenants held nothing.
+/// denial, it is as if the tenant had a pool of its own with the same caps, or as if the others
+/// held nothing.
 pub fn run_within(pool: &mut Pool, index: usize, calls: &[Call]) -> Result<Vec<Reply>, PoolError>
     ensures caps { pool.new.caps ≡ pool.old.caps }
     ensures within { pools.IsWithinCaps pool.new }

@@ -1,14 +1,18 @@
-//! Callers of the laws on raw values, on the bytes of numbers, and on memory types and table types.
-ghost use Rattle.std.specs.Prelude.{◌≡◌, IfOk, MatchResult, ◌↔◌, IsTrue, length};
+//! Callers of the laws on raw values, on the bytes of numbers, on memories and tables, and on their
+//! types.
+ghost use Rattle.std.specs.Prelude.{◌≡◌, ◌<◌, ◌≤◌, ◌*◌, ◌^◌, true, IfOk, MatchResult, ◌↔◌, IsTrue, length};
+ghost use Rattle.wasmi_types.specs.declared.index_ty.IndexType.TheVariants.{I32};
 ghost use Rattle.wasmi_access.specs.LoadStore.{IsSameOutside};
-ghost use Rattle.wasmi_store.specs.Memory.{IsSubtype};
-ghost use Rattle.wasmi_store.specs.Table as table;
+ghost use Rattle.wasmi_store.specs.Memory as memory_type;
+ghost use Rattle.wasmi_store.specs.Memory.{IsSubtype, page_bytes, in_bounds};
+ghost use Rattle.wasmi_store.specs.Table.{IsSized, size_of, is_within_maximum};
+ghost use Rattle.wasmi_store.specs.Table as table_type;
 ghost use Rattle.wasmi_law_callers.specs.Runs.{RelatesForward};
 
 use wasmi_access::access::{LittleEndianConvert, load_at, store_at};
 use wasmi_access::laws;
 use wasmi_raw::RawVal;
-use wasmi_store::{MemoryType, TableType, laws as type_laws};
+use wasmi_store::{Memory, MemoryType, Table, TableType, laws as store_laws};
 use wasmi_types::TrapCode;
 
 /// An integer that is written to a raw value is read back from it.
@@ -24,21 +28,6 @@ pub fn stored_and_loaded(memory: &mut [u8], address: usize, value: u32) -> Resul
     ensures loaded { MatchResult result (λ number. number ≡ value)
         (λ trap. trap ≡ TrapCode.MemoryOutOfBounds) }
     ensures outside { IfOk result (λ _. IsSameOutside memory.old memory.new address 4) }
-{
-    store_at(memory, address, value)?;
-    laws::stored_number_is_loaded();
-    load_at(memory, address)
-}
-
-/// A signed number that is stored at an address is the number that is then loaded from there, with
-/// its sign.
-pub fn signed_stored_and_loaded(
-    memory: &mut [u8],
-    address: usize,
-    value: i32,
-) -> Result<i32, TrapCode>
-    ensures { MatchResult result (λ number. number ≡ value)
-        (λ trap. trap ≡ TrapCode.MemoryOutOfBounds) }
 {
     store_at(memory, address, value)?;
     laws::stored_number_is_loaded();
@@ -64,8 +53,8 @@ pub fn sent<T: LittleEndianConvert>(value: T) -> T
 pub fn is_memory_subtype_chain(types: &[MemoryType]) -> bool
     ensures { IsTrue result ↔ RelatesForward IsSubtype types.now (length types.now) }
 {
-    type_laws::memory_subtyping_is_reflexive();
-    type_laws::memory_subtyping_is_transitive();
+    store_laws::memory_subtyping_is_reflexive();
+    store_laws::memory_subtyping_is_transitive();
     for i in 1..types.len() {
         if !types[i - 1].is_subtype_of(&types[i]) {
             return false;
@@ -77,14 +66,40 @@ pub fn is_memory_subtype_chain(types: &[MemoryType]) -> bool
 /// Whether each table type of a list may stand for the next one: it is so exactly where each may
 /// stand for itself and for each that follows.
 pub fn is_table_subtype_chain(types: &[TableType]) -> bool
-    ensures { IsTrue result ↔ RelatesForward table.IsSubtype types.now (length types.now) }
+    ensures { IsTrue result ↔ RelatesForward table_type.IsSubtype types.now (length types.now) }
 {
-    type_laws::table_subtyping_is_reflexive();
-    type_laws::table_subtyping_is_transitive();
+    store_laws::table_subtyping_is_reflexive();
+    store_laws::table_subtyping_is_transitive();
     for i in 1..types.len() {
         if !types[i - 1].is_subtype_of(&types[i]) {
             return false;
         }
     }
     true
+}
+
+/// The size of any memory in pages, by a valid type: that many pages are its bytes, no fewer than
+/// its type's minimum, and as many as its type allows.
+pub fn pages_of_memory(memory: &Memory) -> u64
+    ensures whole { result * page_bytes memory.now.ty.page ≡ length memory.now.bytes }
+    ensures valid { memory_type.IsValid memory.now.ty }
+    ensures minimum { memory.now.ty.minimum ≤ result }
+    ensures within { in_bounds memory.now.ty result ≡ true }
+{
+    store_laws::memories_are_valid(memory);
+    memory.size()
+}
+
+/// The size of any table, by a valid type: no fewer elements than its type's minimum, no more than
+/// its maximum, and as many as its type allows; so fewer than 2^32 if its indices are 32 bits long.
+pub fn elements_of_table(table: &Table) -> u64
+    ensures value { result ≡ size_of table.now }
+    ensures valid { table_type.IsValid table.now.ty }
+    ensures minimum { table.now.ty.minimum ≤ result }
+    ensures maximum { is_within_maximum table.now.ty result ≡ true }
+    ensures indices { table.now.ty.index ≡ I32 → result < 2 ^ 32 }
+    ensures sized { IsSized table.now.ty (size_of table.now) }
+{
+    store_laws::tables_are_valid(table);
+    table.size()
 }

@@ -1,11 +1,12 @@
-use Rattle.std.proofs.Common.{[], ◌∷◌, inl, inr, refl}
+use Rattle.std.proofs.Common.{◌≡◌, [], ◌∷◌, inl, inr, refl, arith}
+use Rattle.std.proofs.lemmas.Bool.Decides.{nat_tests}
 use Rattle.std.proofs.lemmas.List.Elements.{All-head, All-tail}
 use Rattle.wasmi_c.specs.SharedQuota.{HoldsSums, UnderQuota, sizes_made}
 use Rattle.wasmi_law_callers.proofs.LimitersLemmas.{nothing_made, both_made}
 use Rattle.wasmi_law_callers.proofs.hosts.make_both.Goals as goal
 
-pub returns : goal.returns
-returns c =
+pub returns-then-of_memory-eq-DONE : goal.returns-then-of_memory-eq-DONE
+returns-then-of_memory-eq-DONE c =
     let memory = c.make-of_memory in
     let table = c.make-of_table in
     let begun : UnderQuota = record { quota = c.args.quota.now; bytes = []; elements = [] } in
@@ -49,7 +50,8 @@ returns c =
       ),
     ) in
     record {
-      held = λ made. both_made table.new.quota memory.result memory.new.memory.size table.result table.new.table.size
-          (All-head HoldsSums both [] (All-tail HoldsSums one (both ∷ []) held)) c.if-of_memory-ne-DONE.false
-          c.if-of_table-ne-DONE.false;
+      held = λ made.
+          let is_made : table.result ≡ 0 = grind (arith, nat_tests) in
+          both_made table.new.quota memory.result memory.new.memory.size table.result table.new.table.size
+          (All-head HoldsSums both [] (All-tail HoldsSums one (both ∷ []) held)) c.if-of_memory-eq-DONE.true is_made;
     }
