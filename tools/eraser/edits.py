@@ -60,8 +60,9 @@ pub enum Call {""", 1),
 # Calls of a machine that `MachineStore::step` passes on by groups, to a function with a jump table of its own. Where each call has an
 # arm of its own, LLVM makes one table of the two. Where all are named, rustc knows that there are no others, and tests nothing.
 GROUPS = {
-    "step_memory(call, limiter)": "NewMemory(_) NewLentMemory(_) GrowMemory{..} DropMemory(_) Read{..} Write{..} Load{..} Store{..}",
-    "step_table(call, limiter)":
+    "step_memory(call, limiter).unwrap_or(Reply::NoSuch)":
+        "NewMemory(_) NewLentMemory(_) GrowMemory{..} DropMemory(_) Read{..} Write{..} Load{..} Store{..}",
+    "step_table(call, limiter).unwrap_or(Reply::NoSuch)":
         "NewTable{..} GrowTable{..} DropTable(_) GetElement{..} SetElement{..} InitTable{..} CopyTable{..} FillTable{..}",
 }
 REGISTERS = "SetRegister{..} GetRegister(_) Make{..} Unary{..} Binary{..} Ternary{..} Shift{..} Test{..} Extract{..} Replace{..} Shuffle{..}"

@@ -79,7 +79,7 @@ PUBLIC = {"wasmi_budget": "pool"}
 
 # Functions that return one of these are inlined always: a value that a call returns through memory is stored by words and read as a
 # whole, which stalls a run of calls.
-INLINED_ALWAYS = {"Reply"}
+INLINED_ALWAYS = {"Reply", "Option<Reply>"}
 
 
 def module_of(crate):

@@ -31,14 +31,9 @@ pub fn replies_permit()
     ensures { RepliesPermit }
 {}
 
-/// A tenant's limiter is deterministic.
-#[tactic(auto, using(crate::proofs::PoolLemmas::tenant_unique))]
+/// A tenant's limiter is deterministic, and accepts each notice.
+#[tactic(auto, using(crate::proofs::PoolLemmas::tenant_unique, crate::proofs::PoolLemmas::tenant_accepts))]
 pub fn tenants_leave_no_choice()
-    ensures { IsDeterministic tenant_rules }
-{}
-
-/// A tenant's limiter accepts each notice.
-#[tactic(auto, using(crate::proofs::PoolLemmas::tenant_accepts))]
-pub fn tenants_accept_notices()
-    ensures { AcceptsNotices tenant_rules }
+    ensures choice { IsDeterministic tenant_rules }
+    ensures notices { AcceptsNotices tenant_rules }
 {}

@@ -1,5 +1,5 @@
 -- What calls on slots have in common: what each does to the list of slots and in a turn.
-use Rattle.std.specs.Prelude.{◌≡◌, ◌⊎◌, ◌++◌, ℕ, Option, Some, Result, Ok, Err, List, [], ◌∷◌, length, slice_get, slice_set, MatchOption}
+use Rattle.std.specs.Prelude.{◌≡◌, ◌⊎◌, ◌++◌, ℕ, Option, Some, Result, Ok, Err, List, [], ◌∷◌, length, slice_get, slice_set, unwrap_or, MatchOption}
 use Rattle.wasmi_meter.specs.Attempt.{MeteredValue, with_value}
 use Rattle.wasmi_meter.specs.Meter.{Meter}
 use Rattle.wasmi_store.specs.Growth.{metered, metered_value}
@@ -13,6 +13,10 @@ use Rattle.wasmi_core.specs.State.{State, live_at, World, world, Turn, IsFree}
 abbrev pub reply_of : {T E : Type 0} → (T → Reply) → (E → Reply) → Result T E → Reply
 reply_of answer refusal (Ok value) = answer value
 reply_of answer refusal (Err error) = refusal error
+
+-- the reply of a body that ends early where an index names nothing
+abbrev pub reply_or_no_such : Option Reply → Reply
+reply_or_no_such reply = unwrap_or reply NoSuch
 
 -- a fact of the live value of an index; where the index names none, the other fact
 abbrev pub OnLive : {X : Type 0} → Option X → Type 0 → (X → Type 0) → Type 0

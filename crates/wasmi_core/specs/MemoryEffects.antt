@@ -2,6 +2,7 @@
 use Rattle.std.specs.Prelude.{◌≡◌, ◌⊎◌, ◌*◌, ℕ, Option, Some, None, Result, List, MatchOption}
 use Rattle.std.specs.Option.{option_map_or}
 use Rattle.wasmi_types.specs.Access.{at}
+use Rattle.wasmi_types.specs.Numbers.{le_bytes}
 use Rattle.wasmi_types.specs.declared.trap.TrapCode.{TrapCode}
 use Rattle.wasmi_access.specs.LoadStore.{IsStore}
 use Rattle.wasmi_meter.specs.declared.error.MemoryError.{MemoryError}
@@ -11,11 +12,14 @@ use Rattle.wasmi_store.specs.Buffer.{Lent}
 use Rattle.wasmi_store.specs.Memory.{MemoryTypeValue, page_bytes, MemoryValue, MakesMemory, WritesMemory}
 use Rattle.wasmi_core.specs.declared.calls.Reply.{Reply}
 use Rattle.wasmi_core.specs.declared.calls.Reply.TheVariants.{Done, Value, Number, Bytes, Memory, Trap, NoSuch, NoRegion, NoRoom}
+use Rattle.wasmi_core.specs.declared.memories.Stored.{Stored}
 use Rattle.wasmi_core.specs.declared.slots.Slot.{Slot}
-use Rattle.wasmi_ops.specs.declared.scalar.LoadOp.{LoadOp}
-use Rattle.wasmi_ops.specs.ScalarOps.{loaded_raw}
+use Rattle.wasmi_ops.specs.declared.scalar.access.LoadOp.{LoadOp}
+use Rattle.wasmi_ops.specs.ScalarOps.{loaded_raw, stored_bytes}
+use Rattle.wasmi_ops.specs.VectorOps.{stored_lane}
 use Rattle.wasmi_core.specs.State.{MemoryPart, live_at}
 use Rattle.wasmi_core.specs.Effects.{reply_of, OnLive, Creates, ChangesAt}
+use Rattle.wasmi_core.specs.declared.memories.Stored.TheVariants as stored
 
 -- the bytes that a growth by so many pages has appended, by its reply
 abbrev pub bytes_appended : Option MemoryValue → ℕ → Reply → ℕ
@@ -54,9 +58,11 @@ WritesMemoryAt k offset bytes slots reply slots' = ChangesAt k slots reply slots
 abbrev pub load_reply : LoadOp → ℕ → Option MemoryValue → Reply
 load_reply op a memory = option_map_or (λ x. reply_of Value Trap (loaded_raw op x.bytes a)) memory NoSuch
 
--- the reply to a load at an address of the memory of an index
-abbrev pub LoadsMemoryAt : LoadOp → ℕ → ℕ → List (Slot MemoryValue) → Reply → Type 0
-LoadsMemoryAt op k a slots reply = reply ≡ load_reply op a (live_at slots k)
+-- the bytes that a store writes
+abbrev pub bytes_of_stored : Stored → List ℕ
+bytes_of_stored (stored.Number op value) = stored_bytes op value
+bytes_of_stored (stored.Vector vector) = le_bytes 16 vector
+bytes_of_stored (stored.Lane op vector) = stored_lane op vector
 
 -- a store: the memory has the bytes at the address, or the store traps and the memory is the same
 abbrev pub StoresMemory : MemoryValue → ℕ → List ℕ → Result (Unit {0}) TrapCode → MemoryValue → Type 0

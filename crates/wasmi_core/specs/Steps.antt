@@ -1,5 +1,5 @@
 -- One step of the machine: what each call does, and what that changes in a world; and whole runs.
-use Rattle.std.specs.Prelude.{◌≡◌, ◌+◌, ℕ, Bool, true, false, List, Option, Some, Result, Ok, slice_get, [], ◌∷◌, map}
+use Rattle.std.specs.Prelude.{◌≡◌, ◌+◌, ℕ, Bool, true, false, List, Option, Some, None, Result, Ok, slice_get, [], ◌∷◌, map}
 use Rattle.std.specs.Option.{option_map, option_and_then}
 use Rattle.wasmi_types.specs.Numbers.{le_bytes}
 use Rattle.wasmi_types.specs.declared.trap.TrapCode.{TrapCode}
@@ -103,6 +103,30 @@ pub data Effect : Type 0 where
   TableGrown : ℕ → ℕ → TypedRawRef → Effect
   RangeWritten : ℕ → Source → ℕ → ℕ → Effect
 
+-- what a call that makes a vector of what is in registers gives the register of its result
+abbrev pub vector_given : List RawVal → Call → Option (Result RawVal TrapCode)
+vector_given rs (call.Make op dst a) = option_map (λ raw. given_vector (made_vector op raw)) (slice_get rs a)
+vector_given rs (call.Unary op dst a) = of_one (unary_vector op) (vector_at rs a)
+vector_given rs (call.Binary op dst a b) = of_two (binary_vector op) (vector_at rs a) (vector_at rs b)
+vector_given rs (call.Ternary op dst a b c) =
+    of_three (ternary_vector op) (vector_at rs a) (vector_at rs b) (vector_at rs c)
+vector_given rs (call.Shift op dst a amount) = of_one (λ v. shifted_vector op v amount) (vector_at rs a)
+vector_given rs (call.Replace op dst a item) =
+    option_and_then (λ raw. of_one (λ v. replaced_vector op v raw) (vector_at rs a)) (slice_get rs item)
+vector_given rs (call.Shuffle dst a b lanes) = of_two (λ x y. shuffle x y lanes) (vector_at rs a) (vector_at rs b)
+vector_given rs call = None
+
+-- a call makes a vector of what is in registers
+abbrev pub MakesVector : Call → Type 0
+MakesVector (call.Make op dst a) = Unit {0}
+MakesVector (call.Unary op dst a) = Unit {0}
+MakesVector (call.Binary op dst a b) = Unit {0}
+MakesVector (call.Ternary op dst a b c) = Unit {0}
+MakesVector (call.Shift op dst a amount) = Unit {0}
+MakesVector (call.Replace op dst a item) = Unit {0}
+MakesVector (call.Shuffle dst a b lanes) = Unit {0}
+MakesVector call = ⊥
+
 -- the effect of a call on a machine in this state: a line for each call
 abbrev pub effect_of : State → Call → Effect
 effect_of s (call.SetFuel fuel) = FuelSet fuel
@@ -130,22 +154,19 @@ effect_of s (call.SetGlobal k value) = Changed (GlobalSet k value)
 effect_of s (call.GetGlobal k) = Told (global_reply (slice_get s.globals k))
 effect_of s (call.SetRegister dst value) = Changed (RegisterSet dst (Some (Ok value)))
 effect_of s (call.GetRegister a) = Told (raw_reply (slice_get s.registers a))
-effect_of s (call.Make op dst a) =
-    Changed (RegisterSet dst (option_map (λ raw. given_vector (made_vector op raw)) (slice_get s.registers a)))
-effect_of s (call.Unary op dst a) = Changed (RegisterSet dst (of_one (unary_vector op) (vector_at s.registers a)))
-effect_of s (call.Binary op dst a b) =
-    Changed (RegisterSet dst (of_two (binary_vector op) (vector_at s.registers a) (vector_at s.registers b)))
-effect_of s (call.Ternary op dst a b c) = Changed (RegisterSet dst
-    (of_three (ternary_vector op) (vector_at s.registers a) (vector_at s.registers b) (vector_at s.registers c)))
+effect_of s (call.Make op dst a) = Changed (RegisterSet dst (vector_given s.registers (call.Make op dst a)))
+effect_of s (call.Unary op dst a) = Changed (RegisterSet dst (vector_given s.registers (call.Unary op dst a)))
+effect_of s (call.Binary op dst a b) = Changed (RegisterSet dst (vector_given s.registers (call.Binary op dst a b)))
+effect_of s (call.Ternary op dst a b c) =
+    Changed (RegisterSet dst (vector_given s.registers (call.Ternary op dst a b c)))
 effect_of s (call.Shift op dst a amount) =
-    Changed (RegisterSet dst (of_one (λ v. shifted_vector op v amount) (vector_at s.registers a)))
+    Changed (RegisterSet dst (vector_given s.registers (call.Shift op dst a amount)))
 effect_of s (call.Test op a) = Told (raw_reply (option_map (tested_raw op) (vector_at s.registers a)))
 effect_of s (call.Extract op a) = Told (raw_reply (option_map (extracted_raw op) (vector_at s.registers a)))
-effect_of s (call.Replace op dst a item) = Changed (RegisterSet dst
-    (option_and_then (λ raw. of_one (λ v. replaced_vector op v raw) (vector_at s.registers a))
-    (slice_get s.registers item)))
+effect_of s (call.Replace op dst a item) =
+    Changed (RegisterSet dst (vector_given s.registers (call.Replace op dst a item)))
 effect_of s (call.Shuffle dst a b lanes) =
-    Changed (RegisterSet dst (of_two (λ x y. shuffle x y lanes) (vector_at s.registers a) (vector_at s.registers b)))
+    Changed (RegisterSet dst (vector_given s.registers (call.Shuffle dst a b lanes)))
 effect_of s (call.VectorLoad op dst k ptr offset) =
     Changed (RegisterSet dst (vector_loaded op (ptr + offset) (live_at s.memories k)))
 effect_of s (call.LoadLane op dst a k ptr offset) =

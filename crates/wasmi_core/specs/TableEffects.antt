@@ -11,16 +11,12 @@ use Rattle.wasmi_core.specs.declared.calls.Reply.{Reply}
 use Rattle.wasmi_core.specs.declared.calls.Reply.TheVariants.{Done, Number, Reference, Table, NoSuch}
 use Rattle.wasmi_core.specs.declared.slots.Slot.{Slot}
 use Rattle.wasmi_core.specs.declared.slots.Slot.TheVariants.{Live}
-use Rattle.wasmi_core.specs.State.{live_value, live_at}
+use Rattle.wasmi_core.specs.State.{live_value}
 use Rattle.wasmi_core.specs.Effects.{reply_of, OnLive, IsNoSuch, ChangesAt, ActsAt}
 
 -- the element that is asked of a table, if the table is there
 abbrev pub element_reply : ℕ → Option TableValue → Reply
 element_reply index table = option_map_or (λ x. Reference (element_at x index)) table NoSuch
-
--- the reply to a call for an element of the table of an index
-abbrev pub GetsElementAt : ℕ → ℕ → List (Slot TableValue) → Reply → Type 0
-GetsElementAt k index slots reply = reply ≡ element_reply index (live_at slots k)
 
 -- an element of the table of an index is set, or the call is refused
 abbrev pub SetsElementAt : ℕ → ℕ → TypedRawRef → List (Slot TableValue) → Reply → List (Slot TableValue) → Type 0

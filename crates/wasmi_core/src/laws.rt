@@ -19,16 +19,11 @@ pub fn runs_join<L: ResourceLimiter>()
     ensures calls { RunsOfCallsJoin (optional_rules L.rules) }
 {}
 
-/// A turn that is refused keeps the contents. It keeps the meter, unless it is a growth that fails
-/// after its charge, and the spare region, unless a memory was to be made in it and there was a
-/// slot for it.
-///
-/// A growth fails after its charge if its question was permitted, its price was left and taken, and
-/// then the allocation failed. The limiter was notified of that, the reply says so too, unless the
-/// limiter answers the notice with an error, and the meter has exactly that price less
-/// (`FailsAfterCharge`).
-///
-/// This holds of each turn of a run, and a run in which each turn is refused keeps the contents.
+/// A turn that is refused keeps the contents, as does a run of such turns. It keeps the spare
+/// region, unless a memory was to be made in it and there was a slot for it. It keeps the meter,
+/// unless it is a growth that lacks memory once it is permitted and paid (`FailsAfterCharge`): then
+/// the limiter was notified, the reply says so unless the limiter answers by another error, and the
+/// meter has exactly the price less.
 pub fn refusals_keep_contents<L: ResourceLimiter>()
     ensures turn { RefusalsKeepContents (optional_rules L.rules) }
     ensures run { RefusalsInRunsKeepContents (optional_rules L.rules) }
@@ -40,12 +35,9 @@ pub fn refusals_keep_contents<L: ResourceLimiter>()
 /// exactly the growth that was asked for, or by exactly one notice, which the reply reports, and a
 /// denial by neither.
 ///
-/// A growth that succeeds is charged its price, and so is one that fails for lack of memory. No
-/// other growth and no creation is charged anything. A call that lets nothing grow is charged for
-/// the elements that it writes over a part of a table, and else nothing. The charge was left in the
-/// meter, and is taken from it.
-///
-/// Without a limiter each question is permitted. This holds of each turn of a run.
+/// A growth is charged its price if it succeeds or fails for lack of memory, and a call that lets
+/// nothing grow the elements that it writes over a part of a table. Nothing else is charged. The
+/// charge was left in the meter, and is taken from it. Without a limiter each question is permitted.
 pub fn growths_are_permitted<L: ResourceLimiter>()
     ensures turn { GrowsAsPermitted (optional_rules L.rules) }
     ensures run { RunsGrowAsPermitted (optional_rules L.rules) }
@@ -74,8 +66,7 @@ pub fn states_are_valid(machine: &Machine)
     machine.tell_valid();
 }
 
-/// A run of calls whose types are valid keeps a state valid. The types of a `Call` that code holds
-/// are.
+/// A run of calls whose types are valid, as those of a `Call` in code are, keeps a state valid.
 #[tactic(auto, using(crate::proofs::ValidityLemmas::run_keeps_validity))]
 pub fn runs_keep_validity<L: ResourceLimiter>()
     ensures { RunsKeepValidity (optional_rules L.rules) }
@@ -109,20 +100,14 @@ pub fn totals_are_held<L: Reserving>()
 
 /// While metering is on at a rate above 0, the bytes that a run writes by growing and copying are
 /// bounded by the fuel that is charged for them, and so by the fuel that was left at its start and
-/// all amounts that were set.
-///
-/// `IsBounded` gives each turn that writes less than one fuel's worth of bytes beyond what its
-/// charge pays for.
+/// all amounts that were set; `IsBounded` says what each turn has beyond that, as `IsSpent` does.
 pub fn fuel_bounds_writing<L: ResourceLimiter>()
     ensures { FuelBoundsWriting (optional_rules L.rules) }
 {}
 
 /// A run that makes no memory in a lent region, and grows no memory past the region that it lies
-/// in, is a run of the same machine with memories of their own: the same replies, charges, written
-/// bytes and limiter.
-///
-/// `FitsRegions` says which calls these are: a growth past the region counts as one where it is
-/// refused before the limiter is asked.
+/// in unless that is refused before the limiter is asked (`FitsRegions`), is a run of the same
+/// machine with memories of their own: the same replies, charges, written bytes and limiter.
 #[tactic(auto, using(crate::proofs::LentMemoryLemmas::run_is_owned))]
 pub fn lent_runs_are_owned<L: ResourceLimiter>()
     ensures { LentRunsAreOwned (optional_rules L.rules) }
@@ -160,26 +145,16 @@ pub fn replies_are_one<L: ResourceLimiter>()
     ensures { RepliesAreOne L.rules }
 {}
 
-/// The limiter that permits everything accepts each notice.
-#[tactic(auto, using(crate::proofs::ToldLemmas::unlimited_accepts))]
-pub fn no_limits_accept_notices()
-    ensures { AcceptsNotices (unlimited_rules {S = NoLimits}) }
+/// The limiter that permits everything and a quota accept each notice.
+#[tactic(auto, using(crate::proofs::ToldLemmas::unlimited_accepts, crate::proofs::ToldLemmas::quota_accepts))]
+pub fn limiters_accept_notices()
+    ensures no_limits { AcceptsNotices (unlimited_rules {S = NoLimits}) }
+    ensures quota { AcceptsNotices quota_rules }
 {}
 
-/// A quota accepts each notice.
-#[tactic(auto, using(crate::proofs::ToldLemmas::quota_accepts))]
-pub fn quota_accepts_notices()
-    ensures { AcceptsNotices quota_rules }
-{}
-
-/// The limiter that permits everything is deterministic.
-#[tactic(auto, using(crate::proofs::DeterminismLemmas::unlimited_unique))]
-pub fn no_limits_leave_no_choice()
-    ensures { IsDeterministic (unlimited_rules {S = NoLimits}) }
-{}
-
-/// A quota is deterministic.
-#[tactic(auto, using(crate::proofs::DeterminismLemmas::quota_unique))]
-pub fn quota_leaves_no_choice()
-    ensures { IsDeterministic quota_rules }
+/// The limiter that permits everything and a quota are deterministic.
+#[tactic(auto, using(crate::proofs::DeterminismLemmas::unlimited_unique, crate::proofs::DeterminismLemmas::quota_unique))]
+pub fn limiters_leave_no_choice()
+    ensures no_limits { IsDeterministic (unlimited_rules {S = NoLimits}) }
+    ensures quota { IsDeterministic quota_rules }
 {}

@@ -1,12 +1,12 @@
 //! The machine.
-ghost use Rattle.std.specs.Prelude.{◌≡◌, ◌+◌, ◌-◌, ◌<◌, ◌↔◌, ℕ, Option, IsSome, Some, None, Result, Err, length, slice_get, IfSome, MatchResult};
+ghost use Rattle.std.specs.Prelude.{◌≡◌, ◌+◌, ◌-◌, ◌<◌, ◌↔◌, Option, IsSome, Some, None, Result, Err, length, slice_get, MatchResult};
 ghost use Rattle.std.specs.Option.{option_copied, option_copied_mut};
 
 use crate::calls::Reply;
+use crate::memories::Stored;
 use crate::registers::Registers;
 use crate::slots::Slots;
 use crate::store::MachineStore;
-use crate::values::value_at;
 use std::alloc::Global as Allocator;
 use std::marker::Model;
 use wasmi_meter::{Fuel, FuelError};
@@ -49,8 +49,7 @@ impl<'r> Machine<'r> {
         Machine::empty(alloc, fuel, None)
     }
 
-    /// A machine with this meter and this spare region, on which nothing was made yet. It takes no
-    /// memory, and leaves the bytes of the region as they are.
+    /// A machine as by `new`, with this spare region, whose bytes stay as they are.
     pub fn with_region(alloc: Allocator, fuel: Fuel, region: &'r mut [u8]) -> Machine<'r>
         ensures { result ≡ with_spare (new_state fuel) region.entry.now }
     {
@@ -126,7 +125,9 @@ impl<'r> Machine<'r> {
             self.old.memories result self.new.memories }
         ensures rest { self.new ≡ with_memories self.old self.new.memories }
     {
-        self.store.memories.store(op, memory, ptr, offset, value)
+        let stored = Stored::Number(op, value);
+        let reply = self.store.memories.store(memory, ptr, offset, stored);
+        reply.unwrap_or(Reply::NoSuch)
     }
 
     /// The table of an index, if there is one that wasn't dropped.
@@ -140,14 +141,14 @@ impl<'r> Machine<'r> {
     pub fn segment(&self, index: usize) -> Option<&ElementSegment>
         ensures { option_copied result ≡ slice_get self.now.segments index }
     {
-        value_at(&self.store.segments, index)
+        self.store.segments.get(index)
     }
 
     /// The global of an index, if there is one.
     pub fn global(&self, index: usize) -> Option<&Global>
         ensures { option_copied result ≡ slice_get self.now.globals index }
     {
-        value_at(&self.store.globals, index)
+        self.store.globals.get(index)
     }
 
     /// The value of a register, if there is one: their numbers are 0 to 15.
@@ -167,8 +168,7 @@ impl<'r> Machine<'r> {
         self.store.memories.total()
     }
 
-    /// The elements of all tables, dropped ones at their last size. The cost grows with the number
-    /// of tables that were ever made, including those that were dropped.
+    /// The elements of all tables, likewise: the cost grows with the number of all tables ever made.
     pub fn total_elements(&self) -> u128
         ensures { result ≡ total self.now Elements }
     {

@@ -28,27 +28,9 @@ impl<'r> Machine<'r> {
         self.store.step(call, limiter)
     }
 
-    /// Grows a memory by so many pages, as `step` does for `Call::GrowMemory`. The reply is
+    /// Grows a memory by so many pages, as `step_lending` does for `Call::GrowMemory`. The reply is
     /// `Number` with the old size in pages, `NoSuch` if there is no such memory, or `Memory` with
     /// an error of [`wasmi_store::LinearMemory::grow`].
-    #[inline(always)]
-    pub fn grow_memory<L: ResourceLimiter>(
-        &mut self,
-        memory: usize,
-        pages: u64,
-        limiter: &mut ResourceLimiterRef<L>,
-    ) -> Reply
-        ensures loan { KeepsLoan limiter.old limiter.new }
-        ensures step { RepliesWith (optional_rules L.rules) (GrowMemory memory pages)
-            (world self.old (lent_limiter limiter.old)) result
-            (world self.new (lent_limiter limiter.new)) }
-        ensures valid { IsValid self.new }
-    {
-        self.store.grow_memory(memory, pages, limiter)
-    }
-
-    /// Grows a memory, as `grow_memory`, but borrows the limiter for this call alone, so that its
-    /// state afterwards is known.
     #[inline(always)]
     pub fn grow_memory_lending<L: ResourceLimiter>(
         &mut self,
@@ -61,9 +43,9 @@ impl<'r> Machine<'r> {
         ensures valid { IsValid self.new }
     {
         let mut lent = ResourceLimiterRef::from(limiter);
-        let reply = self.grow_memory(memory, pages, &mut lent);
+        let reply = self.store.grow_memory(memory, pages, &mut lent);
         let _limiter = lent.into_limiter();
-        reply
+        reply.unwrap_or(Reply::NoSuch)
     }
 
     /// Executes one call, as `step`, but borrows the limiter for this call alone, so that its state

@@ -4,7 +4,7 @@ ghost use Rattle.std.specs.Borrow.{sem, Lends, LendsIf};
 ghost use Rattle.std.specs.Option.{option_copied, option_copied_mut};
 ghost use Rattle.std.specs.Vec.{vec_capacity};
 ghost use Rattle.wasmi_store.specs.Table.{size_of};
-ghost use Rattle.wasmi_core.specs.Effects.{DropsAt};
+ghost use Rattle.wasmi_core.specs.Effects.{DropsAt, reply_or_no_such};
 ghost use Rattle.wasmi_core.specs.State.{live_value, live_at, with_live, slot_count};
 ghost use Rattle.wasmi_core.specs.declared.slots.Slot.TheVariants.{Live};
 
@@ -147,17 +147,15 @@ impl<T> Slots<T> {
 
 impl<T: Counted> Slots<T> {
     /// Drops the live value of an index, and keeps how many it had.
-    pub(crate) fn drop_live(&mut self, index: usize) -> Reply
+    pub(crate) fn drop_live(&mut self, index: usize) -> Option<Reply>
     where
         T: Drop,
-        ensures { DropsAt T.Counted.count index self.old.slots.items result self.new.slots.items }
+        ensures { DropsAt T.Counted.count index self.old.slots.items (reply_or_no_such result)
+            self.new.slots.items }
     {
-        let Some(value) = self.live(index) else {
-            return Reply::NoSuch;
-        };
-        let last = value.count();
+        let last = self.live(index)?.count();
         self.slots[index] = Slot::Gone(last);
-        Reply::Done
+        Some(Reply::Done)
     }
 
     /// How many bytes or elements all of them have; dropped ones count with their last size.

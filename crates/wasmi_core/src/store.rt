@@ -2,11 +2,13 @@
 //! them.
 ghost use Rattle.std.specs.Prelude.{◌≡◌};
 ghost use Rattle.wasmi_meter.specs.Limiter.{optional_rules, lent_limiter, KeepsLoan};
+ghost use Rattle.wasmi_core.specs.Effects.{reply_or_no_such};
 
 use crate::calls::{Call, Reply};
+use crate::memories::{Stored, bytes_reply};
 use crate::registers::Registers;
 use crate::slots::Slots;
-use crate::values::{create_global, create_segment, drop_items, get_global, set_global, value_at};
+use crate::values::{create_global, create_segment, drop_items, get_global, set_global};
 use std::alloc::Global as Allocator;
 use std::marker::Model;
 use wasmi_meter::{Fuel, ResourceLimiter, ResourceLimiterRef};
@@ -47,7 +49,7 @@ impl<'r> Model for MachineStore<'r> {
 }
 
 impl<'r> MachineStore<'r> {
-    ghost use Rattle.wasmi_core.specs.ValueEffects.{SetsFuel, get_fuel_reply};
+    ghost use Rattle.wasmi_core.specs.ValueEffects.{SetsFuel};
     ghost use Rattle.wasmi_core.specs.Steps.{RepliesWith, RepliesWithoutLimiter, subject_of, Memories, Tables, RegisterFile, VectorAccesses};
     ghost use Rattle.wasmi_core.specs.State.{world};
     ghost use Rattle.wasmi_core.specs.declared.calls.Call.TheVariants.{GrowMemory};
@@ -61,12 +63,6 @@ impl<'r> MachineStore<'r> {
         }
     }
 
-    fn get_fuel(&self) -> Reply
-        ensures { result ≡ get_fuel_reply self.now.meter }
-    {
-        self.fuel.get_fuel().map_or_else(Reply::Fuel, Reply::Number)
-    }
-
     /// Grows a memory by so many pages. A function of the store, since the prover covers no call
     /// that borrows two fields of a field.
     #[inline(always)]
@@ -75,10 +71,10 @@ impl<'r> MachineStore<'r> {
         memory: usize,
         pages: u64,
         limiter: &mut ResourceLimiterRef<L>,
-    ) -> Reply
+    ) -> Option<Reply>
         ensures loan { KeepsLoan limiter.old limiter.new }
         ensures step { RepliesWith (optional_rules L.rules) (GrowMemory memory pages)
-            (world self.old (lent_limiter limiter.old)) result
+            (world self.old (lent_limiter limiter.old)) (reply_or_no_such result)
             (world self.new (lent_limiter limiter.new)) }
     {
         self.memories.grow(memory, pages, &mut self.fuel, limiter)
@@ -98,7 +94,7 @@ impl<'r> MachineStore<'r> {
     {
         match call {
             Call::SetFuel(fuel) => self.set_fuel(*fuel),
-            Call::GetFuel => self.get_fuel(),
+            Call::GetFuel => self.fuel.get_fuel().map_or_else(Reply::Fuel, Reply::Number),
             Call::NewMemory(_)
             | Call::NewLentMemory(_)
             | Call::GrowMemory { .. }
@@ -106,7 +102,7 @@ impl<'r> MachineStore<'r> {
             | Call::Read { .. }
             | Call::Write { .. }
             | Call::Load { .. }
-            | Call::Store { .. } => self.step_memory(call, limiter),
+            | Call::Store { .. } => self.step_memory(call, limiter).unwrap_or(Reply::NoSuch),
             Call::NewSegment { ty, items } => {
                 create_segment(&mut self.segments, self.alloc, *ty, items)
             }
@@ -121,12 +117,12 @@ impl<'r> MachineStore<'r> {
             | Call::SetElement { .. }
             | Call::InitTable { .. }
             | Call::CopyTable { .. }
-            | Call::FillTable { .. } => self.step_table(call, limiter),
+            | Call::FillTable { .. } => self.step_table(call, limiter).unwrap_or(Reply::NoSuch),
             Call::VectorLoad { .. }
             | Call::LoadLane { .. }
             | Call::VectorStore { .. }
-            | Call::StoreLane { .. } => self.step_vector_access::<L>(call),
-            _ => self.step_register::<L>(call),
+            | Call::StoreLane { .. } => self.step_vector_access::<L>(call).unwrap_or(Reply::NoSuch),
+            _ => self.step_register::<L>(call).unwrap_or(Reply::NoSuch),
         }
     }
 
@@ -135,23 +131,28 @@ impl<'r> MachineStore<'r> {
         &mut self,
         call: &Call,
         limiter: &mut ResourceLimiterRef<L>,
-    ) -> Reply
+    ) -> Option<Reply>
         requires subject { subject_of call.now ≡ Memories }
         ensures loan { KeepsLoan limiter.old limiter.new }
         ensures step { RepliesWith (optional_rules L.rules) call.now
-            (world self.old (lent_limiter limiter.old)) result
+            (world self.old (lent_limiter limiter.old)) (reply_or_no_such result)
             (world self.new (lent_limiter limiter.new)) }
     {
         match call {
-            Call::NewMemory(ty) => self.memories.create(self.alloc, *ty, limiter),
-            Call::NewLentMemory(ty) => self.memories.create_lent(*ty, &mut self.spare, limiter),
+            Call::NewMemory(ty) => Some(self.memories.create(self.alloc, *ty, limiter)),
+            Call::NewLentMemory(ty) => Some(
+                self.memories.create_lent(*ty, &mut self.spare, limiter),
+            ),
             Call::GrowMemory { memory, pages } => self.grow_memory(*memory, *pages, limiter),
             Call::DropMemory(memory) => self.memories.drop_live(*memory),
             Call::Read {
                 memory,
                 offset,
                 len,
-            } => self.memories.read(self.alloc, *memory, *offset, *len),
+            } => {
+                let memory = self.memories.live(*memory)?;
+                Some(bytes_reply(self.alloc, memory.data(), *offset, *len))
+            }
             Call::Write {
                 memory,
                 offset,
@@ -162,14 +163,20 @@ impl<'r> MachineStore<'r> {
                 memory,
                 ptr,
                 offset,
-            } => self.memories.load(*op, *memory, *ptr, *offset),
+            } => {
+                let memory = self.memories.live(*memory)?;
+                let value = op.load(memory.data(), *ptr, *offset);
+                Some(value.map_or_else(Reply::Trap, Reply::Value))
+            }
             Call::Store {
                 op,
                 memory,
                 ptr,
                 offset,
                 value,
-            } => self.memories.store(*op, *memory, *ptr, *offset, *value),
+            } => self
+                .memories
+                .store(*memory, *ptr, *offset, Stored::Number(*op, *value)),
             _ => unreachable!(),
         }
     }
@@ -179,21 +186,25 @@ impl<'r> MachineStore<'r> {
         &mut self,
         call: &Call,
         limiter: &mut ResourceLimiterRef<L>,
-    ) -> Reply
+    ) -> Option<Reply>
         requires subject { subject_of call.now ≡ Tables }
         ensures loan { KeepsLoan limiter.old limiter.new }
         ensures step { RepliesWith (optional_rules L.rules) call.now
-            (world self.old (lent_limiter limiter.old)) result
+            (world self.old (lent_limiter limiter.old)) (reply_or_no_such result)
             (world self.new (lent_limiter limiter.new)) }
     {
         match call {
-            Call::NewTable { ty, init } => self.tables.create(self.alloc, *ty, *init, limiter),
+            Call::NewTable { ty, init } => Some(
+                self.tables.create(self.alloc, *ty, *init, limiter),
+            ),
             Call::GrowTable { table, delta, init } => {
                 self.tables
                     .grow(*table, *delta, *init, &mut self.fuel, limiter)
             }
             Call::DropTable(table) => self.tables.drop_live(*table),
-            Call::GetElement { table, index } => self.tables.get(*table, *index),
+            Call::GetElement { table, index } => Some(Reply::Reference(
+                self.tables.live(*table)?.get(*index),
+            )),
             Call::SetElement {
                 table,
                 index,
@@ -206,9 +217,7 @@ impl<'r> MachineStore<'r> {
                 src,
                 len,
             } => {
-                let Some(segment) = value_at(&self.segments, *segment) else {
-                    return Reply::NoSuch;
-                };
+                let segment = self.segments.get(*segment)?;
                 self.tables.init(
                     *table,
                     ElementSegmentRef::from(segment),
@@ -238,33 +247,34 @@ impl<'r> MachineStore<'r> {
     }
 
     /// Executes one call on registers, which doesn't reach the limiter: only the contract has `L`.
-    fn step_register<L: ResourceLimiter>(&mut self, call: &Call) -> Reply
+    /// Calls that make a vector have an arm each, by which LLVM makes one table of both matches.
+    fn step_register<L: ResourceLimiter>(&mut self, call: &Call) -> Option<Reply>
         requires subject { subject_of call.now ≡ RegisterFile }
         ensures step { RepliesWithoutLimiter
-            (optional_rules L.rules) call.now self.old result self.new }
+            (optional_rules L.rules) call.now self.old (reply_or_no_such result) self.new }
     {
         match call {
             Call::SetRegister { dst, value } => self.registers.set(*dst, *value),
-            Call::GetRegister(register) => self.registers.get_register(*register),
-            Call::Make { op, dst, a } => self.registers.make(*op, *dst, *a),
-            Call::Unary { op, dst, a } => self.registers.unary(*op, *dst, *a),
-            Call::Binary { op, dst, a, b } => self.registers.binary(*op, *dst, *a, *b),
-            Call::Ternary { op, dst, a, b, c } => self.registers.ternary(*op, *dst, *a, *b, *c),
-            Call::Shift { op, dst, a, amount } => self.registers.shift(*op, *dst, *a, *amount),
-            Call::Test { op, a } => self.registers.test(*op, *a),
-            Call::Extract { op, a } => self.registers.extract(*op, *a),
-            Call::Replace { op, dst, a, item } => self.registers.replace(*op, *dst, *a, *item),
-            Call::Shuffle { dst, a, b, lanes } => self.registers.shuffle(*dst, *a, *b, *lanes),
+            Call::GetRegister(register) => Some(Reply::Value(self.registers.get(*register)?)),
+            Call::Test { op, a } => Some(Reply::Value(op.apply(self.registers.vector(*a)?))),
+            Call::Extract { op, a } => Some(Reply::Value(op.apply(self.registers.vector(*a)?))),
+            Call::Make { dst, .. } => self.registers.set_made(*dst, call),
+            Call::Unary { dst, .. } => self.registers.set_made(*dst, call),
+            Call::Binary { dst, .. } => self.registers.set_made(*dst, call),
+            Call::Ternary { dst, .. } => self.registers.set_made(*dst, call),
+            Call::Shift { dst, .. } => self.registers.set_made(*dst, call),
+            Call::Replace { dst, .. } => self.registers.set_made(*dst, call),
+            Call::Shuffle { dst, .. } => self.registers.set_made(*dst, call),
             _ => unreachable!(),
         }
     }
 
     /// Executes one load or store of a vector, which doesn't reach the limiter: only the contract
     /// names `L`.
-    fn step_vector_access<L: ResourceLimiter>(&mut self, call: &Call) -> Reply
+    fn step_vector_access<L: ResourceLimiter>(&mut self, call: &Call) -> Option<Reply>
         requires subject { subject_of call.now ≡ VectorAccesses }
         ensures step { RepliesWithoutLimiter
-            (optional_rules L.rules) call.now self.old result self.new }
+            (optional_rules L.rules) call.now self.old (reply_or_no_such result) self.new }
     {
         match call {
             Call::VectorLoad {
@@ -274,8 +284,9 @@ impl<'r> MachineStore<'r> {
                 ptr,
                 offset,
             } => {
-                let memory = self.memories.live(*memory);
-                self.registers.load(*op, *dst, memory, *ptr, *offset)
+                let memory = self.memories.live(*memory)?;
+                let vector = op.load(memory.data(), *ptr, *offset);
+                self.registers.set_loaded(*dst, vector)
             }
             Call::LoadLane {
                 op,
@@ -285,9 +296,9 @@ impl<'r> MachineStore<'r> {
                 ptr,
                 offset,
             } => {
-                let memory = self.memories.live(*memory);
-                self.registers
-                    .load_lane(*op, *dst, *a, memory, *ptr, *offset)
+                let (a, memory) = (self.registers.vector(*a)?, self.memories.live(*memory)?);
+                let vector = op.load(memory.data(), *ptr, *offset, a);
+                self.registers.set_loaded(*dst, vector)
             }
             Call::VectorStore {
                 a,
@@ -295,8 +306,8 @@ impl<'r> MachineStore<'r> {
                 ptr,
                 offset,
             } => {
-                let a = self.registers.vector(*a);
-                self.memories.store_vector(a, *memory, *ptr, *offset)
+                let vector = Stored::Vector(self.registers.vector(*a)?);
+                self.memories.store(*memory, *ptr, *offset, vector)
             }
             Call::StoreLane {
                 op,
@@ -305,8 +316,8 @@ impl<'r> MachineStore<'r> {
                 ptr,
                 offset,
             } => {
-                let a = self.registers.vector(*a);
-                self.memories.store_lane(*op, a, *memory, *ptr, *offset)
+                let lane = Stored::Lane(*op, self.registers.vector(*a)?);
+                self.memories.store(*memory, *ptr, *offset, lane)
             }
             _ => unreachable!(),
         }

@@ -4,8 +4,8 @@ ghost use Rattle.wasmi_meter.specs.Limiter.{optional_rules, lent_limiter, KeepsL
 ghost use Rattle.wasmi_store.specs.Growth.{metered_value, metered, WithCharge};
 ghost use Rattle.wasmi_store.specs.Segment.{segment_of};
 ghost use Rattle.wasmi_store.specs.Table.{MakesTable, GrowsTableCharging, filling_of, copy_of, initialization_of};
-ghost use Rattle.wasmi_core.specs.Effects.{reply_of, ActsAt, Creates};
-ghost use Rattle.wasmi_core.specs.TableEffects.{GetsElementAt, SetsElementAt, WritesTableAt, WritesTableFrom, CopiesSlot};
+ghost use Rattle.wasmi_core.specs.Effects.{reply_of, reply_or_no_such, ActsAt, Creates};
+ghost use Rattle.wasmi_core.specs.TableEffects.{SetsElementAt, WritesTableAt, WritesTableFrom, CopiesSlot};
 ghost use Rattle.wasmi_core.specs.State.{live_at};
 
 use crate::calls::Reply;
@@ -46,39 +46,29 @@ impl Slots<Table> {
         init: TypedRawRef,
         fuel: &mut Fuel,
         limiter: &mut ResourceLimiterRef<L>,
-    ) -> Reply
+    ) -> Option<Reply>
         ensures loan { KeepsLoan limiter.old limiter.new }
         ensures grown { WithCharge
             (ActsAt index (reply_of Reply.Number Reply.Table)
             (GrowsTableCharging (optional_rules L.rules) delta init))
-            (metered_value self.old.slots.items (Some fuel.old) (lent_limiter limiter.old)) result
+            (metered_value self.old.slots.items (Some fuel.old) (lent_limiter limiter.old))
+            (reply_or_no_such result)
             (metered_value self.new.slots.items (Some fuel.new) (lent_limiter limiter.new)) }
     {
-        let Some(table) = self.live_mut(index) else {
-            return Reply::NoSuch;
-        };
+        let table = self.live_mut(index)?;
         match table.grow_metered(delta, init, fuel, limiter) {
-            Ok(size) => Reply::Number(size),
-            Err(error) => Reply::Table(error),
+            Ok(size) => Some(Reply::Number(size)),
+            Err(error) => Some(Reply::Table(error)),
         }
     }
 
-    /// The element of a table.
-    pub(crate) fn get(&self, index: usize, element: u64) -> Reply
-        ensures { GetsElementAt index element self.now.slots.items result }
-    {
-        self.live(index).map_or(Reply::NoSuch, |table| Reply::Reference(table.get(element)))
-    }
-
     /// Sets an element of a table.
-    pub(crate) fn set(&mut self, index: usize, element: u64, value: TypedRawRef) -> Reply
-        ensures { SetsElementAt index element value self.old.slots.items result
-            self.new.slots.items }
+    pub(crate) fn set(&mut self, index: usize, element: u64, value: TypedRawRef) -> Option<Reply>
+        ensures { SetsElementAt index element value self.old.slots.items
+            (reply_or_no_such result) self.new.slots.items }
     {
-        let Some(table) = self.live_mut(index) else {
-            return Reply::NoSuch;
-        };
-        table_reply(table.set(element, value))
+        let table = self.live_mut(index)?;
+        Some(table_reply(table.set(element, value)))
     }
 
     /// Fills a part of a table.
@@ -89,15 +79,13 @@ impl Slots<Table> {
         value: TypedRawRef,
         len: u64,
         fuel: &mut Fuel,
-    ) -> Reply
+    ) -> Option<Reply>
         ensures { WithCharge (WritesTableAt index (filling_of dst value len))
-            (metered self.old.slots.items (Some fuel.old)) result
+            (metered self.old.slots.items (Some fuel.old)) (reply_or_no_such result)
             (metered self.new.slots.items (Some fuel.new)) }
     {
-        let Some(table) = self.live_mut(index) else {
-            return Reply::NoSuch;
-        };
-        table_reply(table.fill_metered(dst, value, len, fuel))
+        let table = self.live_mut(index)?;
+        Some(table_reply(table.fill_metered(dst, value, len, fuel)))
     }
 
     /// Initializes a part of a table from an element segment, if there is one.
@@ -109,16 +97,14 @@ impl Slots<Table> {
         src: u32,
         len: u32,
         fuel: &mut Fuel,
-    ) -> Reply
+    ) -> Option<Reply>
         ensures { WithCharge
             (WritesTableAt index (initialization_of dst src len (segment_of segment.entry)))
-            (metered self.old.slots.items (Some fuel.old)) result
+            (metered self.old.slots.items (Some fuel.old)) (reply_or_no_such result)
             (metered self.new.slots.items (Some fuel.new)) }
     {
-        let Some(table) = self.live_mut(index) else {
-            return Reply::NoSuch;
-        };
-        table_reply(table.init_metered(segment, dst, src, len, fuel))
+        let table = self.live_mut(index)?;
+        Some(table_reply(table.init_metered(segment, dst, src, len, fuel)))
     }
 
     /// Copies a range of a table to another one, or within it.
@@ -130,43 +116,40 @@ impl Slots<Table> {
         src: u64,
         len: u64,
         fuel: &mut Fuel,
-    ) -> Reply
+    ) -> Option<Reply>
         ensures { WithCharge
             (WritesTableFrom (live_at self.old.slots.items src_index) dst_index
             (copy_of dst src len))
-            (metered self.old.slots.items (Some fuel.old)) result
+            (metered self.old.slots.items (Some fuel.old)) (reply_or_no_such result)
             (metered self.new.slots.items (Some fuel.new)) }
     {
         if dst_index == src_index {
             return self.copy_in_one(dst_index, dst, src, len, fuel);
         }
         if dst_index >= self.slots.len() || src_index >= self.slots.len() {
-            return Reply::NoSuch;
+            return None;
         }
-        let range = CopyRange { dst, src, len };
-        copy_to_other(self.slots.as_mut_slice(), dst_index, src_index, range, fuel)
+        let slots = self.slots.as_mut_slice();
+        copy_to_other(slots, dst_index, src_index, dst, src, len, fuel)
     }
 
     /// Copies a range of a table within it.
-    fn copy_in_one(&mut self, index: usize, dst: u64, src: u64, len: u64, fuel: &mut Fuel) -> Reply
+    fn copy_in_one(
+        &mut self,
+        index: usize,
+        dst: u64,
+        src: u64,
+        len: u64,
+        fuel: &mut Fuel,
+    ) -> Option<Reply>
         ensures { WithCharge
             (WritesTableFrom (live_at self.old.slots.items index) index (copy_of dst src len))
-            (metered self.old.slots.items (Some fuel.old)) result
+            (metered self.old.slots.items (Some fuel.old)) (reply_or_no_such result)
             (metered self.new.slots.items (Some fuel.new)) }
     {
-        let Some(table) = self.live_mut(index) else {
-            return Reply::NoSuch;
-        };
-        table_reply(table.copy_within_metered(dst, src, len, fuel))
+        let table = self.live_mut(index)?;
+        Some(table_reply(table.copy_within_metered(dst, src, len, fuel)))
     }
-}
-
-/// Which elements are copied to where.
-#[derive(Clone, Copy)]
-struct CopyRange {
-    dst: u64,
-    src: u64,
-    len: u64,
 }
 
 /// Copies a range of a table to another one.
@@ -174,23 +157,25 @@ fn copy_to_other(
     slots: &mut [Slot<Table>],
     dst_index: usize,
     src_index: usize,
-    range: CopyRange,
+    dst: u64,
+    src: u64,
+    len: u64,
     fuel: &mut Fuel,
-) -> Reply
+) -> Option<Reply>
     requires dst { dst_index < length slots.old }
     requires src { src_index < length slots.old }
     requires other { dst_index ≢ src_index }
     ensures copied { WithCharge
         (WritesTableFrom (live_at slots.old src_index) dst_index
-        (copy_of range.dst range.src range.len))
-        (metered slots.old (Some fuel.old)) result (metered slots.new (Some fuel.new)) }
+        (copy_of dst src len))
+        (metered slots.old (Some fuel.old)) (reply_or_no_such result) (metered slots.new (Some fuel.new)) }
 {
     if dst_index < src_index {
         let (front, back) = slots.split_at_mut(src_index);
-        copy_from_slot(&mut front[dst_index], &back[0], range, fuel)
+        copy_from_slot(&mut front[dst_index], &back[0], dst, src, len, fuel)
     } else {
         let (front, back) = slots.split_at_mut(dst_index);
-        copy_from_slot(&mut back[0], &front[src_index], range, fuel)
+        copy_from_slot(&mut back[0], &front[src_index], dst, src, len, fuel)
     }
 }
 
@@ -198,18 +183,19 @@ fn copy_to_other(
 fn copy_from_slot(
     slot: &mut Slot<Table>,
     source: &Slot<Table>,
-    range: CopyRange,
+    dst: u64,
+    src: u64,
+    len: u64,
     fuel: &mut Fuel,
-) -> Reply
-    ensures { WithCharge (CopiesSlot (copy_of range.dst range.src range.len) source.now)
-        (metered slot.old (Some fuel.old)) result (metered slot.new (Some fuel.new)) }
+) -> Option<Reply>
+    ensures { WithCharge (CopiesSlot (copy_of dst src len) source.now)
+        (metered slot.old (Some fuel.old)) (reply_or_no_such result) (metered slot.new (Some fuel.new)) }
 {
     match (slot, source) {
         (Slot::Live(table), Slot::Live(source)) => {
-            let CopyRange { dst, src, len } = range;
-            table_reply(table.copy_metered(dst, source, src, len, fuel))
+            Some(table_reply(table.copy_metered(dst, source, src, len, fuel)))
         }
-        _ => Reply::NoSuch,
+        _ => None,
     }
 }
 

@@ -1,22 +1,13 @@
 //! The element segments and globals of a machine, by their indices. These are functions of one
 //! list of the store each, so that what else the store has stays out of their contracts.
-ghost use Rattle.std.specs.Prelude.{◌≡◌, slice_get};
-ghost use Rattle.std.specs.Option.{option_copied};
-ghost use Rattle.wasmi_core.specs.ValueEffects.{CreatesSegment, DropsItemsAt, CreatesGlobal, SetsGlobalAt, GetsGlobalAt, IsSegmentOf};
+ghost use Rattle.wasmi_core.specs.ValueEffects.{CreatesSegment, DropsItemsAt, CreatesGlobal, SetsGlobalAt, GetsGlobalAt};
 
 use crate::calls::Reply;
 use std::alloc::Global as Allocator;
 use wasmi_raw::{RawRef, RawVal};
-use wasmi_store::{ElementSegment, SegmentError};
+use wasmi_store::ElementSegment;
 use wasmi_typed::{Global, GlobalType, TypedRawVal};
 use wasmi_types::RefType;
-
-/// The element segment or global of an index, if there is one.
-pub(crate) fn value_at<T>(values: &[T], index: usize) -> Option<&T>
-    ensures { option_copied result ≡ slice_get values.now index }
-{
-    values.get(index)
-}
 
 /// Makes an element segment.
 pub(crate) fn create_segment(
@@ -30,7 +21,7 @@ pub(crate) fn create_segment(
     if segments.try_reserve(1).is_err() {
         return Reply::NoRoom;
     }
-    match segment(alloc, ty, items) {
+    match ElementSegment::new(alloc, ty, items.iter().copied()) {
         Ok(segment) => {
             let index = segments.len();
             segments.push_reserved(segment);
@@ -38,13 +29,6 @@ pub(crate) fn create_segment(
         }
         Err(error) => Reply::Segment(error),
     }
-}
-
-/// The element segment of these items.
-fn segment(alloc: Allocator, ty: RefType, items: &[RawRef]) -> Result<ElementSegment, SegmentError>
-    ensures { IsSegmentOf ty items.now result }
-{
-    ElementSegment::new(alloc, ty, items.iter().copied())
 }
 
 /// Drops the items of an element segment.
@@ -88,8 +72,7 @@ pub(crate) fn set_global(globals: &mut Vec<Global>, index: usize, value: TypedRa
 pub(crate) fn get_global(globals: &[Global], index: usize) -> Reply
     ensures { GetsGlobalAt index globals.now result }
 {
-    match globals.get(index) {
-        Some(global) => Reply::Value(*global.get_raw()),
-        None => Reply::NoSuch,
-    }
+    globals
+        .get(index)
+        .map_or(Reply::NoSuch, |global| Reply::Value(*global.get_raw()))
 }

@@ -171,7 +171,7 @@ pub fn run_within_quota(
 {
     laws::totals_are_held::<Quota>();
     laws::quotas_stay_within();
-    laws::quota_accepts_notices();
+    laws::limiters_accept_notices();
     wasmi_laws::caps_hold_in_runs();
     wasmi_laws::more_fuel_changes_nothing::<Quota>();
     run_lending(machine, calls, quota)
@@ -220,8 +220,8 @@ pub fn run_twice(
         (world machine.old (Some quota.old)) (world machine.new (Some quota.new))
         (world other.new (Some other_quota.new))) }
 {
-    laws::quota_leaves_no_choice();
-    laws::quota_accepts_notices();
+    laws::limiters_leave_no_choice();
+    laws::limiters_accept_notices();
     laws::replies_are_one::<Quota>();
     laws::replies_tell::<Quota>();
     laws::runs_are_one::<Quota>();
@@ -294,7 +294,6 @@ pub fn run_on_both(
         → (replies.0.items ≡ replies.1.items) × (pool.new ≡ other.new)) }
 {
     pool_laws::tenants_leave_no_choice();
-    pool_laws::tenants_accept_notices();
     laws::replies_are_one::<Tenant>();
     let first = pool.run(index, calls)?;
     let second = other.run(index, calls)?;

@@ -130,29 +130,18 @@ pub mod laws {
     #[inline]
     pub fn replies_permit() {}
 
-    /// A tenant's limiter is deterministic.
+    /// A tenant's limiter is deterministic, and accepts each notice.
     ///
     /// # Contract
     ///
     /// ```text
-    /// ensures: IsDeterministic tenant_rules
+    /// ensures choice: IsDeterministic tenant_rules
+    /// ensures notices: AcceptsNotices tenant_rules
     /// ```
     ///
-    /// Definitions: [`IsDeterministic`](crate::specs::machine::Determinism#IsDeterministic), [`tenant_rules`](crate::specs::budget::Pool#tenant_rules).
+    /// Definitions: [`IsDeterministic`](crate::specs::machine::Determinism#IsDeterministic), [`tenant_rules`](crate::specs::budget::Pool#tenant_rules), [`AcceptsNotices`](crate::specs::machine::Determinism#AcceptsNotices).
     #[inline]
     pub fn tenants_leave_no_choice() {}
-
-    /// A tenant's limiter accepts each notice.
-    ///
-    /// # Contract
-    ///
-    /// ```text
-    /// ensures: AcceptsNotices tenant_rules
-    /// ```
-    ///
-    /// Definitions: [`AcceptsNotices`](crate::specs::machine::Determinism#AcceptsNotices), [`tenant_rules`](crate::specs::budget::Pool#tenant_rules).
-    #[inline]
-    pub fn tenants_accept_notices() {}
 }
 mod pool {
     //! The pool.

@@ -440,16 +440,11 @@ pub mod laws {
     #[inline]
     pub fn runs_join<L: ResourceLimiter>() {}
 
-    /// A turn that is refused keeps the contents. It keeps the meter, unless it is a growth that fails
-    /// after its charge, and the spare region, unless a memory was to be made in it and there was a
-    /// slot for it.
-    ///
-    /// A growth fails after its charge if its question was permitted, its price was left and taken, and
-    /// then the allocation failed. The limiter was notified of that, the reply says so too, unless the
-    /// limiter answers the notice with an error, and the meter has exactly that price less
-    /// (`FailsAfterCharge`).
-    ///
-    /// This holds of each turn of a run, and a run in which each turn is refused keeps the contents.
+    /// A turn that is refused keeps the contents, as does a run of such turns. It keeps the spare
+    /// region, unless a memory was to be made in it and there was a slot for it. It keeps the meter,
+    /// unless it is a growth that lacks memory once it is permitted and paid (`FailsAfterCharge`): then
+    /// the limiter was notified, the reply says so unless the limiter answers by another error, and the
+    /// meter has exactly the price less.
     ///
     /// # Contract
     ///
@@ -468,12 +463,9 @@ pub mod laws {
     /// exactly the growth that was asked for, or by exactly one notice, which the reply reports, and a
     /// denial by neither.
     ///
-    /// A growth that succeeds is charged its price, and so is one that fails for lack of memory. No
-    /// other growth and no creation is charged anything. A call that lets nothing grow is charged for
-    /// the elements that it writes over a part of a table, and else nothing. The charge was left in the
-    /// meter, and is taken from it.
-    ///
-    /// Without a limiter each question is permitted. This holds of each turn of a run.
+    /// A growth is charged its price if it succeeds or fails for lack of memory, and a call that lets
+    /// nothing grow the elements that it writes over a part of a table. Nothing else is charged. The
+    /// charge was left in the meter, and is taken from it. Without a limiter each question is permitted.
     ///
     /// # Contract
     ///
@@ -530,8 +522,7 @@ pub mod laws {
         machine.tell_valid();
     }
 
-    /// A run of calls whose types are valid keeps a state valid. The types of a `Call` that code holds
-    /// are.
+    /// A run of calls whose types are valid, as those of a `Call` in code are, keeps a state valid.
     ///
     /// # Contract
     ///
@@ -597,10 +588,7 @@ pub mod laws {
 
     /// While metering is on at a rate above 0, the bytes that a run writes by growing and copying are
     /// bounded by the fuel that is charged for them, and so by the fuel that was left at its start and
-    /// all amounts that were set.
-    ///
-    /// `IsBounded` gives each turn that writes less than one fuel's worth of bytes beyond what its
-    /// charge pays for.
+    /// all amounts that were set; `IsBounded` says what each turn has beyond that, as `IsSpent` does.
     ///
     /// # Contract
     ///
@@ -613,11 +601,8 @@ pub mod laws {
     pub fn fuel_bounds_writing<L: ResourceLimiter>() {}
 
     /// A run that makes no memory in a lent region, and grows no memory past the region that it lies
-    /// in, is a run of the same machine with memories of their own: the same replies, charges, written
-    /// bytes and limiter.
-    ///
-    /// `FitsRegions` says which calls these are: a growth past the region counts as one where it is
-    /// refused before the limiter is asked.
+    /// in unless that is refused before the limiter is asked (`FitsRegions`), is a run of the same
+    /// machine with memories of their own: the same replies, charges, written bytes and limiter.
     ///
     /// # Contract
     ///
@@ -695,62 +680,40 @@ pub mod laws {
     #[inline]
     pub fn replies_are_one<L: ResourceLimiter>() {}
 
-    /// The limiter that permits everything accepts each notice.
+    /// The limiter that permits everything and a quota accept each notice.
     ///
     /// # Contract
     ///
     /// ```text
-    /// ensures: AcceptsNotices (unlimited_rules {S = NoLimits})
+    /// ensures no_limits: AcceptsNotices (unlimited_rules {S = NoLimits})
+    /// ensures quota: AcceptsNotices quota_rules
     /// ```
     ///
-    /// Definitions: [`AcceptsNotices`](crate::specs::machine::Determinism#AcceptsNotices), [`unlimited_rules`](crate::specs::meter::Limiter#unlimited_rules).
+    /// Definitions: [`AcceptsNotices`](crate::specs::machine::Determinism#AcceptsNotices), [`unlimited_rules`](crate::specs::meter::Limiter#unlimited_rules), [`quota_rules`](crate::specs::meter::Capped#quota_rules).
     #[inline]
-    pub fn no_limits_accept_notices() {}
+    pub fn limiters_accept_notices() {}
 
-    /// A quota accepts each notice.
+    /// The limiter that permits everything and a quota are deterministic.
     ///
     /// # Contract
     ///
     /// ```text
-    /// ensures: AcceptsNotices quota_rules
+    /// ensures no_limits: IsDeterministic (unlimited_rules {S = NoLimits})
+    /// ensures quota: IsDeterministic quota_rules
     /// ```
     ///
-    /// Definitions: [`AcceptsNotices`](crate::specs::machine::Determinism#AcceptsNotices), [`quota_rules`](crate::specs::meter::Capped#quota_rules).
+    /// Definitions: [`IsDeterministic`](crate::specs::machine::Determinism#IsDeterministic), [`unlimited_rules`](crate::specs::meter::Limiter#unlimited_rules), [`quota_rules`](crate::specs::meter::Capped#quota_rules).
     #[inline]
-    pub fn quota_accepts_notices() {}
-
-    /// The limiter that permits everything is deterministic.
-    ///
-    /// # Contract
-    ///
-    /// ```text
-    /// ensures: IsDeterministic (unlimited_rules {S = NoLimits})
-    /// ```
-    ///
-    /// Definitions: [`IsDeterministic`](crate::specs::machine::Determinism#IsDeterministic), [`unlimited_rules`](crate::specs::meter::Limiter#unlimited_rules).
-    #[inline]
-    pub fn no_limits_leave_no_choice() {}
-
-    /// A quota is deterministic.
-    ///
-    /// # Contract
-    ///
-    /// ```text
-    /// ensures: IsDeterministic quota_rules
-    /// ```
-    ///
-    /// Definitions: [`IsDeterministic`](crate::specs::machine::Determinism#IsDeterministic), [`quota_rules`](crate::specs::meter::Capped#quota_rules).
-    #[inline]
-    pub fn quota_leaves_no_choice() {}
+    pub fn limiters_leave_no_choice() {}
 }
 mod machine {
     //! The machine.
 
     use crate::proved::machine::calls::Reply;
+    use crate::proved::machine::memories::Stored;
     use crate::proved::machine::registers::Registers;
     use crate::proved::machine::slots::Slots;
     use crate::proved::machine::store::MachineStore;
-    use crate::proved::machine::values::value_at;
     use crate::proved::meter::{Fuel, FuelError};
     use crate::proved::ops::StoreOp;
     use crate::proved::raw::RawVal;
@@ -794,8 +757,7 @@ mod machine {
             Machine::empty(fuel, None)
         }
 
-        /// A machine with this meter and this spare region, on which nothing was made yet. It takes no
-        /// memory, and leaves the bytes of the region as they are.
+        /// A machine as by `new`, with this spare region, whose bytes stay as they are.
         ///
         /// # Contract
         ///
@@ -909,7 +871,9 @@ mod machine {
             offset: u64,
             value: RawVal,
         ) -> Reply {
-            self.store.memories.store(op, memory, ptr, offset, value)
+            let stored = Stored::Number(op, value);
+            let reply = self.store.memories.store(memory, ptr, offset, stored);
+            reply.unwrap_or(Reply::NoSuch)
         }
 
         /// The table of an index, if there is one that wasn't dropped.
@@ -935,7 +899,7 @@ mod machine {
         /// ```
         #[inline]
         pub fn segment(&self, index: usize) -> Option<&ElementSegment> {
-            value_at(&self.store.segments, index)
+            self.store.segments.get(index)
         }
 
         /// The global of an index, if there is one.
@@ -947,7 +911,7 @@ mod machine {
         /// ```
         #[inline]
         pub fn global(&self, index: usize) -> Option<&Global> {
-            value_at(&self.store.globals, index)
+            self.store.globals.get(index)
         }
 
         /// The value of a register, if there is one: their numbers are 0 to 15.
@@ -979,8 +943,7 @@ mod machine {
             self.store.memories.total()
         }
 
-        /// The elements of all tables, dropped ones at their last size. The cost grows with the number
-        /// of tables that were ever made, including those that were dropped.
+        /// The elements of all tables, likewise: the cost grows with the number of all tables ever made.
         ///
         /// # Contract
         ///
@@ -1015,7 +978,7 @@ mod memories {
     use crate::proved::machine::calls::{ByteList, Reply};
     use crate::proved::machine::slots::Slots;
     use crate::proved::meter::{Fuel, MemoryError, ResourceLimiter, ResourceLimiterRef};
-    use crate::proved::ops::{LoadOp, StoreLaneOp, StoreOp};
+    use crate::proved::ops::{StoreLaneOp, StoreOp};
     use crate::proved::raw::{RawVal, V128};
     use crate::proved::store::range::lies_within;
     use crate::proved::store::{Memory, MemoryType};
@@ -1096,11 +1059,12 @@ mod memories {
         /// ensures grown: WithCharge
         ///     (ActsAt index (reply_of Reply.Number Reply.Memory)
         ///     (GrowsMemoryCharging (optional_rules L.rules) pages))
-        ///     (metered_value self.old.slots.items (Some fuel.old) (lent_limiter limiter.old)) result
+        ///     (metered_value self.old.slots.items (Some fuel.old) (lent_limiter limiter.old))
+        ///     (reply_or_no_such result)
         ///     (metered_value self.new.slots.items (Some fuel.new) (lent_limiter limiter.new))
         /// ```
         ///
-        /// Definitions: [`KeepsLoan`](crate::specs::meter::Limiter#KeepsLoan), [`WithCharge`](crate::specs::store::Growth#WithCharge), [`ActsAt`](crate::specs::machine::Effects#ActsAt), [`reply_of`](crate::specs::machine::Effects#reply_of), [`GrowsMemoryCharging`](crate::specs::store::Memory#GrowsMemoryCharging), [`optional_rules`](crate::specs::meter::Limiter#optional_rules), [`metered_value`](crate::specs::store::Growth#metered_value), [`lent_limiter`](crate::specs::meter::Limiter#lent_limiter).
+        /// Definitions: [`KeepsLoan`](crate::specs::meter::Limiter#KeepsLoan), [`WithCharge`](crate::specs::store::Growth#WithCharge), [`ActsAt`](crate::specs::machine::Effects#ActsAt), [`reply_of`](crate::specs::machine::Effects#reply_of), [`GrowsMemoryCharging`](crate::specs::store::Memory#GrowsMemoryCharging), [`optional_rules`](crate::specs::meter::Limiter#optional_rules), [`metered_value`](crate::specs::store::Growth#metered_value), [`lent_limiter`](crate::specs::meter::Limiter#lent_limiter), [`reply_or_no_such`](crate::specs::machine::Effects#reply_or_no_such).
         #[inline(always)]
         pub(crate) fn grow<L: ResourceLimiter>(
             &mut self,
@@ -1108,30 +1072,11 @@ mod memories {
             pages: u64,
             fuel: &mut Fuel,
             limiter: &mut ResourceLimiterRef<L>,
-        ) -> Reply {
-            let Some(memory) = self.live_mut(index) else {
-                return Reply::NoSuch;
-            };
+        ) -> Option<Reply> {
+            let memory = self.live_mut(index)?;
             match memory.grow_metered(pages, fuel, limiter) {
-                Ok(size) => Reply::Number(size),
-                Err(error) => Reply::Memory(error),
-            }
-        }
-
-        /// Reads a part of a memory.
-        ///
-        /// # Contract
-        ///
-        /// ```text
-        /// ensures: ReadsMemoryAt index offset len self.now.slots.items result
-        /// ```
-        ///
-        /// Definitions: [`ReadsMemoryAt`](crate::specs::machine::MemoryEffects#ReadsMemoryAt).
-        #[inline(always)]
-        pub(crate) fn read(&self, index: usize, offset: usize, len: usize) -> Reply {
-            match self.live(index) {
-                Some(memory) => bytes_reply(memory.data(), offset, len),
-                None => Reply::NoSuch,
+                Ok(size) => Some(Reply::Number(size)),
+                Err(error) => Some(Reply::Memory(error)),
             }
         }
 
@@ -1140,124 +1085,49 @@ mod memories {
         /// # Contract
         ///
         /// ```text
-        /// ensures: WritesMemoryAt index offset bytes.now self.old.slots.items result
-        ///     self.new.slots.items
+        /// ensures: WritesMemoryAt index offset bytes.now self.old.slots.items
+        ///     (reply_or_no_such result) self.new.slots.items
         /// ```
         ///
-        /// Definitions: [`WritesMemoryAt`](crate::specs::machine::MemoryEffects#WritesMemoryAt).
+        /// Definitions: [`WritesMemoryAt`](crate::specs::machine::MemoryEffects#WritesMemoryAt), [`reply_or_no_such`](crate::specs::machine::Effects#reply_or_no_such).
         #[inline(always)]
-        pub(crate) fn write(&mut self, index: usize, offset: usize, bytes: &[u8]) -> Reply {
-            let Some(memory) = self.live_mut(index) else {
-                return Reply::NoSuch;
-            };
+        pub(crate) fn write(&mut self, index: usize, offset: usize, bytes: &[u8]) -> Option<Reply> {
+            let memory = self.live_mut(index)?;
             match memory.write(offset, bytes) {
-                Ok(()) => Reply::Done,
-                Err(error) => Reply::Memory(error),
+                Ok(()) => Some(Reply::Done),
+                Err(error) => Some(Reply::Memory(error)),
             }
         }
 
-        /// Loads a number from a memory.
+        /// Stores to a memory.
         ///
         /// # Contract
         ///
         /// ```text
-        /// ensures: LoadsMemoryAt op index (ptr + offset) self.now.slots.items result
+        /// ensures: StoresMemoryAt index (ptr + offset) (bytes_of_stored stored) self.old.slots.items
+        ///     (reply_or_no_such result) self.new.slots.items
         /// ```
         ///
-        /// Definitions: [`LoadsMemoryAt`](crate::specs::machine::MemoryEffects#LoadsMemoryAt).
-        #[inline(always)]
-        pub(crate) fn load(&self, op: LoadOp, index: usize, ptr: u64, offset: u64) -> Reply {
-            match self.live(index) {
-                Some(memory) => match op.load(memory.data(), ptr, offset) {
-                    Ok(value) => Reply::Value(value),
-                    Err(trap) => Reply::Trap(trap),
-                },
-                None => Reply::NoSuch,
-            }
-        }
-
-        /// Stores a number to a memory.
-        ///
-        /// # Contract
-        ///
-        /// ```text
-        /// ensures: StoresMemoryAt index (ptr + offset)
-        ///     (stored_bytes op value) self.old.slots.items result self.new.slots.items
-        /// ```
-        ///
-        /// Definitions: [`StoresMemoryAt`](crate::specs::machine::MemoryEffects#StoresMemoryAt), [`stored_bytes`](crate::specs::ops::ScalarOps#stored_bytes).
+        /// Definitions: [`StoresMemoryAt`](crate::specs::machine::MemoryEffects#StoresMemoryAt), [`bytes_of_stored`](crate::specs::machine::MemoryEffects#bytes_of_stored), [`reply_or_no_such`](crate::specs::machine::Effects#reply_or_no_such).
         #[inline(always)]
         pub(crate) fn store(
             &mut self,
-            op: StoreOp,
             index: usize,
             ptr: u64,
             offset: u64,
-            value: RawVal,
-        ) -> Reply {
-            let Some(memory) = self.live_mut(index) else {
-                return Reply::NoSuch;
-            };
-            store_reply(store(memory, op, ptr, offset, value))
+            stored: Stored,
+        ) -> Option<Reply> {
+            let memory = self.live_mut(index)?;
+            Some(store_reply(store(memory, ptr, offset, stored)))
         }
     }
 
-    /// The stores of vectors.
-    impl<'r> Slots<Memory<'r>> {
-        /// Stores a vector to a memory, if its register is there.
-        ///
-        /// # Contract
-        ///
-        /// ```text
-        /// ensures: StoresVectorAt index (ptr + offset) (option_map (le_bytes 16) vector)
-        ///     self.old.slots.items result self.new.slots.items
-        /// ```
-        ///
-        /// Definitions: [`StoresVectorAt`](crate::specs::machine::RegisterEffects#StoresVectorAt), [`le_bytes`](crate::specs::types::Numbers#le_bytes).
-        #[inline(always)]
-        pub(crate) fn store_vector(
-            &mut self,
-            vector: Option<V128>,
-            index: usize,
-            ptr: u64,
-            offset: u64,
-        ) -> Reply {
-            let Some(vector) = vector else {
-                return Reply::NoSuch;
-            };
-            let Some(memory) = self.live_mut(index) else {
-                return Reply::NoSuch;
-            };
-            store_reply(store_vector(memory, vector, ptr, offset))
-        }
-
-        /// Stores a lane of a vector to a memory, if its register is there.
-        ///
-        /// # Contract
-        ///
-        /// ```text
-        /// ensures: StoresVectorAt index (ptr + offset) (option_map (stored_lane op) vector)
-        ///     self.old.slots.items result self.new.slots.items
-        /// ```
-        ///
-        /// Definitions: [`StoresVectorAt`](crate::specs::machine::RegisterEffects#StoresVectorAt), [`stored_lane`](crate::specs::ops::VectorOps#stored_lane).
-        #[inline(always)]
-        pub(crate) fn store_lane(
-            &mut self,
-            op: StoreLaneOp,
-            vector: Option<V128>,
-            index: usize,
-            ptr: u64,
-            offset: u64,
-        ) -> Reply {
-            let Some(vector) = vector else {
-                return Reply::NoSuch;
-            };
-            let Some(memory) = self.live_mut(index) else {
-                return Reply::NoSuch;
-            };
-            store_reply(store_lane(memory, op, vector, ptr, offset))
-        }
+    /// What is stored: a number, a vector, or a lane of a vector.
+    #[derive(Clone, Copy)]
+    pub(crate) enum Stored {
+        Number(StoreOp, RawVal),
+        Vector(V128),
+        Lane(StoreLaneOp, V128),
     }
 
     /// The reply to a store.
@@ -1284,7 +1154,7 @@ mod memories {
     ///
     /// Definitions: [`ReadsBytes`](crate::specs::machine::MemoryEffects#ReadsBytes), [`at`](crate::specs::types::Access#at).
     #[inline(always)]
-    fn bytes_reply(memory: &[u8], offset: usize, len: usize) -> Reply {
+    pub(crate) fn bytes_reply(memory: &[u8], offset: usize, len: usize) -> Reply {
         if !lies_within(memory, offset as u64, len as u64) {
             return Reply::Memory(MemoryError::OutOfBoundsAccess);
         }
@@ -1294,78 +1164,31 @@ mod memories {
         }
     }
 
-    /// Stores a number to a memory. A function of the memory alone, as the two below: its clause says
-    /// what the memory becomes, apart from the slot that lends it.
+    /// Stores to a memory. A function of the memory alone: its clause says what the memory becomes,
+    /// apart from the slot that lends it.
     ///
     /// # Contract
     ///
     /// ```text
-    /// ensures: StoresMemory memory.old (ptr + offset) (stored_bytes op value) result memory.new
+    /// ensures: StoresMemory memory.old (ptr + offset) (bytes_of_stored stored) result memory.new
     /// ```
     ///
-    /// Definitions: [`StoresMemory`](crate::specs::machine::MemoryEffects#StoresMemory), [`stored_bytes`](crate::specs::ops::ScalarOps#stored_bytes).
+    /// Definitions: [`StoresMemory`](crate::specs::machine::MemoryEffects#StoresMemory), [`bytes_of_stored`](crate::specs::machine::MemoryEffects#bytes_of_stored).
     #[inline(always)]
-    fn store(
-        memory: &mut Memory,
-        op: StoreOp,
-        ptr: u64,
-        offset: u64,
-        value: RawVal,
-    ) -> Result<(), TrapCode> {
-        op.store(memory.data_mut(), ptr, offset, value)
-    }
-
-    /// Stores a vector to a memory.
-    ///
-    /// # Contract
-    ///
-    /// ```text
-    /// ensures: StoresMemory memory.old (ptr + offset) (le_bytes 16 vector) result memory.new
-    /// ```
-    ///
-    /// Definitions: [`StoresMemory`](crate::specs::machine::MemoryEffects#StoresMemory), [`le_bytes`](crate::specs::types::Numbers#le_bytes).
-    #[inline]
-    fn store_vector(
-        memory: &mut Memory,
-        vector: V128,
-        ptr: u64,
-        offset: u64,
-    ) -> Result<(), TrapCode> {
-        v128_store(memory.data_mut(), ptr, offset, vector)
-    }
-
-    /// Stores a lane of a vector to a memory.
-    ///
-    /// # Contract
-    ///
-    /// ```text
-    /// ensures: StoresMemory memory.old (ptr + offset) (stored_lane op vector) result memory.new
-    /// ```
-    ///
-    /// Definitions: [`StoresMemory`](crate::specs::machine::MemoryEffects#StoresMemory), [`stored_lane`](crate::specs::ops::VectorOps#stored_lane).
-    #[inline]
-    fn store_lane(
-        memory: &mut Memory,
-        op: StoreLaneOp,
-        vector: V128,
-        ptr: u64,
-        offset: u64,
-    ) -> Result<(), TrapCode> {
-        op.store(memory.data_mut(), ptr, offset, vector)
+    fn store(memory: &mut Memory, ptr: u64, offset: u64, stored: Stored) -> Result<(), TrapCode> {
+        match stored {
+            Stored::Number(op, value) => op.store(memory.data_mut(), ptr, offset, value),
+            Stored::Vector(vector) => v128_store(memory.data_mut(), ptr, offset, vector),
+            Stored::Lane(op, vector) => op.store(memory.data_mut(), ptr, offset, vector),
+        }
     }
 }
 mod registers {
     //! The registers of a machine.
 
-    use crate::proved::lanes::ImmLaneIdx32;
     use crate::proved::lanewise::simd::i8x16_shuffle;
-    use crate::proved::machine::calls::Reply;
-    use crate::proved::ops::{
-        BinaryOp, ExtractOp, LoadLaneOp, MakeOp, ReplaceOp, ShiftOp, TernaryOp, TestOp, UnaryOp,
-        VectorLoadOp,
-    };
+    use crate::proved::machine::calls::{Call, Reply};
     use crate::proved::raw::{RawVal, ReadAs, V128};
-    use crate::proved::store::Memory;
     use crate::proved::types::TrapCode;
 
     /// The 16 registers of raw values, by their numbers from 0. At first they are zeros.
@@ -1402,23 +1225,24 @@ mod registers {
             self.get(register).map(|raw| raw.read_as())
         }
 
-        /// Sets a register.
+        /// Sets a register, if there is one.
         ///
         /// # Contract
         ///
         /// ```text
-        /// ensures: SetsRegister dst (Some (Ok value)) self.old.values result self.new.values
+        /// ensures: SetsRegister dst (Some (Ok value)) self.old.values (reply_or_no_such result)
+        ///     self.new.values
         /// ```
         ///
-        /// Definitions: [`SetsRegister`](crate::specs::machine::RegisterEffects#SetsRegister).
+        /// Definitions: [`SetsRegister`](crate::specs::machine::RegisterEffects#SetsRegister), [`reply_or_no_such`](crate::specs::machine::Effects#reply_or_no_such).
         #[inline(always)]
-        pub(crate) fn set(&mut self, dst: u8, value: RawVal) -> Reply {
+        pub(crate) fn set(&mut self, dst: u8, value: RawVal) -> Option<Reply> {
             let index = usize::from(dst);
             if index >= self.values.len() {
-                return Reply::NoSuch;
+                return None;
             }
             self.values[index] = value;
-            Reply::Done
+            Some(Reply::Done)
         }
 
         /// Sets a register to a vector that was loaded, or keeps it where the load has trapped.
@@ -1426,260 +1250,68 @@ mod registers {
         /// # Contract
         ///
         /// ```text
-        /// ensures: SetsRegister dst
-        ///     (Some (as_raw raw_of_vector vector)) self.old.values result self.new.values
+        /// ensures: SetsRegister dst (Some (as_raw raw_of_vector vector)) self.old.values
+        ///     (reply_or_no_such result) self.new.values
         /// ```
         ///
-        /// Definitions: [`SetsRegister`](crate::specs::machine::RegisterEffects#SetsRegister), [`as_raw`](crate::specs::ops::ScalarOps#as_raw), [`raw_of_vector`](crate::specs::raw::RawVal#raw_of_vector).
+        /// Definitions: [`SetsRegister`](crate::specs::machine::RegisterEffects#SetsRegister), [`as_raw`](crate::specs::ops::ScalarOps#as_raw), [`raw_of_vector`](crate::specs::raw::RawVal#raw_of_vector), [`reply_or_no_such`](crate::specs::machine::Effects#reply_or_no_such).
         #[inline(always)]
-        fn set_loaded(&mut self, dst: u8, vector: Result<V128, TrapCode>) -> Reply {
+        pub(crate) fn set_loaded(
+            &mut self,
+            dst: u8,
+            vector: Result<V128, TrapCode>,
+        ) -> Option<Reply> {
             match vector {
                 Ok(vector) => self.set(dst, vector.into()),
-                Err(_) if self.get(dst).is_none() => Reply::NoSuch,
-                Err(trap) => Reply::Trap(trap),
+                Err(trap) => self.get(dst).map(|_| Reply::Trap(trap)),
             }
         }
 
-        /// The value of a register.
+        /// Sets a register to the vector that a call makes of what is in registers, if these are there.
         ///
         /// # Contract
         ///
         /// ```text
-        /// ensures: result ≡ raw_reply (slice_get self.now.values register)
+        /// requires made: MakesVector call.now
+        /// ensures set: SetsRegister dst (vector_given self.old.values call.now) self.old.values
+        ///     (reply_or_no_such result) self.new.values
         /// ```
         ///
-        /// Definitions: [`raw_reply`](crate::specs::machine::RegisterEffects#raw_reply).
+        /// Definitions: [`MakesVector`](crate::specs::machine::Steps#MakesVector), [`SetsRegister`](crate::specs::machine::RegisterEffects#SetsRegister), [`vector_given`](crate::specs::machine::Steps#vector_given), [`reply_or_no_such`](crate::specs::machine::Effects#reply_or_no_such).
         #[inline(always)]
-        pub(crate) fn get_register(&self, register: u8) -> Reply {
-            self.get(register).map_or(Reply::NoSuch, Reply::Value)
+        pub(crate) fn set_made(&mut self, dst: u8, call: &Call) -> Option<Reply> {
+            let vector = self.made_vector(call)?;
+            self.set(dst, vector.into())
         }
 
-        /// Makes a vector of an item.
+        /// The vector that a call makes of what is in registers, if these are there.
         ///
         /// # Contract
         ///
         /// ```text
-        /// ensures: SetsRegister dst
-        ///     (option_map (λ raw. given_vector (made_vector op raw)) (slice_get self.old.values a))
-        ///     self.old.values result self.new.values
+        /// requires made: MakesVector call.now
+        /// ensures vector: option_map given_vector result ≡ vector_given self.now.values call.now
         /// ```
         ///
-        /// Definitions: [`SetsRegister`](crate::specs::machine::RegisterEffects#SetsRegister), [`given_vector`](crate::specs::machine::RegisterEffects#given_vector), [`made_vector`](crate::specs::ops::VectorOps#made_vector).
+        /// Definitions: [`MakesVector`](crate::specs::machine::Steps#MakesVector), [`given_vector`](crate::specs::machine::RegisterEffects#given_vector), [`vector_given`](crate::specs::machine::Steps#vector_given).
         #[inline(always)]
-        pub(crate) fn make(&mut self, op: MakeOp, dst: u8, a: u8) -> Reply {
-            let Some(a) = self.get(a) else {
-                return Reply::NoSuch;
-            };
-            self.set(dst, op.apply(a).into())
-        }
-
-        /// An instruction of one vector.
-        ///
-        /// # Contract
-        ///
-        /// ```text
-        /// ensures: SetsRegister dst
-        ///     (of_one (unary_vector op) (vector_at self.old.values a)) self.old.values result
-        ///     self.new.values
-        /// ```
-        ///
-        /// Definitions: [`SetsRegister`](crate::specs::machine::RegisterEffects#SetsRegister), [`of_one`](crate::specs::machine::RegisterEffects#of_one), [`unary_vector`](crate::specs::ops::VectorOps#unary_vector), [`vector_at`](crate::specs::machine::RegisterEffects#vector_at).
-        #[inline(always)]
-        pub(crate) fn unary(&mut self, op: UnaryOp, dst: u8, a: u8) -> Reply {
-            let Some(a) = self.vector(a) else {
-                return Reply::NoSuch;
-            };
-            self.set(dst, op.apply(a).into())
-        }
-
-        /// An instruction of two vectors.
-        ///
-        /// # Contract
-        ///
-        /// ```text
-        /// ensures: SetsRegister dst
-        ///     (of_two (binary_vector op) (vector_at self.old.values a) (vector_at self.old.values b))
-        ///     self.old.values result self.new.values
-        /// ```
-        ///
-        /// Definitions: [`SetsRegister`](crate::specs::machine::RegisterEffects#SetsRegister), [`of_two`](crate::specs::machine::RegisterEffects#of_two), [`binary_vector`](crate::specs::ops::VectorOps#binary_vector), [`vector_at`](crate::specs::machine::RegisterEffects#vector_at).
-        #[inline(always)]
-        pub(crate) fn binary(&mut self, op: BinaryOp, dst: u8, a: u8, b: u8) -> Reply {
-            let (Some(a), Some(b)) = (self.vector(a), self.vector(b)) else {
-                return Reply::NoSuch;
-            };
-            self.set(dst, op.apply(a, b).into())
-        }
-
-        /// An instruction of three vectors.
-        ///
-        /// # Contract
-        ///
-        /// ```text
-        /// ensures: SetsRegister dst
-        ///     (of_three (ternary_vector op) (vector_at self.old.values a)
-        ///     (vector_at self.old.values b) (vector_at self.old.values c)) self.old.values result
-        ///     self.new.values
-        /// ```
-        ///
-        /// Definitions: [`SetsRegister`](crate::specs::machine::RegisterEffects#SetsRegister), [`of_three`](crate::specs::machine::RegisterEffects#of_three), [`ternary_vector`](crate::specs::ops::VectorOps#ternary_vector), [`vector_at`](crate::specs::machine::RegisterEffects#vector_at).
-        #[inline(always)]
-        pub(crate) fn ternary(&mut self, op: TernaryOp, dst: u8, a: u8, b: u8, c: u8) -> Reply {
-            let (Some(a), Some(b), Some(c)) = (self.vector(a), self.vector(b), self.vector(c))
-            else {
-                return Reply::NoSuch;
-            };
-            self.set(dst, op.apply(a, b, c).into())
-        }
-
-        /// A shift of the lanes of a vector.
-        ///
-        /// # Contract
-        ///
-        /// ```text
-        /// ensures: SetsRegister dst
-        ///     (of_one (λ v. shifted_vector op v amount) (vector_at self.old.values a)) self.old.values
-        ///     result self.new.values
-        /// ```
-        ///
-        /// Definitions: [`SetsRegister`](crate::specs::machine::RegisterEffects#SetsRegister), [`of_one`](crate::specs::machine::RegisterEffects#of_one), [`shifted_vector`](crate::specs::ops::VectorOps#shifted_vector), [`vector_at`](crate::specs::machine::RegisterEffects#vector_at).
-        #[inline(always)]
-        pub(crate) fn shift(&mut self, op: ShiftOp, dst: u8, a: u8, amount: u32) -> Reply {
-            let Some(a) = self.vector(a) else {
-                return Reply::NoSuch;
-            };
-            self.set(dst, op.apply(a, amount).into())
-        }
-
-        /// A test of a vector.
-        ///
-        /// # Contract
-        ///
-        /// ```text
-        /// ensures: result ≡ raw_reply (option_map (tested_raw op) (vector_at self.now.values a))
-        /// ```
-        ///
-        /// Definitions: [`raw_reply`](crate::specs::machine::RegisterEffects#raw_reply), [`tested_raw`](crate::specs::ops::VectorOps#tested_raw), [`vector_at`](crate::specs::machine::RegisterEffects#vector_at).
-        #[inline(always)]
-        pub(crate) fn test(&self, op: TestOp, a: u8) -> Reply {
-            let Some(a) = self.vector(a) else {
-                return Reply::NoSuch;
-            };
-            Reply::Value(op.apply(a))
-        }
-
-        /// A lane of a vector.
-        ///
-        /// # Contract
-        ///
-        /// ```text
-        /// ensures: result ≡ raw_reply (option_map (extracted_raw op) (vector_at self.now.values a))
-        /// ```
-        ///
-        /// Definitions: [`raw_reply`](crate::specs::machine::RegisterEffects#raw_reply), [`extracted_raw`](crate::specs::ops::LaneOps#extracted_raw), [`vector_at`](crate::specs::machine::RegisterEffects#vector_at).
-        #[inline(always)]
-        pub(crate) fn extract(&self, op: ExtractOp, a: u8) -> Reply {
-            let Some(a) = self.vector(a) else {
-                return Reply::NoSuch;
-            };
-            Reply::Value(op.apply(a))
-        }
-
-        /// A vector with an item in a lane.
-        ///
-        /// # Contract
-        ///
-        /// ```text
-        /// ensures: SetsRegister dst
-        ///     (option_and_then
-        ///     (λ raw. of_one (λ v. replaced_vector op v raw) (vector_at self.old.values a))
-        ///     (slice_get self.old.values item)) self.old.values result self.new.values
-        /// ```
-        ///
-        /// Definitions: [`SetsRegister`](crate::specs::machine::RegisterEffects#SetsRegister), [`of_one`](crate::specs::machine::RegisterEffects#of_one), [`replaced_vector`](crate::specs::ops::LaneOps#replaced_vector), [`vector_at`](crate::specs::machine::RegisterEffects#vector_at).
-        #[inline(always)]
-        pub(crate) fn replace(&mut self, op: ReplaceOp, dst: u8, a: u8, item: u8) -> Reply {
-            let (Some(a), Some(item)) = (self.vector(a), self.get(item)) else {
-                return Reply::NoSuch;
-            };
-            self.set(dst, op.apply(a, item).into())
-        }
-
-        /// Bytes of two vectors.
-        ///
-        /// # Contract
-        ///
-        /// ```text
-        /// ensures: SetsRegister dst
-        ///     (of_two (λ x y. shuffle x y lanes) (vector_at self.old.values a)
-        ///     (vector_at self.old.values b)) self.old.values result self.new.values
-        /// ```
-        ///
-        /// Definitions: [`SetsRegister`](crate::specs::machine::RegisterEffects#SetsRegister), [`of_two`](crate::specs::machine::RegisterEffects#of_two), [`shuffle`](crate::specs::lanewise::VectorTable#shuffle), [`vector_at`](crate::specs::machine::RegisterEffects#vector_at).
-        #[inline(always)]
-        pub(crate) fn shuffle(
-            &mut self,
-            dst: u8,
-            a: u8,
-            b: u8,
-            lanes: [ImmLaneIdx32; 16],
-        ) -> Reply {
-            let (Some(a), Some(b)) = (self.vector(a), self.vector(b)) else {
-                return Reply::NoSuch;
-            };
-            self.set(dst, i8x16_shuffle(a, b, lanes).into())
-        }
-
-        /// Loads a vector from a memory, if it is there.
-        ///
-        /// # Contract
-        ///
-        /// ```text
-        /// ensures: SetsRegister dst (vector_loaded op (ptr + offset) (option_copied memory.entry))
-        ///     self.old.values result self.new.values
-        /// ```
-        ///
-        /// Definitions: [`SetsRegister`](crate::specs::machine::RegisterEffects#SetsRegister), [`vector_loaded`](crate::specs::machine::RegisterEffects#vector_loaded).
-        #[inline(always)]
-        pub(crate) fn load(
-            &mut self,
-            op: VectorLoadOp,
-            dst: u8,
-            memory: Option<&Memory>,
-            ptr: u64,
-            offset: u64,
-        ) -> Reply {
-            let Some(memory) = memory else {
-                return Reply::NoSuch;
-            };
-            self.set_loaded(dst, op.load(memory.data(), ptr, offset))
-        }
-
-        /// Loads a lane of a vector from a memory, if it is there.
-        ///
-        /// # Contract
-        ///
-        /// ```text
-        /// ensures: SetsRegister dst
-        ///     (lane_loaded op (ptr + offset) (vector_at self.old.values a)
-        ///     (option_copied memory.entry)) self.old.values result self.new.values
-        /// ```
-        ///
-        /// Definitions: [`SetsRegister`](crate::specs::machine::RegisterEffects#SetsRegister), [`lane_loaded`](crate::specs::machine::RegisterEffects#lane_loaded), [`vector_at`](crate::specs::machine::RegisterEffects#vector_at).
-        #[inline(always)]
-        pub(crate) fn load_lane(
-            &mut self,
-            op: LoadLaneOp,
-            dst: u8,
-            a: u8,
-            memory: Option<&Memory>,
-            ptr: u64,
-            offset: u64,
-        ) -> Reply {
-            let (Some(a), Some(memory)) = (self.vector(a), memory) else {
-                return Reply::NoSuch;
-            };
-            self.set_loaded(dst, op.load(memory.data(), ptr, offset, a))
+        fn made_vector(&self, call: &Call) -> Option<V128> {
+            match call {
+                Call::Make { op, a, .. } => Some(op.apply(self.get(*a)?)),
+                Call::Unary { op, a, .. } => Some(op.apply(self.vector(*a)?)),
+                Call::Binary { op, a, b, .. } => Some(op.apply(self.vector(*a)?, self.vector(*b)?)),
+                Call::Ternary { op, a, b, c, .. } => {
+                    Some(op.apply(self.vector(*a)?, self.vector(*b)?, self.vector(*c)?))
+                }
+                Call::Shift { op, a, amount, .. } => Some(op.apply(self.vector(*a)?, *amount)),
+                Call::Replace { op, a, item, .. } => {
+                    Some(op.apply(self.vector(*a)?, self.get(*item)?))
+                }
+                Call::Shuffle { a, b, lanes, .. } => {
+                    Some(i8x16_shuffle(self.vector(*a)?, self.vector(*b)?, *lanes))
+                }
+                _ => unreachable!(),
+            }
         }
     }
 }
@@ -1716,33 +1348,9 @@ mod running {
             self.store.step(call, limiter)
         }
 
-        /// Grows a memory by so many pages, as `step` does for `Call::GrowMemory`. The reply is
+        /// Grows a memory by so many pages, as `step_lending` does for `Call::GrowMemory`. The reply is
         /// `Number` with the old size in pages, `NoSuch` if there is no such memory, or `Memory` with
         /// an error of [`LinearMemory::grow`](crate::proved::store::LinearMemory::grow).
-        ///
-        /// # Contract
-        ///
-        /// ```text
-        /// ensures loan: KeepsLoan limiter.old limiter.new
-        /// ensures step: RepliesWith (optional_rules L.rules) (GrowMemory memory pages)
-        ///     (world self.old (lent_limiter limiter.old)) result
-        ///     (world self.new (lent_limiter limiter.new))
-        /// ensures valid: IsValid self.new
-        /// ```
-        ///
-        /// Definitions: [`KeepsLoan`](crate::specs::meter::Limiter#KeepsLoan), [`RepliesWith`](crate::specs::machine::Steps#RepliesWith), [`optional_rules`](crate::specs::meter::Limiter#optional_rules), [`world`](crate::specs::machine::State#world), [`lent_limiter`](crate::specs::meter::Limiter#lent_limiter), [`IsValid`](crate::specs::machine::State#IsValid).
-        #[inline(always)]
-        pub fn grow_memory<L: ResourceLimiter>(
-            &mut self,
-            memory: usize,
-            pages: u64,
-            limiter: &mut ResourceLimiterRef<L>,
-        ) -> Reply {
-            self.store.grow_memory(memory, pages, limiter)
-        }
-
-        /// Grows a memory, as `grow_memory`, but borrows the limiter for this call alone, so that its
-        /// state afterwards is known.
         ///
         /// # Contract
         ///
@@ -1761,9 +1369,9 @@ mod running {
             limiter: &mut L,
         ) -> Reply {
             let mut lent = ResourceLimiterRef::from(limiter);
-            let reply = self.grow_memory(memory, pages, &mut lent);
+            let reply = self.store.grow_memory(memory, pages, &mut lent);
             let _limiter = lent.into_limiter();
-            reply
+            reply.unwrap_or(Reply::NoSuch)
         }
 
         /// Executes one call, as `step`, but borrows the limiter for this call alone, so that its state
@@ -2144,18 +1752,16 @@ mod slots {
         /// # Contract
         ///
         /// ```text
-        /// ensures: DropsAt T.Counted.count index self.old.slots.items result self.new.slots.items
+        /// ensures: DropsAt T.Counted.count index self.old.slots.items (reply_or_no_such result)
+        ///     self.new.slots.items
         /// ```
         ///
-        /// Definitions: [`DropsAt`](crate::specs::machine::Effects#DropsAt).
+        /// Definitions: [`DropsAt`](crate::specs::machine::Effects#DropsAt), [`reply_or_no_such`](crate::specs::machine::Effects#reply_or_no_such).
         #[inline]
-        pub(crate) fn drop_live(&mut self, index: usize) -> Reply {
-            let Some(value) = self.live(index) else {
-                return Reply::NoSuch;
-            };
-            let last = value.count();
+        pub(crate) fn drop_live(&mut self, index: usize) -> Option<Reply> {
+            let last = self.live(index)?.count();
             self.slots[index] = Slot::Gone(last);
-            Reply::Done
+            Some(Reply::Done)
         }
 
         /// How many bytes or elements all of them have; dropped ones count with their last size.
@@ -2182,10 +1788,11 @@ mod store {
     //! them.
 
     use crate::proved::machine::calls::{Call, Reply};
+    use crate::proved::machine::memories::{Stored, bytes_reply};
     use crate::proved::machine::registers::Registers;
     use crate::proved::machine::slots::Slots;
     use crate::proved::machine::values::{
-        create_global, create_segment, drop_items, get_global, set_global, value_at,
+        create_global, create_segment, drop_items, get_global, set_global,
     };
     use crate::proved::meter::{Fuel, ResourceLimiter, ResourceLimiterRef};
     use crate::proved::store::{ElementSegment, ElementSegmentRef, Memory, Table};
@@ -2240,18 +1847,6 @@ mod store {
             }
         }
 
-        /// # Contract
-        ///
-        /// ```text
-        /// ensures: result ≡ get_fuel_reply self.now.meter
-        /// ```
-        ///
-        /// Definitions: [`get_fuel_reply`](crate::specs::machine::ValueEffects#get_fuel_reply).
-        #[inline(always)]
-        fn get_fuel(&self) -> Reply {
-            self.fuel.get_fuel().map_or_else(Reply::Fuel, Reply::Number)
-        }
-
         /// Grows a memory by so many pages. A function of the store, since the prover covers no call
         /// that borrows two fields of a field.
         ///
@@ -2260,18 +1855,18 @@ mod store {
         /// ```text
         /// ensures loan: KeepsLoan limiter.old limiter.new
         /// ensures step: RepliesWith (optional_rules L.rules) (GrowMemory memory pages)
-        ///     (world self.old (lent_limiter limiter.old)) result
+        ///     (world self.old (lent_limiter limiter.old)) (reply_or_no_such result)
         ///     (world self.new (lent_limiter limiter.new))
         /// ```
         ///
-        /// Definitions: [`KeepsLoan`](crate::specs::meter::Limiter#KeepsLoan), [`RepliesWith`](crate::specs::machine::Steps#RepliesWith), [`optional_rules`](crate::specs::meter::Limiter#optional_rules), [`world`](crate::specs::machine::State#world), [`lent_limiter`](crate::specs::meter::Limiter#lent_limiter).
+        /// Definitions: [`KeepsLoan`](crate::specs::meter::Limiter#KeepsLoan), [`RepliesWith`](crate::specs::machine::Steps#RepliesWith), [`optional_rules`](crate::specs::meter::Limiter#optional_rules), [`world`](crate::specs::machine::State#world), [`lent_limiter`](crate::specs::meter::Limiter#lent_limiter), [`reply_or_no_such`](crate::specs::machine::Effects#reply_or_no_such).
         #[inline(always)]
         pub(crate) fn grow_memory<L: ResourceLimiter>(
             &mut self,
             memory: usize,
             pages: u64,
             limiter: &mut ResourceLimiterRef<L>,
-        ) -> Reply {
+        ) -> Option<Reply> {
             self.memories.grow(memory, pages, &mut self.fuel, limiter)
         }
 
@@ -2295,34 +1890,36 @@ mod store {
         ) -> Reply {
             match call {
                 Call::SetFuel(fuel) => self.set_fuel(*fuel),
-                Call::GetFuel => self.get_fuel(),
-                Call::NewMemory(_) => self.step_memory(call, limiter),
-                Call::NewLentMemory(_) => self.step_memory(call, limiter),
-                Call::GrowMemory { .. } => self.step_memory(call, limiter),
-                Call::DropMemory(_) => self.step_memory(call, limiter),
-                Call::Read { .. } => self.step_memory(call, limiter),
-                Call::Write { .. } => self.step_memory(call, limiter),
-                Call::Load { .. } => self.step_memory(call, limiter),
-                Call::Store { .. } => self.step_memory(call, limiter),
+                Call::GetFuel => self.fuel.get_fuel().map_or_else(Reply::Fuel, Reply::Number),
+                Call::NewMemory(_) => self.step_memory(call, limiter).unwrap_or(Reply::NoSuch),
+                Call::NewLentMemory(_) => self.step_memory(call, limiter).unwrap_or(Reply::NoSuch),
+                Call::GrowMemory { .. } => self.step_memory(call, limiter).unwrap_or(Reply::NoSuch),
+                Call::DropMemory(_) => self.step_memory(call, limiter).unwrap_or(Reply::NoSuch),
+                Call::Read { .. } => self.step_memory(call, limiter).unwrap_or(Reply::NoSuch),
+                Call::Write { .. } => self.step_memory(call, limiter).unwrap_or(Reply::NoSuch),
+                Call::Load { .. } => self.step_memory(call, limiter).unwrap_or(Reply::NoSuch),
+                Call::Store { .. } => self.step_memory(call, limiter).unwrap_or(Reply::NoSuch),
 
                 Call::NewSegment { ty, items } => create_segment(&mut self.segments, *ty, items),
                 Call::DropItems(segment) => drop_items(&mut self.segments, *segment),
                 Call::NewGlobal { value, ty } => create_global(&mut self.globals, *value, *ty),
                 Call::SetGlobal { global, value } => set_global(&mut self.globals, *global, *value),
                 Call::GetGlobal(global) => get_global(&self.globals, *global),
-                Call::NewTable { .. } => self.step_table(call, limiter),
-                Call::GrowTable { .. } => self.step_table(call, limiter),
-                Call::DropTable(_) => self.step_table(call, limiter),
-                Call::GetElement { .. } => self.step_table(call, limiter),
-                Call::SetElement { .. } => self.step_table(call, limiter),
-                Call::InitTable { .. } => self.step_table(call, limiter),
-                Call::CopyTable { .. } => self.step_table(call, limiter),
-                Call::FillTable { .. } => self.step_table(call, limiter),
+                Call::NewTable { .. } => self.step_table(call, limiter).unwrap_or(Reply::NoSuch),
+                Call::GrowTable { .. } => self.step_table(call, limiter).unwrap_or(Reply::NoSuch),
+                Call::DropTable(_) => self.step_table(call, limiter).unwrap_or(Reply::NoSuch),
+                Call::GetElement { .. } => self.step_table(call, limiter).unwrap_or(Reply::NoSuch),
+                Call::SetElement { .. } => self.step_table(call, limiter).unwrap_or(Reply::NoSuch),
+                Call::InitTable { .. } => self.step_table(call, limiter).unwrap_or(Reply::NoSuch),
+                Call::CopyTable { .. } => self.step_table(call, limiter).unwrap_or(Reply::NoSuch),
+                Call::FillTable { .. } => self.step_table(call, limiter).unwrap_or(Reply::NoSuch),
 
                 Call::VectorLoad { .. }
                 | Call::LoadLane { .. }
                 | Call::VectorStore { .. }
-                | Call::StoreLane { .. } => self.step_vector_access::<L>(call),
+                | Call::StoreLane { .. } => {
+                    self.step_vector_access::<L>(call).unwrap_or(Reply::NoSuch)
+                }
                 Call::SetRegister { .. }
                 | Call::GetRegister(_)
                 | Call::Make { .. }
@@ -2333,7 +1930,7 @@ mod store {
                 | Call::Test { .. }
                 | Call::Extract { .. }
                 | Call::Replace { .. }
-                | Call::Shuffle { .. } => self.step_register::<L>(call),
+                | Call::Shuffle { .. } => self.step_register::<L>(call).unwrap_or(Reply::NoSuch),
             }
         }
 
@@ -2345,27 +1942,32 @@ mod store {
         /// requires subject: subject_of call.now ≡ Memories
         /// ensures loan: KeepsLoan limiter.old limiter.new
         /// ensures step: RepliesWith (optional_rules L.rules) call.now
-        ///     (world self.old (lent_limiter limiter.old)) result
+        ///     (world self.old (lent_limiter limiter.old)) (reply_or_no_such result)
         ///     (world self.new (lent_limiter limiter.new))
         /// ```
         ///
-        /// Definitions: [`subject_of`](crate::specs::machine::Steps#subject_of), [`Memories`](crate::specs::machine::Steps#Memories), [`KeepsLoan`](crate::specs::meter::Limiter#KeepsLoan), [`RepliesWith`](crate::specs::machine::Steps#RepliesWith), [`optional_rules`](crate::specs::meter::Limiter#optional_rules), [`world`](crate::specs::machine::State#world), [`lent_limiter`](crate::specs::meter::Limiter#lent_limiter).
+        /// Definitions: [`subject_of`](crate::specs::machine::Steps#subject_of), [`Memories`](crate::specs::machine::Steps#Memories), [`KeepsLoan`](crate::specs::meter::Limiter#KeepsLoan), [`RepliesWith`](crate::specs::machine::Steps#RepliesWith), [`optional_rules`](crate::specs::meter::Limiter#optional_rules), [`world`](crate::specs::machine::State#world), [`lent_limiter`](crate::specs::meter::Limiter#lent_limiter), [`reply_or_no_such`](crate::specs::machine::Effects#reply_or_no_such).
         #[inline(always)]
         fn step_memory<L: ResourceLimiter>(
             &mut self,
             call: &Call,
             limiter: &mut ResourceLimiterRef<L>,
-        ) -> Reply {
+        ) -> Option<Reply> {
             match call {
-                Call::NewMemory(ty) => self.memories.create(*ty, limiter),
-                Call::NewLentMemory(ty) => self.memories.create_lent(*ty, &mut self.spare, limiter),
+                Call::NewMemory(ty) => Some(self.memories.create(*ty, limiter)),
+                Call::NewLentMemory(ty) => {
+                    Some(self.memories.create_lent(*ty, &mut self.spare, limiter))
+                }
                 Call::GrowMemory { memory, pages } => self.grow_memory(*memory, *pages, limiter),
                 Call::DropMemory(memory) => self.memories.drop_live(*memory),
                 Call::Read {
                     memory,
                     offset,
                     len,
-                } => self.memories.read(*memory, *offset, *len),
+                } => {
+                    let memory = self.memories.live(*memory)?;
+                    Some(bytes_reply(memory.data(), *offset, *len))
+                }
                 Call::Write {
                     memory,
                     offset,
@@ -2376,14 +1978,20 @@ mod store {
                     memory,
                     ptr,
                     offset,
-                } => self.memories.load(*op, *memory, *ptr, *offset),
+                } => {
+                    let memory = self.memories.live(*memory)?;
+                    let value = op.load(memory.data(), *ptr, *offset);
+                    Some(value.map_or_else(Reply::Trap, Reply::Value))
+                }
                 Call::Store {
                     op,
                     memory,
                     ptr,
                     offset,
                     value,
-                } => self.memories.store(*op, *memory, *ptr, *offset, *value),
+                } => self
+                    .memories
+                    .store(*memory, *ptr, *offset, Stored::Number(*op, *value)),
                 _ => unreachable!(),
             }
         }
@@ -2396,25 +2004,27 @@ mod store {
         /// requires subject: subject_of call.now ≡ Tables
         /// ensures loan: KeepsLoan limiter.old limiter.new
         /// ensures step: RepliesWith (optional_rules L.rules) call.now
-        ///     (world self.old (lent_limiter limiter.old)) result
+        ///     (world self.old (lent_limiter limiter.old)) (reply_or_no_such result)
         ///     (world self.new (lent_limiter limiter.new))
         /// ```
         ///
-        /// Definitions: [`subject_of`](crate::specs::machine::Steps#subject_of), [`Tables`](crate::specs::machine::Steps#Tables), [`KeepsLoan`](crate::specs::meter::Limiter#KeepsLoan), [`RepliesWith`](crate::specs::machine::Steps#RepliesWith), [`optional_rules`](crate::specs::meter::Limiter#optional_rules), [`world`](crate::specs::machine::State#world), [`lent_limiter`](crate::specs::meter::Limiter#lent_limiter).
+        /// Definitions: [`subject_of`](crate::specs::machine::Steps#subject_of), [`Tables`](crate::specs::machine::Steps#Tables), [`KeepsLoan`](crate::specs::meter::Limiter#KeepsLoan), [`RepliesWith`](crate::specs::machine::Steps#RepliesWith), [`optional_rules`](crate::specs::meter::Limiter#optional_rules), [`world`](crate::specs::machine::State#world), [`lent_limiter`](crate::specs::meter::Limiter#lent_limiter), [`reply_or_no_such`](crate::specs::machine::Effects#reply_or_no_such).
         #[inline(always)]
         fn step_table<L: ResourceLimiter>(
             &mut self,
             call: &Call,
             limiter: &mut ResourceLimiterRef<L>,
-        ) -> Reply {
+        ) -> Option<Reply> {
             match call {
-                Call::NewTable { ty, init } => self.tables.create(*ty, *init, limiter),
+                Call::NewTable { ty, init } => Some(self.tables.create(*ty, *init, limiter)),
                 Call::GrowTable { table, delta, init } => {
                     self.tables
                         .grow(*table, *delta, *init, &mut self.fuel, limiter)
                 }
                 Call::DropTable(table) => self.tables.drop_live(*table),
-                Call::GetElement { table, index } => self.tables.get(*table, *index),
+                Call::GetElement { table, index } => {
+                    Some(Reply::Reference(self.tables.live(*table)?.get(*index)))
+                }
                 Call::SetElement {
                     table,
                     index,
@@ -2427,9 +2037,7 @@ mod store {
                     src,
                     len,
                 } => {
-                    let Some(segment) = value_at(&self.segments, *segment) else {
-                        return Reply::NoSuch;
-                    };
+                    let segment = self.segments.get(*segment)?;
                     self.tables.init(
                         *table,
                         ElementSegmentRef::from(segment),
@@ -2459,30 +2067,31 @@ mod store {
         }
 
         /// Executes one call on registers, which doesn't reach the limiter: only the contract has `L`.
+        /// Calls that make a vector have an arm each, by which LLVM makes one table of both matches.
         ///
         /// # Contract
         ///
         /// ```text
         /// requires subject: subject_of call.now ≡ RegisterFile
         /// ensures step: RepliesWithoutLimiter
-        ///     (optional_rules L.rules) call.now self.old result self.new
+        ///     (optional_rules L.rules) call.now self.old (reply_or_no_such result) self.new
         /// ```
         ///
-        /// Definitions: [`subject_of`](crate::specs::machine::Steps#subject_of), [`RegisterFile`](crate::specs::machine::Steps#RegisterFile), [`RepliesWithoutLimiter`](crate::specs::machine::Steps#RepliesWithoutLimiter), [`optional_rules`](crate::specs::meter::Limiter#optional_rules).
+        /// Definitions: [`subject_of`](crate::specs::machine::Steps#subject_of), [`RegisterFile`](crate::specs::machine::Steps#RegisterFile), [`RepliesWithoutLimiter`](crate::specs::machine::Steps#RepliesWithoutLimiter), [`optional_rules`](crate::specs::meter::Limiter#optional_rules), [`reply_or_no_such`](crate::specs::machine::Effects#reply_or_no_such).
         #[inline(always)]
-        fn step_register<L: ResourceLimiter>(&mut self, call: &Call) -> Reply {
+        fn step_register<L: ResourceLimiter>(&mut self, call: &Call) -> Option<Reply> {
             match call {
                 Call::SetRegister { dst, value } => self.registers.set(*dst, *value),
-                Call::GetRegister(register) => self.registers.get_register(*register),
-                Call::Make { op, dst, a } => self.registers.make(*op, *dst, *a),
-                Call::Unary { op, dst, a } => self.registers.unary(*op, *dst, *a),
-                Call::Binary { op, dst, a, b } => self.registers.binary(*op, *dst, *a, *b),
-                Call::Ternary { op, dst, a, b, c } => self.registers.ternary(*op, *dst, *a, *b, *c),
-                Call::Shift { op, dst, a, amount } => self.registers.shift(*op, *dst, *a, *amount),
-                Call::Test { op, a } => self.registers.test(*op, *a),
-                Call::Extract { op, a } => self.registers.extract(*op, *a),
-                Call::Replace { op, dst, a, item } => self.registers.replace(*op, *dst, *a, *item),
-                Call::Shuffle { dst, a, b, lanes } => self.registers.shuffle(*dst, *a, *b, *lanes),
+                Call::GetRegister(register) => Some(Reply::Value(self.registers.get(*register)?)),
+                Call::Test { op, a } => Some(Reply::Value(op.apply(self.registers.vector(*a)?))),
+                Call::Extract { op, a } => Some(Reply::Value(op.apply(self.registers.vector(*a)?))),
+                Call::Make { dst, .. } => self.registers.set_made(*dst, call),
+                Call::Unary { dst, .. } => self.registers.set_made(*dst, call),
+                Call::Binary { dst, .. } => self.registers.set_made(*dst, call),
+                Call::Ternary { dst, .. } => self.registers.set_made(*dst, call),
+                Call::Shift { dst, .. } => self.registers.set_made(*dst, call),
+                Call::Replace { dst, .. } => self.registers.set_made(*dst, call),
+                Call::Shuffle { dst, .. } => self.registers.set_made(*dst, call),
                 _ => unreachable!(),
             }
         }
@@ -2495,12 +2104,12 @@ mod store {
         /// ```text
         /// requires subject: subject_of call.now ≡ VectorAccesses
         /// ensures step: RepliesWithoutLimiter
-        ///     (optional_rules L.rules) call.now self.old result self.new
+        ///     (optional_rules L.rules) call.now self.old (reply_or_no_such result) self.new
         /// ```
         ///
-        /// Definitions: [`subject_of`](crate::specs::machine::Steps#subject_of), [`VectorAccesses`](crate::specs::machine::Steps#VectorAccesses), [`RepliesWithoutLimiter`](crate::specs::machine::Steps#RepliesWithoutLimiter), [`optional_rules`](crate::specs::meter::Limiter#optional_rules).
+        /// Definitions: [`subject_of`](crate::specs::machine::Steps#subject_of), [`VectorAccesses`](crate::specs::machine::Steps#VectorAccesses), [`RepliesWithoutLimiter`](crate::specs::machine::Steps#RepliesWithoutLimiter), [`optional_rules`](crate::specs::meter::Limiter#optional_rules), [`reply_or_no_such`](crate::specs::machine::Effects#reply_or_no_such).
         #[inline(always)]
-        fn step_vector_access<L: ResourceLimiter>(&mut self, call: &Call) -> Reply {
+        fn step_vector_access<L: ResourceLimiter>(&mut self, call: &Call) -> Option<Reply> {
             match call {
                 Call::VectorLoad {
                     op,
@@ -2509,8 +2118,9 @@ mod store {
                     ptr,
                     offset,
                 } => {
-                    let memory = self.memories.live(*memory);
-                    self.registers.load(*op, *dst, memory, *ptr, *offset)
+                    let memory = self.memories.live(*memory)?;
+                    let vector = op.load(memory.data(), *ptr, *offset);
+                    self.registers.set_loaded(*dst, vector)
                 }
                 Call::LoadLane {
                     op,
@@ -2520,9 +2130,9 @@ mod store {
                     ptr,
                     offset,
                 } => {
-                    let memory = self.memories.live(*memory);
-                    self.registers
-                        .load_lane(*op, *dst, *a, memory, *ptr, *offset)
+                    let (a, memory) = (self.registers.vector(*a)?, self.memories.live(*memory)?);
+                    let vector = op.load(memory.data(), *ptr, *offset, a);
+                    self.registers.set_loaded(*dst, vector)
                 }
                 Call::VectorStore {
                     a,
@@ -2530,8 +2140,8 @@ mod store {
                     ptr,
                     offset,
                 } => {
-                    let a = self.registers.vector(*a);
-                    self.memories.store_vector(a, *memory, *ptr, *offset)
+                    let vector = Stored::Vector(self.registers.vector(*a)?);
+                    self.memories.store(*memory, *ptr, *offset, vector)
                 }
                 Call::StoreLane {
                     op,
@@ -2540,8 +2150,8 @@ mod store {
                     ptr,
                     offset,
                 } => {
-                    let a = self.registers.vector(*a);
-                    self.memories.store_lane(*op, a, *memory, *ptr, *offset)
+                    let lane = Stored::Lane(*op, self.registers.vector(*a)?);
+                    self.memories.store(*memory, *ptr, *offset, lane)
                 }
                 _ => unreachable!(),
             }
@@ -2595,11 +2205,12 @@ mod tables {
         /// ensures grown: WithCharge
         ///     (ActsAt index (reply_of Reply.Number Reply.Table)
         ///     (GrowsTableCharging (optional_rules L.rules) delta init))
-        ///     (metered_value self.old.slots.items (Some fuel.old) (lent_limiter limiter.old)) result
+        ///     (metered_value self.old.slots.items (Some fuel.old) (lent_limiter limiter.old))
+        ///     (reply_or_no_such result)
         ///     (metered_value self.new.slots.items (Some fuel.new) (lent_limiter limiter.new))
         /// ```
         ///
-        /// Definitions: [`KeepsLoan`](crate::specs::meter::Limiter#KeepsLoan), [`WithCharge`](crate::specs::store::Growth#WithCharge), [`ActsAt`](crate::specs::machine::Effects#ActsAt), [`reply_of`](crate::specs::machine::Effects#reply_of), [`GrowsTableCharging`](crate::specs::store::Table#GrowsTableCharging), [`optional_rules`](crate::specs::meter::Limiter#optional_rules), [`metered_value`](crate::specs::store::Growth#metered_value), [`lent_limiter`](crate::specs::meter::Limiter#lent_limiter).
+        /// Definitions: [`KeepsLoan`](crate::specs::meter::Limiter#KeepsLoan), [`WithCharge`](crate::specs::store::Growth#WithCharge), [`ActsAt`](crate::specs::machine::Effects#ActsAt), [`reply_of`](crate::specs::machine::Effects#reply_of), [`GrowsTableCharging`](crate::specs::store::Table#GrowsTableCharging), [`optional_rules`](crate::specs::meter::Limiter#optional_rules), [`metered_value`](crate::specs::store::Growth#metered_value), [`lent_limiter`](crate::specs::meter::Limiter#lent_limiter), [`reply_or_no_such`](crate::specs::machine::Effects#reply_or_no_such).
         #[inline(always)]
         pub(crate) fn grow<L: ResourceLimiter>(
             &mut self,
@@ -2608,29 +2219,12 @@ mod tables {
             init: TypedRawRef,
             fuel: &mut Fuel,
             limiter: &mut ResourceLimiterRef<L>,
-        ) -> Reply {
-            let Some(table) = self.live_mut(index) else {
-                return Reply::NoSuch;
-            };
+        ) -> Option<Reply> {
+            let table = self.live_mut(index)?;
             match table.grow_metered(delta, init, fuel, limiter) {
-                Ok(size) => Reply::Number(size),
-                Err(error) => Reply::Table(error),
+                Ok(size) => Some(Reply::Number(size)),
+                Err(error) => Some(Reply::Table(error)),
             }
-        }
-
-        /// The element of a table.
-        ///
-        /// # Contract
-        ///
-        /// ```text
-        /// ensures: GetsElementAt index element self.now.slots.items result
-        /// ```
-        ///
-        /// Definitions: [`GetsElementAt`](crate::specs::machine::TableEffects#GetsElementAt).
-        #[inline(always)]
-        pub(crate) fn get(&self, index: usize, element: u64) -> Reply {
-            self.live(index)
-                .map_or(Reply::NoSuch, |table| Reply::Reference(table.get(element)))
         }
 
         /// Sets an element of a table.
@@ -2638,17 +2232,20 @@ mod tables {
         /// # Contract
         ///
         /// ```text
-        /// ensures: SetsElementAt index element value self.old.slots.items result
-        ///     self.new.slots.items
+        /// ensures: SetsElementAt index element value self.old.slots.items
+        ///     (reply_or_no_such result) self.new.slots.items
         /// ```
         ///
-        /// Definitions: [`SetsElementAt`](crate::specs::machine::TableEffects#SetsElementAt).
+        /// Definitions: [`SetsElementAt`](crate::specs::machine::TableEffects#SetsElementAt), [`reply_or_no_such`](crate::specs::machine::Effects#reply_or_no_such).
         #[inline(always)]
-        pub(crate) fn set(&mut self, index: usize, element: u64, value: TypedRawRef) -> Reply {
-            let Some(table) = self.live_mut(index) else {
-                return Reply::NoSuch;
-            };
-            table_reply(table.set(element, value))
+        pub(crate) fn set(
+            &mut self,
+            index: usize,
+            element: u64,
+            value: TypedRawRef,
+        ) -> Option<Reply> {
+            let table = self.live_mut(index)?;
+            Some(table_reply(table.set(element, value)))
         }
 
         /// Fills a part of a table.
@@ -2657,11 +2254,11 @@ mod tables {
         ///
         /// ```text
         /// ensures: WithCharge (WritesTableAt index (filling_of dst value len))
-        ///     (metered self.old.slots.items (Some fuel.old)) result
+        ///     (metered self.old.slots.items (Some fuel.old)) (reply_or_no_such result)
         ///     (metered self.new.slots.items (Some fuel.new))
         /// ```
         ///
-        /// Definitions: [`WithCharge`](crate::specs::store::Growth#WithCharge), [`WritesTableAt`](crate::specs::machine::TableEffects#WritesTableAt), [`filling_of`](crate::specs::store::Table#filling_of), [`metered`](crate::specs::store::Growth#metered).
+        /// Definitions: [`WithCharge`](crate::specs::store::Growth#WithCharge), [`WritesTableAt`](crate::specs::machine::TableEffects#WritesTableAt), [`filling_of`](crate::specs::store::Table#filling_of), [`metered`](crate::specs::store::Growth#metered), [`reply_or_no_such`](crate::specs::machine::Effects#reply_or_no_such).
         #[inline(always)]
         pub(crate) fn fill(
             &mut self,
@@ -2670,11 +2267,9 @@ mod tables {
             value: TypedRawRef,
             len: u64,
             fuel: &mut Fuel,
-        ) -> Reply {
-            let Some(table) = self.live_mut(index) else {
-                return Reply::NoSuch;
-            };
-            table_reply(table.fill_metered(dst, value, len, fuel))
+        ) -> Option<Reply> {
+            let table = self.live_mut(index)?;
+            Some(table_reply(table.fill_metered(dst, value, len, fuel)))
         }
 
         /// Initializes a part of a table from an element segment, if there is one.
@@ -2684,11 +2279,11 @@ mod tables {
         /// ```text
         /// ensures: WithCharge
         ///     (WritesTableAt index (initialization_of dst src len (segment_of segment.entry)))
-        ///     (metered self.old.slots.items (Some fuel.old)) result
+        ///     (metered self.old.slots.items (Some fuel.old)) (reply_or_no_such result)
         ///     (metered self.new.slots.items (Some fuel.new))
         /// ```
         ///
-        /// Definitions: [`WithCharge`](crate::specs::store::Growth#WithCharge), [`WritesTableAt`](crate::specs::machine::TableEffects#WritesTableAt), [`initialization_of`](crate::specs::store::Table#initialization_of), [`segment_of`](crate::specs::store::Segment#segment_of), [`metered`](crate::specs::store::Growth#metered).
+        /// Definitions: [`WithCharge`](crate::specs::store::Growth#WithCharge), [`WritesTableAt`](crate::specs::machine::TableEffects#WritesTableAt), [`initialization_of`](crate::specs::store::Table#initialization_of), [`segment_of`](crate::specs::store::Segment#segment_of), [`metered`](crate::specs::store::Growth#metered), [`reply_or_no_such`](crate::specs::machine::Effects#reply_or_no_such).
         #[inline(always)]
         pub(crate) fn init(
             &mut self,
@@ -2698,11 +2293,11 @@ mod tables {
             src: u32,
             len: u32,
             fuel: &mut Fuel,
-        ) -> Reply {
-            let Some(table) = self.live_mut(index) else {
-                return Reply::NoSuch;
-            };
-            table_reply(table.init_metered(segment, dst, src, len, fuel))
+        ) -> Option<Reply> {
+            let table = self.live_mut(index)?;
+            Some(table_reply(
+                table.init_metered(segment, dst, src, len, fuel),
+            ))
         }
 
         /// Copies a range of a table to another one, or within it.
@@ -2713,11 +2308,11 @@ mod tables {
         /// ensures: WithCharge
         ///     (WritesTableFrom (live_at self.old.slots.items src_index) dst_index
         ///     (copy_of dst src len))
-        ///     (metered self.old.slots.items (Some fuel.old)) result
+        ///     (metered self.old.slots.items (Some fuel.old)) (reply_or_no_such result)
         ///     (metered self.new.slots.items (Some fuel.new))
         /// ```
         ///
-        /// Definitions: [`WithCharge`](crate::specs::store::Growth#WithCharge), [`WritesTableFrom`](crate::specs::machine::TableEffects#WritesTableFrom), [`live_at`](crate::specs::machine::State#live_at), [`copy_of`](crate::specs::store::Table#copy_of), [`metered`](crate::specs::store::Growth#metered).
+        /// Definitions: [`WithCharge`](crate::specs::store::Growth#WithCharge), [`WritesTableFrom`](crate::specs::machine::TableEffects#WritesTableFrom), [`live_at`](crate::specs::machine::State#live_at), [`copy_of`](crate::specs::store::Table#copy_of), [`metered`](crate::specs::store::Growth#metered), [`reply_or_no_such`](crate::specs::machine::Effects#reply_or_no_such).
         #[inline(always)]
         pub(crate) fn copy(
             &mut self,
@@ -2727,15 +2322,15 @@ mod tables {
             src: u64,
             len: u64,
             fuel: &mut Fuel,
-        ) -> Reply {
+        ) -> Option<Reply> {
             if dst_index == src_index {
                 return self.copy_in_one(dst_index, dst, src, len, fuel);
             }
             if dst_index >= self.slots.len() || src_index >= self.slots.len() {
-                return Reply::NoSuch;
+                return None;
             }
-            let range = CopyRange { dst, src, len };
-            copy_to_other(self.slots.as_mut_slice(), dst_index, src_index, range, fuel)
+            let slots = self.slots.as_mut_slice();
+            copy_to_other(slots, dst_index, src_index, dst, src, len, fuel)
         }
 
         /// Copies a range of a table within it.
@@ -2745,11 +2340,11 @@ mod tables {
         /// ```text
         /// ensures: WithCharge
         ///     (WritesTableFrom (live_at self.old.slots.items index) index (copy_of dst src len))
-        ///     (metered self.old.slots.items (Some fuel.old)) result
+        ///     (metered self.old.slots.items (Some fuel.old)) (reply_or_no_such result)
         ///     (metered self.new.slots.items (Some fuel.new))
         /// ```
         ///
-        /// Definitions: [`WithCharge`](crate::specs::store::Growth#WithCharge), [`WritesTableFrom`](crate::specs::machine::TableEffects#WritesTableFrom), [`live_at`](crate::specs::machine::State#live_at), [`copy_of`](crate::specs::store::Table#copy_of), [`metered`](crate::specs::store::Growth#metered).
+        /// Definitions: [`WithCharge`](crate::specs::store::Growth#WithCharge), [`WritesTableFrom`](crate::specs::machine::TableEffects#WritesTableFrom), [`live_at`](crate::specs::machine::State#live_at), [`copy_of`](crate::specs::store::Table#copy_of), [`metered`](crate::specs::store::Growth#metered), [`reply_or_no_such`](crate::specs::machine::Effects#reply_or_no_such).
         #[inline(always)]
         fn copy_in_one(
             &mut self,
@@ -2758,20 +2353,10 @@ mod tables {
             src: u64,
             len: u64,
             fuel: &mut Fuel,
-        ) -> Reply {
-            let Some(table) = self.live_mut(index) else {
-                return Reply::NoSuch;
-            };
-            table_reply(table.copy_within_metered(dst, src, len, fuel))
+        ) -> Option<Reply> {
+            let table = self.live_mut(index)?;
+            Some(table_reply(table.copy_within_metered(dst, src, len, fuel)))
         }
-    }
-
-    /// Which elements are copied to where.
-    #[derive(Clone, Copy)]
-    struct CopyRange {
-        dst: u64,
-        src: u64,
-        len: u64,
     }
 
     /// Copies a range of a table to another one.
@@ -2784,25 +2369,27 @@ mod tables {
     /// requires other: dst_index ≢ src_index
     /// ensures copied: WithCharge
     ///     (WritesTableFrom (live_at slots.old src_index) dst_index
-    ///     (copy_of range.dst range.src range.len))
-    ///     (metered slots.old (Some fuel.old)) result (metered slots.new (Some fuel.new))
+    ///     (copy_of dst src len))
+    ///     (metered slots.old (Some fuel.old)) (reply_or_no_such result) (metered slots.new (Some fuel.new))
     /// ```
     ///
-    /// Definitions: [`WithCharge`](crate::specs::store::Growth#WithCharge), [`WritesTableFrom`](crate::specs::machine::TableEffects#WritesTableFrom), [`live_at`](crate::specs::machine::State#live_at), [`copy_of`](crate::specs::store::Table#copy_of), [`metered`](crate::specs::store::Growth#metered).
+    /// Definitions: [`WithCharge`](crate::specs::store::Growth#WithCharge), [`WritesTableFrom`](crate::specs::machine::TableEffects#WritesTableFrom), [`live_at`](crate::specs::machine::State#live_at), [`copy_of`](crate::specs::store::Table#copy_of), [`metered`](crate::specs::store::Growth#metered), [`reply_or_no_such`](crate::specs::machine::Effects#reply_or_no_such).
     #[inline(always)]
     fn copy_to_other(
         slots: &mut [Slot<Table>],
         dst_index: usize,
         src_index: usize,
-        range: CopyRange,
+        dst: u64,
+        src: u64,
+        len: u64,
         fuel: &mut Fuel,
-    ) -> Reply {
+    ) -> Option<Reply> {
         if dst_index < src_index {
             let (front, back) = slots.split_at_mut(src_index);
-            copy_from_slot(&mut front[dst_index], &back[0], range, fuel)
+            copy_from_slot(&mut front[dst_index], &back[0], dst, src, len, fuel)
         } else {
             let (front, back) = slots.split_at_mut(dst_index);
-            copy_from_slot(&mut back[0], &front[src_index], range, fuel)
+            copy_from_slot(&mut back[0], &front[src_index], dst, src, len, fuel)
         }
     }
 
@@ -2811,24 +2398,25 @@ mod tables {
     /// # Contract
     ///
     /// ```text
-    /// ensures: WithCharge (CopiesSlot (copy_of range.dst range.src range.len) source.now)
-    ///     (metered slot.old (Some fuel.old)) result (metered slot.new (Some fuel.new))
+    /// ensures: WithCharge (CopiesSlot (copy_of dst src len) source.now)
+    ///     (metered slot.old (Some fuel.old)) (reply_or_no_such result) (metered slot.new (Some fuel.new))
     /// ```
     ///
-    /// Definitions: [`WithCharge`](crate::specs::store::Growth#WithCharge), [`CopiesSlot`](crate::specs::machine::TableEffects#CopiesSlot), [`copy_of`](crate::specs::store::Table#copy_of), [`metered`](crate::specs::store::Growth#metered).
+    /// Definitions: [`WithCharge`](crate::specs::store::Growth#WithCharge), [`CopiesSlot`](crate::specs::machine::TableEffects#CopiesSlot), [`copy_of`](crate::specs::store::Table#copy_of), [`metered`](crate::specs::store::Growth#metered), [`reply_or_no_such`](crate::specs::machine::Effects#reply_or_no_such).
     #[inline(always)]
     fn copy_from_slot(
         slot: &mut Slot<Table>,
         source: &Slot<Table>,
-        range: CopyRange,
+        dst: u64,
+        src: u64,
+        len: u64,
         fuel: &mut Fuel,
-    ) -> Reply {
+    ) -> Option<Reply> {
         match (slot, source) {
             (Slot::Live(table), Slot::Live(source)) => {
-                let CopyRange { dst, src, len } = range;
-                table_reply(table.copy_metered(dst, source, src, len, fuel))
+                Some(table_reply(table.copy_metered(dst, source, src, len, fuel)))
             }
-            _ => Reply::NoSuch,
+            _ => None,
         }
     }
 
@@ -2852,22 +2440,10 @@ mod values {
 
     use crate::proved::machine::calls::Reply;
     use crate::proved::raw::{RawRef, RawVal};
-    use crate::proved::store::{ElementSegment, SegmentError};
+    use crate::proved::store::ElementSegment;
     use crate::proved::typed::{Global, GlobalType, TypedRawVal};
     use crate::proved::types::RefType;
     use crate::rattle::Vec;
-
-    /// The element segment or global of an index, if there is one.
-    ///
-    /// # Contract
-    ///
-    /// ```text
-    /// ensures: option_copied result ≡ slice_get values.now index
-    /// ```
-    #[inline]
-    pub(crate) fn value_at<T>(values: &[T], index: usize) -> Option<&T> {
-        values.get(index)
-    }
 
     /// Makes an element segment.
     ///
@@ -2887,7 +2463,7 @@ mod values {
         if segments.try_reserve(1).is_err() {
             return Reply::NoRoom;
         }
-        match segment(ty, items) {
+        match ElementSegment::new(ty, items.iter().copied()) {
             Ok(segment) => {
                 let index = segments.len();
                 segments.push_reserved(segment);
@@ -2895,20 +2471,6 @@ mod values {
             }
             Err(error) => Reply::Segment(error),
         }
-    }
-
-    /// The element segment of these items.
-    ///
-    /// # Contract
-    ///
-    /// ```text
-    /// ensures: IsSegmentOf ty items.now result
-    /// ```
-    ///
-    /// Definitions: [`IsSegmentOf`](crate::specs::machine::ValueEffects#IsSegmentOf).
-    #[inline]
-    fn segment(ty: RefType, items: &[RawRef]) -> Result<ElementSegment, SegmentError> {
-        ElementSegment::new(ty, items.iter().copied())
     }
 
     /// Drops the items of an element segment.
@@ -2980,10 +2542,9 @@ mod values {
     /// Definitions: [`GetsGlobalAt`](crate::specs::machine::ValueEffects#GetsGlobalAt).
     #[inline(always)]
     pub(crate) fn get_global(globals: &[Global], index: usize) -> Reply {
-        match globals.get(index) {
-            Some(global) => Reply::Value(*global.get_raw()),
-            None => Reply::NoSuch,
-        }
+        globals
+            .get(index)
+            .map_or(Reply::NoSuch, |global| Reply::Value(*global.get_raw()))
     }
 }
 pub mod wasm {

@@ -3639,7 +3639,7 @@ abbrev pub <b id="RepliesKeepKind">RepliesKeepKind</b> : Type 0
     pub mod Determinism {}
     #[doc = r####"What calls on slots have in common: what each does to the list of slots and in a turn.
 
-<pre><code>use Rattle.std.specs.Prelude.{◌≡◌, ◌⊎◌, ◌++◌, ℕ, Option, Some, Result, Ok, Err, List, [], ◌∷◌, length, slice_get, slice_set, MatchOption}
+<pre><code>use Rattle.std.specs.Prelude.{◌≡◌, ◌⊎◌, ◌++◌, ℕ, Option, Some, Result, Ok, Err, List, [], ◌∷◌, length, slice_get, slice_set, unwrap_or, MatchOption}
 use Rattle.wasmi_meter.specs.Attempt.{<a href="../../meter/Attempt/index.html#MeteredValue">MeteredValue</a>, <a href="../../meter/Attempt/index.html#with_value">with_value</a>}
 use Rattle.wasmi_meter.specs.Meter.{<a href="../../meter/Meter/index.html#Meter">Meter</a>}
 use Rattle.wasmi_store.specs.Growth.{<a href="../../store/Growth/index.html#metered">metered</a>, <a href="../../store/Growth/index.html#metered_value">metered_value</a>}
@@ -3653,6 +3653,10 @@ use Rattle.wasmi_core.specs.State.{<a href="../../machine/State/index.html#State
 abbrev pub <b id="reply_of">reply_of</b> : {T E : Type 0} → (T → Reply) → (E → Reply) → Result T E → Reply
 <a href="../../machine/Effects/index.html#reply_of">reply_of</a> answer refusal (Ok value) = answer value
 <a href="../../machine/Effects/index.html#reply_of">reply_of</a> answer refusal (Err error) = refusal error
+
+-- the reply of a body that ends early where an index names nothing
+abbrev pub <b id="reply_or_no_such">reply_or_no_such</b> : Option Reply → Reply
+<a href="../../machine/Effects/index.html#reply_or_no_such">reply_or_no_such</a> reply = unwrap_or reply NoSuch
 
 -- a fact of the live value of an index; where the index names none, the other fact
 abbrev pub <b id="OnLive">OnLive</b> : {X : Type 0} → Option X → Type 0 → (X → Type 0) → Type 0
@@ -4186,6 +4190,7 @@ abbrev pub <b id="RunInRegions">RunInRegions</b> : {S : Type 0} → <a href="../
 <pre><code>use Rattle.std.specs.Prelude.{◌≡◌, ◌⊎◌, ◌*◌, ℕ, Option, Some, None, Result, List, MatchOption}
 use Rattle.std.specs.Option.{option_map_or}
 use Rattle.wasmi_types.specs.Access.{<a href="../../types/Access/index.html#at">at</a>}
+use Rattle.wasmi_types.specs.Numbers.{<a href="../../types/Numbers/index.html#le_bytes">le_bytes</a>}
 use Rattle.wasmi_types.specs.declared.trap.TrapCode.{TrapCode}
 use Rattle.wasmi_access.specs.LoadStore.{<a href="../../accesses/LoadStore/index.html#IsStore">IsStore</a>}
 use Rattle.wasmi_meter.specs.declared.error.MemoryError.{MemoryError}
@@ -4195,11 +4200,14 @@ use Rattle.wasmi_store.specs.Buffer.{<a href="../../store/Buffer/index.html#Lent
 use Rattle.wasmi_store.specs.Memory.{<a href="../../store/Memory/index.html#MemoryTypeValue">MemoryTypeValue</a>, <a href="../../store/Memory/index.html#page_bytes">page_bytes</a>, <a href="../../store/Memory/index.html#MemoryValue">MemoryValue</a>, <a href="../../store/Memory/index.html#MakesMemory">MakesMemory</a>, <a href="../../store/Memory/index.html#WritesMemory">WritesMemory</a>}
 use Rattle.wasmi_core.specs.declared.calls.Reply.{Reply}
 use Rattle.wasmi_core.specs.declared.calls.Reply.TheVariants.{Done, Value, Number, Bytes, Memory, Trap, NoSuch, NoRegion, NoRoom}
+use Rattle.wasmi_core.specs.declared.memories.Stored.{Stored}
 use Rattle.wasmi_core.specs.declared.slots.Slot.{Slot}
-use Rattle.wasmi_ops.specs.declared.scalar.LoadOp.{LoadOp}
-use Rattle.wasmi_ops.specs.ScalarOps.{<a href="../../ops/ScalarOps/index.html#loaded_raw">loaded_raw</a>}
+use Rattle.wasmi_ops.specs.declared.scalar.access.LoadOp.{LoadOp}
+use Rattle.wasmi_ops.specs.ScalarOps.{<a href="../../ops/ScalarOps/index.html#loaded_raw">loaded_raw</a>, <a href="../../ops/ScalarOps/index.html#stored_bytes">stored_bytes</a>}
+use Rattle.wasmi_ops.specs.VectorOps.{<a href="../../ops/VectorOps/index.html#stored_lane">stored_lane</a>}
 use Rattle.wasmi_core.specs.State.{<a href="../../machine/State/index.html#MemoryPart">MemoryPart</a>, <a href="../../machine/State/index.html#live_at">live_at</a>}
 use Rattle.wasmi_core.specs.Effects.{<a href="../../machine/Effects/index.html#reply_of">reply_of</a>, <a href="../../machine/Effects/index.html#OnLive">OnLive</a>, <a href="../../machine/Effects/index.html#Creates">Creates</a>, <a href="../../machine/Effects/index.html#ChangesAt">ChangesAt</a>}
+use Rattle.wasmi_core.specs.declared.memories.Stored.TheVariants as stored
 
 -- the bytes that a growth by so many pages has appended, by its reply
 abbrev pub <b id="bytes_appended">bytes_appended</b> : Option <a href="../../store/Memory/index.html#MemoryValue">MemoryValue</a> → ℕ → Reply → ℕ
@@ -4238,9 +4246,11 @@ abbrev pub <b id="WritesMemoryAt">WritesMemoryAt</b> : ℕ → ℕ → List ℕ 
 abbrev pub <b id="load_reply">load_reply</b> : LoadOp → ℕ → Option <a href="../../store/Memory/index.html#MemoryValue">MemoryValue</a> → Reply
 <a href="../../machine/MemoryEffects/index.html#load_reply">load_reply</a> op a memory = option_map_or (λ x. <a href="../../machine/Effects/index.html#reply_of">reply_of</a> Value Trap (<a href="../../ops/ScalarOps/index.html#loaded_raw">loaded_raw</a> op x.bytes a)) memory NoSuch
 
--- the reply to a load at an address of the memory of an index
-abbrev pub <b id="LoadsMemoryAt">LoadsMemoryAt</b> : LoadOp → ℕ → ℕ → List (Slot <a href="../../store/Memory/index.html#MemoryValue">MemoryValue</a>) → Reply → Type 0
-<a href="../../machine/MemoryEffects/index.html#LoadsMemoryAt">LoadsMemoryAt</a> op k a slots reply = reply ≡ <a href="../../machine/MemoryEffects/index.html#load_reply">load_reply</a> op a (<a href="../../machine/State/index.html#live_at">live_at</a> slots k)
+-- the bytes that a store writes
+abbrev pub <b id="bytes_of_stored">bytes_of_stored</b> : Stored → List ℕ
+<a href="../../machine/MemoryEffects/index.html#bytes_of_stored">bytes_of_stored</a> (stored.Number op value) = <a href="../../ops/ScalarOps/index.html#stored_bytes">stored_bytes</a> op value
+<a href="../../machine/MemoryEffects/index.html#bytes_of_stored">bytes_of_stored</a> (stored.Vector vector) = <a href="../../types/Numbers/index.html#le_bytes">le_bytes</a> 16 vector
+<a href="../../machine/MemoryEffects/index.html#bytes_of_stored">bytes_of_stored</a> (stored.Lane op vector) = <a href="../../ops/VectorOps/index.html#stored_lane">stored_lane</a> op vector
 
 -- a store: the memory has the bytes at the address, or the store traps and the memory is the same
 abbrev pub <b id="StoresMemory">StoresMemory</b> : <a href="../../store/Memory/index.html#MemoryValue">MemoryValue</a> → ℕ → List ℕ → Result (Unit {0}) TrapCode → <a href="../../store/Memory/index.html#MemoryValue">MemoryValue</a> → Type 0
@@ -4506,7 +4516,7 @@ abbrev pub <b id="IsValidCall">IsValidCall</b> : Call → Type 0
     pub mod State {}
     #[doc = r####"One step of the machine: what each call does, and what that changes in a world; and whole runs.
 
-<pre><code>use Rattle.std.specs.Prelude.{◌≡◌, ◌+◌, ℕ, Bool, true, false, List, Option, Some, Result, Ok, slice_get, [], ◌∷◌, map}
+<pre><code>use Rattle.std.specs.Prelude.{◌≡◌, ◌+◌, ℕ, Bool, true, false, List, Option, Some, None, Result, Ok, slice_get, [], ◌∷◌, map}
 use Rattle.std.specs.Option.{option_map, option_and_then}
 use Rattle.wasmi_types.specs.Numbers.{<a href="../../types/Numbers/index.html#le_bytes">le_bytes</a>}
 use Rattle.wasmi_types.specs.declared.trap.TrapCode.{TrapCode}
@@ -4610,6 +4620,30 @@ pub data <b id="Effect">Effect</b> : Type 0 where
   <b id="TableGrown">TableGrown</b> : ℕ → ℕ → TypedRawRef → <a href="../../machine/Steps/index.html#Effect">Effect</a>
   <b id="RangeWritten">RangeWritten</b> : ℕ → <a href="../../machine/TableEffects/index.html#Source">Source</a> → ℕ → ℕ → <a href="../../machine/Steps/index.html#Effect">Effect</a>
 
+-- what a call that makes a vector of what is in registers gives the register of its result
+abbrev pub <b id="vector_given">vector_given</b> : List RawVal → Call → Option (Result RawVal TrapCode)
+<a href="../../machine/Steps/index.html#vector_given">vector_given</a> rs (call.Make op dst a) = option_map (λ raw. <a href="../../machine/RegisterEffects/index.html#given_vector">given_vector</a> (<a href="../../ops/VectorOps/index.html#made_vector">made_vector</a> op raw)) (slice_get rs a)
+<a href="../../machine/Steps/index.html#vector_given">vector_given</a> rs (call.Unary op dst a) = <a href="../../machine/RegisterEffects/index.html#of_one">of_one</a> (<a href="../../ops/VectorOps/index.html#unary_vector">unary_vector</a> op) (<a href="../../machine/RegisterEffects/index.html#vector_at">vector_at</a> rs a)
+<a href="../../machine/Steps/index.html#vector_given">vector_given</a> rs (call.Binary op dst a b) = <a href="../../machine/RegisterEffects/index.html#of_two">of_two</a> (<a href="../../ops/VectorOps/index.html#binary_vector">binary_vector</a> op) (<a href="../../machine/RegisterEffects/index.html#vector_at">vector_at</a> rs a) (<a href="../../machine/RegisterEffects/index.html#vector_at">vector_at</a> rs b)
+<a href="../../machine/Steps/index.html#vector_given">vector_given</a> rs (call.Ternary op dst a b c) =
+    <a href="../../machine/RegisterEffects/index.html#of_three">of_three</a> (<a href="../../ops/VectorOps/index.html#ternary_vector">ternary_vector</a> op) (<a href="../../machine/RegisterEffects/index.html#vector_at">vector_at</a> rs a) (<a href="../../machine/RegisterEffects/index.html#vector_at">vector_at</a> rs b) (<a href="../../machine/RegisterEffects/index.html#vector_at">vector_at</a> rs c)
+<a href="../../machine/Steps/index.html#vector_given">vector_given</a> rs (call.Shift op dst a amount) = <a href="../../machine/RegisterEffects/index.html#of_one">of_one</a> (λ v. <a href="../../ops/VectorOps/index.html#shifted_vector">shifted_vector</a> op v amount) (<a href="../../machine/RegisterEffects/index.html#vector_at">vector_at</a> rs a)
+<a href="../../machine/Steps/index.html#vector_given">vector_given</a> rs (call.Replace op dst a item) =
+    option_and_then (λ raw. <a href="../../machine/RegisterEffects/index.html#of_one">of_one</a> (λ v. <a href="../../ops/LaneOps/index.html#replaced_vector">replaced_vector</a> op v raw) (<a href="../../machine/RegisterEffects/index.html#vector_at">vector_at</a> rs a)) (slice_get rs item)
+<a href="../../machine/Steps/index.html#vector_given">vector_given</a> rs (call.Shuffle dst a b lanes) = <a href="../../machine/RegisterEffects/index.html#of_two">of_two</a> (λ x y. <a href="../../lanewise/VectorTable/index.html#shuffle">shuffle</a> x y lanes) (<a href="../../machine/RegisterEffects/index.html#vector_at">vector_at</a> rs a) (<a href="../../machine/RegisterEffects/index.html#vector_at">vector_at</a> rs b)
+<a href="../../machine/Steps/index.html#vector_given">vector_given</a> rs call = None
+
+-- a call makes a vector of what is in registers
+abbrev pub <b id="MakesVector">MakesVector</b> : Call → Type 0
+<a href="../../machine/Steps/index.html#MakesVector">MakesVector</a> (call.Make op dst a) = Unit {0}
+<a href="../../machine/Steps/index.html#MakesVector">MakesVector</a> (call.Unary op dst a) = Unit {0}
+<a href="../../machine/Steps/index.html#MakesVector">MakesVector</a> (call.Binary op dst a b) = Unit {0}
+<a href="../../machine/Steps/index.html#MakesVector">MakesVector</a> (call.Ternary op dst a b c) = Unit {0}
+<a href="../../machine/Steps/index.html#MakesVector">MakesVector</a> (call.Shift op dst a amount) = Unit {0}
+<a href="../../machine/Steps/index.html#MakesVector">MakesVector</a> (call.Replace op dst a item) = Unit {0}
+<a href="../../machine/Steps/index.html#MakesVector">MakesVector</a> (call.Shuffle dst a b lanes) = Unit {0}
+<a href="../../machine/Steps/index.html#MakesVector">MakesVector</a> call = ⊥
+
 -- the effect of a call on a machine in this state: a line for each call
 abbrev pub <b id="effect_of">effect_of</b> : <a href="../../machine/State/index.html#State">State</a> → Call → <a href="../../machine/Steps/index.html#Effect">Effect</a>
 <a href="../../machine/Steps/index.html#effect_of">effect_of</a> s (call.SetFuel fuel) = <a href="../../machine/Steps/index.html#FuelSet">FuelSet</a> fuel
@@ -4637,22 +4671,19 @@ abbrev pub <b id="effect_of">effect_of</b> : <a href="../../machine/State/index.
 <a href="../../machine/Steps/index.html#effect_of">effect_of</a> s (call.GetGlobal k) = <a href="../../machine/Steps/index.html#Told">Told</a> (<a href="../../machine/ValueEffects/index.html#global_reply">global_reply</a> (slice_get s.globals k))
 <a href="../../machine/Steps/index.html#effect_of">effect_of</a> s (call.SetRegister dst value) = <a href="../../machine/Steps/index.html#Changed">Changed</a> (<a href="../../machine/Steps/index.html#RegisterSet">RegisterSet</a> dst (Some (Ok value)))
 <a href="../../machine/Steps/index.html#effect_of">effect_of</a> s (call.GetRegister a) = <a href="../../machine/Steps/index.html#Told">Told</a> (<a href="../../machine/RegisterEffects/index.html#raw_reply">raw_reply</a> (slice_get s.registers a))
-<a href="../../machine/Steps/index.html#effect_of">effect_of</a> s (call.Make op dst a) =
-    <a href="../../machine/Steps/index.html#Changed">Changed</a> (<a href="../../machine/Steps/index.html#RegisterSet">RegisterSet</a> dst (option_map (λ raw. <a href="../../machine/RegisterEffects/index.html#given_vector">given_vector</a> (<a href="../../ops/VectorOps/index.html#made_vector">made_vector</a> op raw)) (slice_get s.registers a)))
-<a href="../../machine/Steps/index.html#effect_of">effect_of</a> s (call.Unary op dst a) = <a href="../../machine/Steps/index.html#Changed">Changed</a> (<a href="../../machine/Steps/index.html#RegisterSet">RegisterSet</a> dst (<a href="../../machine/RegisterEffects/index.html#of_one">of_one</a> (<a href="../../ops/VectorOps/index.html#unary_vector">unary_vector</a> op) (<a href="../../machine/RegisterEffects/index.html#vector_at">vector_at</a> s.registers a)))
-<a href="../../machine/Steps/index.html#effect_of">effect_of</a> s (call.Binary op dst a b) =
-    <a href="../../machine/Steps/index.html#Changed">Changed</a> (<a href="../../machine/Steps/index.html#RegisterSet">RegisterSet</a> dst (<a href="../../machine/RegisterEffects/index.html#of_two">of_two</a> (<a href="../../ops/VectorOps/index.html#binary_vector">binary_vector</a> op) (<a href="../../machine/RegisterEffects/index.html#vector_at">vector_at</a> s.registers a) (<a href="../../machine/RegisterEffects/index.html#vector_at">vector_at</a> s.registers b)))
-<a href="../../machine/Steps/index.html#effect_of">effect_of</a> s (call.Ternary op dst a b c) = <a href="../../machine/Steps/index.html#Changed">Changed</a> (<a href="../../machine/Steps/index.html#RegisterSet">RegisterSet</a> dst
-    (<a href="../../machine/RegisterEffects/index.html#of_three">of_three</a> (<a href="../../ops/VectorOps/index.html#ternary_vector">ternary_vector</a> op) (<a href="../../machine/RegisterEffects/index.html#vector_at">vector_at</a> s.registers a) (<a href="../../machine/RegisterEffects/index.html#vector_at">vector_at</a> s.registers b) (<a href="../../machine/RegisterEffects/index.html#vector_at">vector_at</a> s.registers c)))
+<a href="../../machine/Steps/index.html#effect_of">effect_of</a> s (call.Make op dst a) = <a href="../../machine/Steps/index.html#Changed">Changed</a> (<a href="../../machine/Steps/index.html#RegisterSet">RegisterSet</a> dst (<a href="../../machine/Steps/index.html#vector_given">vector_given</a> s.registers (call.Make op dst a)))
+<a href="../../machine/Steps/index.html#effect_of">effect_of</a> s (call.Unary op dst a) = <a href="../../machine/Steps/index.html#Changed">Changed</a> (<a href="../../machine/Steps/index.html#RegisterSet">RegisterSet</a> dst (<a href="../../machine/Steps/index.html#vector_given">vector_given</a> s.registers (call.Unary op dst a)))
+<a href="../../machine/Steps/index.html#effect_of">effect_of</a> s (call.Binary op dst a b) = <a href="../../machine/Steps/index.html#Changed">Changed</a> (<a href="../../machine/Steps/index.html#RegisterSet">RegisterSet</a> dst (<a href="../../machine/Steps/index.html#vector_given">vector_given</a> s.registers (call.Binary op dst a b)))
+<a href="../../machine/Steps/index.html#effect_of">effect_of</a> s (call.Ternary op dst a b c) =
+    <a href="../../machine/Steps/index.html#Changed">Changed</a> (<a href="../../machine/Steps/index.html#RegisterSet">RegisterSet</a> dst (<a href="../../machine/Steps/index.html#vector_given">vector_given</a> s.registers (call.Ternary op dst a b c)))
 <a href="../../machine/Steps/index.html#effect_of">effect_of</a> s (call.Shift op dst a amount) =
-    <a href="../../machine/Steps/index.html#Changed">Changed</a> (<a href="../../machine/Steps/index.html#RegisterSet">RegisterSet</a> dst (<a href="../../machine/RegisterEffects/index.html#of_one">of_one</a> (λ v. <a href="../../ops/VectorOps/index.html#shifted_vector">shifted_vector</a> op v amount) (<a href="../../machine/RegisterEffects/index.html#vector_at">vector_at</a> s.registers a)))
+    <a href="../../machine/Steps/index.html#Changed">Changed</a> (<a href="../../machine/Steps/index.html#RegisterSet">RegisterSet</a> dst (<a href="../../machine/Steps/index.html#vector_given">vector_given</a> s.registers (call.Shift op dst a amount)))
 <a href="../../machine/Steps/index.html#effect_of">effect_of</a> s (call.Test op a) = <a href="../../machine/Steps/index.html#Told">Told</a> (<a href="../../machine/RegisterEffects/index.html#raw_reply">raw_reply</a> (option_map (<a href="../../ops/VectorOps/index.html#tested_raw">tested_raw</a> op) (<a href="../../machine/RegisterEffects/index.html#vector_at">vector_at</a> s.registers a)))
 <a href="../../machine/Steps/index.html#effect_of">effect_of</a> s (call.Extract op a) = <a href="../../machine/Steps/index.html#Told">Told</a> (<a href="../../machine/RegisterEffects/index.html#raw_reply">raw_reply</a> (option_map (<a href="../../ops/LaneOps/index.html#extracted_raw">extracted_raw</a> op) (<a href="../../machine/RegisterEffects/index.html#vector_at">vector_at</a> s.registers a)))
-<a href="../../machine/Steps/index.html#effect_of">effect_of</a> s (call.Replace op dst a item) = <a href="../../machine/Steps/index.html#Changed">Changed</a> (<a href="../../machine/Steps/index.html#RegisterSet">RegisterSet</a> dst
-    (option_and_then (λ raw. <a href="../../machine/RegisterEffects/index.html#of_one">of_one</a> (λ v. <a href="../../ops/LaneOps/index.html#replaced_vector">replaced_vector</a> op v raw) (<a href="../../machine/RegisterEffects/index.html#vector_at">vector_at</a> s.registers a))
-    (slice_get s.registers item)))
+<a href="../../machine/Steps/index.html#effect_of">effect_of</a> s (call.Replace op dst a item) =
+    <a href="../../machine/Steps/index.html#Changed">Changed</a> (<a href="../../machine/Steps/index.html#RegisterSet">RegisterSet</a> dst (<a href="../../machine/Steps/index.html#vector_given">vector_given</a> s.registers (call.Replace op dst a item)))
 <a href="../../machine/Steps/index.html#effect_of">effect_of</a> s (call.Shuffle dst a b lanes) =
-    <a href="../../machine/Steps/index.html#Changed">Changed</a> (<a href="../../machine/Steps/index.html#RegisterSet">RegisterSet</a> dst (<a href="../../machine/RegisterEffects/index.html#of_two">of_two</a> (λ x y. <a href="../../lanewise/VectorTable/index.html#shuffle">shuffle</a> x y lanes) (<a href="../../machine/RegisterEffects/index.html#vector_at">vector_at</a> s.registers a) (<a href="../../machine/RegisterEffects/index.html#vector_at">vector_at</a> s.registers b)))
+    <a href="../../machine/Steps/index.html#Changed">Changed</a> (<a href="../../machine/Steps/index.html#RegisterSet">RegisterSet</a> dst (<a href="../../machine/Steps/index.html#vector_given">vector_given</a> s.registers (call.Shuffle dst a b lanes)))
 <a href="../../machine/Steps/index.html#effect_of">effect_of</a> s (call.VectorLoad op dst k ptr offset) =
     <a href="../../machine/Steps/index.html#Changed">Changed</a> (<a href="../../machine/Steps/index.html#RegisterSet">RegisterSet</a> dst (<a href="../../machine/RegisterEffects/index.html#vector_loaded">vector_loaded</a> op (ptr + offset) (<a href="../../machine/State/index.html#live_at">live_at</a> s.memories k)))
 <a href="../../machine/Steps/index.html#effect_of">effect_of</a> s (call.LoadLane op dst a k ptr offset) =
@@ -4745,16 +4776,12 @@ use Rattle.wasmi_core.specs.declared.calls.Reply.{Reply}
 use Rattle.wasmi_core.specs.declared.calls.Reply.TheVariants.{Done, Number, Reference, Table, NoSuch}
 use Rattle.wasmi_core.specs.declared.slots.Slot.{Slot}
 use Rattle.wasmi_core.specs.declared.slots.Slot.TheVariants.{Live}
-use Rattle.wasmi_core.specs.State.{<a href="../../machine/State/index.html#live_value">live_value</a>, <a href="../../machine/State/index.html#live_at">live_at</a>}
+use Rattle.wasmi_core.specs.State.{<a href="../../machine/State/index.html#live_value">live_value</a>}
 use Rattle.wasmi_core.specs.Effects.{<a href="../../machine/Effects/index.html#reply_of">reply_of</a>, <a href="../../machine/Effects/index.html#OnLive">OnLive</a>, <a href="../../machine/Effects/index.html#IsNoSuch">IsNoSuch</a>, <a href="../../machine/Effects/index.html#ChangesAt">ChangesAt</a>, <a href="../../machine/Effects/index.html#ActsAt">ActsAt</a>}
 
 -- the element that is asked of a table, if the table is there
 abbrev pub <b id="element_reply">element_reply</b> : ℕ → Option <a href="../../store/Table/index.html#TableValue">TableValue</a> → Reply
 <a href="../../machine/TableEffects/index.html#element_reply">element_reply</a> index table = option_map_or (λ x. Reference (<a href="../../store/Table/index.html#element_at">element_at</a> x index)) table NoSuch
-
--- the reply to a call for an element of the table of an index
-abbrev pub <b id="GetsElementAt">GetsElementAt</b> : ℕ → ℕ → List (Slot <a href="../../store/Table/index.html#TableValue">TableValue</a>) → Reply → Type 0
-<a href="../../machine/TableEffects/index.html#GetsElementAt">GetsElementAt</a> k index slots reply = reply ≡ <a href="../../machine/TableEffects/index.html#element_reply">element_reply</a> index (<a href="../../machine/State/index.html#live_at">live_at</a> slots k)
 
 -- an element of the table of an index is set, or the call is refused
 abbrev pub <b id="SetsElementAt">SetsElementAt</b> : ℕ → ℕ → TypedRawRef → List (Slot <a href="../../store/Table/index.html#TableValue">TableValue</a>) → Reply → List (Slot <a href="../../store/Table/index.html#TableValue">TableValue</a>) → Type 0

@@ -81,7 +81,7 @@ impl Both {
     fn grow(&mut self, memory: usize, pages: u64) -> PlainReply {
         let machine = &mut self.machine;
         let reply = match &mut self.limiter {
-            Limiter::None => machine.grow_memory(memory, pages, &mut ResourceLimiterRef::<Listed>::default()),
+            Limiter::None => machine.step(&Call::GrowMemory { memory, pages }, &mut ResourceLimiterRef::<Listed>::default()),
             Limiter::Quota(quota) => machine.grow_memory_lending(memory, pages, quota),
             Limiter::Answers(answers) => machine.grow_memory_lending(memory, pages, answers),
         };

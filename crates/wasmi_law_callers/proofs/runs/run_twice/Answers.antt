@@ -11,7 +11,7 @@ use Rattle.wasmi_law_callers.proofs.runs.run_twice.Goals as goal
 pub returns-clause-same : goal.returns-clause-same
 returns-clause-same c = λ has.
     let second = rw (c.requires.machines, c.requires.quotas) at c.in_ok-second.ensures.run in
-    let one = c.replies_are_one.ensures c.quota_leaves_no_choice.ensures c.quota_accepts_notices.ensures
+    let one = c.replies_are_one.ensures c.limiters_leave_no_choice.ensures.quota c.limiters_accept_notices.ensures.quota
     c.args.calls.now _ c.in_ok-first.first.items c.in_ok-second.second.items _ _ has.0 has.1 c.in_ok-first.ensures.run
     second in (
       one.0,
@@ -26,8 +26,8 @@ returns-clause-turns c = λ has.
     let second = rw (c.requires.machines, c.requires.quotas) at c.in_ok-second.ensures.run in
     let have = replies_have first.0 c.in_ok-first.first.items first.2 has.0 in
     let have' = replies_have second.0 c.in_ok-second.second.items second.2 has.1 in
-    let tells = c.replies_tell.ensures c.quota_accepts_notices.ensures in
-    let one = c.runs_are_one.ensures c.quota_leaves_no_choice.ensures _ first.0 second.0 _ _ (first.1 ∙ sym second.1)
+    let tells = c.replies_tell.ensures c.limiters_accept_notices.ensures.quota in
+    let one = c.runs_are_one.ensures c.limiters_leave_no_choice.ensures.quota _ first.0 second.0 _ _ (first.1 ∙ sym second.1)
     have have' (tells _ first.0 _ have first.3) (tells _ second.0 _ have' second.3) in (
       first.0,
       first.3,

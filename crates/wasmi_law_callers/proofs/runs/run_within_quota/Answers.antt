@@ -25,6 +25,6 @@ returns-clause-enough c = λ others. if_ok_too c.run_lending.result c.run_lendin
   ran.0,
   ran.1,
   ran.2,
-  c.more_fuel_changes_nothing.ensures c.quota_accepts_notices.ensures more _ ran.0 _
+  c.more_fuel_changes_nothing.ensures c.limiters_accept_notices.ensures.quota more _ ran.0 _
       (subst (All NamesNoFuel) (sym ran.1) others) (subst (All HasFuel) (sym ran.2) has) ran.3,
 ))

@@ -1,3 +1,4 @@
+use Rattle.std.proofs.Common.{rules}
 use Rattle.wasmi_core.proofs.StoreLemmas.{changes, alters, replies}
 use Rattle.wasmi_meter.specs.Limiter.{lent_limiter}
 use Rattle.wasmi_core.proofs.store.MachineStore.step.Goals as goal
@@ -6,11 +7,12 @@ pub returns-in-SetFuel-clause-step : goal.returns-in-SetFuel-clause-step
 returns-in-SetFuel-clause-step g c = rw c.in-SetFuel.is (changes c.set_fuel.ensures)
 
 pub returns-in-GetFuel-clause-step : goal.returns-in-GetFuel-clause-step
-returns-in-GetFuel-clause-step g c = rw c.in-GetFuel.is (replies c.get_fuel.ensures)
+returns-in-GetFuel-clause-step g c = rw c.in-GetFuel.is (replies (search rules))
 
 pub returns-in-NewSegment-clause-step : goal.returns-in-NewSegment-clause-step
 returns-in-NewSegment-clause-step g c =
-    rw (c.in-NewSegment.is, ← c.self.view_is) (alters _ (rw c.deref.ensures.value at c.create_segment.ensures))
+    rw (c.in-NewSegment.is, ← c.self-in-NewSegment.view_is)
+    (alters _ (rw c.deref.ensures.value at c.create_segment.ensures))
 
 pub returns-in-DropItems-clause-step : goal.returns-in-DropItems-clause-step
 returns-in-DropItems-clause-step g c =
@@ -29,7 +31,9 @@ returns-in-GetGlobal-clause-step g c = rw (c.in-GetGlobal.is, ← c.self-in-GetG
     (replies (rw c.deref-in-GetGlobal.ensures.value at c.get_global.ensures))
 
 pub returns-in-VectorLoad-clause-step : goal.returns-in-VectorLoad-clause-step
-returns-in-VectorLoad-clause-step g c = (0, 0, c.step_vector_access.ensures.step (lent_limiter c.args.limiter.now))
+returns-in-VectorLoad-clause-step g c =
+    (0, 0, rw c.unwrap_or-in-VectorLoad.ensures (c.step_vector_access.ensures.step (lent_limiter c.args.limiter.now)))
 
 pub returns-in_default-clause-step : goal.returns-in_default-clause-step
-returns-in_default-clause-step g c = (0, 0, c.step_register.ensures.step (lent_limiter c.args.limiter.now))
+returns-in_default-clause-step g c =
+    (0, 0, rw c.unwrap_or.ensures (c.step_register.ensures.step (lent_limiter c.args.limiter.now)))
