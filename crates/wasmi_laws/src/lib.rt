@@ -1,11 +1,109 @@
-//! Laws of the machine over turns and runs: each function does nothing, and states a law as its
-//! contract.
+//! Laws of the machine over turns and runs, in the order of the README: each function does nothing,
+//! and states a law as its contract.
 #![tactic(auto)]
 
-mod laws;
+ghost use Rattle.wasmi_meter.specs.Limiter.{optional_rules};
+ghost use Rattle.wasmi_laws.specs.Places.{IndependentTurnsSwap, OthersStay, OthersStayInRuns, IndicesLast, LiveUntilDropped, MemoriesGrowAlike, MemoriesReadAlike, MemoriesWriteAlike, StoresAreReadBack, StoresKeepOtherBytes, TablesGrowAlike};
+ghost use Rattle.wasmi_laws.specs.Runs.{CostsAreKept, SwitchIsKept, FuelNeverRises, MoreFuelChangesNothing, RunsAreCut, RunsOfCallsAreCut, SizesNeverShrink, TotalsNeverShrink, PlainRefusalsChangeNothing, OtherRefusalsChangeNothing, PlainlyRefusedRunsChangeNothing, CapsHoldInRuns};
 
-pub use laws::{
-    caps_hold_in_runs, independent_calls_commute, indices_last, machines_do_alike, meters_are_kept,
-    more_fuel_changes_nothing, others_stay, plain_refusals_change_nothing, runs_are_cut,
-    sizes_never_shrink, stores_are_read_back,
-};
+use wasmi_core::{Quota, ResourceLimiter, laws};
+
+/// A run can be cut at each place: what comes before it, of turns or of calls with the first
+/// replies, is a run, and the rest is a run from where that ends. `wasmi_core::laws::runs_join` is
+/// the converse.
+#[tactic(auto, using(crate::proofs::RunsLemmas::cuts))]
+pub fn runs_are_cut<L: ResourceLimiter>()
+    ensures turns { RunsAreCut (optional_rules L.rules) }
+    ensures calls { RunsOfCallsAreCut (optional_rules L.rules) }
+{}
+
+/// No size shrinks in a run: a memory in bytes and a table in elements are afterwards at least what
+/// they were at their index, as are the totals. One that was dropped counts with its last size.
+#[tactic(auto, using(crate::proofs::RunsLemmas::no_shrinking))]
+pub fn sizes_never_shrink<L: ResourceLimiter>()
+    ensures sizes { SizesNeverShrink (optional_rules L.rules) }
+    ensures totals { TotalsNeverShrink (optional_rules L.rules) }
+{}
+
+/// A plain refusal changes neither the machine, nor its meter, nor the limiter: a trap, an index
+/// that names nothing, an access past the end, another type, metering that is off, or no place for
+/// a new slot (`IsPlainRefusal`). Nor does a run of such turns, nor any refusal of a call that
+/// makes nothing and lets nothing grow, as one that lacks the fuel to write over a part of a table.
+#[tactic(auto, using(crate::proofs::RefusalLemmas::refusals))]
+pub fn plain_refusals_change_nothing<L: ResourceLimiter>()
+    ensures turn { PlainRefusalsChangeNothing (optional_rules L.rules) }
+    ensures others { OtherRefusalsChangeNothing (optional_rules L.rules) }
+    ensures run { PlainlyRefusedRunsChangeNothing (optional_rules L.rules) }
+{}
+
+/// Under a quota that holds what a machine has, and no more than its caps, the machine is within
+/// these caps after each turn of a run, and not only at its end.
+#[tactic(auto, using(crate::proofs::RunsLemmas::caps_hold_in_runs))]
+pub fn caps_hold_in_runs()
+    ensures { CapsHoldInRuns }
+{
+    laws::totals_are_held::<Quota>();
+    laws::quotas_stay_within();
+}
+
+/// A run keeps the costs of its meter, and a meter that is on stays on, as one that is off stays
+/// off. Calls that don't set the fuel leave no more of it than there was.
+#[tactic(auto, using(crate::proofs::RunsLemmas::meter_kept))]
+pub fn meters_are_kept<L: ResourceLimiter>()
+    ensures costs { CostsAreKept (optional_rules L.rules) }
+    ensures switch { SwitchIsKept (optional_rules L.rules) }
+    ensures fuel { FuelNeverRises (optional_rules L.rules) }
+{}
+
+/// A run that never ran short of fuel is the same run with more fuel: the same replies, charges and
+/// bytes, and the same machine, whose meter has that much more left. No call of it may set the fuel
+/// or ask for it, no reply may say out of fuel, and the limiter accepts each notice.
+pub fn more_fuel_changes_nothing<L: ResourceLimiter>()
+    ensures { MoreFuelChangesNothing L.rules }
+{}
+
+/// A call changes what is at one index at most: that of the memory, table, element segment, global
+/// or register that it names for that (`changed_location`); one that makes something or only reads
+/// changes none. So a run changes nothing at an index that none of its calls names for that.
+#[tactic(auto, using(crate::proofs::LocationLemmas::all_others_stay))]
+pub fn others_stay<L: ResourceLimiter>()
+    ensures turn { OthersStay (optional_rules L.rules) }
+    ensures run { OthersStayInRuns (optional_rules L.rules) }
+{}
+
+/// What was made stays at the index of its making. A memory or a table keeps its type until it is
+/// dropped, and then stays dropped, with its last size; an element segment keeps its type, and its
+/// items until they are dropped; a global keeps its type, and a constant one its value.
+///
+/// A memory or a table is live until a call drops it.
+pub fn indices_last<L: ResourceLimiter>()
+    ensures later { IndicesLast (optional_rules L.rules) }
+    ensures live { LiveUntilDropped (optional_rules L.rules) }
+{}
+
+/// A load without a sign returns the number that a store of as many bytes has written to the same
+/// address of the same memory, cut to these bytes, whatever calls come between the two that may not
+/// change this memory. An accepted store keeps all other bytes of the memory, and its size.
+pub fn stores_are_read_back<L: ResourceLimiter>()
+    ensures read { StoresAreReadBack (optional_rules L.rules) }
+    ensures others { StoresKeepOtherBytes (optional_rules L.rules) }
+{}
+
+/// Two calls one after the other may be made in either order, if each acts on what is at indices
+/// alone (`IsLocal`) and neither may change what the other may change or reads (`IsIndependent`):
+/// both orders have the same replies, call by call, and lead to the same machine.
+#[tactic(auto, using(crate::proofs::IndependenceLemmas::independent_turns_swap))]
+pub fn independent_calls_commute<L: ResourceLimiter>()
+    ensures { IndependentTurnsSwap (optional_rules L.rules) }
+{}
+
+/// A memory or a table that a host keeps by itself, as in a header and a region, does what the
+/// machine's does that has the same one at an index: it grows with the same reply and leaves the
+/// same, and the bytes of a memory are read and written alike.
+#[tactic(auto, using(crate::proofs::PlacesLemmas::done_alike))]
+pub fn machines_do_alike<L: ResourceLimiter>()
+    ensures memories_grow { MemoriesGrowAlike (optional_rules L.rules) }
+    ensures tables_grow { TablesGrowAlike (optional_rules L.rules) }
+    ensures memories_read { MemoriesReadAlike (optional_rules L.rules) }
+    ensures memories_write { MemoriesWriteAlike (optional_rules L.rules) }
+{}

@@ -1,193 +1,173 @@
-//! Laws of the machine over turns and runs: each function does nothing, and states a law as its
-//! contract.
-#[cfg(any(doc, test))]
-mod laws {
-    //! The laws, in the order of the README.
+//! Laws of the machine over turns and runs, in the order of the README: each function does nothing,
+//! and states a law as its contract.
 
-    use crate::proved::machine::{Quota, ResourceLimiter, laws};
+use crate::proved::machine::{Quota, ResourceLimiter, laws};
 
-    /// A run can be cut at each place: the turns, or the calls, before it are a run, and the others are
-    /// a run from where these end. So what holds of each run holds at each place of one. Of calls, the
-    /// first replies are those to the first calls.
-    ///
-    /// `wasmi_core::laws::runs_join` is the converse.
-    ///
-    /// # Contract
-    ///
-    /// ```text
-    /// ensures turns: RunsAreCut (optional_rules L.rules)
-    /// ensures calls: RunsOfCallsAreCut (optional_rules L.rules)
-    /// ```
-    ///
-    /// Definitions: [`RunsAreCut`](crate::specs::laws::Runs#RunsAreCut), [`optional_rules`](crate::specs::meter::Limiter#optional_rules), [`RunsOfCallsAreCut`](crate::specs::laws::Runs#RunsOfCallsAreCut).
-    #[inline]
-    pub fn runs_are_cut<L: ResourceLimiter>() {}
+/// A run can be cut at each place: what comes before it, of turns or of calls with the first
+/// replies, is a run, and the rest is a run from where that ends. `wasmi_core::laws::runs_join` is
+/// the converse.
+///
+/// # Contract
+///
+/// ```text
+/// ensures turns: RunsAreCut (optional_rules L.rules)
+/// ensures calls: RunsOfCallsAreCut (optional_rules L.rules)
+/// ```
+///
+/// Definitions: [`RunsAreCut`](crate::specs::laws::Runs#RunsAreCut), [`optional_rules`](crate::specs::meter::Limiter#optional_rules), [`RunsOfCallsAreCut`](crate::specs::laws::Runs#RunsOfCallsAreCut).
+#[inline]
+pub fn runs_are_cut<L: ResourceLimiter>() {}
 
-    /// No size shrinks in a run: that of a memory in bytes and that of a table in elements stay at
-    /// their index, and are afterwards at least what they were, as are the totals. One that was dropped
-    /// counts with its last size.
-    ///
-    /// # Contract
-    ///
-    /// ```text
-    /// ensures sizes: SizesNeverShrink (optional_rules L.rules)
-    /// ensures totals: TotalsNeverShrink (optional_rules L.rules)
-    /// ```
-    ///
-    /// Definitions: [`SizesNeverShrink`](crate::specs::laws::Runs#SizesNeverShrink), [`optional_rules`](crate::specs::meter::Limiter#optional_rules), [`TotalsNeverShrink`](crate::specs::laws::Runs#TotalsNeverShrink).
-    #[inline]
-    pub fn sizes_never_shrink<L: ResourceLimiter>() {}
+/// No size shrinks in a run: a memory in bytes and a table in elements are afterwards at least what
+/// they were at their index, as are the totals. One that was dropped counts with its last size.
+///
+/// # Contract
+///
+/// ```text
+/// ensures sizes: SizesNeverShrink (optional_rules L.rules)
+/// ensures totals: TotalsNeverShrink (optional_rules L.rules)
+/// ```
+///
+/// Definitions: [`SizesNeverShrink`](crate::specs::laws::Runs#SizesNeverShrink), [`optional_rules`](crate::specs::meter::Limiter#optional_rules), [`TotalsNeverShrink`](crate::specs::laws::Runs#TotalsNeverShrink).
+#[inline]
+pub fn sizes_never_shrink<L: ResourceLimiter>() {}
 
-    /// A plain refusal changes nothing at all: not the machine, nor its meter, nor the limiter. It is a
-    /// trap, an index that names nothing, an access past the end, another type, metering that is off,
-    /// or no place for a new slot (`IsPlainRefusal`). A run of such turns changes nothing either.
-    ///
-    /// Nor does any refusal of a call that makes nothing and lets nothing grow, such as one that lacks
-    /// the fuel to write over a part of a table.
-    ///
-    /// # Contract
-    ///
-    /// ```text
-    /// ensures turn: PlainRefusalsChangeNothing (optional_rules L.rules)
-    /// ensures others: OtherRefusalsChangeNothing (optional_rules L.rules)
-    /// ensures run: PlainlyRefusedRunsChangeNothing (optional_rules L.rules)
-    /// ```
-    ///
-    /// Definitions: [`PlainRefusalsChangeNothing`](crate::specs::laws::Runs#PlainRefusalsChangeNothing), [`optional_rules`](crate::specs::meter::Limiter#optional_rules), [`OtherRefusalsChangeNothing`](crate::specs::laws::Runs#OtherRefusalsChangeNothing), [`PlainlyRefusedRunsChangeNothing`](crate::specs::laws::Runs#PlainlyRefusedRunsChangeNothing).
-    #[inline]
-    pub fn plain_refusals_change_nothing<L: ResourceLimiter>() {}
+/// A plain refusal changes neither the machine, nor its meter, nor the limiter: a trap, an index
+/// that names nothing, an access past the end, another type, metering that is off, or no place for
+/// a new slot (`IsPlainRefusal`). Nor does a run of such turns, nor any refusal of a call that
+/// makes nothing and lets nothing grow, as one that lacks the fuel to write over a part of a table.
+///
+/// # Contract
+///
+/// ```text
+/// ensures turn: PlainRefusalsChangeNothing (optional_rules L.rules)
+/// ensures others: OtherRefusalsChangeNothing (optional_rules L.rules)
+/// ensures run: PlainlyRefusedRunsChangeNothing (optional_rules L.rules)
+/// ```
+///
+/// Definitions: [`PlainRefusalsChangeNothing`](crate::specs::laws::Runs#PlainRefusalsChangeNothing), [`optional_rules`](crate::specs::meter::Limiter#optional_rules), [`OtherRefusalsChangeNothing`](crate::specs::laws::Runs#OtherRefusalsChangeNothing), [`PlainlyRefusedRunsChangeNothing`](crate::specs::laws::Runs#PlainlyRefusedRunsChangeNothing).
+#[inline]
+pub fn plain_refusals_change_nothing<L: ResourceLimiter>() {}
 
-    /// Under a quota that holds what a machine has, and no more than its caps, the machine is within
-    /// these caps after each turn of a run, and not only at its end.
-    ///
-    /// # Contract
-    ///
-    /// ```text
-    /// ensures: CapsHoldInRuns
-    /// ```
-    ///
-    /// Definitions: [`CapsHoldInRuns`](crate::specs::laws::Runs#CapsHoldInRuns).
-    #[inline]
-    pub fn caps_hold_in_runs() {
-        laws::totals_are_held::<Quota>();
-        laws::quotas_stay_within();
-    }
-
-    /// A run keeps the costs of its meter, and a meter that is on stays on, as one that is off stays
-    /// off. Calls that don't set the fuel leave no more of it than there was.
-    ///
-    /// # Contract
-    ///
-    /// ```text
-    /// ensures costs: CostsAreKept (optional_rules L.rules)
-    /// ensures switch: SwitchIsKept (optional_rules L.rules)
-    /// ensures fuel: FuelNeverRises (optional_rules L.rules)
-    /// ```
-    ///
-    /// Definitions: [`CostsAreKept`](crate::specs::laws::Runs#CostsAreKept), [`optional_rules`](crate::specs::meter::Limiter#optional_rules), [`SwitchIsKept`](crate::specs::laws::Runs#SwitchIsKept), [`FuelNeverRises`](crate::specs::laws::Runs#FuelNeverRises).
-    #[inline]
-    pub fn meters_are_kept<L: ResourceLimiter>() {}
-
-    /// A run that never ran short of fuel is the same run with more fuel: the same replies, charges and
-    /// bytes, and the same machine, whose meter has that much more left. No call of it may set the fuel
-    /// or ask for it, and no reply may say out of fuel; the limiter accepts each notice, as a quota
-    /// does.
-    ///
-    /// # Contract
-    ///
-    /// ```text
-    /// ensures: MoreFuelChangesNothing L.rules
-    /// ```
-    ///
-    /// Definitions: [`MoreFuelChangesNothing`](crate::specs::laws::Runs#MoreFuelChangesNothing).
-    #[inline]
-    pub fn more_fuel_changes_nothing<L: ResourceLimiter>() {}
-
-    /// A call changes what is at one index at most: that of the memory, table, element segment, global
-    /// or register that it names for that (`changed_location`). All other memories, tables, element
-    /// segments, globals and registers are as they were. A call that makes something, and one that only
-    /// reads, changes none.
-    ///
-    /// So a run changes nothing at an index that none of its calls names for that, whatever else they
-    /// do.
-    ///
-    /// # Contract
-    ///
-    /// ```text
-    /// ensures turn: OthersStay (optional_rules L.rules)
-    /// ensures run: OthersStayInRuns (optional_rules L.rules)
-    /// ```
-    ///
-    /// Definitions: [`OthersStay`](crate::specs::laws::Places#OthersStay), [`optional_rules`](crate::specs::meter::Limiter#optional_rules), [`OthersStayInRuns`](crate::specs::laws::Places#OthersStayInRuns).
-    #[inline]
-    pub fn others_stay<L: ResourceLimiter>() {}
-
-    /// What was made stays at the index of its making. A memory or a table keeps its type until it is
-    /// dropped, and then stays dropped, with its last size; an element segment keeps its type, and its
-    /// items until they are dropped; a global keeps its type, and a constant one its value.
-    ///
-    /// A memory or a table is live until a call drops it.
-    ///
-    /// # Contract
-    ///
-    /// ```text
-    /// ensures later: IndicesLast (optional_rules L.rules)
-    /// ensures live: LiveUntilDropped (optional_rules L.rules)
-    /// ```
-    ///
-    /// Definitions: [`IndicesLast`](crate::specs::laws::Places#IndicesLast), [`optional_rules`](crate::specs::meter::Limiter#optional_rules), [`LiveUntilDropped`](crate::specs::laws::Places#LiveUntilDropped).
-    #[inline]
-    pub fn indices_last<L: ResourceLimiter>() {}
-
-    /// A load without a sign returns the number that a store of as many bytes has written to the same
-    /// address of the same memory, cut to these bytes, whatever calls come between the two that may not
-    /// change this memory. An accepted store keeps all other bytes of the memory, and its size.
-    ///
-    /// # Contract
-    ///
-    /// ```text
-    /// ensures read: StoresAreReadBack (optional_rules L.rules)
-    /// ensures others: StoresKeepOtherBytes (optional_rules L.rules)
-    /// ```
-    ///
-    /// Definitions: [`StoresAreReadBack`](crate::specs::laws::Places#StoresAreReadBack), [`optional_rules`](crate::specs::meter::Limiter#optional_rules), [`StoresKeepOtherBytes`](crate::specs::laws::Places#StoresKeepOtherBytes).
-    #[inline]
-    pub fn stores_are_read_back<L: ResourceLimiter>() {}
-
-    /// Two calls one after the other may be made in either order, if each acts on what is at indices
-    /// alone (`IsLocal`) and neither may change what the other may change or reads (`IsIndependent`):
-    /// both orders have the same replies, call by call, and lead to the same machine.
-    ///
-    /// # Contract
-    ///
-    /// ```text
-    /// ensures: IndependentTurnsSwap (optional_rules L.rules)
-    /// ```
-    ///
-    /// Definitions: [`IndependentTurnsSwap`](crate::specs::laws::Places#IndependentTurnsSwap), [`optional_rules`](crate::specs::meter::Limiter#optional_rules).
-    #[inline]
-    pub fn independent_calls_commute<L: ResourceLimiter>() {}
-
-    /// A memory or a table that a host keeps by itself, as in a header and a region, does what the
-    /// machine's does that has the same one at an index: it grows with the same reply, and leaves the
-    /// same meter, limiter and contents; and the bytes of a memory are read and written alike.
-    ///
-    /// # Contract
-    ///
-    /// ```text
-    /// ensures memories_grow: MemoriesGrowAlike (optional_rules L.rules)
-    /// ensures tables_grow: TablesGrowAlike (optional_rules L.rules)
-    /// ensures memories_read: MemoriesReadAlike (optional_rules L.rules)
-    /// ensures memories_write: MemoriesWriteAlike (optional_rules L.rules)
-    /// ```
-    ///
-    /// Definitions: [`MemoriesGrowAlike`](crate::specs::laws::Places#MemoriesGrowAlike), [`optional_rules`](crate::specs::meter::Limiter#optional_rules), [`TablesGrowAlike`](crate::specs::laws::Places#TablesGrowAlike), [`MemoriesReadAlike`](crate::specs::laws::Places#MemoriesReadAlike), [`MemoriesWriteAlike`](crate::specs::laws::Places#MemoriesWriteAlike).
-    #[inline]
-    pub fn machines_do_alike<L: ResourceLimiter>() {}
+/// Under a quota that holds what a machine has, and no more than its caps, the machine is within
+/// these caps after each turn of a run, and not only at its end.
+///
+/// # Contract
+///
+/// ```text
+/// ensures: CapsHoldInRuns
+/// ```
+///
+/// Definitions: [`CapsHoldInRuns`](crate::specs::laws::Runs#CapsHoldInRuns).
+#[inline]
+pub fn caps_hold_in_runs() {
+    laws::totals_are_held::<Quota>();
+    laws::quotas_stay_within();
 }
 
-pub use laws::{
-    caps_hold_in_runs, independent_calls_commute, indices_last, machines_do_alike, meters_are_kept,
-    more_fuel_changes_nothing, others_stay, plain_refusals_change_nothing, runs_are_cut,
-    sizes_never_shrink, stores_are_read_back,
-};
+/// A run keeps the costs of its meter, and a meter that is on stays on, as one that is off stays
+/// off. Calls that don't set the fuel leave no more of it than there was.
+///
+/// # Contract
+///
+/// ```text
+/// ensures costs: CostsAreKept (optional_rules L.rules)
+/// ensures switch: SwitchIsKept (optional_rules L.rules)
+/// ensures fuel: FuelNeverRises (optional_rules L.rules)
+/// ```
+///
+/// Definitions: [`CostsAreKept`](crate::specs::laws::Runs#CostsAreKept), [`optional_rules`](crate::specs::meter::Limiter#optional_rules), [`SwitchIsKept`](crate::specs::laws::Runs#SwitchIsKept), [`FuelNeverRises`](crate::specs::laws::Runs#FuelNeverRises).
+#[inline]
+pub fn meters_are_kept<L: ResourceLimiter>() {}
+
+/// A run that never ran short of fuel is the same run with more fuel: the same replies, charges and
+/// bytes, and the same machine, whose meter has that much more left. No call of it may set the fuel
+/// or ask for it, no reply may say out of fuel, and the limiter accepts each notice.
+///
+/// # Contract
+///
+/// ```text
+/// ensures: MoreFuelChangesNothing L.rules
+/// ```
+///
+/// Definitions: [`MoreFuelChangesNothing`](crate::specs::laws::Runs#MoreFuelChangesNothing).
+#[inline]
+pub fn more_fuel_changes_nothing<L: ResourceLimiter>() {}
+
+/// A call changes what is at one index at most: that of the memory, table, element segment, global
+/// or register that it names for that (`changed_location`); one that makes something or only reads
+/// changes none. So a run changes nothing at an index that none of its calls names for that.
+///
+/// # Contract
+///
+/// ```text
+/// ensures turn: OthersStay (optional_rules L.rules)
+/// ensures run: OthersStayInRuns (optional_rules L.rules)
+/// ```
+///
+/// Definitions: [`OthersStay`](crate::specs::laws::Places#OthersStay), [`optional_rules`](crate::specs::meter::Limiter#optional_rules), [`OthersStayInRuns`](crate::specs::laws::Places#OthersStayInRuns).
+#[inline]
+pub fn others_stay<L: ResourceLimiter>() {}
+
+/// What was made stays at the index of its making. A memory or a table keeps its type until it is
+/// dropped, and then stays dropped, with its last size; an element segment keeps its type, and its
+/// items until they are dropped; a global keeps its type, and a constant one its value.
+///
+/// A memory or a table is live until a call drops it.
+///
+/// # Contract
+///
+/// ```text
+/// ensures later: IndicesLast (optional_rules L.rules)
+/// ensures live: LiveUntilDropped (optional_rules L.rules)
+/// ```
+///
+/// Definitions: [`IndicesLast`](crate::specs::laws::Places#IndicesLast), [`optional_rules`](crate::specs::meter::Limiter#optional_rules), [`LiveUntilDropped`](crate::specs::laws::Places#LiveUntilDropped).
+#[inline]
+pub fn indices_last<L: ResourceLimiter>() {}
+
+/// A load without a sign returns the number that a store of as many bytes has written to the same
+/// address of the same memory, cut to these bytes, whatever calls come between the two that may not
+/// change this memory. An accepted store keeps all other bytes of the memory, and its size.
+///
+/// # Contract
+///
+/// ```text
+/// ensures read: StoresAreReadBack (optional_rules L.rules)
+/// ensures others: StoresKeepOtherBytes (optional_rules L.rules)
+/// ```
+///
+/// Definitions: [`StoresAreReadBack`](crate::specs::laws::Places#StoresAreReadBack), [`optional_rules`](crate::specs::meter::Limiter#optional_rules), [`StoresKeepOtherBytes`](crate::specs::laws::Places#StoresKeepOtherBytes).
+#[inline]
+pub fn stores_are_read_back<L: ResourceLimiter>() {}
+
+/// Two calls one after the other may be made in either order, if each acts on what is at indices
+/// alone (`IsLocal`) and neither may change what the other may change or reads (`IsIndependent`):
+/// both orders have the same replies, call by call, and lead to the same machine.
+///
+/// # Contract
+///
+/// ```text
+/// ensures: IndependentTurnsSwap (optional_rules L.rules)
+/// ```
+///
+/// Definitions: [`IndependentTurnsSwap`](crate::specs::laws::Places#IndependentTurnsSwap), [`optional_rules`](crate::specs::meter::Limiter#optional_rules).
+#[inline]
+pub fn independent_calls_commute<L: ResourceLimiter>() {}
+
+/// A memory or a table that a host keeps by itself, as in a header and a region, does what the
+/// machine's does that has the same one at an index: it grows with the same reply and leaves the
+/// same, and the bytes of a memory are read and written alike.
+///
+/// # Contract
+///
+/// ```text
+/// ensures memories_grow: MemoriesGrowAlike (optional_rules L.rules)
+/// ensures tables_grow: TablesGrowAlike (optional_rules L.rules)
+/// ensures memories_read: MemoriesReadAlike (optional_rules L.rules)
+/// ensures memories_write: MemoriesWriteAlike (optional_rules L.rules)
+/// ```
+///
+/// Definitions: [`MemoriesGrowAlike`](crate::specs::laws::Places#MemoriesGrowAlike), [`optional_rules`](crate::specs::meter::Limiter#optional_rules), [`TablesGrowAlike`](crate::specs::laws::Places#TablesGrowAlike), [`MemoriesReadAlike`](crate::specs::laws::Places#MemoriesReadAlike), [`MemoriesWriteAlike`](crate::specs::laws::Places#MemoriesWriteAlike).
+#[inline]
+pub fn machines_do_alike<L: ResourceLimiter>() {}

@@ -1,6 +1,6 @@
 use Rattle.wasmi_meter.specs.Limiter.{optional_rules}
 use Rattle.wasmi_laws.proofs.PlacesLemmas as read_back
-use Rattle.wasmi_laws.proofs.laws.stores_are_read_back.Goals as goal
+use Rattle.wasmi_laws.proofs.stores_are_read_back.Goals as goal
 
 pub returns-clause-read : goal.returns-clause-read
 returns-clause-read g c = read_back.stores_are_read_back (optional_rules g.L.ResourceLimiter.rules)
