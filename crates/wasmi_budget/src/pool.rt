@@ -15,7 +15,7 @@ use wasmi_meter::Amounts;
 /// Machines that share a cap on the bytes of their memories, and one on the elements of their
 /// tables: what all of them have, with what they dropped, stays within both. Each machine is a
 /// tenant; the indices of tenants count from 0. No tenant is ever removed, and what it dropped
-/// counts for ever.
+/// counts for ever. What is held is kept, so it is read at no cost; it fits a `u64`, as the caps.
 #[derive(Debug, Drop)]
 pub struct Pool<'r> {
     caps: Amounts,
@@ -66,11 +66,8 @@ impl<'r> Pool<'r> {
     }
 
     /// Adds a machine that has nothing yet, and returns its index. If it is refused, the machine is
-    /// handed back with the error.
-    ///
-    /// It costs what `Machine::total_bytes` and `total_elements` cost on the added machine, which
-    /// is nothing for a new one, and a place in a vector. What the other tenants have isn't looked
-    /// at.
+    /// handed back with the error. It costs what `Machine::total_bytes` and `total_elements` cost
+    /// on the added machine, nothing for a new one, and a place in a vector.
     pub fn add(&mut self, machine: Machine<'r>) -> Result<usize, (AddError, Machine<'r>)>
         ensures added { IfOk result
             (λ index. (index ≡ length self.old.machines)
@@ -87,15 +84,15 @@ impl<'r> Pool<'r> {
         if self.machines.try_reserve(1).is_err() {
             return Err((AddError::NoRoom, machine));
         }
-        self.machines.push_reserved(CountedMachine::empty(machine));
+        let held = Amounts::default();
+        self.machines
+            .push_reserved(CountedMachine { machine, held });
         Ok(index)
     }
 
-    /// Executes calls on the machine of a tenant, under a limiter that permits what keeps
-    /// all tenants together within the caps.
-    ///
-    /// It costs memory for the replies, and what the calls cost. That depends neither on how many
-    /// tenants there are, nor on how much they made or dropped before.
+    /// Executes calls on the machine of a tenant, under a limiter that permits what keeps all
+    /// tenants together within the caps. It costs memory for the replies, and what the calls cost,
+    /// however many tenants there are and however much they made or dropped before.
     pub fn run(&mut self, index: usize, calls: &[Call]) -> Result<Vec<Reply>, PoolError>
         ensures ran { IfOk result
             (λ replies. RunsTenant self.old index calls.now replies.items self.new) }
@@ -117,24 +114,17 @@ impl<'r> Pool<'r> {
         ensures machine { option_copied result ≡ slice_get self.now.machines index }
         ensures within { IsWithinCaps self.now }
     {
-        let machine = self.machines.get(index)?;
-        Some(machine.machine())
+        Some(&self.machines.get(index)?.machine)
     }
 
-    /// The bytes of a tenant's memories, including those that it dropped. They fit a `u64`, since
-    /// the cap does.
-    ///
-    /// The cost is constant: the numbers are kept.
+    /// The bytes of a tenant's memories, including those that it dropped.
     pub fn held_bytes(&self, index: usize) -> Option<u64>
         ensures { result ≡ option_map (λ s. total s Bytes) (slice_get self.now.machines index) }
     {
         Some(self.held(index)?.bytes)
     }
 
-    /// The elements of a tenant's tables, including those that it dropped. They fit a `u64`, since
-    /// the cap does.
-    ///
-    /// The cost is constant, as that of `held_bytes`.
+    /// The elements of a tenant's tables, including those that it dropped.
     pub fn held_elements(&self, index: usize) -> Option<u64>
         ensures { result ≡ option_map (λ s. total s Elements) (slice_get self.now.machines index) }
     {
@@ -143,8 +133,6 @@ impl<'r> Pool<'r> {
 
     /// The bytes of all memories and the elements of all tables of the tenants, including those
     /// that they dropped.
-    ///
-    /// The cost is constant, as that of `held_bytes`.
     pub fn held_by_all(&self) -> Amounts
         ensures { result ≡ amounts_of (total_of self.now.machines) }
     {
@@ -156,8 +144,7 @@ impl<'r> Pool<'r> {
         ensures { result
             ≡ option_map (λ s. amounts_of (total s)) (slice_get self.now.machines index) }
     {
-        let machine = self.machines.get(index)?;
-        Some(machine.held())
+        Some(self.machines.get(index)?.held)
     }
 
     /// The limiter under which a tenant's machine runs.

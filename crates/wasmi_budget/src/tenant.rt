@@ -5,7 +5,7 @@ ghost use Rattle.wasmi_meter.specs.Capped.{amounts_of, held_together};
 ghost use Rattle.wasmi_meter.specs.Limiter.{optional_rules};
 ghost use Rattle.wasmi_core.specs.Steps.{IsRunOf};
 ghost use Rattle.wasmi_core.specs.State.{total, HoldsTotals, world};
-ghost use Rattle.wasmi_budget.specs.Pool.{HasNothing, holdings, capped_tenant, tenant_rules};
+ghost use Rattle.wasmi_budget.specs.Pool.{holdings, capped_tenant, tenant_rules};
 
 use std::alloc::AllocError;
 use std::marker::Model;
@@ -36,19 +36,12 @@ impl Tenant {
         }
     }
 
-    /// What the tenant holds.
-    pub(crate) fn held(&self) -> Amounts
-        ensures { result ≡ self.now.holdings.held }
-    {
-        self.holdings.held()
-    }
-
     /// What all tenants hold.
     pub(crate) fn held_by_all(&self) -> Amounts
         requires fits { (kind : Kind) → held_together capped_tenant self.now kind < 2 ^ 64 }
         ensures value { result ≡ amounts_of (held_together capped_tenant self.now) }
     {
-        let held = self.held();
+        let held = self.holdings.held();
         Amounts {
             bytes: self.others.bytes + held.bytes,
             elements: self.others.elements + held.elements,
@@ -77,8 +70,8 @@ impl CappedLimiter for Tenant {
 /// it has is known without a walk over them.
 #[derive(Debug, Drop)]
 pub(crate) struct CountedMachine<'r> {
-    machine: Machine<'r>,
-    held: Amounts,
+    pub(crate) machine: Machine<'r>,
+    pub(crate) held: Amounts,
 }
 
 impl<'r> Model for CountedMachine<'r> {
@@ -94,31 +87,6 @@ impl<'r> Model for CountedMachine<'r> {
 }
 
 impl<'r> CountedMachine<'r> {
-    /// The machine, which has nothing yet.
-    pub(crate) fn empty(machine: Machine<'r>) -> Self
-        requires nothing { HasNothing machine }
-        ensures value { result ≡ machine.entry }
-    {
-        CountedMachine {
-            machine,
-            held: Amounts::default(),
-        }
-    }
-
-    /// The machine.
-    pub(crate) fn machine(&self) -> &Machine<'r>
-        ensures { result.now ≡ self.now }
-    {
-        &self.machine
-    }
-
-    /// What the machine has.
-    pub(crate) fn held(&self) -> Amounts
-        ensures { result ≡ amounts_of (total self.now) }
-    {
-        self.held
-    }
-
     /// Executes calls under a tenant that holds what the machine has: it does so again
     /// afterwards, and what it holds is taken over from it.
     pub(crate) fn run(
@@ -133,7 +101,7 @@ impl<'r> CountedMachine<'r> {
         ensures held { HoldsTotals (holdings tenant.new) self.new }
     {
         let replies = run_reserving(&mut self.machine, calls, tenant)?;
-        self.held = tenant.held();
+        self.held = tenant.holdings.held();
         Ok(replies)
     }
 }

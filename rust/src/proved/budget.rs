@@ -155,7 +155,7 @@ mod pool {
     /// Machines that share a cap on the bytes of their memories, and one on the elements of their
     /// tables: what all of them have, with what they dropped, stays within both. Each machine is a
     /// tenant; the indices of tenants count from 0. No tenant is ever removed, and what it dropped
-    /// counts for ever.
+    /// counts for ever. What is held is kept, so it is read at no cost; it fits a `u64`, as the caps.
     ///
     /// # Model
     ///
@@ -224,11 +224,8 @@ mod pool {
         }
 
         /// Adds a machine that has nothing yet, and returns its index. If it is refused, the machine is
-        /// handed back with the error.
-        ///
-        /// It costs what `Machine::total_bytes` and `total_elements` cost on the added machine, which
-        /// is nothing for a new one, and a place in a vector. What the other tenants have isn't looked
-        /// at.
+        /// handed back with the error. It costs what `Machine::total_bytes` and `total_elements` cost
+        /// on the added machine, nothing for a new one, and a place in a vector.
         ///
         /// # Contract
         ///
@@ -252,15 +249,15 @@ mod pool {
             if self.machines.try_reserve(1).is_err() {
                 return Err((AddError::NoRoom, machine));
             }
-            self.machines.push_reserved(CountedMachine::empty(machine));
+            let held = Amounts::default();
+            self.machines
+                .push_reserved(CountedMachine { machine, held });
             Ok(index)
         }
 
-        /// Executes calls on the machine of a tenant, under a limiter that permits what keeps
-        /// all tenants together within the caps.
-        ///
-        /// It costs memory for the replies, and what the calls cost. That depends neither on how many
-        /// tenants there are, nor on how much they made or dropped before.
+        /// Executes calls on the machine of a tenant, under a limiter that permits what keeps all
+        /// tenants together within the caps. It costs memory for the replies, and what the calls cost,
+        /// however many tenants there are and however much they made or dropped before.
         ///
         /// # Contract
         ///
@@ -296,14 +293,10 @@ mod pool {
         /// Definitions: [`IsWithinCaps`](crate::specs::budget::Pool#IsWithinCaps).
         #[inline]
         pub fn machine(&self, index: usize) -> Option<&Machine<'r>> {
-            let machine = self.machines.get(index)?;
-            Some(machine.machine())
+            Some(&self.machines.get(index)?.machine)
         }
 
-        /// The bytes of a tenant's memories, including those that it dropped. They fit a `u64`, since
-        /// the cap does.
-        ///
-        /// The cost is constant: the numbers are kept.
+        /// The bytes of a tenant's memories, including those that it dropped.
         ///
         /// # Contract
         ///
@@ -317,10 +310,7 @@ mod pool {
             Some(self.held(index)?.bytes)
         }
 
-        /// The elements of a tenant's tables, including those that it dropped. They fit a `u64`, since
-        /// the cap does.
-        ///
-        /// The cost is constant, as that of `held_bytes`.
+        /// The elements of a tenant's tables, including those that it dropped.
         ///
         /// # Contract
         ///
@@ -336,8 +326,6 @@ mod pool {
 
         /// The bytes of all memories and the elements of all tables of the tenants, including those
         /// that they dropped.
-        ///
-        /// The cost is constant, as that of `held_bytes`.
         ///
         /// # Contract
         ///
@@ -363,8 +351,7 @@ mod pool {
         /// Definitions: [`amounts_of`](crate::specs::meter::Capped#amounts_of), [`total`](crate::specs::machine::State#total).
         #[inline]
         fn held(&self, index: usize) -> Option<Amounts> {
-            let machine = self.machines.get(index)?;
-            Some(machine.held())
+            Some(self.machines.get(index)?.held)
         }
 
         /// The limiter under which a tenant's machine runs.
@@ -427,18 +414,6 @@ mod tenant {
             }
         }
 
-        /// What the tenant holds.
-        ///
-        /// # Contract
-        ///
-        /// ```text
-        /// ensures: result ≡ self.now.holdings.held
-        /// ```
-        #[inline]
-        pub(crate) fn held(&self) -> Amounts {
-            self.holdings.held()
-        }
-
         /// What all tenants hold.
         ///
         /// # Contract
@@ -451,7 +426,7 @@ mod tenant {
         /// Definitions: [`held_together`](crate::specs::meter::Capped#held_together), [`capped_tenant`](crate::specs::budget::Pool#capped_tenant), [`amounts_of`](crate::specs::meter::Capped#amounts_of).
         #[inline]
         pub(crate) fn held_by_all(&self) -> Amounts {
-            let held = self.held();
+            let held = self.holdings.held();
             Amounts {
                 bytes: self.others.bytes + held.bytes,
                 elements: self.others.elements + held.elements,
@@ -498,55 +473,11 @@ mod tenant {
     /// Definitions: [`State`](crate::specs::machine::State#State), [`amounts_of`](crate::specs::meter::Capped#amounts_of), [`total`](crate::specs::machine::State#total).
     #[derive(Debug)]
     pub(crate) struct CountedMachine<'r> {
-        machine: Machine<'r>,
-        held: Amounts,
+        pub(crate) machine: Machine<'r>,
+        pub(crate) held: Amounts,
     }
 
     impl<'r> CountedMachine<'r> {
-        /// The machine, which has nothing yet.
-        ///
-        /// # Contract
-        ///
-        /// ```text
-        /// requires nothing: HasNothing machine
-        /// ensures value: result ≡ machine.entry
-        /// ```
-        ///
-        /// Definitions: [`HasNothing`](crate::specs::budget::Pool#HasNothing).
-        #[inline]
-        pub(crate) fn empty(machine: Machine<'r>) -> Self {
-            CountedMachine {
-                machine,
-                held: Amounts::default(),
-            }
-        }
-
-        /// The machine.
-        ///
-        /// # Contract
-        ///
-        /// ```text
-        /// ensures: result.now ≡ self.now
-        /// ```
-        #[inline]
-        pub(crate) fn machine(&self) -> &Machine<'r> {
-            &self.machine
-        }
-
-        /// What the machine has.
-        ///
-        /// # Contract
-        ///
-        /// ```text
-        /// ensures: result ≡ amounts_of (total self.now)
-        /// ```
-        ///
-        /// Definitions: [`amounts_of`](crate::specs::meter::Capped#amounts_of), [`total`](crate::specs::machine::State#total).
-        #[inline]
-        pub(crate) fn held(&self) -> Amounts {
-            self.held
-        }
-
         /// Executes calls under a tenant that holds what the machine has: it does so again
         /// afterwards, and what it holds is taken over from it.
         ///
@@ -568,7 +499,7 @@ mod tenant {
             tenant: &mut Tenant,
         ) -> Result<Vec<Reply>, AllocError> {
             let replies = run_reserving(&mut self.machine, calls, tenant)?;
-            self.held = tenant.held();
+            self.held = tenant.holdings.held();
             Ok(replies)
         }
     }
