@@ -1,5 +1,5 @@
 //! A bill: what a run was charged.
-ghost use Rattle.std.specs.Prelude.{◌≡◌, ◌↔◌, None, Some, IsTrue, IfOk, IsErrOf, OnErr, All};
+ghost use Rattle.std.specs.Prelude.{◌≡◌, ◌↔◌, None, Some, IfOk, IsErrOf, OnErr, All};
 ghost use Rattle.wasmi_meter.specs.Limiter.{optional_rules};
 ghost use Rattle.wasmi_meter.specs.Meter.{amount_left};
 ghost use Rattle.wasmi_core.specs.Account.{SetsNoFuel};
@@ -62,17 +62,10 @@ pub fn run_if_billable<L: ResourceLimiter>(
     ensures sets_fuel { IsErrOf result BillError.SetsFuel ↔ ¬ (All SetsNoFuel calls.now) }
     ensures err { OnErr result ((machine.new ≡ machine.old) × (limiter.new ≡ limiter.old)) }
 {
-    if !is_billable(calls) {
+    if calls.iter().any(Call::sets_fuel) {
         return Err(BillError::SetsFuel);
     }
     run_and_bill(machine, calls, limiter).map_err(|_| BillError::OutOfMemory)
-}
-
-/// Whether no call sets the fuel.
-fn is_billable(calls: &[Call]) -> bool
-    ensures { IsTrue result ↔ All SetsNoFuel calls.now }
-{
-    !calls.iter().any(Call::sets_fuel)
 }
 
 /// What is left, or 0 if metering is off.

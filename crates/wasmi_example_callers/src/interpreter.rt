@@ -166,13 +166,7 @@ fn take_fuel(machine: &mut Machine) -> bool
         ((is_out_of_fuel machine.old.meter ≡ false) × (machine.new ≡ fuel_taken machine.old))
         ((is_out_of_fuel machine.old.meter ≡ true) × (machine.new ≡ machine.old)) }
 {
-    match machine.consume_fuel(1) {
-        Ok(_) => true,
-        Err(error) => match error {
-            FuelError::FuelMeteringDisabled => true,
-            FuelError::OutOfFuel { .. } => false,
-        },
-    }
+    !matches!(machine.consume_fuel(1), Err(FuelError::OutOfFuel { .. }))
 }
 
 /// What follows the reply to a call: the next place, or how the program ends.

@@ -67,21 +67,10 @@ pub mod bill {
         calls: &[Call],
         limiter: &mut L,
     ) -> Result<Bill, BillError> {
-        if !is_billable(calls) {
+        if calls.iter().any(Call::sets_fuel) {
             return Err(BillError::SetsFuel);
         }
         run_and_bill(machine, calls, limiter).map_err(|_| BillError::OutOfMemory)
-    }
-
-    /// Whether no call sets the fuel.
-    ///
-    /// # Contract
-    ///
-    /// ```text
-    /// ensures: IsTrue result ↔ All SetsNoFuel calls.now
-    /// ```
-    fn is_billable(calls: &[Call]) -> bool {
-        !calls.iter().any(Call::sets_fuel)
     }
 
     /// What is left, or 0 if metering is off.
@@ -342,13 +331,7 @@ pub mod interpreter {
     ///     ((is_out_of_fuel machine.old.meter ≡ true) × (machine.new ≡ machine.old))
     /// ```
     fn take_fuel(machine: &mut Machine) -> bool {
-        match machine.consume_fuel(1) {
-            Ok(_) => true,
-            Err(error) => match error {
-                FuelError::FuelMeteringDisabled => true,
-                FuelError::OutOfFuel { .. } => false,
-            },
-        }
+        !matches!(machine.consume_fuel(1), Err(FuelError::OutOfFuel { .. }))
     }
 
     /// What follows the reply to a call: the next place, or how the program ends.
