@@ -24,8 +24,10 @@ use wasmi_types::{RefType, TrapCode};
 /// dropped. Registers go by their numbers from 0 to 15; `dst` is the one that takes the result, and
 /// a refused call keeps it.
 ///
-/// Replies are listed in the order of the tests: the first that applies is the reply. `Memory` and
-/// `Table` carry the error that the method of `Memory` or `Table` returns.
+/// Replies are listed in the order of the tests: the first that applies is the reply. `NoSuch`
+/// comes before all of them and isn't listed: there is no memory, table, element segment, global or
+/// register that the call names. `Memory` and `Table` carry the error that the method of `Memory`
+/// or `Table` returns.
 #[derive(Drop)]
 pub enum Call {
     /// Sets the fuel that is left: `Done`, or `Fuel` if metering is off.
@@ -39,39 +41,34 @@ pub enum Call {
     /// `NoRegion` if there is no spare region, `NoRoom` if there is no memory for its slot, or
     /// `Memory`. Any reply except `NoRegion` and `NoRoom` uses up the region.
     NewLentMemory(MemoryType),
-    /// Grows a memory by `pages` pages: `Number` of the old size in pages, `NoSuch` if there is no
-    /// such memory, or `Memory`.
+    /// Grows a memory by `pages` pages: `Number` of the old size in pages, or `Memory`.
     GrowMemory {
         memory: usize,
         pages: u64,
     },
-    /// Drops a memory, whose bytes are given back; its size still counts in the machine's total:
-    /// `Done`, or `NoSuch` if there is no such memory.
+    /// Drops a memory: `Done`. Its bytes are given back; its size still counts in the total.
     DropMemory(usize),
-    /// Reads `len` bytes of a memory: `Bytes`, `NoSuch` if there is no such memory, `Memory` if
-    /// they end past it, or then `NoRoom` if there is no memory for the reply.
+    /// Reads `len` bytes of a memory: `Bytes`, `Memory` if they end past it, or then `NoRoom` if
+    /// there is no memory for the reply.
     Read {
         memory: usize,
         offset: usize,
         len: usize,
     },
-    /// Writes bytes over those of a memory from an offset on: `Done`, `NoSuch` if there is no such
-    /// memory, or `Memory` if they would end past it.
+    /// Writes bytes to a memory from an offset on: `Done`, or `Memory` if they would end past it.
     Write {
         memory: usize,
         offset: usize,
         bytes: Vec<u8>,
     },
-    /// Loads a number from a memory at `ptr + offset`: `Value`, `NoSuch` if there is no such
-    /// memory, or `Trap` if it ends past it.
+    /// Loads a number from a memory at `ptr + offset`: `Value`, or `Trap` if it ends past it.
     Load {
         op: LoadOp,
         memory: usize,
         ptr: u64,
         offset: u64,
     },
-    /// Stores a number to a memory at `ptr + offset`: `Done`, `NoSuch` if there is no such memory,
-    /// or `Trap` if it would end past it.
+    /// Stores a number to a memory at `ptr + offset`: `Done`, or `Trap` if it would end past it.
     Store {
         op: StoreOp,
         memory: usize,
@@ -85,34 +82,30 @@ pub enum Call {
         ty: TableType,
         init: TypedRawRef,
     },
-    /// Grows a table by `delta` elements: `Number` of the old size in elements, `NoSuch` if there
-    /// is no such table, or `Table`.
+    /// Grows a table by `delta` elements: `Number` of the old size in elements, or `Table`.
     GrowTable {
         table: usize,
         delta: u64,
         init: TypedRawRef,
     },
-    /// Drops a table, whose elements are given back; its size still counts in the machine's total:
-    /// `Done`, or `NoSuch` if there is no such table.
+    /// Drops a table: `Done`. Its elements are given back; its size still counts in the total.
     DropTable(usize),
-    /// Returns the element of a table, if there is one: `Reference`, or `NoSuch` if there is no
-    /// such table.
+    /// Returns the element of a table, if there is one: `Reference`.
     GetElement {
         table: usize,
         index: u64,
     },
-    /// Sets an element of a table: `Done`, `NoSuch` if there is no such table, or `Table` with
-    /// `ElementTypeMismatch` if the reference isn't of the type of the elements, then
-    /// `SetOutOfBounds` if the index is past the end.
+    /// Sets an element of a table: `Done`, or `Table` with `ElementTypeMismatch` if the reference
+    /// isn't of the type of the elements, then `SetOutOfBounds` if the index is past the end.
     SetElement {
         table: usize,
         index: u64,
         value: TypedRawRef,
     },
     /// Copies `len` items of an element segment, from `src` on, over the elements of a table from
-    /// `dst` on: `Done`, `NoSuch` if there is no such segment or table, or `Table` with
-    /// `ElementTypeMismatch` if their types differ, then `InitOutOfBounds` if a range ends past the
-    /// segment or the table, then `OutOfFuel`; copying no items costs no fuel.
+    /// `dst` on: `Done`, or `Table` with `ElementTypeMismatch` if their types differ, then
+    /// `InitOutOfBounds` if a range ends past the segment or the table, then `OutOfFuel`; copying
+    /// no items costs no fuel.
     InitTable {
         table: usize,
         segment: usize,
@@ -121,10 +114,9 @@ pub enum Call {
         len: u32,
     },
     /// Copies `len` elements of a table, from `src` on, over those of another or of itself from
-    /// `dst` on: `Done`, `NoSuch` if there is no such table, or `Table` with `ElementTypeMismatch`
-    /// if their types differ, then `CopyOutOfBounds` if a range ends past its table, then
-    /// `OutOfFuel`, which is tested also for no element. If ranges of one table overlap, the old
-    /// elements are copied.
+    /// `dst` on: `Done`, or `Table` with `ElementTypeMismatch` if their types differ, then
+    /// `CopyOutOfBounds` if a range ends past its table, then `OutOfFuel`, which is tested also for
+    /// no element. If ranges of one table overlap, the old elements are copied.
     CopyTable {
         dst_table: usize,
         dst: u64,
@@ -132,10 +124,10 @@ pub enum Call {
         src: u64,
         len: u64,
     },
-    /// Fills `len` elements of a table with a reference, from `dst` on: `Done`, `NoSuch` if there
-    /// is no such table, or `Table` with `ElementTypeMismatch` if the reference isn't of the type
-    /// of the elements, then `FillOutOfBounds` if they end past the table, then `OutOfFuel`, which
-    /// is tested also for no element.
+    /// Fills `len` elements of a table with a reference, from `dst` on: `Done`, or `Table` with
+    /// `ElementTypeMismatch` if the reference isn't of the type of the elements, then
+    /// `FillOutOfBounds` if they end past the table, then `OutOfFuel`, which is tested also for no
+    /// element.
     FillTable {
         table: usize,
         dst: u64,
@@ -148,50 +140,48 @@ pub enum Call {
         ty: RefType,
         items: Vec<RawRef>,
     },
-    /// Drops the items of an element segment, which stays: `Done`, or `NoSuch` if there is no such
-    /// segment.
+    /// Drops the items of an element segment, which stays: `Done`.
     DropItems(usize),
     /// Makes a global: `Made` with its index, or `NoRoom` if there is no memory for its slot.
     NewGlobal {
         value: RawVal,
         ty: GlobalType,
     },
-    /// Sets a global: `Done`, `NoSuch` if there is no such global, or `Global` with
-    /// `ImmutableWrite` if it is a constant, then `TypeMismatch` if the value isn't of its type.
+    /// Sets a global: `Done`, or `Global` with `ImmutableWrite` if it is a constant, then
+    /// `TypeMismatch` if the value isn't of its type.
     SetGlobal {
         global: usize,
         value: TypedRawVal,
     },
-    /// Returns the value of a global: `Value`, or `NoSuch` if there is no such global.
+    /// Returns the value of a global: `Value`.
     GetGlobal(usize),
-    /// Sets a register: `Done`, or `NoSuch` if there is no such register.
+    /// Sets a register: `Done`.
     SetRegister {
         dst: u8,
         value: RawVal,
     },
-    /// Returns the value of a register: `Value`, or `NoSuch` if there is no such register.
+    /// Returns the value of a register: `Value`.
     GetRegister(u8),
-    /// Makes a vector of the item in register `a`: `Done`, or `NoSuch` if there is no such
-    /// register.
+    /// Makes a vector of the item in register `a`: `Done`.
     Make {
         op: MakeOp,
         dst: u8,
         a: u8,
     },
-    /// Executes an instruction of one vector: `Done`, or `NoSuch` if there is no such register.
+    /// Executes an instruction of one vector: `Done`.
     Unary {
         op: UnaryOp,
         dst: u8,
         a: u8,
     },
-    /// Executes an instruction of two vectors: `Done`, or `NoSuch` if there is no such register.
+    /// Executes an instruction of two vectors: `Done`.
     Binary {
         op: BinaryOp,
         dst: u8,
         a: u8,
         b: u8,
     },
-    /// Executes an instruction of three vectors: `Done`, or `NoSuch` if there is no such register.
+    /// Executes an instruction of three vectors: `Done`.
     Ternary {
         op: TernaryOp,
         dst: u8,
@@ -199,41 +189,38 @@ pub enum Call {
         b: u8,
         c: u8,
     },
-    /// Shifts the lanes of a vector by `amount` modulo their width: `Done`, or `NoSuch` if there is
-    /// no such register.
+    /// Shifts the lanes of a vector by `amount` modulo their width: `Done`.
     Shift {
         op: ShiftOp,
         dst: u8,
         a: u8,
         amount: u32,
     },
-    /// Tests a vector, or takes its mask: `Value`, or `NoSuch` if there is no such register.
+    /// Tests a vector, or takes its mask: `Value`.
     Test {
         op: TestOp,
         a: u8,
     },
-    /// Takes a lane from a vector: `Value`, or `NoSuch` if there is no such register.
+    /// Takes a lane from a vector: `Value`.
     Extract {
         op: ExtractOp,
         a: u8,
     },
-    /// Puts the item in register `item` into a lane of a vector: `Done`, or `NoSuch` if there is no
-    /// such register.
+    /// Puts the item in register `item` into a lane of a vector: `Done`.
     Replace {
         op: ReplaceOp,
         dst: u8,
         a: u8,
         item: u8,
     },
-    /// Picks bytes of two vectors: `Done`, or `NoSuch` if there is no such register.
+    /// Picks bytes of two vectors: `Done`.
     Shuffle {
         dst: u8,
         a: u8,
         b: u8,
         lanes: [ImmLaneIdx32; 16],
     },
-    /// Loads a vector from a memory at `ptr + offset`: `Done`, `NoSuch` if there is no such memory
-    /// or register, or `Trap` if it ends past it.
+    /// Loads a vector from a memory at `ptr + offset`: `Done`, or `Trap` if it ends past it.
     VectorLoad {
         op: VectorLoadOp,
         dst: u8,
@@ -241,8 +228,8 @@ pub enum Call {
         ptr: u64,
         offset: u64,
     },
-    /// Loads a lane of a vector from a memory at `ptr + offset`: `Done`, `NoSuch` if there is no
-    /// such memory or register, or `Trap` if it ends past it.
+    /// Loads a lane of a vector from a memory at `ptr + offset`: `Done`, or `Trap` if it ends past
+    /// it.
     LoadLane {
         op: LoadLaneOp,
         dst: u8,
@@ -251,16 +238,15 @@ pub enum Call {
         ptr: u64,
         offset: u64,
     },
-    /// Stores a vector to a memory at `ptr + offset`: `Done`, `NoSuch` if there is no such memory
-    /// or register, or `Trap` if it would end past it.
+    /// Stores a vector to a memory at `ptr + offset`: `Done`, or `Trap` if it would end past it.
     VectorStore {
         a: u8,
         memory: usize,
         ptr: u64,
         offset: u64,
     },
-    /// Stores a lane of a vector to a memory at `ptr + offset`: `Done`, `NoSuch` if there is no
-    /// such memory or register, or `Trap` if it would end past it.
+    /// Stores a lane of a vector to a memory at `ptr + offset`: `Done`, or `Trap` if it would end
+    /// past it.
     StoreLane {
         op: StoreLaneOp,
         a: u8,
