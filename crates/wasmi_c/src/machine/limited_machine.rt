@@ -218,7 +218,11 @@ impl LimitedMachine {
 fn references(alloc: Global, items: &[u32]) -> Result<Vec<RawRef>, AllocError>
     ensures { IfOk result (λ copy. copy.items ≡ items.now) }
 {
-    items.iter().map(|item| RawRef::from(*item)).collect(alloc)
+    let mut copy = Vec::with_capacity(alloc, items.len())?;
+    for item in items {
+        copy.push_reserved(RawRef::from(*item));
+    }
+    Ok(copy)
 }
 
 /// Copies the bytes of a memory from an offset on to the caller's.
