@@ -1,11 +1,9 @@
-use Rattle.std.proofs.Common.{◌≡◌, length, rules}
+use Rattle.std.proofs.Common.{rules}
 use Rattle.wasmi_types.specs.Numbers.{w16}
 use Rattle.wasmi_lanewise.proofs.SaturationLemmas.{sums_u_make_vector}
 use Rattle.wasmi_lanewise.proofs.simd.i16x8_add_sat_u.Goals as goal
 
 pub returns : goal.returns
 returns c =
-    let long_x : length c.lanes_of.result ≡ 8 = search rules in
-    let long_y : length c.lanes_of-2.result ≡ 8 = search rules in
-    sums_u_make_vector w16 _ _ long_x long_y c.args.lhs c.args.rhs c.vector_of.ensures.in_range c.lanes_of.ensures.lanes
-    c.lanes_of-2.ensures.lanes c.vector_of.ensures.lanes
+    sums_u_make_vector w16 _ _ (search rules) (search rules) c.args.lhs c.args.rhs c.vector_of.ensures.in_range
+    c.lanes_of.ensures.lanes c.lanes_of-2.ensures.lanes c.vector_of.ensures.lanes
