@@ -1,8 +1,0 @@
-use Rattle.wasmi_law_callers.proofs.RunsLemmas.{beside}
-use Rattle.wasmi_law_callers.proofs.hosts.call_beside.Goals as goal
-
-pub returns : goal.returns
-returns c = record {
-  others = λ pool other there apart.
-      beside c.args.call.now c.args.tenant other _ _ _ pool c.call.ensures.step there apart;
-}

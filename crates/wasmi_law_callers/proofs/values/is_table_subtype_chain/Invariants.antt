@@ -1,6 +1,0 @@
-use Rattle.wasmi_store.specs.Table.{IsSubtype}
-use Rattle.wasmi_law_callers.proofs.LanesLemmas.{RelatesNext}
-use Rattle.wasmi_law_callers.proofs.values.is_table_subtype_chain.Given as goal
-
-abbrev pub invariant-loop-i : goal.invariant-loop-i
-invariant-loop-i l = RelatesNext IsSubtype l.types l.i

@@ -1,0 +1,39 @@
+use Rattle.std.proofs.Common.{Some, [], refl, ◌∷◌}
+use Rattle.wasmi_meter.specs.Limiter.{optional_rules}
+use Rattle.wasmi_core.specs.State.{world}
+use Rattle.wasmi_laws.specs.Places.{store_call}
+use Rattle.wasmi_law_tests.proofs.RunsLemmas.{answers_call, stores_apart, turn_with}
+use Rattle.wasmi_law_tests.proofs.places.call_in_either_order.Goals as goal
+
+pub returns-clause-independent : goal.returns-clause-independent
+returns-clause-independent g c =
+    λ local other_local apart.
+    let first = c.step_lending-reply.ensures.step in
+    let second = c.step_lending-other_reply.ensures.step in
+    let turn = turn_with c.args.first.now c.step_lending-reply.result first.0 first.1 in
+    let other = turn_with c.args.second.now c.step_lending-other_reply.result second.0 second.1 in (
+      other ∷ turn ∷ [],
+      refl,
+      refl,
+      c.independent_calls_commute.ensures _ turn other _ local other_local apart (_, first.2, (_, second.2, refl)),
+    )
+
+pub returns-clause-stores : goal.returns-clause-stores
+returns-clause-stores g c =
+    λ it that is is_that differ.
+    let rules = optional_rules g.L.ResourceLimiter.rules in
+    let t = world c.args.machine.now (Some c.args.limiter.now) in
+    let u = world c.step_lending-reply.new.self (Some c.step_lending-reply.new.limiter) in
+    let v = world c.step_lending-other_reply.new.self (Some c.step_lending-other_reply.new.limiter) in
+    let first = answers_call rules t u c.args.first.now (store_call it) c.step_lending-reply.result is
+    c.step_lending-reply.ensures.step in
+    let second = answers_call rules u v c.args.second.now (store_call that) c.step_lending-other_reply.result is_that
+    c.step_lending-other_reply.ensures.step in
+    let turn = turn_with (store_call it) c.step_lending-reply.result first.0 first.1 in
+    let other = turn_with (store_call that) c.step_lending-other_reply.result second.0 second.1 in (
+      other ∷ turn ∷ [],
+      refl,
+      refl,
+      c.independent_calls_commute.ensures t turn other v tt tt (stores_apart it that differ)
+          (u, first.2, (v, second.2, refl)),
+    )

@@ -1,0 +1,42 @@
+use Rattle.std.proofs.Common.{sym, subst, ◌≤◌, ℕ, Some, arith}
+use Rattle.std.specs.Prelude.{All, ◌≡◌, slice_get}
+use Rattle.wasmi_meter.specs.Limiter.{optional_rules}
+use Rattle.wasmi_core.specs.Determinism.{TellsNoDenial}
+use Rattle.wasmi_law_tests.proofs.RunsLemmas.{if_ok_too, holds_after}
+use Rattle.wasmi_law_tests.proofs.LimitersLemmas.{grows_in_regions}
+use Rattle.wasmi_meter.specs.declared.limiter.Kind.{Kind}
+use Rattle.wasmi_core.specs.State.{sizes, total}
+use Rattle.wasmi_law_tests.proofs.runs.run_exchanged.Goals as goal
+
+pub returns-clause-exchanged : goal.returns-clause-exchanged
+returns-clause-exchanged g c =
+    if_ok_too c.run_lending.result c.run_lending.ensures.run (λ replies ran.
+    (ran.0, record { calls_of = ran.1; replies_of = ran.2 }, c.growths_are_permitted.ensures.run _ ran.0 _ ran.3))
+
+pub returns-clause-regions : goal.returns-clause-regions
+returns-clause-regions g c =
+    if_ok_too c.run_lending.result c.run_lending.ensures.run (λ replies ran. (
+      ran.0,
+      record { calls_of = ran.1; replies_of = ran.2 },
+      grows_in_regions (optional_rules g.L.ResourceLimiter.rules) c.lent_growths_succeed.ensures _ ran.0 _ ran.3,
+    ))
+
+pub returns-clause-permitted : goal.returns-clause-permitted
+returns-clause-permitted g c =
+    if_ok_too c.run_lending.result c.run_lending.ensures.run (λ replies ran shown.
+    (ran.0, ran.1, ran.2, c.replies_permit.ensures _ ran.0 _ (subst (All TellsNoDenial) (sym ran.2) shown) ran.3))
+
+pub returns-clause-sizes : goal.returns-clause-sizes
+returns-clause-sizes g c =
+    holds_after _ (optional_rules g.L.ResourceLimiter.rules) (λ replies. replies.items) _ _ _
+    (λ s. (kind : Kind) (k n : ℕ) → slice_get (sizes c.args.machine.now kind) k ≡ Some n
+    → (m : ℕ) × (slice_get (sizes s kind) k ≡ Some m) × (n ≤ m)) c.run_lending.result
+    (λ turns made ran. c.sizes_never_shrink.ensures.sizes _ turns _ ran)
+    (λ kind k n found. (n, found, omega arith)) c.run_lending.ensures.run c.run_lending.ensures.err
+
+pub returns-clause-totals : goal.returns-clause-totals
+returns-clause-totals g c =
+    holds_after _ (optional_rules g.L.ResourceLimiter.rules) (λ replies. replies.items) _ _ _
+    (λ s. (kind : Kind) → total c.args.machine.now kind ≤ total s kind) c.run_lending.result
+    (λ turns made ran. c.sizes_never_shrink.ensures.totals _ turns _ ran)
+    (λ kind. omega arith) c.run_lending.ensures.run c.run_lending.ensures.err

@@ -1,0 +1,49 @@
+-- What a limiter holds after what it permitted: a quota, and a recorder with its trace.
+use Rattle.std.specs.Prelude.{◌≡◌, ◌+◌, ℕ, Ok, Err, length, ◌<◌, ◌⊎◌, ◌++◌, Bool, true, false, Some, List, [], ◌∷◌, slice_get, slice_set}
+use Rattle.wasmi_meter.specs.declared.limiter.Kind.{Kind}
+use Rattle.std.specs.Vec.{vec_capacity}
+use Rattle.wasmi_meter.specs.Limiter.{Question, Answer, kind_of, NoticeAnswer, Rules}
+use Rattle.wasmi_core.specs.Exchange.{NothingGrows}
+use Rattle.wasmi_law_tests.specs.declared.recorder.Event.{Event}
+use Rattle.wasmi_law_tests.specs.declared.recorder.Event.TheVariants.{Permitted, Failed}
+use Rattle.wasmi_law_tests.specs.declared.recorder.Recorder.{Recorder}
+
+-- a permission is kept in the trace, which then has room for one failure; without room nothing is permitted
+abbrev pub KeepsPermission : Recorder → Event → Bool → Recorder → Type 0
+KeepsPermission l event true l' =
+    (l'.events.items ≡ l.events.items ++ event ∷ []) × (length l'.events.items < vec_capacity l'.events)
+KeepsPermission l event false l' = l'.events.items ≡ l.events.items
+
+-- a failure is kept where there is room for it
+abbrev pub KeepsFailure : Recorder → Kind → NoticeAnswer → Recorder → Type 0
+KeepsFailure l kind notice_answer l' =
+    length l.events.items < vec_capacity l.events
+    → (notice_answer ≡ Ok tt) × (l'.events.items ≡ l.events.items ++ Failed kind ∷ [])
+
+-- the event that a permitted question leaves in a trace
+abbrev pub event_of : Question → Event
+event_of q = Permitted q.kind q.current q.desired
+
+-- a recorder answers a question: it permits where it can keep the trace, and gives no error
+abbrev pub AnswersQuestion : Recorder → Question → Answer → Recorder → Type 0
+AnswersQuestion l q (Ok permitted) l' = KeepsPermission l (event_of q) permitted l'
+AnswersQuestion l q (Err error) l' = ⊥
+
+-- the rules of a recorder
+abbrev pub recorder_rules : Rules Recorder
+recorder_rules = record {
+  asked = AnswersQuestion;
+  noticed = λ l failure notice_answer l'. KeepsFailure l (kind_of failure) notice_answer l';
+}
+
+-- one size of a kind has become another: a new one, or one that was there
+abbrev pub OneGrows : ℕ → ℕ → List ℕ → List ℕ → Type 0
+OneGrows current desired sizes sizes' = ((current ≡ 0) × (sizes' ≡ sizes ++ desired ∷ []))
+    ⊎ ((k : ℕ) × (slice_get sizes k ≡ Some current) × (sizes' ≡ slice_set sizes k desired))
+
+-- how the trace has grown by one call, and the sizes with it
+abbrev pub LeavesTrace : List Event → (Kind → List ℕ) → List Event → (Kind → List ℕ) → Type 0
+LeavesTrace events sizes events' sizes' = ((events' ≡ events) × NothingGrows sizes sizes')
+    ⊎ ((q : Question) × (events' ≡ events ++ event_of q ∷ [])
+    × OneGrows q.current q.desired (sizes q.kind) (sizes' q.kind))
+    ⊎ ((q : Question) × (events' ≡ events ++ event_of q ∷ Failed q.kind ∷ []) × NothingGrows sizes sizes')

@@ -1,0 +1,169 @@
+//! Callers of the laws of `wasmi_c`: of calls by a handle, of one quota over many, and of a limiter
+//! that only a host sees.
+ghost use Rattle.std.specs.Prelude.{◌≡◌, ◌≢◌, ℕ, Some, true, Option, length};
+ghost use Rattle.wasmi_core.specs.declared.calls.Call.{Call};
+ghost use Rattle.wasmi_c.specs.Machine.CallStructs.{call_of};
+ghost use Rattle.wasmi_c.specs.Machine.Caps.{MachineValue};
+ghost use Rattle.wasmi_budget.specs.Pool.{PoolValue};
+ghost use Rattle.wasmi_law_tests.specs.Runs.{KeepsTenant, RunsBoth};
+ghost use Rattle.wasmi_meter.specs.Capped.{IsWithinCaps};
+ghost use Rattle.wasmi_c.specs.Numbers.{quota_of, IsState, IsTable, embedded};
+ghost use Rattle.wasmi_meter.specs.Limiter.{optional_rules};
+ghost use Rattle.wasmi_store.specs.Buffer.{Lent};
+ghost use Rattle.wasmi_store.specs.Memory.{MakesMemory, creation_of, growth_of};
+ghost use Rattle.wasmi_region.specs.Memory as memories;
+ghost use Rattle.wasmi_region.specs.Memory.{memory_in};
+ghost use Rattle.wasmi_region.specs.Table as tables;
+ghost use Rattle.wasmi_region.specs.Table.{table_in, creation_in, growth_in, MakesTableIn};
+ghost use Rattle.wasmi_c.specs.Placement.{Limited, Allows, limiter_after, GrowsAs};
+ghost use Rattle.wasmi_c.specs.MemoryCalls.{by_pages, of_memory};
+ghost use Rattle.wasmi_c.specs.TableCalls.{by_elements, of_table};
+
+use std::alloc::Global;
+use wasmi_c::laws::{one_quota_holds_all, settlements_are_creations, settlements_are_growths};
+use wasmi_c::machine::call_struct::CallStruct;
+use wasmi_c::machine::handle::Handle;
+use wasmi_c::machine::laws;
+use wasmi_c::machine::reply_struct::ReplyStruct;
+use wasmi_c::memory::{creation as memory_creation, growth as memory_growth};
+use wasmi_c::pool::handle::PoolHandle;
+use wasmi_c::status::DONE;
+use wasmi_c::table::{creation as table_creation, growth as table_growth};
+use wasmi_c::{HostAnswers, MemoryNumbers, MeterNumbers, QuotaNumbers, TableNumbers};
+use wasmi_core::{MemoryError, MemoryType, ResourceLimiter, TableError, TableType};
+
+/// Makes two calls, one after the other. If there is a machine and the numbers stand for calls,
+/// both are one run of the machine.
+pub fn call_twice(
+    handle: &mut Handle,
+    first: &CallStruct,
+    second: &CallStruct,
+) -> (ReplyStruct, ReplyStruct)
+    ensures run { (machine : MachineValue) (call call' : Call)
+        → handle.old.machine.held ≡ Some machine
+        → call_of first.now ≡ Some call → call_of second.now ≡ Some call'
+        → RunsBoth call call' machine result handle.new.machine.held }
+{
+    laws::calls_are_runs();
+    let reply = handle.call(first);
+    (reply, handle.call(second))
+}
+
+/// Makes a call on a tenant of a pool. Whatever it is, the machine of each other tenant stays.
+pub fn call_beside(
+    handle: &mut PoolHandle,
+    alloc: Global,
+    tenant: usize,
+    call: &CallStruct,
+) -> ReplyStruct
+    ensures others { (pool : PoolValue) (other : ℕ) → handle.old.pool.held ≡ Some pool
+        → tenant ≢ other → KeepsTenant other pool handle.new.pool.held }
+{
+    handle.call(alloc, tenant, call)
+}
+
+/// Makes a memory, and a table of null references, under one quota that is on and holds nothing,
+/// and returns whether both were made. If so, the quota holds the bytes of the one and the elements
+/// of the other, within its caps.
+pub fn make_both(
+    memory: &mut MemoryNumbers,
+    bytes: &mut [u8],
+    table: &mut TableNumbers,
+    elements: &mut [u32],
+    quota: &mut QuotaNumbers,
+) -> bool
+    requires on { quota.old.is_on ≡ 0 → ⊥ }
+    requires empty { (quota.old.held_bytes ≡ 0) × (quota.old.held_elements ≡ 0) }
+    ensures held { result ≡ true → (quota.new.held_bytes ≡ memory.new.size)
+        × (quota.new.held_elements ≡ table.new.size) × IsWithinCaps (quota_of quota.new) }
+{
+    one_quota_holds_all();
+    let of_memory = memory_creation::make(memory, bytes, quota);
+    let of_table = table_creation::make(table, elements, 0, quota);
+    of_memory == DONE && of_table == DONE
+}
+
+/// Grows a memory of this type by so many pages by the answers of a limiter of any type. If the
+/// rules of that limiter allow the answers, this is a growth under that limiter.
+pub fn grow_as_answered<L: ResourceLimiter>(
+    memory: &mut MemoryNumbers,
+    ty: MemoryType,
+    region: &mut [u8],
+    pages: u64,
+    meter: &mut MeterNumbers,
+    answers: &mut HostAnswers,
+    number: &mut u64,
+) -> u8
+    requires state { IsState memory.old region.old ty }
+    ensures grown { (l : Limited (Option L)) → Allows (optional_rules L.rules)
+        (growth_of (memory_in ty region.old memory.old.size) pages) answers.new l
+        → GrowsAs of_memory L.rules (by_pages pages) ty
+        (embedded memory.old region.old meter.old l.before number.old) result
+        (embedded memory.new region.new meter.new (limiter_after answers.new l) number.new) }
+{
+    settlements_are_growths::<L>();
+    answers.reset();
+    memory_growth::grow_under(memory, ty, region, pages, meter, answers, number)
+}
+
+/// Grows a table of this type by so many elements by the answers of a limiter of any type, as
+/// `grow_as_answered` does a memory.
+pub fn grow_table_as_answered<L: ResourceLimiter>(
+    table: &mut TableNumbers,
+    ty: TableType,
+    region: &mut [u32],
+    delta: u64,
+    reference: u32,
+    meter: &mut MeterNumbers,
+    answers: &mut HostAnswers,
+    number: &mut u64,
+) -> u8
+    requires state { IsTable table.old region.old ty }
+    ensures grown { (l : Limited (Option L)) → Allows (optional_rules L.rules)
+        (growth_in (length region.old) (table_in ty region.old table.old.size) delta reference)
+        answers.new l
+        → GrowsAs of_table L.rules (by_elements delta reference) ty
+        (embedded table.old region.old meter.old l.before number.old) result
+        (embedded table.new region.new meter.new (limiter_after answers.new l) number.new) }
+{
+    settlements_are_growths::<L>();
+    answers.reset();
+    table_growth::grow_under(table, ty, region, delta, reference, meter, answers, number)
+}
+
+/// Makes a memory of this type at the front of a region by the answers of a limiter of any type,
+/// and returns its size in bytes. If the rules of that limiter allow the answers, this is a
+/// creation under that limiter. The errors are those of [`wasmi_region::memory::make`].
+pub fn make_as_answered<L: ResourceLimiter>(
+    ty: MemoryType,
+    region: &mut [u8],
+    answers: &mut HostAnswers,
+) -> Result<usize, MemoryError>
+    ensures made { (l : Limited (Option L)) → Allows (optional_rules L.rules)
+        (creation_of (Lent region.old) ty) answers.new l
+        → MakesMemory (optional_rules L.rules) (Lent region.old) ty l.before
+        (memories.made_in ty region.new result) (limiter_after answers.new l) }
+{
+    settlements_are_creations::<L>();
+    answers.reset();
+    memory_creation::make_under(ty, region, answers)
+}
+
+/// Makes a table of this type at the front of a region by the answers of a limiter of any type, as
+/// `make_as_answered` does a memory, and returns its size. The errors are those of
+/// [`wasmi_region::table::make`].
+pub fn make_table_as_answered<L: ResourceLimiter>(
+    ty: TableType,
+    region: &mut [u32],
+    reference: u32,
+    answers: &mut HostAnswers,
+) -> Result<usize, TableError>
+    ensures made { (l : Limited (Option L)) → Allows (optional_rules L.rules)
+        (creation_in ty (length region.old)) answers.new l
+        → MakesTableIn (optional_rules L.rules) ty (length region.old) reference l.before
+        (tables.made_in ty region.new result) (limiter_after answers.new l) }
+{
+    settlements_are_creations::<L>();
+    answers.reset();
+    table_creation::make_under(ty, region, reference, answers)
+}
