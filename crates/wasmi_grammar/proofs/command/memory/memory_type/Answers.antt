@@ -9,15 +9,10 @@ use Rattle.wasmi_grammar.proofs.command.memory.memory_type.Goals as goal
 pub returns-in_err-minimum : goal.returns-in_err-minimum
 returns-in_err-minimum c =
     refused_through c.in_err-minimum.field-0.0 c.from_residual.result (search rules)
-    (λ ty w. (
+    (λ ty w.
+    let limits = w.1.limits_words in (
       (ty.minimum, ty.maximum, page_log2 ty.page, ty.index),
-      (
-        w.0,
-        w.1.limits_words.minimum_word,
-        w.1.limits_words.maximum_word,
-        w.1.log2_word,
-        w.1.limits_words.width_text,
-      ),
+      (w.0, limits.minimum_word, limits.maximum_word, w.1.log2_word, limits.width_text),
     )) c.in_err-minimum.ensures
 
 pub returns : goal.returns

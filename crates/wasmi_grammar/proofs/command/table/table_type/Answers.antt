@@ -14,15 +14,10 @@ use Rattle.wasmi_grammar.proofs.command.table.table_type.Goals as goal
 pub returns-in_err-element : goal.returns-in_err-element
 returns-in_err-element c =
     refused_through c.in_err-element.field-0.0 c.from_residual.result (search rules)
-    (λ ty w. (
+    (λ ty w.
+    let limits = w.1.limits_words in (
       (ty.element, ty.minimum, ty.maximum, ty.index),
-      (
-        w.0,
-        w.1.element_text,
-        w.1.limits_words.minimum_word,
-        w.1.limits_words.maximum_word,
-        w.1.limits_words.width_text,
-      ),
+      (w.0, w.1.element_text, limits.minimum_word, limits.maximum_word, limits.width_text),
     )) c.in_err-element.ensures
 
 -- a table type that has the limits which words write is the one that they name
