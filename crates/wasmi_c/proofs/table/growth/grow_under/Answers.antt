@@ -1,21 +1,15 @@
 use Rattle.std.proofs.Common.{refl, rules}
-use Rattle.wasmi_meter.specs.Limiter.{lent_limiter}
-use Rattle.wasmi_c.specs.TableCalls.{by_elements, of_table}
 use Rattle.wasmi_c.proofs.PlacementLemmas.{grown_with}
 use Rattle.wasmi_c.proofs.table.growth.grow_under.Goals as goal
 
 pub returns-in-Ok : goal.returns-in-Ok
 returns-in-Ok g c = record {
-  grown = grown_with of_table (by_elements c.args.delta c.args.reference) c.args.ty (lent_limiter c.from-lent.result)
-      (lent_limiter c.grow-grown.new.limiter) (search rules) (search rules) c.store_left.ensures
-      (rw c.fuel-fuel.ensures at c.grow-grown.ensures.grown) (search rules) refl c.grow-grown.ensures.rest
-      c.grow-grown.ensures.refused (search rules);
+  grown = grown_with _ _ _ _ _ (search rules) (search rules) c.store_left.ensures
+      (rw c.fuel-fuel.ensures at c.grow-grown.ensures.grown) (search rules) refl c.grow-grown.ensures.rest c.grow-grown.ensures.refused (search rules);
 }
 
 pub returns-in-Err : goal.returns-in-Err
 returns-in-Err g c = record {
-  grown = grown_with of_table (by_elements c.args.delta c.args.reference) c.args.ty (lent_limiter c.from-lent.result)
-      (lent_limiter c.grow-grown.new.limiter) (search rules) (search rules) c.store_left.ensures
-      (rw c.fuel-fuel.ensures at c.grow-grown.ensures.grown) (search rules) refl c.grow-grown.ensures.rest
-      c.grow-grown.ensures.refused (search rules);
+  grown = grown_with _ _ _ _ _ (search rules) (search rules) c.store_left.ensures
+      (rw c.fuel-fuel.ensures at c.grow-grown.ensures.grown) (search rules) refl c.grow-grown.ensures.rest c.grow-grown.ensures.refused (search rules);
 }
