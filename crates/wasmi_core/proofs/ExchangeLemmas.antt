@@ -188,14 +188,8 @@ module _ {S : Type 0} (rules : Rules S) (t : Meeting S) (place : Place) where
   -- the limiter isn't reached, and nothing grows
   nothing_passes : AsksFor t.question Nothing t.reply → t.last ≡ t.first → NothingGrows t.before t.after
       → IsCharged place Nothing t.meter t.charge → Passed
-  nothing_passes unasked same still free = record {
-    exchange = Nothing;
-    asks = unasked;
-    passes = same;
-    replies = tt;
-    grows = still;
-    charged = free;
-  }
+  nothing_passes unasked same still free =
+      record { exchange = Nothing; asks = unasked; passes = same; replies = tt; grows = still; charged = free }
 
   -- an attempt passes by its outcome: one kind is watched, and the sizes of the other stay
   module _ {V E : Type 0} (e : Request V E) (tells : (cause : E) → kind_of (e.notice cause) ≡ e.question.kind)

@@ -7,13 +7,8 @@ use Rattle.wasmi_core.proofs.tables.copy_to_other.Goals as goal
 
 -- a copy to another slot
 abbrev copying : (TableValue → TableValue → TableWrite) → List (Slot TableValue) → ℕ → ℕ → Meter → Copying
-copying write slots into from meter = record {
-  write = write;
-  slots = slots;
-  into = into;
-  from = from;
-  meter = meter;
-}
+copying write slots into from meter =
+    record { write = write; slots = slots; into = into; from = from; meter = meter }
 
 pub returns-then-dst_index-src_index : goal.returns-then-dst_index-src_index
 returns-then-dst_index-src_index c =
