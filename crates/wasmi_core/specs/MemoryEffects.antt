@@ -14,7 +14,7 @@ use Rattle.wasmi_core.specs.declared.calls.Reply.{Reply}
 use Rattle.wasmi_core.specs.declared.calls.Reply.TheVariants.{Done, Value, Number, Bytes, Memory, Trap, NoSuch, NoRegion, NoRoom}
 use Rattle.wasmi_core.specs.declared.memories.Stored.{Stored}
 use Rattle.wasmi_core.specs.declared.slots.Slot.{Slot}
-use Rattle.wasmi_ops.specs.declared.scalar.access.LoadOp.{LoadOp}
+use Rattle.wasmi_ops.specs.declared.scalar.LoadOp.{LoadOp}
 use Rattle.wasmi_ops.specs.ScalarOps.{loaded_raw, stored_bytes}
 use Rattle.wasmi_ops.specs.VectorOps.{stored_lane}
 use Rattle.wasmi_core.specs.State.{MemoryPart, live_at}

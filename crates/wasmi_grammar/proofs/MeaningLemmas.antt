@@ -7,19 +7,19 @@ use Rattle.wasmi_raw.specs.RawVal.{raw_of}
 use Rattle.wasmi_types.specs.contracts.value.RefType as reference_type
 use Rattle.wasmi_types.specs.contracts.value.ValType as value_type
 use Rattle.wasmi_typed.specs.contracts.global.Mutability as mutability
-use Rattle.wasmi_ops.specs.contracts.scalar.access.LoadOp as load
-use Rattle.wasmi_ops.specs.contracts.scalar.access.StoreOp as store
-use Rattle.wasmi_ops.specs.contracts.vector.make.MakeOp as make
-use Rattle.wasmi_ops.specs.contracts.vector.unary.UnaryOp as unary
-use Rattle.wasmi_ops.specs.contracts.vector.binary.BinaryOp as binary
-use Rattle.wasmi_ops.specs.contracts.vector.ternary.TernaryOp as ternary
-use Rattle.wasmi_ops.specs.contracts.vector.shift.ShiftOp as shift
-use Rattle.wasmi_ops.specs.contracts.vector.test.TestOp as test
-use Rattle.wasmi_ops.specs.contracts.vector.access.VectorLoadOp as vector_load
-use Rattle.wasmi_ops.specs.contracts.vector.lane_kind.ExtractKind as extract
-use Rattle.wasmi_ops.specs.contracts.vector.lane_kind.ReplaceKind as replace
-use Rattle.wasmi_ops.specs.contracts.vector.lane_kind.LoadLaneKind as load_lane
-use Rattle.wasmi_ops.specs.contracts.vector.lane_kind.StoreLaneKind as store_lane
+use Rattle.wasmi_ops.specs.contracts.scalar.LoadOp as load
+use Rattle.wasmi_ops.specs.contracts.scalar.StoreOp as store
+use Rattle.wasmi_ops.specs.contracts.vector.MakeOp as make
+use Rattle.wasmi_ops.specs.contracts.vector.UnaryOp as unary
+use Rattle.wasmi_ops.specs.contracts.vector.BinaryOp as binary
+use Rattle.wasmi_ops.specs.contracts.vector.TernaryOp as ternary
+use Rattle.wasmi_ops.specs.contracts.vector.ShiftOp as shift
+use Rattle.wasmi_ops.specs.contracts.vector.TestOp as test
+use Rattle.wasmi_ops.specs.contracts.vector.VectorLoadOp as vector_load
+use Rattle.wasmi_ops.specs.contracts.vector.ExtractKind as extract
+use Rattle.wasmi_ops.specs.contracts.vector.ReplaceKind as replace
+use Rattle.wasmi_ops.specs.contracts.vector.LoadLaneKind as load_lane
+use Rattle.wasmi_ops.specs.contracts.vector.StoreLaneKind as store_lane
 use Rattle.wasmi_ops.specs.ScalarOps.{load_name, store_name}
 use Rattle.wasmi_ops.specs.VectorOps.{make_name, unary_name, binary_name, ternary_name, shift_name, test_name, vector_load_name}
 use Rattle.wasmi_ops.specs.LaneOps.{extract_name, extract_op, replace_name, replace_op, load_lane_name, load_lane_op, store_lane_name, store_lane_op}

@@ -7,21 +7,21 @@ use Rattle.wasmi_ops.specs.declared.vector.TheConstants.{MAKES, UNARIES, BINARIE
 use Rattle.wasmi_ops.specs.ScalarOps.{load_name, store_name, scalar_unary_name, scalar_binary_name}
 use Rattle.wasmi_ops.specs.VectorOps.{make_name, unary_name, binary_name, ternary_name, shift_name, test_name, vector_load_name}
 use Rattle.wasmi_ops.specs.LaneOps.{extract_name, extract_op, replace_name, replace_op, load_lane_name, load_lane_op, store_lane_name, store_lane_op}
-use Rattle.wasmi_ops.specs.contracts.scalar.access.LoadOp as load
-use Rattle.wasmi_ops.specs.contracts.scalar.access.StoreOp as store
-use Rattle.wasmi_ops.specs.contracts.scalar.unary.ScalarUnaryOp as scalar_unary
-use Rattle.wasmi_ops.specs.contracts.scalar.binary.ScalarBinaryOp as scalar_binary
-use Rattle.wasmi_ops.specs.contracts.vector.make.MakeOp as make
-use Rattle.wasmi_ops.specs.contracts.vector.unary.UnaryOp as unary
-use Rattle.wasmi_ops.specs.contracts.vector.binary.BinaryOp as binary
-use Rattle.wasmi_ops.specs.contracts.vector.ternary.TernaryOp as ternary
-use Rattle.wasmi_ops.specs.contracts.vector.shift.ShiftOp as shift
-use Rattle.wasmi_ops.specs.contracts.vector.test.TestOp as test
-use Rattle.wasmi_ops.specs.contracts.vector.lane_kind.ExtractKind as extraction
-use Rattle.wasmi_ops.specs.contracts.vector.lane_kind.ReplaceKind as replacement
-use Rattle.wasmi_ops.specs.contracts.vector.access.VectorLoadOp as vector_load
-use Rattle.wasmi_ops.specs.contracts.vector.lane_kind.LoadLaneKind as lane_load
-use Rattle.wasmi_ops.specs.contracts.vector.lane_kind.StoreLaneKind as lane_store
+use Rattle.wasmi_ops.specs.contracts.scalar.LoadOp as load
+use Rattle.wasmi_ops.specs.contracts.scalar.StoreOp as store
+use Rattle.wasmi_ops.specs.contracts.scalar.ScalarUnaryOp as scalar_unary
+use Rattle.wasmi_ops.specs.contracts.scalar.ScalarBinaryOp as scalar_binary
+use Rattle.wasmi_ops.specs.contracts.vector.MakeOp as make
+use Rattle.wasmi_ops.specs.contracts.vector.UnaryOp as unary
+use Rattle.wasmi_ops.specs.contracts.vector.BinaryOp as binary
+use Rattle.wasmi_ops.specs.contracts.vector.TernaryOp as ternary
+use Rattle.wasmi_ops.specs.contracts.vector.ShiftOp as shift
+use Rattle.wasmi_ops.specs.contracts.vector.TestOp as test
+use Rattle.wasmi_ops.specs.contracts.vector.ExtractKind as extraction
+use Rattle.wasmi_ops.specs.contracts.vector.ReplaceKind as replacement
+use Rattle.wasmi_ops.specs.contracts.vector.VectorLoadOp as vector_load
+use Rattle.wasmi_ops.specs.contracts.vector.LoadLaneKind as lane_load
+use Rattle.wasmi_ops.specs.contracts.vector.StoreLaneKind as lane_store
 use Rattle.wasmi_operands.proofs.NamesLemmas.{TellsNames, entries_named, has_each, tells_names, NamesOnLane, names_on, no_name, no_index}
 
 -- a list of names that stand in memory tells what they mean

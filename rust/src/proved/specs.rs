@@ -4202,7 +4202,7 @@ use Rattle.wasmi_core.specs.declared.calls.Reply.{Reply}
 use Rattle.wasmi_core.specs.declared.calls.Reply.TheVariants.{Done, Value, Number, Bytes, Memory, Trap, NoSuch, NoRegion, NoRoom}
 use Rattle.wasmi_core.specs.declared.memories.Stored.{Stored}
 use Rattle.wasmi_core.specs.declared.slots.Slot.{Slot}
-use Rattle.wasmi_ops.specs.declared.scalar.access.LoadOp.{LoadOp}
+use Rattle.wasmi_ops.specs.declared.scalar.LoadOp.{LoadOp}
 use Rattle.wasmi_ops.specs.ScalarOps.{<a href="../../ops/ScalarOps/index.html#loaded_raw">loaded_raw</a>, <a href="../../ops/ScalarOps/index.html#stored_bytes">stored_bytes</a>}
 use Rattle.wasmi_ops.specs.VectorOps.{<a href="../../ops/VectorOps/index.html#stored_lane">stored_lane</a>}
 use Rattle.wasmi_core.specs.State.{<a href="../../machine/State/index.html#MemoryPart">MemoryPart</a>, <a href="../../machine/State/index.html#live_at">live_at</a>}
