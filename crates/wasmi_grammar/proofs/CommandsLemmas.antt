@@ -10,6 +10,8 @@ use Rattle.wasmi_raw.specs.declared.raw.RawVal.{RawVal}
 use Rattle.wasmi_ops.specs.declared.scalar.LoadOp.{LoadOp}
 use Rattle.wasmi_ops.specs.declared.scalar.StoreOp.{StoreOp}
 use Rattle.wasmi_ops.specs.declared.vector.VectorLoadOp.{VectorLoadOp}
+use Rattle.wasmi_ops.specs.declared.vector.LoadLaneOp.{LoadLaneOp}
+use Rattle.wasmi_ops.specs.declared.vector.StoreLaneOp.{StoreLaneOp}
 use Rattle.wasmi_ops.specs.declared.vector.BinaryOp.{BinaryOp}
 use Rattle.wasmi_ops.specs.declared.vector.MakeOp.{MakeOp}
 use Rattle.wasmi_ops.specs.declared.vector.ShiftOp.{ShiftOp}
