@@ -3,12 +3,12 @@ use Rattle.std.proofs.Common.{ℕ, ◌+◌, ◌-◌, ◌*◌, ◌/◌, ◌%◌, 
 use Rattle.std.proofs.lemmas.Nat.{shr-shr, mod-pow-add, and_mask}
 use Rattle.std.specs.Simd.Lanes.{zip2, sel_l, number_l, digits_l}
 use Rattle.std.proofs.lemmas.Bool.{ltb-true}
-use Rattle.std.proofs.lemmas.List.{get_or-map}
 use Rattle.std.proofs.lemmas.Simd.{swz_l, SwzOk, SwzOk-from_below, Each1-from_get_or, length-zip2, get_or-zip2, get_or-replicate, length-replicate, get_or-swz_l_below, get_or-sel_l, tops_compared}
 use Rattle.std.proofs.lemmas.List.FromFn.{get_or-range_with_len, length-range_with_len, get_or-map-range_with_len}
 use Rattle.std.specs.List.{range_with_len}
 use Rattle.wasmi_types.specs.Numbers.{Width, w8, bits}
 use Rattle.wasmi_lanes.specs.Vector.{lane, with_lane}
+use Rattle.wasmi_lanes.proofs.SimdLaneLemmas.{digit_at}
 use Rattle.wasmi_lanes.proofs.VectorLemmas.{lanes_make_vector, lane_below}
 use mir.Val.{hbits}
 use lib.Lanes.{top}
@@ -64,15 +64,6 @@ pub record IsByteAt (bytes : List ℕ) (i x : ℕ) : Type 0 where
   pub is : get_or bytes i 0 ≡ x
   pub fits : x < 256
 
--- a byte of a vector, picked by its index
-pub byte_picked : (v : ℕ) (bytes indices : ℕ → ℕ) (xs : List ℕ) (i k : ℕ)
-    → ((j : ℕ) → j < 16 → get_or xs j 0 ≡ bytes (indices j)) → ((j : ℕ) → j < 16 → bytes j ≡ lane w8 v j)
-    → i < 16 → k < 16 → indices i ≡ k → IsByteAt xs i (lane w8 v k)
-byte_picked v bytes indices xs i k is_picked are inside_i inside_k place = record {
-  is = is_picked i inside_i ∙ ap bytes place ∙ are k inside_k;
-  fits = lane_below w8 v k;
-}
-
 -- the lowest 8 bits of the number of bytes are the first byte
 pub first_byte : (bytes : List ℕ) (x : ℕ) → IsByteAt bytes 0 x → bit_and (number_l 256 bytes % 2 ^ 32) 255 ≡ x
 first_byte bytes x first = and_mask (number_l 256 bytes % 2 ^ 32) 8 ∙ low bytes first
@@ -125,36 +116,49 @@ computed f g n k d same below =
     sym (get_or-map-range_with_len f 0 n k k d below place) ∙ ap (λ l. get_or l k d) same
     ∙ get_or-map-range_with_len g 0 n k k d below place
 
+-- a byte of a vector, picked by the index that is a byte of a word of a table
+pub byte_picked : (word f : ℕ → ℕ) (n v k i : ℕ) (xs : List ℕ)
+    → ((j : ℕ) → j < 16 → get_or xs j 0 ≡ lane w8 v (lane w8 (word k) j)) → k < n → i < 16
+    → map (λ m. lane w8 (word m) i) (range_with_len 0 n) ≡ map f (range_with_len 0 n) → IsByteAt xs i (lane w8 v (f k))
+byte_picked word f n v k i xs is_picked below inside same = record {
+  is = is_picked i inside ∙ ap (lane w8 v) (computed (λ m. lane w8 (word m) i) f n k 0 same below);
+  fits = lane_below w8 v (f k);
+}
+
+-- where each word of a table has bytes below 16
+pub indices_inside : (f : ℕ → ℕ) (n k i : ℕ)
+    → map (λ m. map (λ j. ltb (lane w8 (f m) j) 16) (range_with_len 0 16)) (range_with_len 0 n)
+    ≡ map (λ _. map (λ _. true) (range_with_len 0 16)) (range_with_len 0 n) → k < n → i < 16
+    → lane w8 (f k) i < 16
+indices_inside f n k i same below inside =
+    let row : map (λ j. ltb (lane w8 (f k) j) 16) (range_with_len 0 16) ≡ map (λ _. true) (range_with_len 0 16) =
+    computed (λ m. map (λ j. ltb (lane w8 (f m) j) 16) (range_with_len 0 16))
+    (λ _. map (λ _. true) (range_with_len 0 16)) n k [] same below in
+    ltb-true (lane w8 (f k) i) 16 (computed (λ j. ltb (lane w8 (f k) j) 16) (λ _. true) 16 i false row inside)
+
 -- the bytes of a word of 32 bits and of zeros, as indices
 abbrev indices_of : ℕ → List ℕ
 indices_of x = digits_l 256 16 (number_l (2 ^ 32) (x ∷ 0 ∷ 0 ∷ 0 ∷ []))
 
--- where each word of a table has bytes below 16
-pub indices_inside : (f : ℕ → ℕ) (n k i : ℕ)
-    → map (λ m. map (λ j. ltb j 16) (indices_of (f m))) (range_with_len 0 n)
-    ≡ map (λ _. replicate 16 true) (range_with_len 0 n) → k < n → i < 16
-    → get_or (indices_of (f k)) i 0 < 16
-indices_inside f n k i same below inside =
-    let all : map (λ j. ltb j 16) (indices_of (f k)) ≡ replicate 16 true =
-    computed (λ m. map (λ j. ltb j 16) (indices_of (f m))) (λ _. replicate 16 true) n k [] same below in
-    let long : length (indices_of (f k)) ≡ 16 = refl in
-    ltb-true (get_or (indices_of (f k)) i 0) 16
-    (sym (get_or-map (λ j. ltb j 16) (indices_of (f k)) i 0 false (omega arith)) ∙ ap (λ l. get_or l i false) all
-    ∙ get_or-replicate 16 i true false inside)
+module _ (x : ℕ) (below : (i : ℕ) → i < 16 → lane w8 x i < 16) where
+  index_at : (i : ℕ) → i < 16 → get_or (indices_of x) i 0 ≡ lane w8 x i
+  index_at i inside =
+      let whole : number_l (2 ^ 32) (x ∷ 0 ∷ 0 ∷ 0 ∷ []) ≡ x = omega arith in
+      digit_at 8 16 (number_l (2 ^ 32) (x ∷ 0 ∷ 0 ∷ 0 ∷ [])) i 0 inside ∙ ap (λ n. lane w8 n i) whole
 
-module _ (js : List ℕ) (long : length js ≡ 16) (below : (i : ℕ) → i < 16 → get_or js i 0 < 16) where
+  index_below : (i : ℕ) → i < 16 → get_or (indices_of x) i 0 < 16
+  index_below i inside = omega (arith, index_at i inside, below i inside)
+
   -- a choice of std::simd among 16 bytes may be by indices below 16
-  pub indices_may_index : SwzOk w8 16 16 0 js
+  pub indices_may_index : SwzOk w8 16 16 0 (indices_of x)
   indices_may_index =
-      SwzOk-from_below w8 16 1 16 0 js refl (omega arith)
-      (Each1-from_get_or (λ j. j < 16) js 0 (λ i inside. below i (omega arith)))
+      SwzOk-from_below w8 16 1 16 0 (indices_of x) refl (omega arith)
+      (Each1-from_get_or (λ j. j < 16) (indices_of x) 0 (λ i inside. index_below i (omega arith)))
 
   -- by indices below 16, the byte of a table at the index is chosen
   pub picked_inside_at : (table : List ℕ) (i : ℕ) → i < 16
-      → get_or (swz_l w8 16 table 0 js) i 0 ≡ get_or table (get_or js i 0) 0
+      → get_or (swz_l w8 16 table 0 (indices_of x)) i 0 ≡ get_or table (lane w8 x i) 0
   picked_inside_at table i inside =
-      let place : 16 * ((0 + i) / 16) + get_or js i 0 ≡ get_or js i 0 = omega arith in
-      get_or-swz_l_below w8 16 table 0 js i (omega arith) (below i inside) ∙ ap (λ j. get_or table j 0) place
-
--- a choice among 16 bytes by indices below 16: that it may be made, and what it gives
-pub ruleset choice_inside = (indices_may_index, picked_inside_at)
+      let place : 16 * ((0 + i) / 16) + get_or (indices_of x) i 0 ≡ lane w8 x i = omega (arith, index_at i inside) in
+      get_or-swz_l_below w8 16 table 0 (indices_of x) i (omega arith) (index_below i inside)
+      ∙ ap (λ j. get_or table j 0) place

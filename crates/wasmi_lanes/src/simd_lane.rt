@@ -231,9 +231,9 @@ pub trait VariableLane: IntoLaneIdx {
 impl VariableLane for u8 {
     #[inline(always)]
     fn lane_at(vector: V128, at: ImmLaneIdx16) -> u8 {
-        let indices = indices_of_u8(u8::from(at));
-        let [bytes, ..] = u32x4::from_le_bytes(picked_inside(bytes_of(vector), indices)).to_array();
-        (bytes & 0xff) as u8
+        let bytes = bytes_at(vector, u32::from(u8::from(at)));
+        let [word, ..] = u32x4::from_le_bytes(bytes).to_array();
+        (word & 0xff) as u8
     }
 
     #[inline(always)]
@@ -247,15 +247,16 @@ impl VariableLane for u8 {
 impl VariableLane for u16 {
     #[inline(always)]
     fn lane_at(vector: V128, at: ImmLaneIdx8) -> u16 {
-        let indices = indices_of_u16(u8::from(at));
-        let [item, ..] = u16x8::from_le_bytes(picked_inside(bytes_of(vector), indices)).to_array();
+        let bytes = bytes_at(vector, BYTES_OF_U16[usize::from(u8::from(at))]);
+        let [item, ..] = u16x8::from_le_bytes(bytes).to_array();
         item
     }
 
     #[inline(always)]
     fn with_lane(vector: V128, at: ImmLaneIdx8, item: u16) -> V128 {
         let numbers = u16x8::from_array([0, 1, 2, 3, 4, 5, 6, 7]);
-        let here = numbers.simd_eq(in_each_u16(u8::from(at)));
+        let places = u64x2::splat(IN_EACH_U16[usize::from(u8::from(at))]).to_le_bytes();
+        let here = numbers.simd_eq(u16x8::from_le_bytes(places));
         u16::vector_of(here.select(u16x8::splat(item), u16::lanes_of(vector)))
     }
 }
@@ -263,8 +264,8 @@ impl VariableLane for u16 {
 impl VariableLane for u32 {
     #[inline(always)]
     fn lane_at(vector: V128, at: ImmLaneIdx4) -> u32 {
-        let indices = indices_of_u32(u8::from(at));
-        let [item, ..] = u32x4::from_le_bytes(picked_inside(bytes_of(vector), indices)).to_array();
+        let bytes = bytes_at(vector, BYTES_OF_U32[usize::from(u8::from(at))]);
+        let [item, ..] = u32x4::from_le_bytes(bytes).to_array();
         item
     }
 
@@ -291,54 +292,26 @@ impl VariableLane for u64 {
     }
 }
 
-// The lanes of `table` at indices below 16.
-#[tactic(auto, using(crate::proofs::VariableLaneLemmas::choice_inside))]
+// The bytes of a vector at the indices that are the bytes of a word.
 #[inline(always)]
-fn picked_inside(table: u8x16, indices: u8x16) -> u8x16
-    requires inside { (i : ℕ) → i < 16 → slice_index indices i < 16 }
+fn bytes_at(vector: V128, indices: u32) -> u8x16
+    requires inside { (i : ℕ) → i < 16 → lane w8 indices i < 16 }
     ensures lanes { (i : ℕ) → i < 16
-        → slice_index result i ≡ slice_index table (slice_index indices i) }
+        → slice_index result i ≡ lane w8 vector (lane w8 indices i) }
 {
-    table.swizzle_dyn_within::<16>(indices)
+    let places = u32x4::from_array([indices, 0, 0, 0]).to_le_bytes();
+    bytes_of(vector).swizzle_dyn_within::<16>(places)
 }
 
-// The index of a lane of 8 bits.
-#[inline(always)]
-fn indices_of_u8(lane: u8) -> u8x16
-    requires lane { lane < 16 }
-    ensures first { slice_index result 0 ≡ lane }
-    ensures inside { (i : ℕ) → i < 16 → slice_index result i < 16 }
-{
-    u32x4::from_array([u32::from(lane), 0, 0, 0]).to_le_bytes()
-}
-
+// The indices of the two bytes of a lane of 16 bits.
 const BYTES_OF_U16: [u32; 8] = [
     0x0100, 0x0302, 0x0504, 0x0706, 0x0908, 0x0b0a, 0x0d0c, 0x0f0e,
 ];
 
-// The indices of the two bytes of a lane of 16 bits.
-#[inline(always)]
-fn indices_of_u16(lane: u8) -> u8x16
-    requires lane { lane < 8 }
-    ensures first { slice_index result 0 ≡ 2 * lane }
-    ensures second { slice_index result 1 ≡ 2 * lane + 1 }
-    ensures inside { (i : ℕ) → i < 16 → slice_index result i < 16 }
-{
-    u32x4::from_array([BYTES_OF_U16[usize::from(lane)], 0, 0, 0]).to_le_bytes()
-}
-
+// The indices of the four bytes of a lane of 32 bits.
 const BYTES_OF_U32: [u32; 4] = [0x0302_0100, 0x0706_0504, 0x0b0a_0908, 0x0f0e_0d0c];
 
-// The indices of the four bytes of a lane of 32 bits.
-#[inline(always)]
-fn indices_of_u32(lane: u8) -> u8x16
-    requires lane { lane < 4 }
-    ensures lanes { (i : ℕ) → i < 4 → slice_index result i ≡ 4 * lane + i }
-    ensures inside { (i : ℕ) → i < 16 → slice_index result i < 16 }
-{
-    u32x4::from_array([BYTES_OF_U32[usize::from(lane)], 0, 0, 0]).to_le_bytes()
-}
-
+// The index of a lane of 16 bits, in each lane.
 const IN_EACH_U16: [u64; 8] = [
     0x0000_0000_0000_0000,
     0x0001_0001_0001_0001,
@@ -349,12 +322,3 @@ const IN_EACH_U16: [u64; 8] = [
     0x0006_0006_0006_0006,
     0x0007_0007_0007_0007,
 ];
-
-// The index of a lane of 16 bits, in each lane.
-#[inline(always)]
-fn in_each_u16(lane: u8) -> u16x8
-    requires lane { lane < 8 }
-    ensures lanes { result ≡ replicate 8 lane }
-{
-    u16x8::from_le_bytes(u64x2::splat(IN_EACH_U16[usize::from(lane)]).to_le_bytes())
-}

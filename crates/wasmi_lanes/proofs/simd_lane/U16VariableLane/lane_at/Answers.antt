@@ -1,20 +1,26 @@
-use Rattle.std.proofs.Common.{ℕ, ◌≡◌, ◌+◌, ◌*◌, ◌<◌, ◌∙◌, arith, slice_index}
-use Rattle.wasmi_types.specs.Numbers.{w8}
+use Rattle.std.proofs.Common.{ℕ, ◌≡◌, ◌+◌, ◌*◌, ◌<◌, ◌∙◌, ap, refl, arith, slice_index_or}
+use Rattle.wasmi_types.specs.Numbers.{w16}
 use Rattle.wasmi_lanes.specs.Vector.{lane}
-use Rattle.wasmi_lanes.proofs.VariableLaneLemmas.{IsByteAt, byte_picked, first_two_bytes, joined_halves}
+use Rattle.wasmi_lanes.specs.declared.simd_lane.TheConstants.{BYTES_OF_U16}
+use Rattle.wasmi_lanes.proofs.VariableLaneLemmas.{byte_picked, first_two_bytes, indices_inside, joined_halves}
 use Rattle.wasmi_lanes.proofs.simd_lane.U16VariableLane.lane_at.Goals as goal
+
+-- the indices of the bytes of a lane
+abbrev word : ℕ → ℕ
+word m = slice_index_or BYTES_OF_U16 m 0
+
+pub bytes_at-bytes-requires : goal.bytes_at-bytes-requires
+bytes_at-bytes-requires c =
+    let below : c.from-2.result < 8 = omega (arith, c.from-2.ensures, c.from.ensures.0, c.from.ensures.1) in
+    record { inside = λ i inside. indices_inside word 8 c.from-2.result i refl below inside }
 
 pub returns : goal.returns
 returns c =
-    let at = c.args.at in
-    let inside : at < 8 = omega (arith, c.from.ensures.0, c.from.ensures.1) in
-    let byte : (i k : ℕ) → i < 16 → k < 16 → slice_index c.indices_of_u16-indices.result i ≡ k
-    → IsByteAt c.picked_inside.result i (lane w8 c.args.vector k) =
-    λ i k. byte_picked c.args.vector _ _ c.picked_inside.result i k c.picked_inside.ensures.lanes
-    c.bytes_of.ensures.lanes in
-    first_two_bytes c.picked_inside.result _ _
-    (byte 0 (2 * at) (omega arith) (omega arith)
-    (omega (arith, c.from.ensures.0, inside, c.indices_of_u16-indices.ensures.first)))
-    (byte 1 (2 * at + 1) (omega arith) (omega arith)
-    (omega (arith, c.from.ensures.0, inside, c.indices_of_u16-indices.ensures.second)))
-    ∙ joined_halves 8 c.args.vector at
+    let v = c.args.vector in
+    let k = c.from-2.result in
+    let at : k ≡ c.args.at = c.from-2.ensures ∙ c.from.ensures.0 in
+    let below : k < 8 = omega (arith, c.from-2.ensures, c.from.ensures.0, c.from.ensures.1) in
+    first_two_bytes c.bytes_at-bytes.result _ _
+    (byte_picked word (λ m. 2 * m) 8 v k 0 c.bytes_at-bytes.result c.bytes_at-bytes.ensures.lanes below (omega arith) refl)
+    (byte_picked word (λ m. 2 * m + 1) 8 v k 1 c.bytes_at-bytes.result c.bytes_at-bytes.ensures.lanes below (omega arith) refl)
+    ∙ joined_halves 8 v k ∙ ap (lane w16 v) at

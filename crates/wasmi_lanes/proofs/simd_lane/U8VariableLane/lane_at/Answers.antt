@@ -1,11 +1,20 @@
-use Rattle.std.proofs.Common.{◌∙◌, arith}
-use Rattle.wasmi_lanes.proofs.VariableLaneLemmas.{byte_picked, first_byte}
+use Rattle.std.proofs.Common.{◌≡◌, ◌<◌, ◌∙◌, ap, refl, arith}
+use Rattle.wasmi_types.specs.Numbers.{w8}
+use Rattle.wasmi_lanes.specs.Vector.{lane}
+use Rattle.wasmi_lanes.proofs.VariableLaneLemmas.{byte_picked, first_byte, indices_inside}
 use Rattle.wasmi_lanes.proofs.simd_lane.U8VariableLane.lane_at.Goals as goal
+
+pub bytes_at-bytes-requires : goal.bytes_at-bytes-requires
+bytes_at-bytes-requires c =
+    let below : c.from-2.result < 16 = omega (arith, c.from-2.ensures, c.from.ensures.0, c.from.ensures.1) in
+    record { inside = λ i inside. indices_inside (λ m. m) 16 c.from-2.result i refl below inside }
 
 pub returns : goal.returns
 returns c =
-    first_byte c.picked_inside.result _
-    (byte_picked c.args.vector _ _ c.picked_inside.result 0 c.args.at c.picked_inside.ensures.lanes
-    c.bytes_of.ensures.lanes
-    (omega arith) (omega (arith, c.from.ensures.0, c.from.ensures.1))
-    (c.indices_of_u8-indices.ensures.first ∙ c.from.ensures.0))
+    let v = c.args.vector in
+    let k = c.from-2.result in
+    let at : k ≡ c.args.at = c.from-2.ensures ∙ c.from.ensures.0 in
+    let below : k < 16 = omega (arith, c.from-2.ensures, c.from.ensures.0, c.from.ensures.1) in
+    first_byte c.bytes_at-bytes.result _
+    (byte_picked (λ m. m) (λ m. m) 16 v k 0 c.bytes_at-bytes.result c.bytes_at-bytes.ensures.lanes below (omega arith) refl)
+    ∙ ap (lane w8 v) at
