@@ -174,8 +174,7 @@ where
     ensures number { GivesNumber T.number result
         (loaded T.Bytes.LEN (number_of_bits T.is_signed T.width) memory.now (ptr + offset)) }
 {
-    let address = effective_address(ptr, offset)?;
-    load_at::<T>(memory, address)
+    load_at::<T>(memory, effective_address(ptr, offset)?)
 }
 
 /// The number at `address`.
@@ -201,8 +200,7 @@ where
         ≡ loaded U.Bytes.LEN (λ n. T.of_number (number_of_bits U.is_signed U.width n)) memory.now
         (ptr + offset) }
 {
-    let address = effective_address(ptr, offset)?;
-    load_extend_at::<T, U>(memory, address)
+    load_extend_at::<T, U>(memory, effective_address(ptr, offset)?)
 }
 
 /// The number at `address`, read as a `U` and extended to a `T`.
@@ -214,8 +212,7 @@ where
         ≡ loaded U.Bytes.LEN
         (λ n. T.of_number (number_of_bits U.is_signed U.width n)) memory.now address }
 {
-    let value = load_at::<U>(memory, address)?;
-    Ok(value.extend_into())
+    Ok(load_at::<U>(memory, address)?.extend_into())
 }
 
 /// Writes a number at `ptr + offset`.
@@ -225,8 +222,7 @@ where
     ensures { IsStore memory.old (ptr + offset)
         (le_bytes T.Bytes.LEN (wrap T.width (T.number value))) memory.new result }
 {
-    let address = effective_address(ptr, offset)?;
-    store_at::<T>(memory, address, value)
+    store_at::<T>(memory, effective_address(ptr, offset)?, value)
 }
 
 /// Writes a number at `address`.
@@ -236,8 +232,7 @@ where
     ensures { IsStore memory.old address
         (le_bytes T.Bytes.LEN (wrap T.width (T.number value))) memory.new result }
 {
-    let buffer = value.into_le_bytes();
-    buffer.store_from(memory, address)
+    value.into_le_bytes().store_from(memory, address)
 }
 
 /// Writes a number at `ptr + offset`, wrapped to a `U`.
@@ -248,8 +243,7 @@ where
     ensures { IsStore memory.old (ptr + offset)
         (le_bytes U.Bytes.LEN (wrap U.width (T.number value))) memory.new result }
 {
-    let address = effective_address(ptr, offset)?;
-    store_wrap_at::<T, U>(memory, address, value)
+    store_wrap_at::<T, U>(memory, effective_address(ptr, offset)?, value)
 }
 
 /// Writes a number at `address`, wrapped to a `U`.

@@ -236,8 +236,7 @@ pub mod access {
     where
         T: LittleEndianConvert,
     {
-        let address = effective_address(ptr, offset)?;
-        load_at::<T>(memory, address)
+        load_at::<T>(memory, effective_address(ptr, offset)?)
     }
 
     /// The number at `address`.
@@ -279,8 +278,7 @@ pub mod access {
         T: Number,
         U: LittleEndianConvert + ExtendInto<T>,
     {
-        let address = effective_address(ptr, offset)?;
-        load_extend_at::<T, U>(memory, address)
+        load_extend_at::<T, U>(memory, effective_address(ptr, offset)?)
     }
 
     /// The number at `address`, read as a `U` and extended to a `T`.
@@ -300,8 +298,7 @@ pub mod access {
         T: Number,
         U: LittleEndianConvert + ExtendInto<T>,
     {
-        let value = load_at::<U>(memory, address)?;
-        Ok(value.extend_into())
+        Ok(load_at::<U>(memory, address)?.extend_into())
     }
 
     /// Writes a number at `ptr + offset`.
@@ -319,8 +316,7 @@ pub mod access {
     where
         T: LittleEndianConvert,
     {
-        let address = effective_address(ptr, offset)?;
-        store_at::<T>(memory, address, value)
+        store_at::<T>(memory, effective_address(ptr, offset)?, value)
     }
 
     /// Writes a number at `address`.
@@ -338,8 +334,7 @@ pub mod access {
     where
         T: LittleEndianConvert,
     {
-        let buffer = value.into_le_bytes();
-        buffer.store_from(memory, address)
+        value.into_le_bytes().store_from(memory, address)
     }
 
     /// Writes a number at `ptr + offset`, wrapped to a `U`.
@@ -363,8 +358,7 @@ pub mod access {
         T: WrapInto<U>,
         U: LittleEndianConvert,
     {
-        let address = effective_address(ptr, offset)?;
-        store_wrap_at::<T, U>(memory, address, value)
+        store_wrap_at::<T, U>(memory, effective_address(ptr, offset)?, value)
     }
 
     /// Writes a number at `address`, wrapped to a `U`.
