@@ -500,9 +500,7 @@ pub fn i64_add128(lhs_lo: i64, lhs_hi: i64, rhs_lo: i64, rhs_hi: i64) -> (i64, i
     ensures { unsigned_of result.0 result.1
         ≡ add128 (unsigned_of lhs_lo lhs_hi) (unsigned_of rhs_lo rhs_hi) }
 {
-    let lhs = combine128(lhs_lo, lhs_hi);
-    let rhs = combine128(rhs_lo, rhs_hi);
-    split128(lhs.wrapping_add(rhs))
+    split128(combine128(lhs_lo, lhs_hi).wrapping_add(combine128(rhs_lo, rhs_hi)))
 }
 
 /// The difference of two numbers modulo 2 to the power 128, as the words `(lo, hi)`.
@@ -510,23 +508,19 @@ pub fn i64_sub128(lhs_lo: i64, lhs_hi: i64, rhs_lo: i64, rhs_hi: i64) -> (i64, i
     ensures { unsigned_of result.0 result.1
         ≡ sub128 (unsigned_of lhs_lo lhs_hi) (unsigned_of rhs_lo rhs_hi) }
 {
-    let lhs = combine128(lhs_lo, lhs_hi);
-    let rhs = combine128(rhs_lo, rhs_hi);
-    split128(lhs.wrapping_sub(rhs))
+    split128(combine128(lhs_lo, lhs_hi).wrapping_sub(combine128(rhs_lo, rhs_hi)))
 }
 
 /// The whole product of two numbers read signed, as the words `(lo, hi)` of a signed number.
 pub fn i64_mul_wide_s(lhs: i64, rhs: i64) -> (i64, i64)
     ensures { signed_of result.0 result.1 ≡ lhs *ℤ rhs }
 {
-    let product = lhs as i128 * rhs as i128;
-    split128(product.cast_unsigned())
+    split128((lhs as i128 * rhs as i128).cast_unsigned())
 }
 
 /// The whole product of two numbers read unsigned, as the words `(lo, hi)` of an unsigned number.
 pub fn i64_mul_wide_u(lhs: i64, rhs: i64) -> (i64, i64)
     ensures { unsigned_of result.0 result.1 ≡ cast_unsigned w64 lhs * cast_unsigned w64 rhs }
 {
-    let product = lhs.cast_unsigned() as u128 * rhs.cast_unsigned() as u128;
-    split128(product)
+    split128(lhs.cast_unsigned() as u128 * rhs.cast_unsigned() as u128)
 }

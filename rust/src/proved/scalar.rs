@@ -1364,9 +1364,7 @@ pub mod wasm {
     /// Definitions: [`unsigned_of`](crate::specs::scalar::Numerics#unsigned_of), [`add128`](crate::specs::scalar::Numerics#add128).
     #[inline]
     pub fn i64_add128(lhs_lo: i64, lhs_hi: i64, rhs_lo: i64, rhs_hi: i64) -> (i64, i64) {
-        let lhs = combine128(lhs_lo, lhs_hi);
-        let rhs = combine128(rhs_lo, rhs_hi);
-        split128(lhs.wrapping_add(rhs))
+        split128(combine128(lhs_lo, lhs_hi).wrapping_add(combine128(rhs_lo, rhs_hi)))
     }
 
     /// The difference of two numbers modulo 2 to the power 128, as the words `(lo, hi)`.
@@ -1381,9 +1379,7 @@ pub mod wasm {
     /// Definitions: [`unsigned_of`](crate::specs::scalar::Numerics#unsigned_of), [`sub128`](crate::specs::scalar::Numerics#sub128).
     #[inline]
     pub fn i64_sub128(lhs_lo: i64, lhs_hi: i64, rhs_lo: i64, rhs_hi: i64) -> (i64, i64) {
-        let lhs = combine128(lhs_lo, lhs_hi);
-        let rhs = combine128(rhs_lo, rhs_hi);
-        split128(lhs.wrapping_sub(rhs))
+        split128(combine128(lhs_lo, lhs_hi).wrapping_sub(combine128(rhs_lo, rhs_hi)))
     }
 
     /// The whole product of two numbers read signed, as the words `(lo, hi)` of a signed number.
@@ -1397,8 +1393,7 @@ pub mod wasm {
     /// Definitions: [`signed_of`](crate::specs::scalar::Numerics#signed_of).
     #[inline]
     pub fn i64_mul_wide_s(lhs: i64, rhs: i64) -> (i64, i64) {
-        let product = lhs as i128 * rhs as i128;
-        split128(product.cast_unsigned())
+        split128((lhs as i128 * rhs as i128).cast_unsigned())
     }
 
     /// The whole product of two numbers read unsigned, as the words `(lo, hi)` of an unsigned number.
@@ -1412,7 +1407,6 @@ pub mod wasm {
     /// Definitions: [`unsigned_of`](crate::specs::scalar::Numerics#unsigned_of).
     #[inline]
     pub fn i64_mul_wide_u(lhs: i64, rhs: i64) -> (i64, i64) {
-        let product = lhs.cast_unsigned() as u128 * rhs.cast_unsigned() as u128;
-        split128(product)
+        split128(lhs.cast_unsigned() as u128 * rhs.cast_unsigned() as u128)
     }
 }
