@@ -5,7 +5,9 @@ use Rattle.std.proofs.lemmas.Bool.{cases_lt, lt-ltb, le-ltb}
 use Rattle.std.proofs.lemmas.Nat.{and_mask}
 use Rattle.std.proofs.lemmas.Simd.{swz_l, SwzOk, SwzOk-from_below, SwzOk-from_Each1, Each1-from_get_or, Each1-get_or, below_from_Fits, length-zip2, get_or-zip2, get_or-replicate, get_or-swz_l, get_or-swz_l_below, get_or-sel_l, length-sel_l, tops_compared}
 use Rattle.std.proofs.Math.Nat.{mod-eq_of_lt}
+use Rattle.wasmi_lanes.specs.Vector.{lane}
 use Rattle.wasmi_lanes.proofs.VariableLaneLemmas.{computed}
+use Rattle.wasmi_lanes.proofs.VectorLemmas.{lane_below}
 use lib.Dec.{T}
 use lib.Lanes.{top}
 
@@ -177,8 +179,12 @@ module _ (js : List ℕ) (long : length js ≡ 16) (fits : Each1 (Fits w8) js) w
           ap (λ t. cond (not t) 0 (get_or table (position j) 0)) (le-ltb j 16 above)
           ∙ sym (ap (λ t. if t then get_or table j 0 else 0) (le-ltb j 16 above))
 
--- a choice among 16 bytes by the positions: that it may be made, and what it gives
-pub ruleset choice_or_zero = (positions_may_index, picked_or_zero_at)
+-- the bytes of a vector fit into 8 bits
+pub bytes_fit : (v : ℕ) (xs : List ℕ) → length xs ≡ 16 → ((i : ℕ) → i < 16 → get_or xs i 0 ≡ lane w8 v i)
+    → Each1 (Fits w8) xs
+bytes_fit v xs long are =
+    Each1-from_get_or (Fits w8) xs 0
+    (λ i inside. record { fits = omega (arith, are i (omega arith), lane_below w8 v i) })
 
 -- ---- choices by an index
 

@@ -10,8 +10,8 @@ use Rattle.wasmi_types.specs.Numbers.{Width, w8, w16, w32, w64, bits, signed, wr
 use Rattle.wasmi_lanes.specs.Vector.{lane, lane_count, from_lanes, binary_of_lanes, comparison_of_lanes}
 use Rattle.wasmi_lanes.specs.Words.{field}
 use Rattle.wasmi_lanes.proofs.FieldLemmas.{field_not, field_of_zero}
-use Rattle.wasmi_lanes.proofs.VectorLemmas.{lanes_make_vector, lane_below, lane_count_fills}
-use Rattle.wasmi_lanewise.specs.VectorTable.{lt_u, le_u, lt_s, le_s, min_u, max_u, min_s, max_s}
+use Rattle.wasmi_lanes.proofs.VectorLemmas.{lanes_make_vector, lane_below, lane_count_fills, lane_of_comparison}
+use Rattle.wasmi_lanewise.specs.VectorTable.{v128_not, lt_u, lt_s, min_u, max_u, min_s, max_s}
 use mir.Syntax.{w128}
 use mir.Val.{sel, hbits}
 
@@ -40,7 +40,7 @@ same_less a b c d up down =
     ]
 
 -- a number is at most another just where that one isn't less
-at_most_is_not_less : (a b : ℕ) → leb a b ≡ not (ltb b a)
+pub at_most_is_not_less : (a b : ℕ) → leb a b ≡ not (ltb b a)
 at_most_is_not_less a b =
     elim (cases_lt b a) as (λ _. leb a b ≡ not (ltb b a)) [
       | inl above ↦ lt-leb a b above ∙ sym (ap not (lt-ltb b a above))
@@ -48,7 +48,7 @@ at_most_is_not_less a b =
     ]
 
 -- so for integers
-int_at_most_is_not_less : (a b : ℤ) → int_le a b ≡ not (int_lt b a)
+pub int_at_most_is_not_less : (a b : ℤ) → int_le a b ≡ not (int_lt b a)
 int_at_most_is_not_less (pos a) (pos b) = at_most_is_not_less a b
 int_at_most_is_not_less (pos a) (negsuc b) = refl
 int_at_most_is_not_less (negsuc a) (pos b) = refl
@@ -106,22 +106,6 @@ module _ (w : Width) where
           let same : m % 2 ^ bits w ≡ m = mod-eq_of_lt small in
           omega (arith, same)
 
--- all zeros where b is less than a, else all ones: as many as where a is at most b
-zeros_where_less : (a b n : ℕ) → (if ltb b a then 0 else n) ≡ (if leb a b then n else 0)
-zeros_where_less a b n = turned (ltb b a) ∙ sym (ap (λ t. if t then n else 0) (at_most_is_not_less a b))
-  where
-    turned : (t : Bool) → (if t then 0 else n) ≡ (if not t then n else 0)
-    turned true = refl
-    turned false = refl
-
--- so for integers
-zeros_where_int_less : (a b : ℤ) (n : ℕ) → (if int_lt b a then 0 else n) ≡ (if int_le a b then n else 0)
-zeros_where_int_less a b n = turned (int_lt b a) ∙ sym (ap (λ t. if t then n else 0) (int_at_most_is_not_less a b))
-  where
-    turned : (t : Bool) → (if t then 0 else n) ≡ (if not t then n else 0)
-    turned true = refl
-    turned false = refl
-
 -- of two numbers, the second where it is less, else the first, is the smaller
 smaller_is : (a b : ℕ) → (if ltb b a then b else a) ≡ min a b
 smaller_is a b = elim (cases_lt b a) as (λ _. (if ltb b a then b else a) ≡ min a b) [
@@ -161,18 +145,12 @@ ones_where_less : (w : Width) (n p q : ℕ) → p < 2 ^ bits w → q < 2 ^ bits 
     → (if ltb (biased w p) (biased w q) then n else 0) ≡ (if int_lt (signed w p) (signed w q) then n else 0)
 ones_where_less w n p q fits_p fits_q = ap (λ t. if t then n else 0) (biased_is_less w p q fits_p fits_q)
 
--- all zeros where q, moved, is less than p, moved, else all ones: all ones where p is at most q as signed numbers
-ones_where_at_most : (w : Width) (n p q : ℕ) → p < 2 ^ bits w → q < 2 ^ bits w
-    → (if ltb (biased w q) (biased w p) then 0 else n) ≡ (if int_le (signed w p) (signed w q) then n else 0)
-ones_where_at_most w n p q fits_p fits_q =
-    ap (λ t. if t then 0 else n) (biased_is_less w q p fits_q fits_p) ∙ zeros_where_int_less (signed w p) (signed w q) n
-
--- a lane of the vector of all ones
-pub lane_of_ones : (w : Width) (v i : ℕ) → v ≡ 2 ^ 128 - 1 → i < lane_count w → lane w v i ≡ 2 ^ bits w - 1
+-- a lane of a vector whose bits are inverted
+lane_of_inverted : (w : Width) (v i : ℕ) → v < 2 ^ 128 → i < lane_count w
+    → lane w (v128_not v) i ≡ 2 ^ bits w - 1 - lane w v i
 unfolding field
-lane_of_ones w v i is inside =
-    let k : ℕ = bits w * i in
-    let within : k + bits w ≤ 128 =
+lane_of_inverted w v i fits inside =
+    let within : bits w * i + bits w ≤ 128 =
     omega (
       arith,
       lane_count_fills w,
@@ -180,15 +158,38 @@ lane_of_ones w v i is inside =
       suc-mul i (bits w),
       mul_comm i (bits w),
     ) in
-    let flipped : field k (bits w) (2 ^ 128 - 1 - 0) ≡ 2 ^ bits w - 1 - field k (bits w) 0 =
-    field_not k (bits w) 128 0 within (pow_pos 128) in
+    field_not (bits w * i) (bits w) 128 v within fits
+
+-- a lane of the vector of all ones
+pub lane_of_ones : (w : Width) (v i : ℕ) → v ≡ 2 ^ 128 - 1 → i < lane_count w → lane w v i ≡ 2 ^ bits w - 1
+unfolding field
+lane_of_ones w v i is inside =
     let whole : 2 ^ bits w - 1 - 0 ≡ 2 ^ bits w - 1 = omega arith in
-    ap (λ n. lane w n i) is ∙ flipped ∙ ap (λ n. 2 ^ bits w - 1 - n) (field_of_zero k (bits w)) ∙ whole
+    ap (λ n. lane w n i) is ∙ lane_of_inverted w 0 i (pow_pos 128) inside
+    ∙ ap (λ n. 2 ^ bits w - 1 - n) (field_of_zero (bits w * i) (bits w)) ∙ whole
 
 -- a lane of the vector of all zeros
 pub lane_of_zeros : (w : Width) (v i : ℕ) → v ≡ 0 → lane w v i ≡ 0
 unfolding field
 lane_of_zeros w v i is = ap (λ n. lane w n i) is ∙ field_of_zero (bits w * i) (bits w)
+
+-- the lanes that a test of b and a leaves out, as a vector: those that the opposite test of a and b names
+pub inverted_comparison : {A : Type 0} (w : Width) (read : ℕ → A) (test opposite : A → A → Bool) (a b : ℕ) {v r : ℕ}
+    → ((x y : A) → opposite x y ≡ not (test y x)) → v < 2 ^ 128 → r < 2 ^ 128 → v ≡ comparison_of_lanes w read test b a
+    → r ≡ v128_not v → r ≡ comparison_of_lanes w read opposite a b
+unfolding comparison_of_lanes
+inverted_comparison w read test opposite a b {v} {r} is_opposite fits below is is_r =
+    lanes_make_vector w (lane_count w) r _ (lane_count_fills w) below
+    (λ i inside.
+    let less = test (read (lane w b i)) (read (lane w a i)) in
+    ap (λ n. lane w n i) is_r ∙ lane_of_inverted w v i fits inside
+    ∙ ap (λ n. 2 ^ bits w - 1 - n) (ap (λ n. lane w n i) is ∙ lane_of_comparison w i inside read test b a)
+    ∙ turned (2 ^ bits w - 1) less
+    ∙ ap (λ t. if t then 2 ^ bits w - 1 else 0) (sym (is_opposite (read (lane w a i)) (read (lane w b i)))))
+  where
+    turned : (n : ℕ) (t : Bool) → n - (if t then n else 0) ≡ (if not t then n else 0)
+    turned n true = omega arith
+    turned n false = omega arith
 
 -- lanes that are chosen from two vectors, each with one number in all its lanes, are chosen from the two numbers
 pub chosen_numbers : {n : ℕ} (chosen other : ℕ) (test : ℕ → Bool) {r from_chosen from_other : ℕ → ℕ}
@@ -216,14 +217,6 @@ module _ (w : Width) (a b : ℕ) {r : ℕ} (below : r < 2 ^ 128) {x y : ℕ → 
       → r ≡ lt_u w a b
   unfolding comparison_of_lanes
   less_make_vector is = rows_make_vector (λ p q. if ltb p q then 2 ^ bits w - 1 else 0) _ is (λ p q _ _. refl)
-
-  -- all zeros where y is less
-  pub at_most_make_vector : ((i : ℕ) → i < lane_count w → lane w r i ≡ (if ltb (y i) (x i) then 0 else 2 ^ bits w - 1))
-      → r ≡ le_u w a b
-  unfolding comparison_of_lanes
-  at_most_make_vector is =
-      rows_make_vector (λ p q. if ltb q p then 0 else 2 ^ bits w - 1)
-      (λ p q. if leb p q then 2 ^ bits w - 1 else 0) is (λ p q _ _. zeros_where_less p q (2 ^ bits w - 1))
 
   -- y where it is less
   pub smaller_make_vector : ((i : ℕ) → i < lane_count w → lane w r i ≡ (if ltb (y i) (x i) then y i else x i))
@@ -256,14 +249,6 @@ module _ (w : Width) (a b : ℕ) {r : ℕ} (below : r < 2 ^ 128) {x y : ℕ → 
     unfolding comparison_of_lanes
     signed_less_make_vector is =
         moved_make_vector (λ _ _ p q. if ltb p q then 2 ^ bits w - 1 else 0) is (ones_where_less w (2 ^ bits w - 1))
-
-    -- all zeros where y, moved, is less
-    pub signed_at_most_make_vector :
-        ((i : ℕ) → i < lane_count w → lane w r i ≡ (if ltb (y' i) (x' i) then 0 else 2 ^ bits w - 1)) → r ≡ le_s w a b
-    unfolding comparison_of_lanes
-    signed_at_most_make_vector is =
-        moved_make_vector (λ _ _ p q. if ltb q p then 0 else 2 ^ bits w - 1) is
-        (ones_where_at_most w (2 ^ bits w - 1))
 
     -- y where it is less, moved
     pub signed_smaller_make_vector :

@@ -4,7 +4,7 @@
 //! lane 0 is the lowest. `i8x16_mul` is no instruction of WebAssembly. Core specification: vector
 //! instructions; what each gives stands in `specs/VectorTable.antt`. Upstream: `wasmi_core::simd`.
 
-ghost use Rattle.std.specs.Prelude.{◌≡◌, ℕ, ◌+◌, ◌-◌, ◌*◌, ◌/◌, ◌%◌, ◌^◌, ◌<◌, ◌==◌, ◌+ℤ◌, ◌-ℤ◌, length, nat_lt, slice_index, if◌then◌else◌};
+ghost use Rattle.std.specs.Prelude.{◌≡◌, ℕ, ◌+◌, ◌-◌, ◌*◌, ◌/◌, ◌%◌, ◌^◌, ◌<◌, ◌==◌, length, nat_lt, slice_index, if◌then◌else◌};
 ghost use Rattle.wasmi_types.specs.Numbers.{w8, w16, w32, w64, signed};
 ghost use Rattle.std.specs.Int.{cast_unsigned};
 ghost use Rattle.wasmi_lanewise.specs.VectorTable as vector;
@@ -246,7 +246,7 @@ fn product_by_u128(x: u64, y: u64) -> u64
 pub fn i8x16_add_sat_s(lhs: V128, rhs: V128) -> V128
     ensures { result ≡ vector.add_sat_s w8 lhs rhs }
 {
-    on_vectors::binary::<I8x16, _>(lhs, rhs, |x, y| clamped_i8(sum_i8(x, y)))
+    on_vectors::binary::<I8x16, _>(lhs, rhs, |x, y| clamped_i8(i16::from(x) + i16::from(y)))
 }
 
 /// The sums of the lanes, read unsigned and clamped to the unsigned range of 8 bits.
@@ -260,7 +260,7 @@ pub fn i8x16_add_sat_u(lhs: V128, rhs: V128) -> V128
 pub fn i16x8_add_sat_s(lhs: V128, rhs: V128) -> V128
     ensures { result ≡ vector.add_sat_s w16 lhs rhs }
 {
-    on_vectors::binary::<I16x8, _>(lhs, rhs, |x, y| clamped_i16(sum_i16(x, y)))
+    on_vectors::binary::<I16x8, _>(lhs, rhs, |x, y| clamped_i16(i32::from(x) + i32::from(y)))
 }
 
 /// The sums of the lanes, read unsigned and clamped to the unsigned range of 16 bits.
@@ -274,7 +274,7 @@ pub fn i16x8_add_sat_u(lhs: V128, rhs: V128) -> V128
 pub fn i8x16_sub_sat_s(lhs: V128, rhs: V128) -> V128
     ensures { result ≡ vector.sub_sat_s w8 lhs rhs }
 {
-    on_vectors::binary::<I8x16, _>(lhs, rhs, |x, y| clamped_i8(difference_i8(x, y)))
+    on_vectors::binary::<I8x16, _>(lhs, rhs, |x, y| clamped_i8(i16::from(x) - i16::from(y)))
 }
 
 /// The differences of the lanes, read unsigned and clamped to the unsigned range of 8 bits.
@@ -288,7 +288,7 @@ pub fn i8x16_sub_sat_u(lhs: V128, rhs: V128) -> V128
 pub fn i16x8_sub_sat_s(lhs: V128, rhs: V128) -> V128
     ensures { result ≡ vector.sub_sat_s w16 lhs rhs }
 {
-    on_vectors::binary::<I16x8, _>(lhs, rhs, |x, y| clamped_i16(difference_i16(x, y)))
+    on_vectors::binary::<I16x8, _>(lhs, rhs, |x, y| clamped_i16(i32::from(x) - i32::from(y)))
 }
 
 /// The differences of the lanes, read unsigned and clamped to the unsigned range of 16 bits.
@@ -451,30 +451,6 @@ pub fn i16x8_avgr_u(lhs: V128, rhs: V128) -> V128
     ensures { result ≡ vector.avgr_u w16 lhs rhs }
 {
     words::averages::<u16>(lhs, rhs)
-}
-
-fn sum_i8(x: i8, y: i8) -> i16
-    ensures { result ≡ x +ℤ y }
-{
-    i16::from(x) + i16::from(y)
-}
-
-fn difference_i8(x: i8, y: i8) -> i16
-    ensures { result ≡ x -ℤ y }
-{
-    i16::from(x) - i16::from(y)
-}
-
-fn sum_i16(x: i16, y: i16) -> i32
-    ensures { result ≡ x +ℤ y }
-{
-    i32::from(x) + i32::from(y)
-}
-
-fn difference_i16(x: i16, y: i16) -> i32
-    ensures { result ≡ x -ℤ y }
-{
-    i32::from(x) - i32::from(y)
 }
 
 // Comparisons.
@@ -859,28 +835,17 @@ pub fn i8x16_shuffle(a: V128, b: V128, s: [ImmLaneIdx32; 16]) -> V128
     let indices = bytes_of_indices(s);
     let low = picked(bytes_of(a), indices);
     let high = picked(bytes_of(b), indices);
-    from_bytes(low_or_high(indices, low, high))
+    from_bytes(indices.simd_lt(u8x16::splat(16)).select(low, high))
 }
 
 /// Lane i is the lane of `a` at the index that lane i of `s` is, and 0 where that is above 15.
 pub fn i8x16_swizzle(a: V128, s: V128) -> V128
     ensures { result ≡ vector.swizzle a s }
 {
-    from_bytes(picked_or_zero(bytes_of(a), bytes_of(s)))
-}
-
-// The lanes of `table` at the indices, and 0 where an index is above 15: such an index becomes 128,
-// at which the processor's instruction gives 0. LLVM leaves the last mask out, since that
-// instruction reads no other bits.
-#[tactic(auto, using(crate::proofs::ChosenLemmas::choice_or_zero))]
-#[inline(always)]
-fn picked_or_zero(table: u8x16, indices: u8x16) -> u8x16
-    ensures lanes { (i : ℕ) → i < 16 → slice_index result i
-        ≡ (if nat_lt (slice_index indices i) 16 then slice_index table
-        (slice_index indices i) else 0) }
-{
-    let biased = indices.simd_min(u8x16::splat(16)) + u8x16::splat(0x70);
-    table.swizzle_dyn_within::<16>(biased & u8x16::splat(0x8f))
+    // An index above 15 becomes 128 or more, at which the processor's instruction gives 0. LLVM
+    // leaves the last mask out, since that instruction reads no other bits.
+    let biased = bytes_of(s).simd_min(u8x16::splat(16)) + u8x16::splat(0x70);
+    from_bytes(bytes_of(a).swizzle_dyn_within::<16>(biased & u8x16::splat(0x8f)))
 }
 
 // The lanes of `table` at the low four bits of the indices.
@@ -891,16 +856,6 @@ fn picked(table: u8x16, indices: u8x16) -> u8x16
         → slice_index result i ≡ slice_index table (slice_index indices i % 16) }
 {
     table.swizzle_dyn_within::<16>(indices & u8x16::splat(15))
-}
-
-// The lanes of `low` where the index is below 16, else those of `high`.
-#[tactic(auto, using(crate::proofs::ChosenLemmas::chosen_at))]
-#[inline(always)]
-fn low_or_high(indices: u8x16, low: u8x16, high: u8x16) -> u8x16
-    ensures lanes { (i : ℕ) → i < 16 → slice_index result i
-        ≡ (if nat_lt (slice_index indices i) 16 then slice_index low i else slice_index high i) }
-{
-    indices.simd_lt(u8x16::splat(16)).select(low, high)
 }
 
 #[inline(always)]

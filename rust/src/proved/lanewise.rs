@@ -12,6 +12,7 @@ pub mod simd {
         //! Lanes that are read signed are moved by half of their range, and then compared as unsigned ones.
 
         use crate::proved::lanes::SimdLane;
+        use crate::proved::lanewise::simd::v128_not;
         use crate::proved::raw::V128;
 
         /// All ones where the lane of `lhs` is less than that of `rhs`, read unsigned, else all zeros.
@@ -39,7 +40,7 @@ pub mod simd {
         /// Definitions: [`le_u`](crate::specs::lanewise::VectorTable#le_u).
         #[inline(always)]
         pub(super) fn at_most_u<T: SimdLane>(lhs: V128, rhs: V128) -> V128 {
-            zeros_if_less::<T>(T::lanes_of(rhs), T::lanes_of(lhs))
+            v128_not(less_u::<T>(rhs, lhs))
         }
 
         /// All ones where the lane of `lhs` is less than that of `rhs`, read signed, else all zeros.
@@ -67,7 +68,7 @@ pub mod simd {
         /// Definitions: [`le_s`](crate::specs::lanewise::VectorTable#le_s).
         #[inline(always)]
         pub(super) fn at_most_s<T: SimdLane>(lhs: V128, rhs: V128) -> V128 {
-            zeros_if_less::<T>(T::biased(T::lanes_of(rhs)), T::biased(T::lanes_of(lhs)))
+            v128_not(less_s::<T>(rhs, lhs))
         }
 
         /// The smaller ones of the lanes, read unsigned.
@@ -145,23 +146,6 @@ pub mod simd {
             let ones = T::lanes_of(V128::from_word_pair(u64::MAX, u64::MAX));
             let zeros = T::lanes_of(V128::from_word_pair(0, 0));
             T::vector_of(T::choose_if_less(a, b, ones, zeros))
-        }
-
-        /// # Contract
-        ///
-        /// ```text
-        /// ensures lanes: (i : ℕ) → i < lane_count T.width
-        ///     → lane T.width result i
-        ///     ≡ (if nat_lt (T.at a i) (T.at b i) then 0 else 2 ^ bits T.width - 1)
-        /// ensures in_range: result < 2 ^ 128
-        /// ```
-        ///
-        /// Definitions: [`lane_count`](crate::specs::lanes::Vector#lane_count), [`lane`](crate::specs::lanes::Vector#lane).
-        #[inline(always)]
-        fn zeros_if_less<T: SimdLane>(a: T::Vector, b: T::Vector) -> V128 {
-            let ones = T::lanes_of(V128::from_word_pair(u64::MAX, u64::MAX));
-            let zeros = T::lanes_of(V128::from_word_pair(0, 0));
-            T::vector_of(T::choose_if_less(a, b, zeros, ones))
         }
     }
     mod words {
@@ -780,7 +764,7 @@ pub mod simd {
     /// Definitions: [`add_sat_s`](crate::specs::lanewise::VectorTable#add_sat_s).
     #[inline]
     pub fn i8x16_add_sat_s(lhs: V128, rhs: V128) -> V128 {
-        on_vectors::binary::<I8x16, _>(lhs, rhs, |x, y| clamped_i8(sum_i8(x, y)))
+        on_vectors::binary::<I8x16, _>(lhs, rhs, |x, y| clamped_i8(i16::from(x) + i16::from(y)))
     }
 
     /// The sums of the lanes, read unsigned and clamped to the unsigned range of 8 bits.
@@ -808,7 +792,7 @@ pub mod simd {
     /// Definitions: [`add_sat_s`](crate::specs::lanewise::VectorTable#add_sat_s).
     #[inline]
     pub fn i16x8_add_sat_s(lhs: V128, rhs: V128) -> V128 {
-        on_vectors::binary::<I16x8, _>(lhs, rhs, |x, y| clamped_i16(sum_i16(x, y)))
+        on_vectors::binary::<I16x8, _>(lhs, rhs, |x, y| clamped_i16(i32::from(x) + i32::from(y)))
     }
 
     /// The sums of the lanes, read unsigned and clamped to the unsigned range of 16 bits.
@@ -836,7 +820,7 @@ pub mod simd {
     /// Definitions: [`sub_sat_s`](crate::specs::lanewise::VectorTable#sub_sat_s).
     #[inline]
     pub fn i8x16_sub_sat_s(lhs: V128, rhs: V128) -> V128 {
-        on_vectors::binary::<I8x16, _>(lhs, rhs, |x, y| clamped_i8(difference_i8(x, y)))
+        on_vectors::binary::<I8x16, _>(lhs, rhs, |x, y| clamped_i8(i16::from(x) - i16::from(y)))
     }
 
     /// The differences of the lanes, read unsigned and clamped to the unsigned range of 8 bits.
@@ -864,7 +848,7 @@ pub mod simd {
     /// Definitions: [`sub_sat_s`](crate::specs::lanewise::VectorTable#sub_sat_s).
     #[inline]
     pub fn i16x8_sub_sat_s(lhs: V128, rhs: V128) -> V128 {
-        on_vectors::binary::<I16x8, _>(lhs, rhs, |x, y| clamped_i16(difference_i16(x, y)))
+        on_vectors::binary::<I16x8, _>(lhs, rhs, |x, y| clamped_i16(i32::from(x) - i32::from(y)))
     }
 
     /// The differences of the lanes, read unsigned and clamped to the unsigned range of 16 bits.
@@ -1149,46 +1133,6 @@ pub mod simd {
     #[inline]
     pub fn i16x8_avgr_u(lhs: V128, rhs: V128) -> V128 {
         words::averages::<u16>(lhs, rhs)
-    }
-
-    /// # Contract
-    ///
-    /// ```text
-    /// ensures: result ≡ x +ℤ y
-    /// ```
-    #[inline]
-    fn sum_i8(x: i8, y: i8) -> i16 {
-        i16::from(x) + i16::from(y)
-    }
-
-    /// # Contract
-    ///
-    /// ```text
-    /// ensures: result ≡ x -ℤ y
-    /// ```
-    #[inline]
-    fn difference_i8(x: i8, y: i8) -> i16 {
-        i16::from(x) - i16::from(y)
-    }
-
-    /// # Contract
-    ///
-    /// ```text
-    /// ensures: result ≡ x +ℤ y
-    /// ```
-    #[inline]
-    fn sum_i16(x: i16, y: i16) -> i32 {
-        i32::from(x) + i32::from(y)
-    }
-
-    /// # Contract
-    ///
-    /// ```text
-    /// ensures: result ≡ x -ℤ y
-    /// ```
-    #[inline]
-    fn difference_i16(x: i16, y: i16) -> i32 {
-        i32::from(x) - i32::from(y)
     }
 
     // Comparisons.
@@ -1933,7 +1877,7 @@ pub mod simd {
         let indices = bytes_of_indices(s);
         let low = picked(bytes_of(a), indices);
         let high = picked(bytes_of(b), indices);
-        from_bytes(low_or_high(indices, low, high))
+        from_bytes(indices.simd_lt(u8x16::splat(16)).select(low, high))
     }
 
     /// Lane i is the lane of `a` at the index that lane i of `s` is, and 0 where that is above 15.
@@ -1947,23 +1891,10 @@ pub mod simd {
     /// Definitions: [`swizzle`](crate::specs::lanewise::VectorTable#swizzle).
     #[inline]
     pub fn i8x16_swizzle(a: V128, s: V128) -> V128 {
-        from_bytes(picked_or_zero(bytes_of(a), bytes_of(s)))
-    }
-
-    // The lanes of `table` at the indices, and 0 where an index is above 15: such an index becomes 128,
-    // at which the processor's instruction gives 0. LLVM leaves the last mask out, since that
-    // instruction reads no other bits.
-    /// # Contract
-    ///
-    /// ```text
-    /// ensures lanes: (i : ℕ) → i < 16 → slice_index result i
-    ///     ≡ (if nat_lt (slice_index indices i) 16 then slice_index table
-    ///     (slice_index indices i) else 0)
-    /// ```
-    #[inline(always)]
-    fn picked_or_zero(table: u8x16, indices: u8x16) -> u8x16 {
-        let biased = indices.simd_min(u8x16::splat(16)) + u8x16::splat(0x70);
-        table.swizzle_dyn_within::<16>(biased & u8x16::splat(0x8f))
+        // An index above 15 becomes 128 or more, at which the processor's instruction gives 0. LLVM
+        // leaves the last mask out, since that instruction reads no other bits.
+        let biased = bytes_of(s).simd_min(u8x16::splat(16)) + u8x16::splat(0x70);
+        from_bytes(bytes_of(a).swizzle_dyn_within::<16>(biased & u8x16::splat(0x8f)))
     }
 
     // The lanes of `table` at the low four bits of the indices.
@@ -1976,18 +1907,6 @@ pub mod simd {
     #[inline(always)]
     fn picked(table: u8x16, indices: u8x16) -> u8x16 {
         table.swizzle_dyn_within::<16>(indices & u8x16::splat(15))
-    }
-
-    // The lanes of `low` where the index is below 16, else those of `high`.
-    /// # Contract
-    ///
-    /// ```text
-    /// ensures lanes: (i : ℕ) → i < 16 → slice_index result i
-    ///     ≡ (if nat_lt (slice_index indices i) 16 then slice_index low i else slice_index high i)
-    /// ```
-    #[inline(always)]
-    fn low_or_high(indices: u8x16, low: u8x16, high: u8x16) -> u8x16 {
-        indices.simd_lt(u8x16::splat(16)).select(low, high)
     }
 
     /// # Contract

@@ -7,6 +7,7 @@ ghost use Rattle.wasmi_types.specs.Numbers.{bits};
 ghost use Rattle.wasmi_lanes.specs.Vector.{lane, lane_count};
 ghost use Rattle.wasmi_lanewise.specs.VectorTable as vector;
 
+use crate::simd::v128_not;
 use wasmi_lanes::SimdLane;
 use wasmi_raw::V128;
 
@@ -23,7 +24,7 @@ pub(super) fn less_u<T: SimdLane>(lhs: V128, rhs: V128) -> V128
 pub(super) fn at_most_u<T: SimdLane>(lhs: V128, rhs: V128) -> V128
     ensures { result ≡ vector.le_u T.width lhs rhs }
 {
-    zeros_if_less::<T>(T::lanes_of(rhs), T::lanes_of(lhs))
+    v128_not(less_u::<T>(rhs, lhs))
 }
 
 /// All ones where the lane of `lhs` is less than that of `rhs`, read signed, else all zeros.
@@ -39,7 +40,7 @@ pub(super) fn less_s<T: SimdLane>(lhs: V128, rhs: V128) -> V128
 pub(super) fn at_most_s<T: SimdLane>(lhs: V128, rhs: V128) -> V128
     ensures { result ≡ vector.le_s T.width lhs rhs }
 {
-    zeros_if_less::<T>(T::biased(T::lanes_of(rhs)), T::biased(T::lanes_of(lhs)))
+    v128_not(less_s::<T>(rhs, lhs))
 }
 
 /// The smaller ones of the lanes, read unsigned.
@@ -88,16 +89,4 @@ fn ones_if_less<T: SimdLane>(a: T::Vector, b: T::Vector) -> V128
     let ones = T::lanes_of(V128::from_word_pair(u64::MAX, u64::MAX));
     let zeros = T::lanes_of(V128::from_word_pair(0, 0));
     T::vector_of(T::choose_if_less(a, b, ones, zeros))
-}
-
-#[inline(always)]
-fn zeros_if_less<T: SimdLane>(a: T::Vector, b: T::Vector) -> V128
-    ensures lanes { (i : ℕ) → i < lane_count T.width
-        → lane T.width result i
-        ≡ (if nat_lt (T.at a i) (T.at b i) then 0 else 2 ^ bits T.width - 1) }
-    ensures in_range { result < 2 ^ 128 }
-{
-    let ones = T::lanes_of(V128::from_word_pair(u64::MAX, u64::MAX));
-    let zeros = T::lanes_of(V128::from_word_pair(0, 0));
-    T::vector_of(T::choose_if_less(a, b, zeros, ones))
 }

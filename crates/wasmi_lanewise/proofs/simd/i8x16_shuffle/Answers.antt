@@ -1,8 +1,8 @@
-use Rattle.std.proofs.Common.{◌-◌, ◌%◌, ◌<◌, ◌≡◌, ◌∙◌, refl, ap, slice_index, nat_lt, if◌then◌else◌, arith}
+use Rattle.std.proofs.Common.{◌-◌, ◌%◌, ◌<◌, ◌≡◌, ◌∙◌, refl, ap, slice_index, nat_lt, if◌then◌else◌, arith, rules}
 use Rattle.wasmi_lanes.specs.Vector.{lane}
 use Rattle.wasmi_lanes.proofs.VectorLemmas.{lanes_make_vector}
 use Rattle.wasmi_types.specs.Numbers.{w8}
-use Rattle.wasmi_lanewise.proofs.ChosenLemmas.{first_or_other}
+use Rattle.wasmi_lanewise.proofs.ChosenLemmas.{chosen_at, first_or_other}
 use Rattle.wasmi_lanewise.proofs.simd.i8x16_shuffle.Goals as goal
 
 pub returns : goal.returns
@@ -12,7 +12,8 @@ returns c =
     (λ i inside.
     let below : index i < 32 = c.bytes_of_indices-indices.ensures.inside i inside in
     c.from_bytes.ensures.lanes i inside
-    ∙ c.low_or_high.ensures.lanes i inside
+    ∙ chosen_at c.bytes_of_indices-indices.result (search rules) c.picked-low.result c.picked-high.result i
+    (search rules) (search rules) inside
     ∙ first_or_other (index i) _ _ (lane w8 c.args.b (index i - 16)) (lane w8 c.args.a)
     (c.picked-low.ensures.lanes i inside ∙ c.bytes_of.ensures.lanes (index i % 16) (omega arith))
     (λ above.

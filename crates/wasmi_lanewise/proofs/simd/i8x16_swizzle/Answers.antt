@@ -1,9 +1,14 @@
-use Rattle.std.proofs.Common.{◌∙◌, refl, ap, slice_index, nat_lt, if◌then◌else◌}
+use Rattle.std.proofs.Common.{◌∙◌, refl, ap, slice_index, nat_lt, if◌then◌else◌, rules}
 use Rattle.wasmi_lanes.specs.Vector.{lane, unary_of_lanes}
 use Rattle.wasmi_lanes.proofs.VectorLemmas.{lanes_make_vector}
 use Rattle.wasmi_types.specs.Numbers.{w8}
-use Rattle.wasmi_lanewise.proofs.ChosenLemmas.{below_or_zero}
+use Rattle.wasmi_lanewise.proofs.ChosenLemmas.{below_or_zero, bytes_fit, picked_or_zero_at, positions_may_index}
 use Rattle.wasmi_lanewise.proofs.simd.i8x16_swizzle.Goals as goal
+
+pub swizzle : goal.swizzle
+swizzle c =
+    positions_may_index c.bytes_of.result (search rules)
+    (bytes_fit c.args.s c.bytes_of.result (search rules) c.bytes_of.ensures.lanes)
 
 pub returns : goal.returns
 unfolding unary_of_lanes
@@ -11,7 +16,8 @@ returns c =
     lanes_make_vector w8 16 c.from_bytes.result _ refl c.from_bytes.ensures.in_range
     (λ i inside.
     c.from_bytes.ensures.lanes i inside
-    ∙ c.picked_or_zero.ensures.lanes i inside
-    ∙ below_or_zero (slice_index c.bytes_of-2.result i) (slice_index c.bytes_of.result)
-    (lane w8 c.args.a) c.bytes_of.ensures.lanes
-    ∙ ap (λ k. if nat_lt k 16 then lane w8 c.args.a k else 0) (c.bytes_of-2.ensures.lanes i inside))
+    ∙ picked_or_zero_at c.bytes_of.result (search rules)
+    (bytes_fit c.args.s c.bytes_of.result (search rules) c.bytes_of.ensures.lanes) c.bytes_of-2.result i inside
+    ∙ below_or_zero (slice_index c.bytes_of.result i) (slice_index c.bytes_of-2.result)
+    (lane w8 c.args.a) c.bytes_of-2.ensures.lanes
+    ∙ ap (λ k. if nat_lt k 16 then lane w8 c.args.a k else 0) (c.bytes_of.ensures.lanes i inside))

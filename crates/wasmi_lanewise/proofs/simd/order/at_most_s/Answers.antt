@@ -1,8 +1,10 @@
-use Rattle.wasmi_lanewise.proofs.OrderLemmas.{signed_at_most_make_vector}
+use Rattle.std.proofs.Common.{arith}
+use Rattle.std.specs.Int.RustNames.{int_lt, int_le}
+use Rattle.wasmi_types.specs.Numbers.{signed}
+use Rattle.wasmi_lanewise.proofs.OrderLemmas.{int_at_most_is_not_less, inverted_comparison}
 use Rattle.wasmi_lanewise.proofs.simd.order.at_most_s.Goals as goal
 
 pub returns : goal.returns
 returns g c =
-    signed_at_most_make_vector g.T.LaneInteger.width c.args.lhs c.args.rhs
-    c.zeros_if_less.ensures.in_range c.lanes_of-2.ensures.lanes c.lanes_of.ensures.lanes
-    (c.biased-2.ensures.lanes, c.biased.ensures.lanes) c.zeros_if_less.ensures.lanes
+    inverted_comparison g.T.LaneInteger.width (signed g.T.LaneInteger.width) int_lt int_le c.args.lhs c.args.rhs int_at_most_is_not_less
+    (omega arith) (omega arith) c.less_s.ensures c.v128_not.ensures
