@@ -277,8 +277,15 @@ pub number_of_single : (b : ℕ) → number_of (b ∷ []) ≡ b
 unfolding number_of
 number_of_single b = omega arith
 
--- for the bytes of unsigned numbers
-pub ruleset byte_numbers = (number_of_whole, number_of_bytes_2, number_of_bytes_4, number_of_bytes_8, number_of_single)
-
--- for the bytes of signed numbers, which are those of their unsigned images
-pub ruleset image_numbers = (wrap_of_bits, wrap_of_image, wrap_signed, to_z-of_z)
+-- for the bytes of numbers, and of signed ones, which are those of their unsigned images
+pub ruleset byte_numbers = (
+  number_of_whole,
+  number_of_bytes_2,
+  number_of_bytes_4,
+  number_of_bytes_8,
+  number_of_single,
+  wrap_of_bits,
+  wrap_of_image,
+  wrap_signed,
+  to_z-of_z,
+)

@@ -23,9 +23,8 @@ mod sealed {
     impl<const N: usize> Sealed for [u8; N] {}
 }
 
-/// A conversion to the low bits of a number, as many as `T` has.
-///
-/// Upstream: `WrapInto`, private there.
+/// A conversion to the low bits of a number, as many as `T` has. Upstream: `WrapInto`, private
+/// there.
 pub trait WrapInto<T: Number>: Number {
     /// The number of `T` that differs from that of `self` by a multiple of 2 to the power of the
     /// width of `T`.
@@ -34,10 +33,8 @@ pub trait WrapInto<T: Number>: Number {
         ensures low_bits { wrap T.width (T.number result) ≡ wrap T.width (Self.number self) };
 }
 
-/// A conversion to a wider number.
-///
-/// A signed number is extended by its sign, an unsigned one by zeros. Upstream: `ExtendInto`,
-/// private there.
+/// A conversion to a wider number: a signed one is extended by its sign, an unsigned one by zeros.
+/// Upstream: `ExtendInto`, private there.
 pub trait ExtendInto<T: Number>: Number {
     /// The number of `self` as a `T`.
     fn extend_into(self) -> T
@@ -60,9 +57,7 @@ impl<const N: usize> ByteArray for [u8; N] {
     ghost bytes_of = { λ bytes. bytes };
 }
 
-/// Bytes that are read from a memory.
-///
-/// Upstream: `LoadInto`, private there.
+/// Bytes that are read from a memory. Upstream: `LoadInto`, private there.
 pub trait LoadInto: ByteArray {
     /// Copies the bytes at `address` into `self`.
     fn load_into(&mut self, memory: &[u8], address: usize) -> Result<(), TrapCode>
@@ -84,9 +79,7 @@ impl<const N: usize> LoadInto for [u8; N] {
     }
 }
 
-/// Bytes that are written to a memory.
-///
-/// Upstream: `StoreFrom`, private there.
+/// Bytes that are written to a memory. Upstream: `StoreFrom`, private there.
 pub trait StoreFrom: ByteArray {
     /// Copies `self` to the bytes at `address`.
     fn store_from(&self, memory: &mut [u8], address: usize) -> Result<(), TrapCode>
@@ -114,9 +107,7 @@ fn put<const N: usize>(memory: &mut [u8], address: usize, bytes: &[u8; N])
     }
 }
 
-/// A number that is stored in little-endian bytes.
-///
-/// Upstream: `LittleEndianConvert`, private there.
+/// A number that is stored in little-endian bytes. Upstream: `LittleEndianConvert`, private there.
 pub trait LittleEndianConvert: Number {
     /// As many bytes as the number has.
     type Bytes: Default + Drop + LoadInto + StoreFrom;
@@ -147,10 +138,8 @@ pub trait LittleEndianConvert: Number {
     ghost is_as_wide: { Self.Bytes.LEN * 8 ≡ bits Self.width };
 }
 
-/// The address of an access, `ptr + offset`, if it is below 2 to the power 64.
-///
-/// The only error is `MemoryOutOfBounds`. Core specification, effective addresses under memory
-/// instructions.
+/// The address of an access, `ptr + offset`, if it is below 2 to the power 64. The only error is
+/// `MemoryOutOfBounds`. Core specification, effective addresses under memory instructions.
 #[inline(always)]
 pub fn effective_address(ptr: u64, offset: u64) -> Result<usize, TrapCode>
     ensures { MatchResult result

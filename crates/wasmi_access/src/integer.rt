@@ -75,7 +75,6 @@ impl LittleEndianConvert for u128 {
     ghost is_as_wide = { refl };
 }
 
-#[tactic(auto, using(crate::proofs::ByteLemmas::image_numbers))]
 impl LittleEndianConvert for i8 {
     type Bytes = [u8; 1];
 
@@ -90,7 +89,6 @@ impl LittleEndianConvert for i8 {
     ghost is_as_wide = { refl };
 }
 
-#[tactic(auto, using(crate::proofs::ByteLemmas::image_numbers))]
 impl LittleEndianConvert for i16 {
     type Bytes = [u8; 2];
 
@@ -105,7 +103,6 @@ impl LittleEndianConvert for i16 {
     ghost is_as_wide = { refl };
 }
 
-#[tactic(auto, using(crate::proofs::ByteLemmas::image_numbers))]
 impl LittleEndianConvert for i32 {
     type Bytes = [u8; 4];
 
@@ -120,7 +117,6 @@ impl LittleEndianConvert for i32 {
     ghost is_as_wide = { refl };
 }
 
-#[tactic(auto, using(crate::proofs::ByteLemmas::image_numbers))]
 impl LittleEndianConvert for i64 {
     type Bytes = [u8; 8];
 
@@ -135,7 +131,6 @@ impl LittleEndianConvert for i64 {
     ghost is_as_wide = { refl };
 }
 
-#[tactic(auto, using(crate::proofs::ByteLemmas::image_numbers))]
 impl LittleEndianConvert for i128 {
     type Bytes = [u8; 16];
 

@@ -17,9 +17,8 @@ pub mod access {
         impl<const N: usize> Sealed for [u8; N] {}
     }
 
-    /// A conversion to the low bits of a number, as many as `T` has.
-    ///
-    /// Upstream: `WrapInto`, private there.
+    /// A conversion to the low bits of a number, as many as `T` has. Upstream: `WrapInto`, private
+    /// there.
     pub trait WrapInto<T: Number>: Number {
         /// The number of `T` that differs from that of `self` by a multiple of 2 to the power of the
         /// width of `T`.
@@ -35,10 +34,8 @@ pub mod access {
         fn wrap_into(self) -> T;
     }
 
-    /// A conversion to a wider number.
-    ///
-    /// A signed number is extended by its sign, an unsigned one by zeros. Upstream: `ExtendInto`,
-    /// private there.
+    /// A conversion to a wider number: a signed one is extended by its sign, an unsigned one by zeros.
+    /// Upstream: `ExtendInto`, private there.
     pub trait ExtendInto<T: Number>: Number {
         /// The number of `self` as a `T`.
         ///
@@ -71,9 +68,7 @@ pub mod access {
     /// ```
     impl<const N: usize> ByteArray for [u8; N] {}
 
-    /// Bytes that are read from a memory.
-    ///
-    /// Upstream: `LoadInto`, private there.
+    /// Bytes that are read from a memory. Upstream: `LoadInto`, private there.
     pub trait LoadInto: ByteArray {
         /// Copies the bytes at `address` into `self`.
         ///
@@ -103,9 +98,7 @@ pub mod access {
         }
     }
 
-    /// Bytes that are written to a memory.
-    ///
-    /// Upstream: `StoreFrom`, private there.
+    /// Bytes that are written to a memory. Upstream: `StoreFrom`, private there.
     pub trait StoreFrom: ByteArray {
         /// Copies `self` to the bytes at `address`.
         ///
@@ -146,9 +139,7 @@ pub mod access {
         memory[address..][..N].copy_from_slice(bytes);
     }
 
-    /// A number that is stored in little-endian bytes.
-    ///
-    /// Upstream: `LittleEndianConvert`, private there.
+    /// A number that is stored in little-endian bytes. Upstream: `LittleEndianConvert`, private there.
     ///
     /// # Contract
     ///
@@ -197,10 +188,8 @@ pub mod access {
         fn from_le_bytes(bytes: Self::Bytes) -> Self;
     }
 
-    /// The address of an access, `ptr + offset`, if it is below 2 to the power 64.
-    ///
-    /// The only error is `MemoryOutOfBounds`. Core specification, effective addresses under memory
-    /// instructions.
+    /// The address of an access, `ptr + offset`, if it is below 2 to the power 64. The only error is
+    /// `MemoryOutOfBounds`. Core specification, effective addresses under memory instructions.
     ///
     /// # Contract
     ///
