@@ -1,7 +1,5 @@
-//! The traits of the integer types.
-//!
-//! Upstream: the module `value`, private there. Core specification: integer operations, under
-//! numerics.
+//! The traits of the integer types. Upstream: the module `value`, private there. Core
+//! specification: integer operations, under numerics.
 
 ghost use Rattle.std.specs.Prelude.{◌≡◌, false, refl, unsigned_abs};
 ghost use Rattle.std.specs.Int.{int_wrap, w64};
@@ -12,18 +10,14 @@ use wasmi_raw::Number;
 use wasmi_types::TrapCode;
 
 /// A conversion to the same type that keeps the low bits, as many as `T` has, and reads them
-/// signed.
-///
-/// Upstream: `SignExtendFrom`, private there.
+/// signed. Upstream: `SignExtendFrom`, private there.
 pub trait SignExtendFrom<T: Number>: Number {
     /// The low bits of `self`, extended by their sign.
     fn sign_extend_from(self) -> Self
         ensures { result ≡ Self.of_number (int_wrap T.width (Self.number self)) };
 }
 
-/// An integer type with an unsigned type of the same width.
-///
-/// Upstream: `Unsigned`, private there.
+/// An integer type with an unsigned type of the same width. Upstream: `Unsigned`, private there.
 pub trait Unsigned {
     /// The unsigned type.
     type Uint: Number;
@@ -37,10 +31,8 @@ impl Unsigned for i64 {
     type Uint = u64;
 }
 
-/// An integer type of WebAssembly.
-///
-/// Upstream: `Integer`, private there. An amount is read unsigned: a shift by -1 is one by the
-/// width less 1.
+/// An integer type of WebAssembly. An amount is read unsigned: a shift by -1 is one by the width
+/// less 1. Upstream: `Integer`, private there.
 pub trait Integer: Unsigned + Number {
     /// Whether the number is 0.
     fn is_zero(self) -> bool

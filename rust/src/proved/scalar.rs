@@ -1,18 +1,14 @@
 //! The scalar integer instructions of WebAssembly.
 pub mod value {
-    //! The traits of the integer types.
-    //!
-    //! Upstream: the module `value`, private there. Core specification: integer operations, under
-    //! numerics.
+    //! The traits of the integer types. Upstream: the module `value`, private there. Core
+    //! specification: integer operations, under numerics.
 
     use crate::proved::accesses::access::WrapInto;
     use crate::proved::raw::Number;
     use crate::proved::types::TrapCode;
 
     /// A conversion to the same type that keeps the low bits, as many as `T` has, and reads them
-    /// signed.
-    ///
-    /// Upstream: `SignExtendFrom`, private there.
+    /// signed. Upstream: `SignExtendFrom`, private there.
     pub trait SignExtendFrom<T: Number>: Number {
         /// The low bits of `self`, extended by their sign.
         ///
@@ -24,9 +20,7 @@ pub mod value {
         fn sign_extend_from(self) -> Self;
     }
 
-    /// An integer type with an unsigned type of the same width.
-    ///
-    /// Upstream: `Unsigned`, private there.
+    /// An integer type with an unsigned type of the same width. Upstream: `Unsigned`, private there.
     pub trait Unsigned {
         /// The unsigned type.
         type Uint: Number;
@@ -40,10 +34,8 @@ pub mod value {
         type Uint = u64;
     }
 
-    /// An integer type of WebAssembly.
-    ///
-    /// Upstream: `Integer`, private there. An amount is read unsigned: a shift by -1 is one by the
-    /// width less 1.
+    /// An integer type of WebAssembly. An amount is read unsigned: a shift by -1 is one by the width
+    /// less 1. Upstream: `Integer`, private there.
     ///
     /// # Contract
     ///
