@@ -1,4 +1,5 @@
 //! The integers that are lanes.
+#![tactic(auto, using(crate::proofs::SimdLaneLemmas::written))]
 
 ghost use Rattle.std.specs.Prelude.{FitsSigned, refl, pos, negsuc, ◌≡◌, ℕ, ◌*◌, ◌^◌, ◌<◌, slice_index_or};
 ghost use Rattle.wasmi_types.specs.Numbers.{Width, bits, w8, w16, w32, w64, signed};
@@ -85,8 +86,7 @@ impl LaneItem<16> for u8 {
 
     #[inline(always)]
     fn write_from(items: &[u8; 16]) -> V128 {
-        let items = *items;
-        from_bytes(u8x16::from_array(items))
+        from_bytes(u8x16::from_array(*items))
     }
 }
 
@@ -160,11 +160,9 @@ impl LaneItem<8> for u16 {
         *items = u16x8::from_le_bytes(bytes_to_take_out(vector)).to_array();
     }
 
-    #[tactic(auto, using(crate::proofs::SimdLaneLemmas::written))]
     #[inline(always)]
     fn write_from(items: &[u16; 8]) -> V128 {
-        let items = *items;
-        from_bytes(u16x8::from_array(items).to_le_bytes())
+        from_bytes(u16x8::from_array(*items).to_le_bytes())
     }
 }
 
@@ -234,11 +232,9 @@ impl LaneItem<4> for u32 {
         *items = u32x4::from_le_bytes(bytes_to_take_out(vector)).to_array();
     }
 
-    #[tactic(auto, using(crate::proofs::SimdLaneLemmas::written))]
     #[inline(always)]
     fn write_from(items: &[u32; 4]) -> V128 {
-        let items = *items;
-        from_bytes(u32x4::from_array(items).to_le_bytes())
+        from_bytes(u32x4::from_array(*items).to_le_bytes())
     }
 }
 
@@ -308,11 +304,9 @@ impl LaneItem<2> for u64 {
         *items = u64x2::from_le_bytes(bytes_to_take_out(vector)).to_array();
     }
 
-    #[tactic(auto, using(crate::proofs::SimdLaneLemmas::written))]
     #[inline(always)]
     fn write_from(items: &[u64; 2]) -> V128 {
-        let items = *items;
-        from_bytes(u64x2::from_array(items).to_le_bytes())
+        from_bytes(u64x2::from_array(*items).to_le_bytes())
     }
 }
 

@@ -233,8 +233,7 @@ mod item {
 
         #[inline(always)]
         fn write_from(items: &[u8; 16]) -> V128 {
-            let items = *items;
-            from_bytes(u8x16::from_array(items))
+            from_bytes(u8x16::from_array(*items))
         }
     }
 
@@ -300,8 +299,7 @@ mod item {
 
         #[inline(always)]
         fn write_from(items: &[u16; 8]) -> V128 {
-            let items = *items;
-            from_bytes(u16x8::from_array(items).to_le_bytes())
+            from_bytes(u16x8::from_array(*items).to_le_bytes())
         }
     }
 
@@ -363,8 +361,7 @@ mod item {
 
         #[inline(always)]
         fn write_from(items: &[u32; 4]) -> V128 {
-            let items = *items;
-            from_bytes(u32x4::from_array(items).to_le_bytes())
+            from_bytes(u32x4::from_array(*items).to_le_bytes())
         }
     }
 
@@ -426,8 +423,7 @@ mod item {
 
         #[inline(always)]
         fn write_from(items: &[u64; 2]) -> V128 {
-            let items = *items;
-            from_bytes(u64x2::from_array(items).to_le_bytes())
+            from_bytes(u64x2::from_array(*items).to_le_bytes())
         }
     }
 
