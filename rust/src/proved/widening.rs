@@ -375,14 +375,12 @@ pub mod simd {
 
             #[inline(always)]
             fn low_signed(v: V128) -> u32x4 {
-                let items = i16x8_of(v).extract::<0, 4>().cast::<i32>();
-                u32x4::from_le_bytes(items.to_le_bytes())
+                u32x4::from_le_bytes(i16x8_of(v).extract::<0, 4>().cast::<i32>().to_le_bytes())
             }
 
             #[inline(always)]
             fn high_signed(v: V128) -> u32x4 {
-                let items = i16x8_of(v).extract::<4, 4>().cast::<i32>();
-                u32x4::from_le_bytes(items.to_le_bytes())
+                u32x4::from_le_bytes(i16x8_of(v).extract::<4, 4>().cast::<i32>().to_le_bytes())
             }
 
             #[inline(always)]
@@ -436,14 +434,12 @@ pub mod simd {
 
             #[inline(always)]
             fn low_signed(v: V128) -> u64x2 {
-                let items = i32x4_of(v).extract::<0, 2>().cast::<i64>();
-                u64x2::from_le_bytes(items.to_le_bytes())
+                u64x2::from_le_bytes(i32x4_of(v).extract::<0, 2>().cast::<i64>().to_le_bytes())
             }
 
             #[inline(always)]
             fn high_signed(v: V128) -> u64x2 {
-                let items = i32x4_of(v).extract::<2, 2>().cast::<i64>();
-                u64x2::from_le_bytes(items.to_le_bytes())
+                u64x2::from_le_bytes(i32x4_of(v).extract::<2, 2>().cast::<i64>().to_le_bytes())
             }
 
             #[inline(always)]
