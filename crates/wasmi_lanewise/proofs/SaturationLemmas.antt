@@ -329,21 +329,44 @@ module _ (xs ys : List ℕ) (long_x : length xs ≡ 8) (long_y : length ys ≡ 8
       let many = many_uppers in
       get_or-map (λ x. x) (uppers xs ys) i 0 0 (omega arith) ∙ upper_at i inside
 
--- halved, 2 ^ 13 added and divided by 2 ^ 14, each lower half is rounded
-pub quotients_at : (xs : List ℕ) (i : ℕ) → length xs ≡ 8 → i < 8
-    → get_or (zip2 (λ a b. a / 2 ^ b)
+-- halved, 2 ^ 13 added and divided by 2 ^ 14
+abbrev pub quotients : List ℕ → List ℕ
+quotients xs =
+    zip2 (λ a b. a / 2 ^ b)
     (zip2 (λ a b. (a + b) % 65536) (zip2 (λ a b. a / 2 ^ b) xs (replicate 8 1)) (replicate 8 8192))
-    (replicate 8 14)) i 0 ≡ rounded (get_or xs i 0)
-quotients_at xs i long inside =
-    let halved : List ℕ = zip2 (λ a b. a / 2 ^ b) xs (replicate 8 1) in
-    let many : length halved ≡ 8 = length-zip2 (λ a b. a / 2 ^ b) xs (replicate 8 1) long ∙ long in
-    let biased : List ℕ = zip2 (λ a b. (a + b) % 65536) halved (replicate 8 8192) in
-    let more : length biased ≡ 8 = length-zip2 (λ a b. (a + b) % 65536) halved (replicate 8 8192) many ∙ many in
-    get_or-zip2 (λ a b. a / 2 ^ b) biased (replicate 8 14) i 0 0 0 (omega arith) inside
-    ∙ ap₂ (λ a b. a / 2 ^ b)
-    (get_or-zip2 (λ a b. (a + b) % 65536) halved (replicate 8 8192) i 0 0 0 (omega arith) inside
-    ∙ ap₂ (λ a b. (a + b) % 65536)
-    (get_or-zip2 (λ a b. a / 2 ^ b) xs (replicate 8 1) i 0 0 0 (omega arith) inside
-    ∙ ap (λ b. get_or xs i 0 / 2 ^ b) (get_or-replicate 8 i 1 0 inside))
-    (get_or-replicate 8 i 8192 0 inside))
-    (get_or-replicate 8 i 14 0 inside)
+    (replicate 8 14)
+
+module _ (xs : List ℕ) (long : length xs ≡ 8) where
+  -- there are 8 halves
+  many_halved : length (zip2 (λ a b. a / 2 ^ b) xs (replicate 8 1)) ≡ 8
+  many_halved = length-zip2 (λ a b. a / 2 ^ b) xs (replicate 8 1) long ∙ long
+
+  -- there are 8 sums
+  many_biased : length (zip2 (λ a b. (a + b) % 65536) (zip2 (λ a b. a / 2 ^ b) xs (replicate 8 1)) (replicate 8 8192)) ≡ 8
+  many_biased =
+      length-zip2 (λ a b. (a + b) % 65536) (zip2 (λ a b. a / 2 ^ b) xs (replicate 8 1)) (replicate 8 8192) many_halved
+      ∙ many_halved
+
+  -- there are 8 quotients
+  pub many_quotients : length (quotients xs) ≡ 8
+  many_quotients =
+      length-zip2 (λ a b. a / 2 ^ b)
+      (zip2 (λ a b. (a + b) % 65536) (zip2 (λ a b. a / 2 ^ b) xs (replicate 8 1)) (replicate 8 8192)) (replicate 8 14)
+      many_biased
+      ∙ many_biased
+
+  -- each lower half is rounded
+  pub quotients_at : (i : ℕ) → i < 8 → get_or (quotients xs) i 0 ≡ rounded (get_or xs i 0)
+  quotients_at i inside =
+      let halved : List ℕ = zip2 (λ a b. a / 2 ^ b) xs (replicate 8 1) in
+      let many : length halved ≡ 8 = many_halved in
+      let biased : List ℕ = zip2 (λ a b. (a + b) % 65536) halved (replicate 8 8192) in
+      let more : length biased ≡ 8 = many_biased in
+      get_or-zip2 (λ a b. a / 2 ^ b) biased (replicate 8 14) i 0 0 0 (omega arith) inside
+      ∙ ap₂ (λ a b. a / 2 ^ b)
+      (get_or-zip2 (λ a b. (a + b) % 65536) halved (replicate 8 8192) i 0 0 0 (omega arith) inside
+      ∙ ap₂ (λ a b. (a + b) % 65536)
+      (get_or-zip2 (λ a b. a / 2 ^ b) xs (replicate 8 1) i 0 0 0 (omega arith) inside
+      ∙ ap (λ b. get_or xs i 0 / 2 ^ b) (get_or-replicate 8 i 1 0 inside))
+      (get_or-replicate 8 i 8192 0 inside))
+      (get_or-replicate 8 i 14 0 inside)

@@ -1,6 +1,6 @@
 -- Lane by lane and bit by bit work on the words of a vector.
-use Rattle.std.proofs.Common.{◌≡◌, ℕ, zero, suc, ◌+◌, ◌-◌, ◌*◌, ◌/◌, ◌%◌, ◌^◌, ◌<◌, ◌≤◌, inl, inr, cond, eqb, Bool, true, false, not, refl, sym, ap, ◌∙◌, arith, mod-eq_of_lt, ap₂, bit_and, bit_or, bit_xor, ◌⊎◌, subst, pow-suc}
-use Rattle.std.proofs.Math.Nat.{mod_self, add-mod_right}
+use Rattle.std.proofs.Common.{◌≡◌, ℕ, zero, suc, ◌+◌, ◌-◌, ◌*◌, ◌/◌, ◌%◌, ◌^◌, ◌<◌, ◌≤◌, inl, inr, cond, eqb, Bool, true, false, not, refl, sym, ap, ◌∙◌, arith, mod-eq_of_lt, ap₂, bit_and, bit_or, bit_xor, ◌⊎◌, subst, pow-suc, mul_comm, mul_assoc}
+use Rattle.std.proofs.Math.Nat.{mod_self, add-mod_right, mul-div_cancel}
 use Rattle.std.proofs.lemmas.Nat.{pow_pos, div-add-mod', and_shr, and_mod, or_shr, or_mod, xor_shr, xor_mod, mod-pow-add, field_of, or_lt, and_le_l}
 use Rattle.std.proofs.lemmas.Bool.{eq-eqb, ne_eqb}
 use Rattle.std.proofs.lemmas.Bool.Decides.{eqb_tells}
@@ -257,3 +257,14 @@ mean_lane tops k (suc h) a b fits lane =
     mean_suc_lane k h a b (2 ^ 64 - 1 - tops) (not_starts tops k fits start lane.starts) kept
 
 pub ruleset averages = (and_le_l, xor_le_or, mean_lane)
+
+-- the product of two words, as the high word of one of 128 bits, where u and v are x and y
+pub high_product : (x y u v : ℕ) → x < 2 ^ 64 → u ≡ x → v ≡ y → u * 2 ^ 64 % 2 ^ 128 * v % 2 ^ 128 / 2 ^ 64 ≡ x * y % 2 ^ 64
+high_product x y u v fits is_u is_v =
+    let left : u * 2 ^ 64 % 2 ^ 128 ≡ x * 2 ^ 64 = omega (arith, is_u) in
+    let moved : x * 2 ^ 64 * y ≡ x * y * 2 ^ 64 =
+    omega (arith, mul_assoc x (2 ^ 64) y, mul_assoc x y (2 ^ 64), ap (λ k. x * k) (mul_comm (2 ^ 64) y)) in
+    ap₂ (λ a b. a * b % 2 ^ 128 / 2 ^ 64) left is_v
+    ∙ ap (λ n. n % 2 ^ 128 / 2 ^ 64) moved
+    ∙ field_of (x * y * 2 ^ 64) 64 64
+    ∙ ap (λ n. n % 2 ^ 64) (mul-div_cancel (x * y) (omega arith))

@@ -229,17 +229,10 @@ pub fn i64x2_mul(lhs: V128, rhs: V128) -> V128
 {
     let (a_low, a_high) = lhs.words();
     let (b_low, b_high) = rhs.words();
-    V128::from_word_pair(a_low.wrapping_mul(b_low), product_by_u128(a_high, b_high))
-}
-
-// The product modulo 2 to the power 64, as the high word of one of 128 bits. Beside a product of
-// two words LLVM doesn't take it for a lane of the same vector, whose product (three of `pmuludq`)
-// is slower than two of words.
-#[inline(always)]
-fn product_by_u128(x: u64, y: u64) -> u64
-    ensures { result ≡ x * y % 2 ^ 64 }
-{
-    ((u128::from(x) << 64).wrapping_mul(u128::from(y)) >> 64) as u64
+    // The high word of a product of 128 bits: beside a product of two words LLVM doesn't take it for
+    // a lane of the same vector, whose product (three of `pmuludq`) is slower than two of words.
+    let high = (u128::from(a_high) << 64).wrapping_mul(u128::from(b_high)) >> 64;
+    V128::from_word_pair(a_low.wrapping_mul(b_low), high as u64)
 }
 
 /// The sums of the lanes, read signed and clamped to the signed range of 8 bits.
@@ -307,7 +300,8 @@ pub fn i16x8_q15mulr_sat_s(lhs: V128, rhs: V128) -> V128
 {
     let x = u16::lanes_of(lhs);
     let y = u16::lanes_of(rhs);
-    u16::vector_of(twice(upper_halves(x, y)) + rounded_quotients(x * y))
+    let rounded = (((x * y) >> u16x8::splat(1)) + u16x8::splat(0x2000)) >> u16x8::splat(14);
+    u16::vector_of(twice(upper_halves(x, y)) + rounded)
 }
 
 // The lanes, read signed, at twice their width.
@@ -344,15 +338,6 @@ fn twice(items: u16x8) -> u16x8
 {
     let most = u16x8::splat(0x3fff);
     items + u16::choose_if_less(u16::biased(items), u16::biased(most), items, most)
-}
-
-// The lanes divided by 2 to the power 15, halves rounded up.
-#[inline(always)]
-fn rounded_quotients(items: u16x8) -> u16x8
-    ensures lanes { (i : ℕ) → i < 8
-        → slice_index result i ≡ (slice_index items i / 2 + 0x2000) % 2 ^ 16 / 2 ^ 14 }
-{
-    ((items >> u16x8::splat(1)) + u16x8::splat(0x2000)) >> u16x8::splat(14)
 }
 
 /// The smaller ones of the lanes, read signed.

@@ -36,7 +36,6 @@ pub(super) fn sums<T: WordLane>(lhs: V128, rhs: V128) -> V128
 }
 
 /// The differences of the lanes, modulo 2 to the power of their width.
-///
 /// An operand and the result are inverted twice, as a vector and as words, which changes nothing.
 /// LLVM joins the inversions of the words with the masks of `word_sub`, and makes one step less.
 #[inline(always)]
@@ -53,7 +52,6 @@ pub(super) fn differences<T: WordLane>(lhs: V128, rhs: V128) -> V128
 }
 
 /// The lanes negated, modulo 2 to the power of their width.
-///
 /// A lane plus all ones is the lane less 1, whose bits inverted are those of the lane negated.
 #[inline(always)]
 pub(super) fn negations<T: WordLane>(v: V128) -> V128
