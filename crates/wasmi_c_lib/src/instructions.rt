@@ -13,7 +13,6 @@ use wasmi_c::script;
 use wasmi_raw::RawVal;
 use wasmi_vector_access::simd;
 
-/// Gives the result of an instruction of one operand: `unary::unary_by_number`.
 #[unsafe(no_mangle)]
 pub extern "C" fn wasmi_unary(number: u16, a: RawVal, value: &mut RawVal) -> u8
     ensures { Leaves (unary_result number a) value.old value.new result }
@@ -21,7 +20,6 @@ pub extern "C" fn wasmi_unary(number: u16, a: RawVal, value: &mut RawVal) -> u8
     unary::unary_by_number(number, a, value)
 }
 
-/// As `wasmi_unary` on each element of an array: `unary::unary_each`.
 #[unsafe(no_mangle)]
 pub extern "C" fn wasmi_unary_each(number: u16, a: &[RawVal], values: &mut [RawVal]) -> u8
     ensures { Leaves (unary_results number a.now (length values.old)) values.old values.new result }
@@ -29,7 +27,6 @@ pub extern "C" fn wasmi_unary_each(number: u16, a: &[RawVal], values: &mut [RawV
     unary::unary_each(number, a, values)
 }
 
-/// Gives the result of an instruction of two operands: `binary::binary_by_number`.
 #[unsafe(no_mangle)]
 pub extern "C" fn wasmi_binary(number: u16, a: RawVal, b: RawVal, value: &mut RawVal) -> u8
     ensures { Leaves (binary_result number a b) value.old value.new result }
@@ -37,7 +34,6 @@ pub extern "C" fn wasmi_binary(number: u16, a: RawVal, b: RawVal, value: &mut Ra
     binary::binary_by_number(number, a, b, value)
 }
 
-/// As `wasmi_binary` on each two elements of two arrays: `binary::binary_each`.
 #[unsafe(no_mangle)]
 pub extern "C" fn wasmi_binary_each(
     number: u16,
@@ -51,7 +47,6 @@ pub extern "C" fn wasmi_binary_each(
     binary::binary_each(number, a, b, results)
 }
 
-/// Gives the result of an instruction of three vectors: `ternary::ternary_by_number`.
 #[unsafe(no_mangle)]
 pub extern "C" fn wasmi_ternary(
     number: u16,
@@ -65,7 +60,6 @@ pub extern "C" fn wasmi_ternary(
     ternary::ternary_by_number(number, a, b, c, value)
 }
 
-/// As `wasmi_ternary` on each three elements of three arrays: `ternary::ternary_each`.
 #[unsafe(no_mangle)]
 pub extern "C" fn wasmi_ternary_each(
     number: u16,
@@ -80,7 +74,6 @@ pub extern "C" fn wasmi_ternary_each(
     ternary::ternary_each(number, a, b, c, values)
 }
 
-/// Loads a value from `ptr + offset`: `load::load_by_number`.
 #[unsafe(no_mangle)]
 pub extern "C" fn wasmi_load(
     number: u16,
@@ -94,7 +87,6 @@ pub extern "C" fn wasmi_load(
     load::load_by_number(number, memory, ptr, offset, value)
 }
 
-/// As `wasmi_load` from each pointer of an array, plus the offset: `load::load_each`.
 #[unsafe(no_mangle)]
 pub extern "C" fn wasmi_load_each(
     number: u16,
@@ -109,7 +101,6 @@ pub extern "C" fn wasmi_load_each(
     load::load_each(number, memory, ptrs, offset, results)
 }
 
-/// Stores a value at `ptr + offset`: `store::store_by_number`.
 #[unsafe(no_mangle)]
 pub extern "C" fn wasmi_store(
     number: u16,
@@ -124,7 +115,6 @@ pub extern "C" fn wasmi_store(
     store::store_by_number(number, memory, ptr, offset, value)
 }
 
-/// Extracts a lane of a vector: `lanes::extract_by_number`.
 #[unsafe(no_mangle)]
 pub extern "C" fn wasmi_extract_lane(number: u16, lane: u8, a: RawVal, value: &mut RawVal) -> u8
     ensures { Leaves (extract_result number lane a) value.old value.new result }
@@ -132,7 +122,6 @@ pub extern "C" fn wasmi_extract_lane(number: u16, lane: u8, a: RawVal, value: &m
     lanes::extract_by_number(number, lane, a, value)
 }
 
-/// As `wasmi_extract_lane` on each vector of an array: `lanes::extract_each`.
 #[unsafe(no_mangle)]
 pub extern "C" fn wasmi_extract_lane_each(
     number: u16,
@@ -146,7 +135,6 @@ pub extern "C" fn wasmi_extract_lane_each(
     lanes::extract_each(number, lane, a, values)
 }
 
-/// Replaces a lane of a vector by an item: `lanes::replace_by_number`.
 #[unsafe(no_mangle)]
 pub extern "C" fn wasmi_replace_lane(
     number: u16,
@@ -160,7 +148,6 @@ pub extern "C" fn wasmi_replace_lane(
     lanes::replace_by_number(number, lane, a, item, value)
 }
 
-/// As `wasmi_replace_lane` on each two elements of two arrays: `lanes::replace_each`.
 #[unsafe(no_mangle)]
 pub extern "C" fn wasmi_replace_lane_each(
     number: u16,
@@ -175,7 +162,6 @@ pub extern "C" fn wasmi_replace_lane_each(
     lanes::replace_each(number, lane, a, items, values)
 }
 
-/// Loads a lane of a vector from `ptr + offset`: `lanes::load_lane`.
 #[unsafe(no_mangle)]
 pub extern "C" fn wasmi_load_lane(
     number: u16,
@@ -192,7 +178,6 @@ pub extern "C" fn wasmi_load_lane(
     lanes::load_lane(number, lane, memory, ptr, offset, a, value)
 }
 
-/// Stores a lane of a vector at `ptr + offset`: `lanes::store_lane`.
 #[unsafe(no_mangle)]
 pub extern "C" fn wasmi_store_lane(
     number: u16,
@@ -208,8 +193,6 @@ pub extern "C" fn wasmi_store_lane(
     lanes::store_lane(number, lane, memory, ptr, offset, a)
 }
 
-/// The bytes of two vectors that have these indices: those of `a` are 0 to 15, those of `b` 16 to
-/// 31. Returns 0, or 253 if no lane has an index; then nothing is written.
 #[unsafe(no_mangle)]
 pub extern "C" fn wasm_i8x16_shuffle(
     a: RawVal,
@@ -222,8 +205,6 @@ pub extern "C" fn wasm_i8x16_shuffle(
     shuffle::shuffle(a, b, *lanes, value)
 }
 
-/// `v128.store`: the 128 bits of the value. Returns 0, or the number of the trap; then nothing is
-/// written.
 #[unsafe(no_mangle)]
 pub extern "C" fn wasm_v128_store(memory: &mut [u8], ptr: u64, offset: u64, value: RawVal) -> u8
     ensures { StoresBytes memory.old (ptr + offset) (le_bytes 16 (vector_in value)) memory.new result }
@@ -231,7 +212,6 @@ pub extern "C" fn wasm_v128_store(memory: &mut [u8], ptr: u64, offset: u64, valu
     status_of(simd::v128_store(memory, ptr, offset, value.into()))
 }
 
-/// Runs a script, and writes what it prints to the front of `text`: `script::run`.
 #[unsafe(no_mangle)]
 pub extern "C" fn wasmi_script_run(
     alloc: Global,

@@ -1,6 +1,4 @@
-//! The calls for C, one line each over `wasmi_c`.
-//!
-//! The headers of `include/` declare them.
+//! The calls for C, one line each over `wasmi_c`, which the headers of `include/` describe.
 #![tactic(auto)]
 
 mod instructions;

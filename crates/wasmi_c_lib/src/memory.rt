@@ -11,7 +11,6 @@ ghost use Rattle.wasmi_meter.specs.Meter.{copy_cost};
 use wasmi_c::memory::{bulk, bytes, creation, growth};
 use wasmi_c::{HostAnswers, MemoryNumbers, MeterNumbers, Question, QuotaNumbers, Range, fuel};
 
-/// Makes a memory of zeros at its minimum, under a quota.
 #[unsafe(no_mangle)]
 pub extern "C" fn wasmi_memory_new(
     memory: &mut MemoryNumbers,
@@ -26,7 +25,6 @@ pub extern "C" fn wasmi_memory_new(
     creation::make(memory, region, quota)
 }
 
-/// Grows a memory by pages of zeros, under a quota.
 #[unsafe(no_mangle)]
 pub extern "C" fn wasmi_memory_grow(
     memory: &mut MemoryNumbers,
@@ -48,7 +46,6 @@ pub extern "C" fn wasmi_memory_grow(
     growth::grow(memory, region, pages, meter, quota, number)
 }
 
-/// What a growth asks a limiter of the caller's own.
 #[unsafe(no_mangle)]
 pub extern "C" fn wasmi_memory_question(
     memory: &MemoryNumbers,
@@ -61,7 +58,6 @@ pub extern "C" fn wasmi_memory_question(
     growth::question(memory, region, pages, question)
 }
 
-/// Grows a memory as a limiter of the caller's own answered.
 #[unsafe(no_mangle)]
 pub extern "C" fn wasmi_memory_settle(
     memory: &mut MemoryNumbers,
@@ -78,7 +74,6 @@ pub extern "C" fn wasmi_memory_settle(
     growth::settle(memory, region, pages, meter, answers, number)
 }
 
-/// The size of a memory in pages.
 #[unsafe(no_mangle)]
 pub extern "C" fn wasmi_memory_size(memory: &MemoryNumbers, region: &[u8], pages: &mut u64) -> u8
     ensures { CountsEmbedded memory.now region.now pages.old result pages.new }
@@ -86,7 +81,6 @@ pub extern "C" fn wasmi_memory_size(memory: &MemoryNumbers, region: &[u8], pages
     bytes::size(memory, region, pages)
 }
 
-/// Reads bytes of a memory.
 #[unsafe(no_mangle)]
 pub extern "C" fn wasmi_memory_read(
     memory: &MemoryNumbers,
@@ -99,7 +93,6 @@ pub extern "C" fn wasmi_memory_read(
     bytes::read(memory, region, offset, bytes)
 }
 
-/// Writes bytes of a memory.
 #[unsafe(no_mangle)]
 pub extern "C" fn wasmi_memory_write(
     memory: &MemoryNumbers,
@@ -112,7 +105,6 @@ pub extern "C" fn wasmi_memory_write(
     bytes::write(memory, region, offset, bytes)
 }
 
-/// Fills bytes of a memory with a value.
 #[unsafe(no_mangle)]
 pub extern "C" fn wasmi_memory_fill(
     memory: &MemoryNumbers,
@@ -129,7 +121,6 @@ pub extern "C" fn wasmi_memory_fill(
     bulk::fill(memory, region, range, value, meter, number)
 }
 
-/// Copies bytes of a memory over others of it.
 #[unsafe(no_mangle)]
 pub extern "C" fn wasmi_memory_copy_within(
     memory: &MemoryNumbers,
@@ -145,7 +136,6 @@ pub extern "C" fn wasmi_memory_copy_within(
     bulk::copy_within(memory, region, range, meter, number)
 }
 
-/// Copies bytes of another memory.
 #[unsafe(no_mangle)]
 pub extern "C" fn wasmi_memory_copy(
     memory: &MemoryNumbers,
@@ -163,7 +153,6 @@ pub extern "C" fn wasmi_memory_copy(
     bulk::copy(memory, region, source, source_region, range, meter, number)
 }
 
-/// Copies bytes, such as a data segment's, to a memory.
 #[unsafe(no_mangle)]
 pub extern "C" fn wasmi_memory_init(
     memory: &MemoryNumbers,
@@ -180,7 +169,6 @@ pub extern "C" fn wasmi_memory_init(
     bulk::init(memory, region, bytes, range, meter, number)
 }
 
-/// Sets the fuel that is left.
 #[unsafe(no_mangle)]
 pub extern "C" fn wasmi_fuel_set(meter: &mut MeterNumbers, amount: u64) -> u8
     ensures { SetsFuel amount meter.old result meter.new }
@@ -188,7 +176,6 @@ pub extern "C" fn wasmi_fuel_set(meter: &mut MeterNumbers, amount: u64) -> u8
     fuel::set(meter, amount)
 }
 
-/// The fuel that is left.
 #[unsafe(no_mangle)]
 pub extern "C" fn wasmi_fuel_left(meter: &MeterNumbers, left: &mut u64) -> u8
     ensures { TellsFuel meter.now left.old result left.new }
@@ -196,7 +183,6 @@ pub extern "C" fn wasmi_fuel_left(meter: &MeterNumbers, left: &mut u64) -> u8
     fuel::left(meter, left)
 }
 
-/// Takes an amount of fuel.
 #[unsafe(no_mangle)]
 pub extern "C" fn wasmi_fuel_consume(meter: &mut MeterNumbers, amount: u64, number: &mut u64) -> u8
     ensures { PaysFuel amount meter.old number.old result meter.new number.new }
@@ -204,7 +190,6 @@ pub extern "C" fn wasmi_fuel_consume(meter: &mut MeterNumbers, amount: u64, numb
     fuel::consume(meter, amount, number)
 }
 
-/// The price of a copy of so many bytes.
 #[unsafe(no_mangle)]
 pub extern "C" fn wasmi_fuel_copy_cost(meter: &MeterNumbers, bytes: u64) -> u64
     ensures { result ≡ copy_cost (meter_of meter.now).costs bytes 1 }
@@ -212,7 +197,6 @@ pub extern "C" fn wasmi_fuel_copy_cost(meter: &MeterNumbers, bytes: u64) -> u64
     fuel::copy_cost(meter, bytes)
 }
 
-/// Takes the price of a copy of so many bytes.
 #[unsafe(no_mangle)]
 pub extern "C" fn wasmi_fuel_consume_copy(
     meter: &mut MeterNumbers,

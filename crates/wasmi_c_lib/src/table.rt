@@ -10,7 +10,6 @@ ghost use Rattle.wasmi_region.specs.Table.{table_in, items_of};
 use wasmi_c::table::{creation, elements, growth, ranges};
 use wasmi_c::{HostAnswers, MeterNumbers, Question, QuotaNumbers, Range, TableNumbers};
 
-/// Makes a table of one reference at its minimum, under a quota.
 #[unsafe(no_mangle)]
 pub extern "C" fn wasmi_table_new(
     table: &mut TableNumbers,
@@ -26,7 +25,6 @@ pub extern "C" fn wasmi_table_new(
     creation::make(table, region, reference, quota)
 }
 
-/// Grows a table by elements of one reference, under a quota.
 #[unsafe(no_mangle)]
 pub extern "C" fn wasmi_table_grow(
     table: &mut TableNumbers,
@@ -48,7 +46,6 @@ pub extern "C" fn wasmi_table_grow(
     growth::grow(table, region, delta, reference, meter, quota, number)
 }
 
-/// What a growth asks a limiter of the caller's own.
 #[unsafe(no_mangle)]
 pub extern "C" fn wasmi_table_question(
     table: &TableNumbers,
@@ -61,7 +58,6 @@ pub extern "C" fn wasmi_table_question(
     growth::question(table, region, delta, question)
 }
 
-/// Grows a table as a limiter of the caller's own answered.
 #[unsafe(no_mangle)]
 pub extern "C" fn wasmi_table_settle(
     table: &mut TableNumbers,
@@ -79,7 +75,6 @@ pub extern "C" fn wasmi_table_settle(
     growth::settle(table, region, delta, reference, meter, answers, number)
 }
 
-/// The size of a table in elements.
 #[unsafe(no_mangle)]
 pub extern "C" fn wasmi_table_size(table: &TableNumbers, region: &[u32], size: &mut u64) -> u8
     ensures { CountsElements table.now region.now size.old result size.new }
@@ -87,7 +82,6 @@ pub extern "C" fn wasmi_table_size(table: &TableNumbers, region: &[u32], size: &
     elements::size(table, region, size)
 }
 
-/// The element at an index.
 #[unsafe(no_mangle)]
 pub extern "C" fn wasmi_table_get(
     table: &TableNumbers,
@@ -100,7 +94,6 @@ pub extern "C" fn wasmi_table_get(
     elements::get(table, region, index, reference)
 }
 
-/// Sets the element at an index.
 #[unsafe(no_mangle)]
 pub extern "C" fn wasmi_table_set(
     table: &TableNumbers,
@@ -113,7 +106,6 @@ pub extern "C" fn wasmi_table_set(
     elements::set(table, region, index, reference)
 }
 
-/// Fills elements of a table with a reference.
 #[unsafe(no_mangle)]
 pub extern "C" fn wasmi_table_fill(
     table: &TableNumbers,
@@ -130,7 +122,6 @@ pub extern "C" fn wasmi_table_fill(
     ranges::fill(table, region, range, reference, meter, number)
 }
 
-/// Copies elements of a table over others of it.
 #[unsafe(no_mangle)]
 pub extern "C" fn wasmi_table_copy(
     table: &TableNumbers,
@@ -147,7 +138,6 @@ pub extern "C" fn wasmi_table_copy(
     ranges::copy_within(table, region, range, meter, number)
 }
 
-/// Copies elements of another table.
 #[unsafe(no_mangle)]
 pub extern "C" fn wasmi_table_copy_from(
     table: &TableNumbers,
@@ -165,7 +155,6 @@ pub extern "C" fn wasmi_table_copy_from(
     ranges::copy(table, region, source, source_region, range, meter, number)
 }
 
-/// Copies items, such as an element segment's, to a table.
 #[unsafe(no_mangle)]
 pub extern "C" fn wasmi_table_init(
     table: &TableNumbers,
