@@ -73,7 +73,6 @@ panics! {
     "the size is above the length of the region":
     a_memory_beyond_its_region =>
         region::memory::grow(pages(20), &mut 9, &mut [0; 8], 1, &mut unmetered(), &mut nobody()),
-    a_write_beyond_a_region => region::memory::write(&mut [0; 8], 9, 0, &[1]),
     a_table_beyond_its_region =>
         region::table::grow(elements(20), &mut 9, &mut [0; 8], 1, 0, &mut unmetered(), &mut nobody()),
 }

@@ -19,7 +19,6 @@ OF_TESTS = {
 GROWS = ("current <= desired", "the desired size is below the current one")
 ORDERED = ("maximum.is_none_or(|most| minimum <= most)", "the minimum is above the maximum")
 NO_SUCH_SIZE = "the type allows no such size"
-IN_REGION = "the size is above the length of the region"
 # What a public function requires: the test of it, and what its panic says, as the section `Panics` of the function's docs does.
 REQUIRES = {
     "ordered: IfSome maximum (λ most. minimum ≤ most)": ORDERED,
@@ -32,8 +31,7 @@ REQUIRES = {
     "sized: IsSized ty size.old": ("is_sized(ty, *size)", NO_SUCH_SIZE),
     "sized: IsSized ty size": ("is_sized(ty, size)", NO_SUCH_SIZE),
     "lent: IsSome (loan self)": ("self.limiter.is_some()", "the reference lends no limiter"),
-    "within: size.old ≤ length region.old": ("*size <= region.len()", IN_REGION),
-    "within: size ≤ length region.old": ("size <= region.len()", IN_REGION),
+    "within: size.old ≤ length region.old": ("*size <= region.len()", "the size is above the length of the region"),
     "totals: HoldsTotals (L.Reserving.holdings limiter.old) machine.old":
         ("u128::from(limiter.held_bytes()) == machine.total_bytes()"
          " && u128::from(limiter.held_elements()) == machine.total_elements()",

@@ -6,7 +6,7 @@ use Rattle.std.proofs.lemmas.Grind.{same_number_lists}
 use Rattle.std.proofs.lemmas.List.{take_all}
 use Rattle.std.specs.List.{list_all}
 use Rattle.wasmi_c.specs.Instruction.{Leaves, each_of, each_of_two, each_of_three, zip3, lanes_of}
-use Rattle.wasmi_c.specs.declared.instruction.refusal.Refusal.TheVariants.{LengthsDiffer}
+use Rattle.wasmi_c.specs.declared.instruction.result.Refusal.TheVariants.{LengthsDiffer}
 
 -- what passes a test is written
 written : {V : Type 0} (test : Bool) (value old new : V) → test ≡ true → new ≡ value

@@ -7,8 +7,8 @@ use Rattle.wasmi_meter.specs.Meter.{Meter, meter_after}
 use Rattle.wasmi_store.specs.Growth.{Growth, Grows, MeteredBytes, metered_value, metered, BulkWrites, bytes_due}
 use Rattle.wasmi_store.proofs.GrowthLemmas.{on_test}
 use Rattle.wasmi_c.specs.Numbers.{meter_of, with_left, KeepsMeter, MeteredRegion, SameRest, limiter_of, quota_numbers_rules, Embedded, embedded}
-use Rattle.wasmi_c.specs.declared.fuel.MeterNumbers.{MeterNumbers}
-use Rattle.wasmi_c.specs.declared.range.Range.{Range}
+use Rattle.wasmi_c.specs.declared.numbers.MeterNumbers.{MeterNumbers}
+use Rattle.wasmi_c.specs.declared.numbers.Range.{Range}
 use Rattle.wasmi_meter.specs.declared.error.MemoryError.{MemoryError}
 use Rattle.wasmi_meter.proofs.AttemptLemmas.{meter_after_nothing}
 use Rattle.wasmi_meter.specs.Attempt.{MeteredValue, Attempt, covers, Request, AttemptOutcome, Unasked, Denied, Met, Failed, Follows}
@@ -16,7 +16,7 @@ use Rattle.wasmi_c.specs.MemoryCalls.{WritesBytesAs, of_memory}
 use Rattle.wasmi_c.specs.Placement.{status_of, grown_number, written_number, Placement, GrowsAs, Limited, limiter_after, Allows, SettlesGrowth, SettlesCreation}
 use Rattle.wasmi_meter.specs.declared.quota.Quota.{Quota}
 use Rattle.wasmi_meter.specs.Capped.{quota_rules}
-use Rattle.wasmi_c.specs.declared.quota.QuotaNumbers.{QuotaNumbers}
+use Rattle.wasmi_c.specs.declared.numbers.QuotaNumbers.{QuotaNumbers}
 use Rattle.wasmi_c.specs.Host.{fresh, host_rules}
 use Rattle.wasmi_c.specs.declared.host.HostAnswers.{HostAnswers}
 

@@ -34,9 +34,9 @@ use Rattle.wasmi_c.specs.TableCalls.{by_elements, of_table}
 use Rattle.wasmi_c.specs.SharedQuota.{UnderQuota, HoldsSums, MakesMemoryUnder, GrowsMemoryUnder, MakesTableUnder, GrowsTableUnder, CallsUnder, OneQuotaHoldsAll, sizes_made}
 use Rattle.wasmi_c.specs.Status.{memory_status, table_status}
 use Rattle.wasmi_c.specs.declared.status.TheConstants.{DONE}
-use Rattle.wasmi_c.specs.declared.memory.numbers.MemoryNumbers.{MemoryNumbers}
-use Rattle.wasmi_c.specs.declared.quota.QuotaNumbers.{QuotaNumbers}
-use Rattle.wasmi_c.specs.declared.table.numbers.TableNumbers.{TableNumbers}
+use Rattle.wasmi_c.specs.declared.numbers.MemoryNumbers.{MemoryNumbers}
+use Rattle.wasmi_c.specs.declared.numbers.QuotaNumbers.{QuotaNumbers}
+use Rattle.wasmi_c.specs.declared.numbers.TableNumbers.{TableNumbers}
 
 -- the kind that isn't this one
 abbrev other : Kind → Kind

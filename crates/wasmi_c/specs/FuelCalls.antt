@@ -3,7 +3,7 @@ use Rattle.std.specs.Prelude.{◌≡◌, ◌-◌, ℕ, nat_le, MatchBool, MatchO
 use Rattle.wasmi_meter.specs.Meter.{meter_after, meter_set}
 use Rattle.wasmi_c.specs.Numbers.{meter_of}
 use Rattle.wasmi_c.specs.declared.status.TheConstants.{DONE, METERING_DISABLED, OUT_OF_FUEL}
-use Rattle.wasmi_c.specs.declared.fuel.MeterNumbers.{MeterNumbers}
+use Rattle.wasmi_c.specs.declared.numbers.MeterNumbers.{MeterNumbers}
 
 -- the fuel of a meter that is on is set to an amount; none of its other numbers changes
 abbrev pub SetsFuel : ℕ → MeterNumbers → ℕ → MeterNumbers → Type 0

@@ -7,8 +7,8 @@ use Rattle.std.specs.List.{list_all}
 use Rattle.wasmi_types.specs.declared.trap.TrapCode.{TrapCode}
 use Rattle.wasmi_types.specs.Trap.{code_number}
 use Rattle.wasmi_c.specs.declared.status.TheConstants.{DONE, NO_LANE, LENGTHS_DIFFER, UNKNOWN}
-use Rattle.wasmi_c.specs.declared.instruction.refusal.Refusal.{Refusal}
-use Rattle.wasmi_c.specs.declared.instruction.refusal.Refusal.TheVariants.{Trap, NoLane, LengthsDiffer, Unknown}
+use Rattle.wasmi_c.specs.declared.instruction.result.Refusal.{Refusal}
+use Rattle.wasmi_c.specs.declared.instruction.result.Refusal.TheVariants.{Trap, NoLane, LengthsDiffer, Unknown}
 use Rattle.wasmi_raw.specs.declared.raw.RawVal.{RawVal}
 use Rattle.wasmi_raw.specs.RawVal.{raw_of, raw_of_vector, vector_in, unsigned_in}
 use Rattle.wasmi_c.specs.declared.instruction.result.InstructionResult.{InstructionResult}

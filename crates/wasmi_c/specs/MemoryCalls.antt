@@ -16,8 +16,8 @@ use Rattle.wasmi_c.specs.Placement.{Placement, AsksAs, ByType, ByTypes, MakesAs,
 use Rattle.wasmi_c.specs.Status.{memory_status}
 use Rattle.wasmi_c.specs.declared.status.TheConstants.{DONE, MEMORY_GROWTH, MEMORY_ACCESS, INVALID_STATE}
 use Rattle.wasmi_c.specs.declared.host.Question.{Question}
-use Rattle.wasmi_c.specs.declared.memory.numbers.MemoryNumbers.{MemoryNumbers}
-use Rattle.wasmi_c.specs.declared.range.Range.{Range}
+use Rattle.wasmi_c.specs.declared.numbers.MemoryNumbers.{MemoryNumbers}
+use Rattle.wasmi_c.specs.declared.numbers.Range.{Range}
 
 -- the fuel that is needed, after an error; else the number stays
 abbrev pub memory_fuel_needed : MemoryError → ℕ → ℕ

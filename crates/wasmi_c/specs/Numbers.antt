@@ -13,10 +13,10 @@ use Rattle.wasmi_store.specs.Table as table
 use Rattle.wasmi_store.specs.Table.{TableTypeValue}
 use Rattle.wasmi_c.specs.Types as types
 use Rattle.wasmi_c.specs.Types.{if_flag}
-use Rattle.wasmi_c.specs.declared.memory.numbers.MemoryNumbers.{MemoryNumbers}
-use Rattle.wasmi_c.specs.declared.table.numbers.TableNumbers.{TableNumbers}
-use Rattle.wasmi_c.specs.declared.fuel.MeterNumbers.{MeterNumbers}
-use Rattle.wasmi_c.specs.declared.quota.QuotaNumbers.{QuotaNumbers}
+use Rattle.wasmi_c.specs.declared.numbers.MemoryNumbers.{MemoryNumbers}
+use Rattle.wasmi_c.specs.declared.numbers.TableNumbers.{TableNumbers}
+use Rattle.wasmi_c.specs.declared.numbers.MeterNumbers.{MeterNumbers}
+use Rattle.wasmi_c.specs.declared.numbers.QuotaNumbers.{QuotaNumbers}
 
 -- ---- memories and tables
 

@@ -7,9 +7,9 @@ use Rattle.wasmi_c.specs.Numbers.{Embedded, KeepsQuota, Placed, limiter_of, quot
 use Rattle.wasmi_c.specs.Placement.{GrowsBy}
 use Rattle.wasmi_c.specs.declared.status.TheConstants.{DONE}
 use Rattle.wasmi_c.specs.TableCalls.{MakesTableEmbedded, by_elements, of_table}
-use Rattle.wasmi_c.specs.declared.memory.numbers.MemoryNumbers.{MemoryNumbers}
-use Rattle.wasmi_c.specs.declared.quota.QuotaNumbers.{QuotaNumbers}
-use Rattle.wasmi_c.specs.declared.table.numbers.TableNumbers.{TableNumbers}
+use Rattle.wasmi_c.specs.declared.numbers.MemoryNumbers.{MemoryNumbers}
+use Rattle.wasmi_c.specs.declared.numbers.QuotaNumbers.{QuotaNumbers}
+use Rattle.wasmi_c.specs.declared.numbers.TableNumbers.{TableNumbers}
 
 -- a quota, and the sizes of what was made under it: of memories in bytes, and of tables in elements
 pub record UnderQuota : Type 0 where

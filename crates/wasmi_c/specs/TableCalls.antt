@@ -13,8 +13,8 @@ use Rattle.wasmi_c.specs.Placement.{Placement, AsksAs, ByType, ByTypes, status_o
 use Rattle.wasmi_c.specs.Status.{table_status}
 use Rattle.wasmi_c.specs.declared.status.TheConstants.{DONE, NO_ELEMENT, TABLE_GROWTH, INVALID_STATE}
 use Rattle.wasmi_c.specs.declared.host.Question.{Question}
-use Rattle.wasmi_c.specs.declared.table.numbers.TableNumbers.{TableNumbers}
-use Rattle.wasmi_c.specs.declared.range.Range.{Range}
+use Rattle.wasmi_c.specs.declared.numbers.TableNumbers.{TableNumbers}
+use Rattle.wasmi_c.specs.declared.numbers.Range.{Range}
 
 -- the fuel that is needed, after an error; else the number stays
 abbrev pub table_fuel_needed : TableError → ℕ → ℕ

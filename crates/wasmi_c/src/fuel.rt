@@ -1,57 +1,12 @@
-//! A fuel meter that lies with C, and the calls on it.
+//! The calls on a fuel meter that lies with C.
 ghost use Rattle.std.specs.Prelude.{◌≡◌};
 ghost use Rattle.wasmi_meter.specs.Meter.{copy_cost};
 ghost use Rattle.wasmi_c.specs.FuelCalls.{SetsFuel, TellsFuel, PaysFuel};
-ghost use Rattle.wasmi_c.specs.Numbers.{meter_of, with_left};
+ghost use Rattle.wasmi_c.specs.Numbers.{meter_of};
 
+use crate::numbers::MeterNumbers;
 use crate::status::{DONE, METERING_DISABLED, OUT_OF_FUEL};
-use crate::types;
-use wasmi_meter::{CustomFuelCosts, Fuel, FuelCostsProvider};
-
-/// A fuel meter. The numbers may be any.
-#[repr(C)]
-#[derive(Clone, Copy)]
-pub struct MeterNumbers {
-    /// The fuel that is left, where the meter is on.
-    pub left: u64,
-    /// How many bytes are copied for one fuel; 0 makes each copy cost the greatest `u64`.
-    pub bytes_copied_per_fuel: u32,
-    /// The fuel for translating one byte.
-    pub fuel_per_bytes_translated: u32,
-    /// The fuel for validating one byte.
-    pub fuel_per_bytes_validated: u32,
-    /// Whether the meter is on: any number but 0.
-    pub is_on: u8,
-}
-
-impl MeterNumbers {
-    /// The meter.
-    pub fn fuel(&self) -> Fuel
-        ensures { result ≡ meter_of self.now }
-    {
-        types::meter(types::if_flag(self.is_on, self.left), self.costs())
-    }
-
-    /// What work costs.
-    pub fn costs(&self) -> CustomFuelCosts
-        ensures { result ≡ (meter_of self.now).costs }
-    {
-        CustomFuelCosts {
-            bytes_copied_per_fuel: self.bytes_copied_per_fuel,
-            fuel_per_bytes_translated: self.fuel_per_bytes_translated,
-            fuel_per_bytes_validated: self.fuel_per_bytes_validated,
-        }
-    }
-
-    /// Stores what is left of the meter.
-    pub fn store_left(&mut self, fuel: &Fuel)
-        ensures { self.new ≡ with_left self.old fuel.now.left }
-    {
-        if let Ok(left) = fuel.get_fuel() {
-            self.left = left;
-        }
-    }
-}
+use wasmi_meter::FuelCostsProvider;
 
 /// Sets the fuel that is left: `METERING_DISABLED` where the meter is off.
 pub fn set(meter: &mut MeterNumbers, amount: u64) -> u8

@@ -8,7 +8,6 @@ pub mod lanes;
 pub mod list;
 pub mod load;
 pub mod numbers;
-pub mod refusal;
 pub mod result;
 mod rows;
 pub mod shuffle;

@@ -8,8 +8,10 @@ ghost use Rattle.wasmi_store.specs.Memory.{MemoryTypeValue, in_bounds, page_byte
 ghost use Rattle.wasmi_c.specs.FuelCalls.{SetsFuel, TellsFuel, PaysFuel};
 ghost use Rattle.wasmi_meter.specs.Meter.{copy_cost};
 
-use wasmi_c::memory::{bulk, bytes, creation, growth};
-use wasmi_c::{HostAnswers, MemoryNumbers, MeterNumbers, Question, QuotaNumbers, Range, fuel};
+use wasmi_c::{
+    HostAnswers, MemoryNumbers, MeterNumbers, Question, QuotaNumbers, Range, fuel,
+    memory as on_memory,
+};
 
 #[unsafe(no_mangle)]
 pub extern "C" fn wasmi_memory_new(
@@ -22,7 +24,7 @@ pub extern "C" fn wasmi_memory_new(
     ensures quota { KeepsQuota quota.old quota.new }
     ensures invalid { IsNoType memory.old → quota.new ≡ quota.old }
 {
-    creation::make(memory, region, quota)
+    on_memory::make(memory, region, quota)
 }
 
 #[unsafe(no_mangle)]
@@ -43,7 +45,7 @@ pub extern "C" fn wasmi_memory_grow(
         → in_bounds ty (memory.old.size / page_bytes ty.page + pages) ≡ false
         → quota.new ≡ quota.old }
 {
-    growth::grow(memory, region, pages, meter, quota, number)
+    on_memory::grow(memory, region, pages, meter, quota, number)
 }
 
 #[unsafe(no_mangle)]
@@ -55,7 +57,7 @@ pub extern "C" fn wasmi_memory_question(
 ) -> u8
     ensures { AsksEmbedded memory.now region.now pages result question.old question.new }
 {
-    growth::question(memory, region, pages, question)
+    on_memory::question(memory, region, pages, question)
 }
 
 #[unsafe(no_mangle)]
@@ -71,14 +73,14 @@ pub extern "C" fn wasmi_memory_settle(
         (embedded memory.old region.old meter.old (Some answers.old) number.old) result
         (embedded memory.new region.new meter.new (Some answers.new) number.new) }
 {
-    growth::settle(memory, region, pages, meter, answers, number)
+    on_memory::settle(memory, region, pages, meter, answers, number)
 }
 
 #[unsafe(no_mangle)]
 pub extern "C" fn wasmi_memory_size(memory: &MemoryNumbers, region: &[u8], pages: &mut u64) -> u8
     ensures { CountsEmbedded memory.now region.now pages.old result pages.new }
 {
-    bytes::size(memory, region, pages)
+    on_memory::size(memory, region, pages)
 }
 
 #[unsafe(no_mangle)]
@@ -90,7 +92,7 @@ pub extern "C" fn wasmi_memory_read(
 ) -> u8
     ensures { ReadsEmbedded (placed memory.now region.now) offset bytes.old result bytes.new }
 {
-    bytes::read(memory, region, offset, bytes)
+    on_memory::read(memory, region, offset, bytes)
 }
 
 #[unsafe(no_mangle)]
@@ -102,7 +104,7 @@ pub extern "C" fn wasmi_memory_write(
 ) -> u8
     ensures { WritesEmbedded (placed memory.now region.old) offset bytes.now result region.new }
 {
-    bytes::write(memory, region, offset, bytes)
+    on_memory::write(memory, region, offset, bytes)
 }
 
 #[unsafe(no_mangle)]
@@ -118,7 +120,7 @@ pub extern "C" fn wasmi_memory_fill(
         (metered_region region.old meter.old number.old) result
         (metered_region region.new meter.new number.new) }
 {
-    bulk::fill(memory, region, range, value, meter, number)
+    on_memory::fill(memory, region, range, value, meter, number)
 }
 
 #[unsafe(no_mangle)]
@@ -133,7 +135,7 @@ pub extern "C" fn wasmi_memory_copy_within(
         (metered_region region.old meter.old number.old) result
         (metered_region region.new meter.new number.new) }
 {
-    bulk::copy_within(memory, region, range, meter, number)
+    on_memory::copy_within(memory, region, range, meter, number)
 }
 
 #[unsafe(no_mangle)]
@@ -150,7 +152,7 @@ pub extern "C" fn wasmi_memory_copy(
         (metered_region region.old meter.old number.old) result
         (metered_region region.new meter.new number.new) }
 {
-    bulk::copy(memory, region, source, source_region, range, meter, number)
+    on_memory::copy(memory, region, source, source_region, range, meter, number)
 }
 
 #[unsafe(no_mangle)]
@@ -166,7 +168,7 @@ pub extern "C" fn wasmi_memory_init(
         (metered_region region.old meter.old number.old) result
         (metered_region region.new meter.new number.new) }
 {
-    bulk::init(memory, region, bytes, range, meter, number)
+    on_memory::init(memory, region, bytes, range, meter, number)
 }
 
 #[unsafe(no_mangle)]

@@ -7,8 +7,9 @@ ghost use Rattle.wasmi_meter.specs.Capped.{quota_rules};
 ghost use Rattle.wasmi_store.specs.Table.{TableTypeValue, is_indexable, raw_filling_of, copy_of, initialization_of};
 ghost use Rattle.wasmi_region.specs.Table.{table_in, items_of};
 
-use wasmi_c::table::{creation, elements, growth, ranges};
-use wasmi_c::{HostAnswers, MeterNumbers, Question, QuotaNumbers, Range, TableNumbers};
+use wasmi_c::{
+    HostAnswers, MeterNumbers, Question, QuotaNumbers, Range, TableNumbers, table as on_table,
+};
 
 #[unsafe(no_mangle)]
 pub extern "C" fn wasmi_table_new(
@@ -22,7 +23,7 @@ pub extern "C" fn wasmi_table_new(
     ensures quota { KeepsQuota quota.old quota.new }
     ensures invalid { table_type_of table.old ≡ None → quota.new ≡ quota.old }
 {
-    creation::make(table, region, reference, quota)
+    on_table::make(table, region, reference, quota)
 }
 
 #[unsafe(no_mangle)]
@@ -43,7 +44,7 @@ pub extern "C" fn wasmi_table_grow(
     ensures unasked { (ty : TableTypeValue) → IsTable table.old region.old ty
         → is_indexable ty (table.old.size + delta) ≡ false → quota.new ≡ quota.old }
 {
-    growth::grow(table, region, delta, reference, meter, quota, number)
+    on_table::grow(table, region, delta, reference, meter, quota, number)
 }
 
 #[unsafe(no_mangle)]
@@ -55,7 +56,7 @@ pub extern "C" fn wasmi_table_question(
 ) -> u8
     ensures { AsksTableEmbedded table.now region.now delta result question.old question.new }
 {
-    growth::question(table, region, delta, question)
+    on_table::question(table, region, delta, question)
 }
 
 #[unsafe(no_mangle)]
@@ -72,14 +73,14 @@ pub extern "C" fn wasmi_table_settle(
         (embedded table.old region.old meter.old (Some answers.old) number.old) result
         (embedded table.new region.new meter.new (Some answers.new) number.new) }
 {
-    growth::settle(table, region, delta, reference, meter, answers, number)
+    on_table::settle(table, region, delta, reference, meter, answers, number)
 }
 
 #[unsafe(no_mangle)]
 pub extern "C" fn wasmi_table_size(table: &TableNumbers, region: &[u32], size: &mut u64) -> u8
     ensures { CountsElements table.now region.now size.old result size.new }
 {
-    elements::size(table, region, size)
+    on_table::size(table, region, size)
 }
 
 #[unsafe(no_mangle)]
@@ -91,7 +92,7 @@ pub extern "C" fn wasmi_table_get(
 ) -> u8
     ensures { GetsElement (placed table.now region.now) index reference.old result reference.new }
 {
-    elements::get(table, region, index, reference)
+    on_table::get(table, region, index, reference)
 }
 
 #[unsafe(no_mangle)]
@@ -103,7 +104,7 @@ pub extern "C" fn wasmi_table_set(
 ) -> u8
     ensures { SetsElement (placed table.now region.old) index reference result region.new }
 {
-    elements::set(table, region, index, reference)
+    on_table::set(table, region, index, reference)
 }
 
 #[unsafe(no_mangle)]
@@ -119,7 +120,7 @@ pub extern "C" fn wasmi_table_fill(
         table.now (metered_region region.old meter.old number.old) result
         (metered_region region.new meter.new number.new) }
 {
-    ranges::fill(table, region, range, reference, meter, number)
+    on_table::fill(table, region, range, reference, meter, number)
 }
 
 #[unsafe(no_mangle)]
@@ -135,7 +136,7 @@ pub extern "C" fn wasmi_table_copy(
         table.now (metered_region region.old meter.old number.old) result
         (metered_region region.new meter.new number.new) }
 {
-    ranges::copy_within(table, region, range, meter, number)
+    on_table::copy_within(table, region, range, meter, number)
 }
 
 #[unsafe(no_mangle)]
@@ -152,7 +153,7 @@ pub extern "C" fn wasmi_table_copy_from(
         (metered_region region.old meter.old number.old) result
         (metered_region region.new meter.new number.new) }
 {
-    ranges::copy(table, region, source, source_region, range, meter, number)
+    on_table::copy(table, region, source, source_region, range, meter, number)
 }
 
 #[unsafe(no_mangle)]
@@ -169,5 +170,5 @@ pub extern "C" fn wasmi_table_init(
         table.now (metered_region region.old meter.old number.old) result
         (metered_region region.new meter.new number.new) }
 {
-    ranges::init(table, region, items, range, meter, number)
+    on_table::init(table, region, items, range, meter, number)
 }

@@ -24,7 +24,7 @@ use Rattle.wasmi_law_tests.specs.declared.recorder.Recorder.{Recorder}
 use Rattle.wasmi_meter.proofs.CappedLemmas.{nothing_within}
 use Rattle.wasmi_c.specs.Numbers.{quota_of}
 use Rattle.wasmi_c.specs.SharedQuota.{HoldsSums, sizes_made}
-use Rattle.wasmi_c.specs.declared.quota.QuotaNumbers.{QuotaNumbers}
+use Rattle.wasmi_c.specs.declared.numbers.QuotaNumbers.{QuotaNumbers}
 use Rattle.wasmi_store.specs.Memory as memory
 use Rattle.wasmi_law_tests.specs.declared.recorder.Event.TheVariants as event
 

@@ -25,11 +25,12 @@ use wasmi_c::machine::call_struct::CallStruct;
 use wasmi_c::machine::handle::Handle;
 use wasmi_c::machine::laws;
 use wasmi_c::machine::reply_struct::ReplyStruct;
-use wasmi_c::memory::{creation as memory_creation, growth as memory_growth};
 use wasmi_c::pool::handle::PoolHandle;
 use wasmi_c::status::DONE;
-use wasmi_c::table::{creation as table_creation, growth as table_growth};
-use wasmi_c::{HostAnswers, MemoryNumbers, MeterNumbers, QuotaNumbers, TableNumbers};
+use wasmi_c::{
+    HostAnswers, MemoryNumbers, MeterNumbers, QuotaNumbers, TableNumbers, memory as host_memory,
+    table as host_table,
+};
 use wasmi_core::{MemoryError, MemoryType, ResourceLimiter, TableError, TableType};
 
 /// Makes two calls, one after the other. If there is a machine and the numbers stand for calls,
@@ -78,8 +79,8 @@ pub fn make_both(
         × (quota.new.held_elements ≡ table.new.size) × IsWithinCaps (quota_of quota.new) }
 {
     one_quota_holds_all();
-    let of_memory = memory_creation::make(memory, bytes, quota);
-    let of_table = table_creation::make(table, elements, 0, quota);
+    let of_memory = host_memory::make(memory, bytes, quota);
+    let of_table = host_table::make(table, elements, 0, quota);
     of_memory == DONE && of_table == DONE
 }
 
@@ -103,7 +104,7 @@ pub fn grow_as_answered<L: ResourceLimiter>(
 {
     settlements_are_growths::<L>();
     answers.reset();
-    memory_growth::grow_under(memory, ty, region, pages, meter, answers, number)
+    host_memory::grow_under(memory, ty, region, pages, meter, answers, number)
 }
 
 /// Grows a table of this type by so many elements by the answers of a limiter of any type, as
@@ -128,7 +129,7 @@ pub fn grow_table_as_answered<L: ResourceLimiter>(
 {
     settlements_are_growths::<L>();
     answers.reset();
-    table_growth::grow_under(table, ty, region, delta, reference, meter, answers, number)
+    host_table::grow_under(table, ty, region, delta, reference, meter, answers, number)
 }
 
 /// Makes a memory of this type at the front of a region by the answers of a limiter of any type,
@@ -146,7 +147,7 @@ pub fn make_as_answered<L: ResourceLimiter>(
 {
     settlements_are_creations::<L>();
     answers.reset();
-    memory_creation::make_under(ty, region, answers)
+    host_memory::make_under(ty, region, answers)
 }
 
 /// Makes a table of this type at the front of a region by the answers of a limiter of any type, as
@@ -165,5 +166,5 @@ pub fn make_table_as_answered<L: ResourceLimiter>(
 {
     settlements_are_creations::<L>();
     answers.reset();
-    table_creation::make_under(ty, region, reference, answers)
+    host_table::make_under(ty, region, reference, answers)
 }

@@ -1,9 +1,9 @@
 //! Linear memories whose bytes are the first of a region; the rest of it is room to grow in place.
-//! The caller keeps a memory's type and its size in bytes, and passes them to each call.
+//! The caller keeps a memory's type and its size in bytes, and passes them to each call with the
+//! region, or the memory's bytes alone.
 //!
 //! Own: upstream's memory borrows its static buffer for as long as it lives.
-ghost use Rattle.std.specs.Prelude.{◌≡◌, ◌≤◌, ◌+◌, ◌-◌, ◌*◌, ◌/◌, ℕ, length, take, drop, OnOk, OnErr, IfOk, IfErr, Some, None, MatchOption, true, false};
-ghost use Rattle.wasmi_types.specs.Access.{overwrite};
+ghost use Rattle.std.specs.Prelude.{◌≡◌, ◌≤◌, ◌+◌, ◌*◌, ◌/◌, length, drop, OnErr, IfOk, Some, MatchOption, true, false};
 ghost use Rattle.wasmi_meter.specs.Limiter.{optional_rules, lent_limiter, KeepsLoan};
 ghost use Rattle.wasmi_store.specs.Buffer.{Lent};
 ghost use Rattle.wasmi_store.specs.Growth.{filled, copied, BulkWrites, metered_value, metered};
@@ -15,8 +15,8 @@ use wasmi_meter::{Fuel, MemoryError, ResourceLimiter, ResourceLimiterRef};
 use wasmi_store::MemoryType;
 use wasmi_store::bulk::{MEMORY_OUTSIDE as OUTSIDE, copy_items, copy_items_within, fill_items};
 use wasmi_store::growth::{MEMORY_DENIED as DENIED, decide_growth, permitted_minimum};
-pub use wasmi_store::range::read_bytes;
-use wasmi_store::range::{fill_range, write_bytes};
+use wasmi_store::range::fill_range;
+pub use wasmi_store::range::{read_bytes, write_bytes};
 
 /// Whether a memory of a type may have `size` bytes: whole pages, as many as the type allows.
 pub fn is_sized(ty: MemoryType, size: usize) -> bool
@@ -119,103 +119,68 @@ pub fn question(ty: MemoryType, size: usize, additional: u64) -> Option<(usize, 
     Some((desired, ty.maximum_size()))
 }
 
-/// Writes bytes over those from an offset on, of a memory of `size` bytes at the front of a region.
-/// The error is `OutOfBoundsAccess` if they would end past the memory; then nothing is written.
-pub fn write(
-    region: &mut [u8],
-    size: usize,
-    offset: usize,
-    source: &[u8],
-) -> Result<(), MemoryError>
-    requires within { size ≤ length region.old }
-    ensures ok { OnOk result
-        ((overwrite (take size region.old) offset source.now ≡ Some (take size region.new))
-        × (drop size region.new ≡ drop size region.old)) }
-    ensures err { IfErr result
-        (λ error. (error ≡ MemoryError.OutOfBoundsAccess)
-        × (overwrite (take size region.old) offset source.now ≡ None)
-        × (region.new ≡ region.old)) }
-    ensures len { length region.new ≡ length region.old }
-{
-    write_bytes(&mut region[..size], offset, source)
-}
-
-/// Fills bytes of a memory of `size` bytes, as [`wasmi_store::LinearMemory::fill`] does.
+/// Fills bytes of a memory, as [`wasmi_store::LinearMemory::fill`] does.
 pub fn fill(
-    region: &mut [u8],
-    size: usize,
+    bytes: &mut [u8],
     dst: u64,
     value: u8,
     len: u64,
     fuel: &mut Fuel,
 ) -> Result<(), MemoryError>
-    requires within { size ≤ length region.old }
-    ensures written { BulkWrites (filled (take size region.old) dst value len) len
-        (metered (take size region.old) (Some fuel.old)) result
-        (metered (take size region.new) (Some fuel.new)) }
-    ensures rest { drop size region.new ≡ drop size region.old }
-    ensures len { length region.new ≡ length region.old }
+    ensures { BulkWrites (filled bytes.old dst value len) len
+        (metered bytes.old (Some fuel.old)) result (metered bytes.new (Some fuel.new)) }
 {
-    fill_items(&mut region[..size], dst, value, len, OUTSIDE, fuel)
+    fill_items(bytes, dst, value, len, OUTSIDE, fuel)
 }
 
-/// Copies bytes of a memory of `size` bytes, as [`wasmi_store::LinearMemory::copy_within`] does.
+/// Copies bytes of a memory, as [`wasmi_store::LinearMemory::copy_within`] does.
 pub fn copy_within(
-    region: &mut [u8],
-    size: usize,
+    bytes: &mut [u8],
     dst: u64,
     src: u64,
     len: u64,
     fuel: &mut Fuel,
 ) -> Result<(), MemoryError>
-    requires within { size ≤ length region.old }
-    ensures written { BulkWrites
-        (copied (take size region.old) dst (take size region.old) src len) len
-        (metered (take size region.old) (Some fuel.old)) result
-        (metered (take size region.new) (Some fuel.new)) }
-    ensures rest { drop size region.new ≡ drop size region.old }
-    ensures len { length region.new ≡ length region.old }
+    ensures { BulkWrites (copied bytes.old dst bytes.old src len) len
+        (metered bytes.old (Some fuel.old)) result (metered bytes.new (Some fuel.new)) }
 {
-    copy_items_within(&mut region[..size], dst, src, len, OUTSIDE, fuel)
+    copy_items_within(bytes, dst, src, len, OUTSIDE, fuel)
 }
 
-/// Copies bytes to a memory of `size` bytes, as [`wasmi_store::LinearMemory::copy`] does.
+/// Copies bytes to a memory, as [`wasmi_store::LinearMemory::copy`] does.
 pub fn copy(
-    region: &mut [u8],
-    size: usize,
+    bytes: &mut [u8],
     source: &[u8],
     dst: u64,
     src: u64,
     len: u64,
     fuel: &mut Fuel,
 ) -> Result<(), MemoryError>
-    requires within { size ≤ length region.old }
-    ensures written { BulkWrites (copied (take size region.old) dst source.now src len) len
-        (metered (take size region.old) (Some fuel.old)) result
-        (metered (take size region.new) (Some fuel.new)) }
-    ensures rest { drop size region.new ≡ drop size region.old }
-    ensures len { length region.new ≡ length region.old }
+    ensures { BulkWrites (copied bytes.old dst source.now src len) len
+        (metered bytes.old (Some fuel.old)) result (metered bytes.new (Some fuel.new)) }
 {
-    copy_items(&mut region[..size], dst, source, src, len, OUTSIDE, fuel)
+    copy_items(bytes, dst, source, src, len, OUTSIDE, fuel)
 }
 
-/// Copies a segment to a memory of `size` bytes, as [`wasmi_store::LinearMemory::init`] does.
+/// Copies a segment to a memory, as [`wasmi_store::LinearMemory::init`] does.
 pub fn init(
-    region: &mut [u8],
-    size: usize,
+    bytes: &mut [u8],
     segment: &[u8],
     dst: u64,
     src: u32,
     len: u32,
     fuel: &mut Fuel,
 ) -> Result<(), MemoryError>
-    requires within { size ≤ length region.old }
-    ensures written { BulkWrites (copied (take size region.old) dst segment.now src len) len
-        (metered (take size region.old) (Some fuel.old)) result
-        (metered (take size region.new) (Some fuel.new)) }
-    ensures rest { drop size region.new ≡ drop size region.old }
-    ensures len { length region.new ≡ length region.old }
+    ensures { BulkWrites (copied bytes.old dst segment.now src len) len
+        (metered bytes.old (Some fuel.old)) result (metered bytes.new (Some fuel.new)) }
 {
-    let (src, len) = (u64::from(src), u64::from(len));
-    copy_items(&mut region[..size], dst, segment, src, len, OUTSIDE, fuel)
+    copy_items(
+        bytes,
+        dst,
+        segment,
+        u64::from(src),
+        u64::from(len),
+        OUTSIDE,
+        fuel,
+    )
 }

@@ -47,7 +47,8 @@ pub mod laws {
 }
 pub mod memory {
     //! Linear memories whose bytes are the first of a region; the rest of it is room to grow in place.
-    //! The caller keeps a memory's type and its size in bytes, and passes them to each call.
+    //! The caller keeps a memory's type and its size in bytes, and passes them to each call with the
+    //! region, or the memory's bytes alone.
     //!
     //! Own: upstream's memory borrows its static buffer for as long as it lives.
 
@@ -58,8 +59,8 @@ pub mod memory {
         MEMORY_OUTSIDE as OUTSIDE, copy_items, copy_items_within, fill_items,
     };
     use crate::proved::store::growth::{MEMORY_DENIED as DENIED, decide_growth, permitted_minimum};
-    pub use crate::proved::store::range::read_bytes;
-    use crate::proved::store::range::{fill_range, write_bytes};
+    use crate::proved::store::range::fill_range;
+    pub use crate::proved::store::range::{read_bytes, write_bytes};
 
     /// Whether a memory of a type may have `size` bytes: whole pages, as many as the type allows.
     ///
@@ -215,180 +216,98 @@ pub mod memory {
         Some((desired, ty.maximum_size()))
     }
 
-    /// Writes bytes over those from an offset on, of a memory of `size` bytes at the front of a region.
-    /// The error is `OutOfBoundsAccess` if they would end past the memory; then nothing is written.
-    ///
-    /// # Panics
-    ///
-    /// Panics if the size is above the length of the region.
+    /// Fills bytes of a memory, as [`LinearMemory::fill`](crate::proved::store::LinearMemory::fill) does.
     ///
     /// # Contract
     ///
     /// ```text
-    /// requires within: size ≤ length region.old
-    /// ensures ok: OnOk result
-    ///     ((overwrite (take size region.old) offset source.now ≡ Some (take size region.new))
-    ///     × (drop size region.new ≡ drop size region.old))
-    /// ensures err: IfErr result
-    ///     (λ error. (error ≡ MemoryError.OutOfBoundsAccess)
-    ///     × (overwrite (take size region.old) offset source.now ≡ None)
-    ///     × (region.new ≡ region.old))
-    /// ensures len: length region.new ≡ length region.old
-    /// ```
-    ///
-    /// Definitions: [`overwrite`](crate::specs::types::Access#overwrite).
-    #[inline]
-    pub fn write(
-        region: &mut [u8],
-        size: usize,
-        offset: usize,
-        source: &[u8],
-    ) -> Result<(), MemoryError> {
-        assert!(
-            size <= region.len(),
-            "the size is above the length of the region"
-        );
-        write_bytes(&mut region[..size], offset, source)
-    }
-
-    /// Fills bytes of a memory of `size` bytes, as [`LinearMemory::fill`](crate::proved::store::LinearMemory::fill) does.
-    ///
-    /// # Panics
-    ///
-    /// Panics if the size is above the length of the region.
-    ///
-    /// # Contract
-    ///
-    /// ```text
-    /// requires within: size ≤ length region.old
-    /// ensures written: BulkWrites (filled (take size region.old) dst value len) len
-    ///     (metered (take size region.old) (Some fuel.old)) result
-    ///     (metered (take size region.new) (Some fuel.new))
-    /// ensures rest: drop size region.new ≡ drop size region.old
-    /// ensures len: length region.new ≡ length region.old
+    /// ensures: BulkWrites (filled bytes.old dst value len) len
+    ///     (metered bytes.old (Some fuel.old)) result (metered bytes.new (Some fuel.new))
     /// ```
     ///
     /// Definitions: [`BulkWrites`](crate::specs::store::Growth#BulkWrites), [`filled`](crate::specs::store::Growth#filled), [`metered`](crate::specs::store::Growth#metered).
     #[inline]
     pub fn fill(
-        region: &mut [u8],
-        size: usize,
+        bytes: &mut [u8],
         dst: u64,
         value: u8,
         len: u64,
         fuel: &mut Fuel,
     ) -> Result<(), MemoryError> {
-        assert!(
-            size <= region.len(),
-            "the size is above the length of the region"
-        );
-        fill_items(&mut region[..size], dst, value, len, OUTSIDE, fuel)
+        fill_items(bytes, dst, value, len, OUTSIDE, fuel)
     }
 
-    /// Copies bytes of a memory of `size` bytes, as [`LinearMemory::copy_within`](crate::proved::store::LinearMemory::copy_within) does.
-    ///
-    /// # Panics
-    ///
-    /// Panics if the size is above the length of the region.
+    /// Copies bytes of a memory, as [`LinearMemory::copy_within`](crate::proved::store::LinearMemory::copy_within) does.
     ///
     /// # Contract
     ///
     /// ```text
-    /// requires within: size ≤ length region.old
-    /// ensures written: BulkWrites
-    ///     (copied (take size region.old) dst (take size region.old) src len) len
-    ///     (metered (take size region.old) (Some fuel.old)) result
-    ///     (metered (take size region.new) (Some fuel.new))
-    /// ensures rest: drop size region.new ≡ drop size region.old
-    /// ensures len: length region.new ≡ length region.old
+    /// ensures: BulkWrites (copied bytes.old dst bytes.old src len) len
+    ///     (metered bytes.old (Some fuel.old)) result (metered bytes.new (Some fuel.new))
     /// ```
     ///
     /// Definitions: [`BulkWrites`](crate::specs::store::Growth#BulkWrites), [`copied`](crate::specs::store::Growth#copied), [`metered`](crate::specs::store::Growth#metered).
     #[inline]
     pub fn copy_within(
-        region: &mut [u8],
-        size: usize,
+        bytes: &mut [u8],
         dst: u64,
         src: u64,
         len: u64,
         fuel: &mut Fuel,
     ) -> Result<(), MemoryError> {
-        assert!(
-            size <= region.len(),
-            "the size is above the length of the region"
-        );
-        copy_items_within(&mut region[..size], dst, src, len, OUTSIDE, fuel)
+        copy_items_within(bytes, dst, src, len, OUTSIDE, fuel)
     }
 
-    /// Copies bytes to a memory of `size` bytes, as [`LinearMemory::copy`](crate::proved::store::LinearMemory::copy) does.
-    ///
-    /// # Panics
-    ///
-    /// Panics if the size is above the length of the region.
+    /// Copies bytes to a memory, as [`LinearMemory::copy`](crate::proved::store::LinearMemory::copy) does.
     ///
     /// # Contract
     ///
     /// ```text
-    /// requires within: size ≤ length region.old
-    /// ensures written: BulkWrites (copied (take size region.old) dst source.now src len) len
-    ///     (metered (take size region.old) (Some fuel.old)) result
-    ///     (metered (take size region.new) (Some fuel.new))
-    /// ensures rest: drop size region.new ≡ drop size region.old
-    /// ensures len: length region.new ≡ length region.old
+    /// ensures: BulkWrites (copied bytes.old dst source.now src len) len
+    ///     (metered bytes.old (Some fuel.old)) result (metered bytes.new (Some fuel.new))
     /// ```
     ///
     /// Definitions: [`BulkWrites`](crate::specs::store::Growth#BulkWrites), [`copied`](crate::specs::store::Growth#copied), [`metered`](crate::specs::store::Growth#metered).
     #[inline]
     pub fn copy(
-        region: &mut [u8],
-        size: usize,
+        bytes: &mut [u8],
         source: &[u8],
         dst: u64,
         src: u64,
         len: u64,
         fuel: &mut Fuel,
     ) -> Result<(), MemoryError> {
-        assert!(
-            size <= region.len(),
-            "the size is above the length of the region"
-        );
-        copy_items(&mut region[..size], dst, source, src, len, OUTSIDE, fuel)
+        copy_items(bytes, dst, source, src, len, OUTSIDE, fuel)
     }
 
-    /// Copies a segment to a memory of `size` bytes, as [`LinearMemory::init`](crate::proved::store::LinearMemory::init) does.
-    ///
-    /// # Panics
-    ///
-    /// Panics if the size is above the length of the region.
+    /// Copies a segment to a memory, as [`LinearMemory::init`](crate::proved::store::LinearMemory::init) does.
     ///
     /// # Contract
     ///
     /// ```text
-    /// requires within: size ≤ length region.old
-    /// ensures written: BulkWrites (copied (take size region.old) dst segment.now src len) len
-    ///     (metered (take size region.old) (Some fuel.old)) result
-    ///     (metered (take size region.new) (Some fuel.new))
-    /// ensures rest: drop size region.new ≡ drop size region.old
-    /// ensures len: length region.new ≡ length region.old
+    /// ensures: BulkWrites (copied bytes.old dst segment.now src len) len
+    ///     (metered bytes.old (Some fuel.old)) result (metered bytes.new (Some fuel.new))
     /// ```
     ///
     /// Definitions: [`BulkWrites`](crate::specs::store::Growth#BulkWrites), [`copied`](crate::specs::store::Growth#copied), [`metered`](crate::specs::store::Growth#metered).
     #[inline]
     pub fn init(
-        region: &mut [u8],
-        size: usize,
+        bytes: &mut [u8],
         segment: &[u8],
         dst: u64,
         src: u32,
         len: u32,
         fuel: &mut Fuel,
     ) -> Result<(), MemoryError> {
-        assert!(
-            size <= region.len(),
-            "the size is above the length of the region"
-        );
-        let (src, len) = (u64::from(src), u64::from(len));
-        copy_items(&mut region[..size], dst, segment, src, len, OUTSIDE, fuel)
+        copy_items(
+            bytes,
+            dst,
+            segment,
+            u64::from(src),
+            u64::from(len),
+            OUTSIDE,
+            fuel,
+        )
     }
 }
 pub mod table {

@@ -5,8 +5,7 @@ ghost use Rattle.wasmi_c.specs.Instruction.{Leaves, each_of_two, binary_numbered
 
 use crate::instruction::list::numbered;
 use crate::instruction::numbers::{BINARY_INSTRUCTIONS, binary_numbers};
-use crate::instruction::refusal::Refusal;
-use crate::instruction::result::{InstructionResult, leave, result_of};
+use crate::instruction::result::{InstructionResult, Refusal, leave, result_of};
 use crate::instruction::rows::part_once;
 use crate::status::DONE;
 use wasmi_ops::{BinaryOp, ScalarBinaryOp, ShiftOp};
@@ -36,17 +35,9 @@ impl Binary {
         }
     }
 
-    #[inline(always)]
-    #[tactic(auto, unfolding(crate::specs::Instruction::binary_outcome))]
-    fn outcome(self, a: RawVal, b: RawVal) -> InstructionResult
-        ensures { result ≡ binary_outcome self a b }
-    {
-        result_of(self.apply(a, b))
-    }
-
     // The code of each instruction has its own loop.
     #[inline(always)]
-    #[tactic(auto, using(crate::proofs::InstructionLemmas::arrays), unfolding(crate::specs::Instruction::each_of_two))]
+    #[tactic(auto, using(crate::proofs::InstructionLemmas::arrays), unfolding(crate::specs::Instruction::each_of_two, crate::specs::Instruction::binary_outcome))]
     fn each(self, a: &[RawVal], b: &[RawVal], results: &mut [InstructionResult]) -> u8
         ensures { Leaves (each_of_two (binary_outcome self) a.now b.now (length results.old))
             results.old results.new result }
@@ -55,7 +46,7 @@ impl Binary {
             return Refusal::LengthsDiffer.into();
         }
         for i in 0..a.len() {
-            results[i] = self.outcome(a[i], b[i]);
+            results[i] = result_of(self.apply(a[i], b[i]));
         }
         DONE
     }

@@ -3,8 +3,7 @@ ghost use Rattle.std.specs.Prelude.{◌≡◌, ◌+◌, length};
 ghost use Rattle.wasmi_c.specs.Instruction.{Leaves, each_of, each_of_two, extract_result, extract_results, extracted_value, extraction_of, lane_load_of, lane_store_of, load_lane_result, replace_result, replace_results, replaced_value, replacement_of, store_lane_result};
 
 use crate::instruction::list::op_numbered;
-use crate::instruction::refusal::Refusal;
-use crate::instruction::result::{leave, leave_vector, status_of};
+use crate::instruction::result::{Refusal, leave, leave_vector, status_of};
 use crate::status::DONE;
 use wasmi_ops::{
     EXTRACTIONS, ExtractOp, LANE_LOADS, LANE_STORES, LoadLaneOp, REPLACEMENTS, ReplaceOp,

@@ -4,8 +4,7 @@ ghost use Rattle.wasmi_c.specs.Instruction.{Leaves, each_of, load_numbered, load
 
 use crate::instruction::list::numbered;
 use crate::instruction::numbers::{LOAD_INSTRUCTIONS, load_numbers};
-use crate::instruction::refusal::Refusal;
-use crate::instruction::result::{InstructionResult, leave, result_of};
+use crate::instruction::result::{InstructionResult, Refusal, leave, result_of};
 use crate::instruction::rows::part_once;
 use crate::status::DONE;
 use wasmi_ops::{LoadOp, VectorLoadOp};
@@ -32,17 +31,9 @@ impl Load {
         }
     }
 
-    #[inline(always)]
-    #[tactic(auto, unfolding(crate::specs::Instruction::load_outcome))]
-    fn outcome(self, memory: &[u8], offset: u64, ptr: u64) -> InstructionResult
-        ensures { result ≡ load_outcome self memory.now offset ptr }
-    {
-        result_of(self.load(memory, ptr, offset))
-    }
-
     // The code of each instruction has its own loop.
     #[inline(always)]
-    #[tactic(auto, using(crate::proofs::InstructionLemmas::arrays), unfolding(crate::specs::Instruction::each_of))]
+    #[tactic(auto, using(crate::proofs::InstructionLemmas::arrays), unfolding(crate::specs::Instruction::each_of, crate::specs::Instruction::load_outcome))]
     fn each(self, memory: &[u8], ptrs: &[u64], offset: u64, results: &mut [InstructionResult]) -> u8
         ensures { Leaves (each_of (load_outcome self memory.now offset) ptrs.now
             (length results.old)) results.old results.new result }
@@ -51,7 +42,7 @@ impl Load {
             return Refusal::LengthsDiffer.into();
         }
         for i in 0..ptrs.len() {
-            results[i] = self.outcome(memory, offset, ptrs[i]);
+            results[i] = result_of(self.load(memory, ptrs[i], offset));
         }
         DONE
     }

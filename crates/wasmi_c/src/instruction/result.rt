@@ -1,14 +1,40 @@
-//! What an instruction gives, as C reads it.
+//! What a call of an instruction gives, as C reads it, or why it writes nothing.
 ghost use Rattle.std.specs.Prelude.{◌≡◌, MatchResult};
 ghost use Rattle.wasmi_types.specs.Trap.{code_number};
 ghost use Rattle.wasmi_raw.specs.RawVal.{raw_of_vector};
 ghost use Rattle.wasmi_ops.specs.ScalarOps.{as_raw};
 ghost use Rattle.wasmi_c.specs.declared.status.TheConstants.{DONE};
-ghost use Rattle.wasmi_c.specs.Instruction.{Gives, result_of};
+ghost use Rattle.wasmi_c.specs.Instruction.{Gives, refusal_status, result_of};
 
-use crate::status::DONE;
+use crate::status::{DONE, LENGTHS_DIFFER, NO_LANE, UNKNOWN};
 use wasmi_raw::{RawVal, V128};
 use wasmi_types::TrapCode;
+
+/// Why a call writes nothing.
+#[derive(Clone, Copy)]
+pub enum Refusal {
+    /// The instruction traps.
+    Trap(TrapCode),
+    /// No lane has the index.
+    NoLane,
+    /// The arrays differ in length.
+    LengthsDiffer,
+    /// No instruction has the number.
+    Unknown,
+}
+
+impl From<Refusal> for u8 {
+    ghost from_gives = { λ refusal status. status ≡ refusal_status refusal };
+
+    fn from(refusal: Refusal) -> u8 {
+        match refusal {
+            Refusal::Trap(code) => u8::from(code),
+            Refusal::NoLane => NO_LANE,
+            Refusal::LengthsDiffer => LENGTHS_DIFFER,
+            Refusal::Unknown => UNKNOWN,
+        }
+    }
+}
 
 /// What an instruction gives for one element of an array.
 #[repr(C)]

@@ -2,8 +2,7 @@
 ghost use Rattle.std.specs.Prelude.{◌≡◌};
 ghost use Rattle.wasmi_c.specs.Instruction.{Leaves, lanes_of, shuffle_result};
 
-use crate::instruction::refusal::Refusal;
-use crate::instruction::result::leave_vector;
+use crate::instruction::result::{Refusal, leave_vector};
 use wasmi_lanes::ImmLaneIdx32;
 use wasmi_lanewise::simd;
 use wasmi_raw::RawVal;

@@ -5,8 +5,7 @@ ghost use Rattle.wasmi_c.specs.Instruction.{memory_after, store_numbered, store_
 
 use crate::instruction::list::numbered;
 use crate::instruction::numbers::STORE_INSTRUCTIONS;
-use crate::instruction::refusal::Refusal;
-use crate::instruction::result::status_of;
+use crate::instruction::result::{Refusal, status_of};
 use wasmi_ops::StoreOp;
 use wasmi_raw::RawVal;
 use wasmi_types::TrapCode;

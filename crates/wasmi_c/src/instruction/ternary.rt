@@ -4,8 +4,7 @@ ghost use Rattle.wasmi_c.specs.Instruction.{Leaves, each_of_three, op_numbered, 
 ghost use Rattle.wasmi_ops.specs.declared.vector.TheConstants.{TERNARIES};
 
 use crate::instruction::list::op_numbered;
-use crate::instruction::refusal::Refusal;
-use crate::instruction::result::leave;
+use crate::instruction::result::{Refusal, leave};
 use crate::status::DONE;
 use wasmi_ops::{TERNARIES, TernaryOp};
 use wasmi_raw::RawVal;

@@ -5,8 +5,7 @@ ghost use Rattle.wasmi_c.specs.Instruction.{Leaves, each_of, unary_numbered, una
 
 use crate::instruction::list::numbered;
 use crate::instruction::numbers::{UNARY_INSTRUCTIONS, unary_numbers};
-use crate::instruction::refusal::Refusal;
-use crate::instruction::result::leave;
+use crate::instruction::result::{Refusal, leave};
 use crate::instruction::rows::part_once;
 use crate::status::DONE;
 use wasmi_ops::{MakeOp, ScalarUnaryOp, TestOp, UnaryOp};

@@ -1,7 +1,7 @@
 use Rattle.std.proofs.Common.{inr}
 use Rattle.wasmi_c.specs.TableCalls.{by_elements, of_table}
 use Rattle.wasmi_c.proofs.PlacementLemmas.{by_quota}
-use Rattle.wasmi_c.proofs.table.growth.grow.Goals as goal
+use Rattle.wasmi_c.proofs.table.grow.Goals as goal
 
 pub returns-clause-grown : goal.returns-clause-grown
 returns-clause-grown c =

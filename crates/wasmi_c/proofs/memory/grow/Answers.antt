@@ -1,7 +1,7 @@
 use Rattle.std.proofs.Common.{inr}
 use Rattle.wasmi_c.specs.MemoryCalls.{by_pages, of_memory}
 use Rattle.wasmi_c.proofs.PlacementLemmas.{by_quota}
-use Rattle.wasmi_c.proofs.memory.growth.grow.Goals as goal
+use Rattle.wasmi_c.proofs.memory.grow.Goals as goal
 
 pub returns-clause-grown : goal.returns-clause-grown
 returns-clause-grown c =

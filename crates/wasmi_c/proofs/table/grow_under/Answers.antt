@@ -1,6 +1,6 @@
 use Rattle.std.proofs.Common.{refl, rules}
 use Rattle.wasmi_c.proofs.PlacementLemmas.{grown_with}
-use Rattle.wasmi_c.proofs.memory.growth.grow_under.Goals as goal
+use Rattle.wasmi_c.proofs.table.grow_under.Goals as goal
 
 pub returns-in-Ok : goal.returns-in-Ok
 returns-in-Ok g c = record {
