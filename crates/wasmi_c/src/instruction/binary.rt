@@ -5,7 +5,7 @@ ghost use Rattle.wasmi_c.specs.Instruction.{Leaves, each_of_two, binary_numbered
 
 use crate::instruction::list::numbered;
 use crate::instruction::numbers::{BINARY_INSTRUCTIONS, binary_numbers};
-use crate::instruction::result::{InstructionResult, Refusal, leave, result_of};
+use crate::instruction::result::{InstructionResult, Refusal, leave, op_or_return, result_of};
 use crate::instruction::rows::part_once;
 use crate::status::DONE;
 use wasmi_ops::{BinaryOp, ScalarBinaryOp, ShiftOp};
@@ -64,10 +64,8 @@ pub fn binary_numbered(number: u16) -> Option<Binary>
 pub fn binary_by_number(number: u16, a: RawVal, b: RawVal, value: &mut RawVal) -> u8
     ensures { Leaves (binary_result number a b) value.old value.new result }
 {
-    match binary_numbered(number) {
-        Some(op) => leave(op.apply(a, b), value),
-        None => Refusal::Unknown.into(),
-    }
+    op_or_return!(op, binary_numbered(number).ok_or(Refusal::Unknown));
+    leave(op.apply(a, b), value)
 }
 
 /// Writes what the instruction of a number gives for each two elements of two arrays, or its trap.
@@ -75,10 +73,8 @@ pub fn binary_each(number: u16, a: &[RawVal], b: &[RawVal], results: &mut [Instr
     ensures { Leaves (binary_results number a.now b.now (length results.old))
         results.old results.new result }
 {
-    match binary_numbered(number) {
-        Some(op) => each_by_op(op, a, b, results),
-        None => Refusal::Unknown.into(),
-    }
+    op_or_return!(op, binary_numbered(number).ok_or(Refusal::Unknown));
+    each_by_op(op, a, b, results)
 }
 
 // The instruction is looked at once, and not at each element.

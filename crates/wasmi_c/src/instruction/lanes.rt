@@ -3,7 +3,7 @@ ghost use Rattle.std.specs.Prelude.{◌≡◌, ◌+◌, length};
 ghost use Rattle.wasmi_c.specs.Instruction.{Leaves, each_of, each_of_two, extract_result, extract_results, extracted_value, extraction_of, lane_load_of, lane_store_of, load_lane_result, replace_result, replace_results, replaced_value, replacement_of, store_lane_result};
 
 use crate::instruction::list::op_numbered;
-use crate::instruction::result::{Refusal, leave, leave_vector, status_of};
+use crate::instruction::result::{Refusal, leave, leave_vector, op_or_return, status_of};
 use crate::status::DONE;
 use wasmi_ops::{
     EXTRACTIONS, ExtractOp, LANE_LOADS, LANE_STORES, LoadLaneOp, REPLACEMENTS, ReplaceOp,
@@ -58,10 +58,8 @@ fn replaced(op: &ReplaceOp, a: RawVal, item: RawVal) -> RawVal
 pub fn extract_by_number(number: u16, lane: u8, a: RawVal, value: &mut RawVal) -> u8
     ensures { Leaves (extract_result number lane a) value.old value.new result }
 {
-    match extraction(number, lane) {
-        Ok(op) => leave(Ok(op.apply(a.into())), value),
-        Err(refusal) => refusal.into(),
-    }
+    op_or_return!(op, extraction(number, lane));
+    leave(Ok(op.apply(a.into())), value)
 }
 
 /// Writes the lane of each vector of an array.
@@ -69,10 +67,8 @@ pub fn extract_each(number: u16, lane: u8, a: &[RawVal], values: &mut [RawVal]) 
     ensures { Leaves (extract_results number lane a.now (length values.old))
         values.old values.new result }
 {
-    match extraction(number, lane) {
-        Ok(op) => extract_each_by_op(&op, a, values),
-        Err(refusal) => refusal.into(),
-    }
+    op_or_return!(op, extraction(number, lane));
+    extract_each_by_op(&op, a, values)
 }
 
 #[tactic(auto, using(crate::proofs::InstructionLemmas::arrays), unfolding(crate::specs::Instruction::each_of))]
@@ -93,10 +89,8 @@ fn extract_each_by_op(op: &ExtractOp, a: &[RawVal], values: &mut [RawVal]) -> u8
 pub fn replace_by_number(number: u16, lane: u8, a: RawVal, item: RawVal, value: &mut RawVal) -> u8
     ensures { Leaves (replace_result number lane a item) value.old value.new result }
 {
-    match replacement(number, lane) {
-        Ok(op) => leave(Ok(replaced(&op, a, item)), value),
-        Err(refusal) => refusal.into(),
-    }
+    op_or_return!(op, replacement(number, lane));
+    leave(Ok(replaced(&op, a, item)), value)
 }
 
 /// Writes each vector of an array with a lane replaced by the item at its index.
@@ -110,10 +104,8 @@ pub fn replace_each(
     ensures { Leaves (replace_results number lane a.now items.now (length values.old))
         values.old values.new result }
 {
-    match replacement(number, lane) {
-        Ok(op) => replace_each_by_op(&op, a, items, values),
-        Err(refusal) => refusal.into(),
-    }
+    op_or_return!(op, replacement(number, lane));
+    replace_each_by_op(&op, a, items, values)
 }
 
 #[tactic(auto, using(crate::proofs::InstructionLemmas::arrays), unfolding(crate::specs::Instruction::each_of_two))]
@@ -143,10 +135,8 @@ pub fn load_lane(
     ensures { Leaves (load_lane_result number lane memory.now (ptr + offset) a)
         value.old value.new result }
 {
-    match lane_load(number, lane) {
-        Ok(op) => leave_vector(op.load(memory, ptr, offset, a.into()), value),
-        Err(refusal) => refusal.into(),
-    }
+    op_or_return!(op, lane_load(number, lane));
+    leave_vector(op.load(memory, ptr, offset, a.into()), value)
 }
 
 /// Stores a lane of a vector at `ptr + offset`.
@@ -154,8 +144,6 @@ pub fn store_lane(number: u16, lane: u8, memory: &mut [u8], ptr: u64, offset: u6
     ensures { Leaves (store_lane_result number lane memory.old (ptr + offset) a)
         memory.old memory.new result }
 {
-    match lane_store(number, lane) {
-        Ok(op) => status_of(op.store(memory, ptr, offset, a.into())),
-        Err(refusal) => refusal.into(),
-    }
+    op_or_return!(op, lane_store(number, lane));
+    status_of(op.store(memory, ptr, offset, a.into()))
 }

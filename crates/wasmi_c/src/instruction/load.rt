@@ -4,7 +4,7 @@ ghost use Rattle.wasmi_c.specs.Instruction.{Leaves, each_of, load_numbered, load
 
 use crate::instruction::list::numbered;
 use crate::instruction::numbers::{LOAD_INSTRUCTIONS, load_numbers};
-use crate::instruction::result::{InstructionResult, Refusal, leave, result_of};
+use crate::instruction::result::{InstructionResult, Refusal, leave, op_or_return, result_of};
 use crate::instruction::rows::part_once;
 use crate::status::DONE;
 use wasmi_ops::{LoadOp, VectorLoadOp};
@@ -60,10 +60,8 @@ pub fn load_numbered(number: u16) -> Option<Load>
 pub fn load_by_number(number: u16, memory: &[u8], ptr: u64, offset: u64, value: &mut RawVal) -> u8
     ensures { Leaves (load_result number memory.now (ptr + offset)) value.old value.new result }
 {
-    match load_numbered(number) {
-        Some(op) => leave(load_by_op(op, memory, ptr, offset), value),
-        None => Refusal::Unknown.into(),
-    }
+    op_or_return!(op, load_numbered(number).ok_or(Refusal::Unknown));
+    leave(load_by_op(op, memory, ptr, offset), value)
 }
 
 // Each load has code of its own, so that its result stays in registers.
@@ -88,10 +86,8 @@ pub fn load_each(
     ensures { Leaves (load_results number memory.now ptrs.now offset (length results.old))
         results.old results.new result }
 {
-    match load_numbered(number) {
-        Some(op) => each_by_op(op, memory, ptrs, offset, results),
-        None => Refusal::Unknown.into(),
-    }
+    op_or_return!(op, load_numbered(number).ok_or(Refusal::Unknown));
+    each_by_op(op, memory, ptrs, offset, results)
 }
 
 // The load is looked at once, and not at each element.

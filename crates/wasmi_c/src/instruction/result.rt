@@ -10,6 +10,19 @@ use crate::status::{DONE, LENGTHS_DIFFER, NO_LANE, UNKNOWN};
 use wasmi_raw::{RawVal, V128};
 use wasmi_types::TrapCode;
 
+/// Names the instruction that is found; where it isn't, the function that this is written in returns
+/// the status of the refusal.
+macro_rules! op_or_return {
+    ($op:ident, $found:expr) => {
+        let $op = match $found {
+            Ok(op) => op,
+            Err(refusal) => return u8::from(refusal),
+        };
+    };
+}
+
+pub(crate) use op_or_return;
+
 /// Why a call writes nothing.
 #[derive(Clone, Copy)]
 pub enum Refusal {

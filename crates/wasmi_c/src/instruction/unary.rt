@@ -5,7 +5,7 @@ ghost use Rattle.wasmi_c.specs.Instruction.{Leaves, each_of, unary_numbered, una
 
 use crate::instruction::list::numbered;
 use crate::instruction::numbers::{UNARY_INSTRUCTIONS, unary_numbers};
-use crate::instruction::result::{Refusal, leave};
+use crate::instruction::result::{Refusal, leave, op_or_return};
 use crate::instruction::rows::part_once;
 use crate::status::DONE;
 use wasmi_ops::{MakeOp, ScalarUnaryOp, TestOp, UnaryOp};
@@ -66,20 +66,16 @@ pub fn unary_numbered(number: u16) -> Option<Unary>
 pub fn unary_by_number(number: u16, a: RawVal, value: &mut RawVal) -> u8
     ensures { Leaves (unary_result number a) value.old value.new result }
 {
-    match unary_numbered(number) {
-        Some(op) => leave(Ok(op.apply(a)), value),
-        None => Refusal::Unknown.into(),
-    }
+    op_or_return!(op, unary_numbered(number).ok_or(Refusal::Unknown));
+    leave(Ok(op.apply(a)), value)
 }
 
 /// Writes what the instruction of a number gives for each element of an array.
 pub fn unary_each(number: u16, a: &[RawVal], values: &mut [RawVal]) -> u8
     ensures { Leaves (unary_results number a.now (length values.old)) values.old values.new result }
 {
-    match unary_numbered(number) {
-        Some(op) => each_by_op(op, a, values),
-        None => Refusal::Unknown.into(),
-    }
+    op_or_return!(op, unary_numbered(number).ok_or(Refusal::Unknown));
+    each_by_op(op, a, values)
 }
 
 // The instruction is looked at once, and not at each element.
