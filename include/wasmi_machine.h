@@ -51,8 +51,8 @@ typedef struct {
     uint8_t is_unlimited;               /* 0: the caps hold; else there are none, and bytes and elements aren't read */
 } wasmi_limits;
 
-/* Makes a machine. DONE; HAS_MACHINE if the handle has one; then NO_ROOM if the system refuses memory. After a refusal
-   the handle is unchanged. */
+/* Makes a machine with nothing on it. DONE; HAS_MACHINE if the handle has one; then NO_ROOM if the system refuses memory.
+   After a refusal the handle is unchanged. */
 uint8_t wasmi_machine_new(wasmi_machine *machine, const wasmi_limits *limits);
 
 /* The answers of a limiter. */
@@ -248,10 +248,10 @@ uint8_t wasmi_machine_fuel_left(wasmi_machine *machine, uint64_t *left);
    then bytes is unchanged. It takes no memory of its own. */
 wasmi_reply wasmi_machine_read(wasmi_machine *machine, size_t memory, size_t offset, uint8_t *bytes, size_t len);
 
-/* Writes len bytes over those of a memory from offset on: NO_MACHINE, NO_ROOM, NO_SUCH, MEMORY_ACCESS. */
+/* Writes a copy of len bytes over those of a memory from offset on: NO_MACHINE, NO_ROOM, NO_SUCH, MEMORY_ACCESS. */
 wasmi_reply wasmi_machine_write(wasmi_machine *machine, size_t memory, size_t offset, const uint8_t *bytes, size_t len);
 
-/* Makes an element segment of references of a type -> number: its index; NO_MACHINE, NO_CALL if type is of no
+/* Makes an element segment of a copy of references of a type -> number: its index; NO_MACHINE, NO_CALL if type is of no
    references, NO_ROOM, SEGMENT_TOO_MANY_ITEMS, SEGMENT_OUT_OF_MEMORY. */
 wasmi_reply wasmi_machine_new_segment(wasmi_machine *machine, uint8_t type, const uint32_t *items, size_t len);
 

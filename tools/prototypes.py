@@ -16,6 +16,8 @@ OTHER_NAMES = {
     ("source_region", "uint32_t *"): "source_elements",
     ("ty", "uint8_t"): "type",
 }
+# Kinds of calls that C calls by another name than their variant of `Call`.
+KINDS = {"Extract": "EXTRACT_LANE", "Replace": "REPLACE_LANE"}
 # Lengths that aren't named after their array.
 LENGTHS = {"source_elements": "source_len", "source_region": "source_len"}
 OPAQUE = ("wasmi_machine", "wasmi_pool", "wasmi_words")     # C reads no field of a handle, and the words are in another crate
@@ -124,13 +126,14 @@ def enumerators(header):
 
 
 def crate_numbers(traps, source):
-    """The numbers in the crates by the names that C has for them: the codes of traps, the statuses, and the places of the kinds of calls,
-    the value types and the answers."""
+    """The numbers in the crates by the names that C has for them: the codes of traps, the statuses, the kinds of calls, and the places of
+    the value types and of the answers."""
     made = {capitals(name): int(number) for name, number in re.findall(r"^    (\w+) = (\d+),$", traps, re.M)}
     made |= {name: int(number) for name, number in re.findall(r"pub const (\w+): u8 = (\d+);", source)}
-    kinds = re.search(r"pub const KINDS: .*? = \[(.*?)\n\];", source, re.S)[1]
+    kinds = "".join(re.findall(r"match self\.kind \{(.*?)_ => return", source, re.S))
     types = re.search(r"pub const VAL_TYPES: .*? = \[(.*?)\n\];", source, re.S)[1]
-    made |= {f"CALL_{capitals(name)}": number for number, name in enumerate(re.findall(r"Call::(\w+)\)", kinds))}
+    made |= {f"CALL_{KINDS.get(name, capitals(name))}": int(number) for number, name in re.findall(r"(\d+) => (?:Call::|self\.)([a-zA-Z]+)", kinds)}
+    made |= {f"CALL_{name}": int(number) for name, number in re.findall(r"const (\w+): u16 = (\d+);", source)}
     made |= {f"TYPE_{name.upper()}": number for number, name in enumerate(re.findall(r"ValType::(\w+),", types))}
     answers = re.findall(r"(?:\d+|_) => LimiterAnswer::(\w+),", source)
     return made | {f"ANSWER_{name.upper()}": number for number, name in enumerate(answers)}

@@ -37,8 +37,8 @@ use Rattle.std_heap.proofs.Global.TheLaws as heap
 use Rattle.wasmi_c.specs.HeldBox.{box_or_none_owns, global_token}
 use Rattle.wasmi_c.specs.contracts.machine.limited_machine.LimitedMachine as machine_home
 use Rattle.wasmi_c.proofs.machine.limited_machine.LimitedMachine.TheLaws as machine_laws
-use Rattle.wasmi_c.specs.contracts.pool.tenant_pool.TenantPool as pool_home
-use Rattle.wasmi_c.proofs.pool.tenant_pool.TenantPool.TheLaws as pool_laws
+use Rattle.wasmi_c.specs.contracts.pool.TenantPool as pool_home
+use Rattle.wasmi_c.proofs.pool.TenantPool.TheLaws as pool_laws
 
 -- an option that has a value is that value's
 pub found : {X : Type 0} (o : Option X) → IsSome o → (x : X) × (o ≡ Some x)

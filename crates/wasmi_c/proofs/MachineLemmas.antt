@@ -1,5 +1,5 @@
 -- What calls and lines do to a machine with its limiter.
-use Rattle.std.proofs.Common.{◌≡◌, Some, Ok, Err, List, Result, IfOk, OnErr, [], ◌∷◌, refl, sym, subst, ap, ℕ, ◌∙◌, sum}
+use Rattle.std.proofs.Common.{◌≡◌, All, Option, Some, None, false, is_some, map, Ok, Err, List, Result, IfOk, OnErr, [], ◌∷◌, refl, sym, subst, ap, ℕ, ◌∙◌, sum, inl, inr}
 use Rattle.std.proofs.lemmas.Option.{same_Some}
 use Rattle.std.specs.Global.{Global}
 use Rattle.std.specs.Prelude.{Vec}
@@ -19,6 +19,8 @@ use Rattle.wasmi_core.specs.declared.calls.Reply.{Reply}
 use Rattle.wasmi_c.specs.Machine.Caps.{IsKept, Keeps, MachineValue}
 use Rattle.wasmi_c.specs.Machine.Calls.{QuotasAreKept, CallsAreRuns}
 use Rattle.wasmi_c.specs.Machine.Calls.{MachineReplies}
+use Rattle.wasmi_c.specs.Machine.NewMachines.{IsAnswer, IsNewWithAnswers, MakesMachine, MakesWithAnswers, answer_of}
+use Rattle.wasmi_c.specs.declared.machine.limits.Limits.{Limits}
 use Rattle.wasmi_core.proofs.MemoryEffectsLemmas.{vector_store_kept}
 use Rattle.wasmi_core.specs.MemoryEffects.{StoresMemoryAt}
 use Rattle.wasmi_meter.specs.declared.any_limiter.AnyLimiter.TheVariants as limiter
@@ -118,3 +120,21 @@ kept_by_store s (limiter.Quota quota) index a stored full s' stores rest kept = 
   within = kept.within;
 }
 kept_by_store s (limiter.Answers list) index a stored full s' stores rest kept = tt
+
+-- what is made as one machine is made as one of which a fact holds
+pub made_so : (IsNew : MachineValue → Type 0) (machine : MachineValue) (held : Option MachineValue) (status : ℕ)
+    (held' : Option MachineValue) → MakesMachine (λ made. made ≡ machine) held status held' → IsNew machine
+    → MakesMachine IsNew held status held'
+made_so IsNew machine None status held' (inl refused) is = inl refused
+made_so IsNew machine None status held' (inr (made, same, done, kept)) is =
+    inr (made, subst IsNew (sym same) is, done, kept)
+made_so IsNew machine (Some old) status held' there is = there
+
+-- where there is none, what is made as a new machine with answers is made with these answers
+pub made_with_answers : (limits : Limits) (numbers : List ℕ) (machine : MachineValue) (held : Option MachineValue)
+    (status : ℕ) (held' : Option MachineValue) → MakesMachine (λ made. made ≡ machine) held status held'
+    → is_some held ≡ false → All IsAnswer numbers → IsNewWithAnswers limits (map answer_of numbers) machine
+    → MakesWithAnswers limits numbers held status held'
+made_with_answers limits numbers machine None status held' made none all is =
+    inr (all, made_so (IsNewWithAnswers limits (map answer_of numbers)) machine None status held' made is)
+made_with_answers limits numbers machine (Some old) status held' made none all is = absurd cc

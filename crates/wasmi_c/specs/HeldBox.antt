@@ -8,7 +8,7 @@ use Rattle.std.specs.Box.Ownership.{box_owns}
 use Rattle.std.specs.Global.{Global}
 use Rattle.std_heap.specs.contracts.GlobalAllocator.TheImpl.{ghosts}
 pub use Rattle.wasmi_c.specs.contracts.machine.limited_machine.LimitedMachine.{the_row as machine_row}
-pub use Rattle.wasmi_c.specs.contracts.pool.tenant_pool.TenantPool.{the_row as pool_row}
+pub use Rattle.wasmi_c.specs.contracts.pool.TenantPool.{the_row as pool_row}
 
 -- what is owned: the same as by a box where there is a value, else nothing
 abbrev pub box_or_none_owns : (Ty → Ptr → Fml) → (row : RattleType) → Ptr → Option row.Denot → Fml

@@ -1,13 +1,8 @@
 //! A machine that C holds by a handle, from call to call, under a quota, a list of answers or no
 //! limiter. What the calls take and give stands in `include/wasmi_machine.h`.
 
-mod by_arguments;
 pub mod call_struct;
-mod decode;
 pub mod handle;
-mod instructions;
-mod kind;
-pub mod laws;
 pub mod limited_machine;
 pub mod limits;
 pub mod machine_box;

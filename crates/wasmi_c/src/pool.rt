@@ -1,5 +1,275 @@
-//! A pool of machines under common caps that C holds by a handle (`include/wasmi_machine.h`).
+//! A pool of machines under common caps that C holds by a handle, or none. A call takes the pool
+//! out and puts it back. `include/wasmi_machine.h` says which statuses calls return, in which order.
+ghost use Rattle.std.specs.Prelude.{◌≡◌, IfErr, IfOk, Some, None, is_some, MatchOption};
+ghost use Rattle.wasmi_core.specs.declared.calls.Call.TheVariants.{Write};
+ghost use Rattle.wasmi_c.specs.Machine.Calls.{ActsOnHeld};
+ghost use Rattle.wasmi_c.specs.Machine.Replies.{only};
+ghost use Rattle.wasmi_c.specs.Pool.{KeepsCaps, MakesPool, TenantRepliesToStruct};
+ghost use Rattle.wasmi_c.specs.declared.status.TheConstants.{NO_POOL};
 
-pub mod handle;
 mod pool_box;
-pub mod tenant_pool;
+
+use crate::held_box::HeldBox;
+use crate::machine::call_struct::CallStruct;
+use crate::machine::limited_machine::{headless, read_out, write_out};
+use crate::machine::limits::{Limits, Totals};
+use crate::machine::reply_struct::ReplyStruct;
+use crate::pool::pool_box::PoolBox;
+use crate::status::{DONE, HAS_POOL, NO_CALL, NO_POOL, NO_ROOM, NO_TENANT};
+use std::alloc::Global;
+use std::marker::Model;
+use std::{mem, slice};
+use wasmi_budget::{Pool, PoolError};
+use wasmi_core::{Call, Machine, Reply};
+
+/// What a call on the pool of a handle returns; or what is returned where there is none.
+#[macro_export]
+macro_rules! on_pool {
+    ($handle:expr, $alloc:expr, $pool:ident => $call:expr) => {
+        $crate::on_pool!($handle, $alloc, ReplyStruct::only(NO_POOL), $pool => $call)
+    };
+    ($handle:expr, $alloc:expr, $none:expr, $pool:ident => $call:expr) => {{
+        let Some(mut $pool) = $handle.take($alloc) else {
+            return $none;
+        };
+        let reply = $call;
+        $handle.put($pool);
+        reply
+    }};
+}
+
+/// A pool, or none. A handle of zeros has none.
+#[repr(C)]
+pub struct PoolHandle {
+    /// The pool, or none.
+    pub pool: PoolBox,
+    is_made: bool,
+    ghost tells: { is_some pool.held ≡ is_made },
+}
+
+impl PoolHandle {
+    ghost use Rattle.wasmi_budget.specs.Pool.{IsWithinCaps};
+
+    /// Takes the pool out, if there is one. It takes no memory.
+    pub fn take(&mut self, alloc: Global) -> Option<Box<TenantPool>>
+        ensures taken { MatchOption result (self.old.pool.held ≡ None)
+            (λ pool. self.old.pool.held ≡ Some pool.value) }
+        ensures left { self.new.pool.held ≡ None }
+    {
+        let none = PoolHandle {
+            pool: PoolBox::from_held(HeldBox::empty(alloc)),
+            is_made: false,
+        };
+        let PoolHandle { pool, is_made } = mem::replace(self, none);
+        if is_made {
+            Some(pool.into_held().into_box())
+        } else {
+            pool.into_held().end();
+            None
+        }
+    }
+
+    /// Puts a pool in where there is none. It takes no memory.
+    pub fn put(&mut self, pool: Box<TenantPool>)
+        requires empty { self.old.pool.held ≡ None }
+        ensures held { self.new.pool.held ≡ Some pool.value }
+        ensures within { IsWithinCaps pool.value }
+    {
+        pool.show_within();
+        let made = PoolHandle {
+            pool: PoolBox::from_held(HeldBox::from_box(pool)),
+            is_made: true,
+        };
+        let PoolHandle { pool, is_made: _ } = mem::replace(self, made);
+        pool.into_held().end();
+    }
+
+    /// Makes a pool with these caps in a handle that has none.
+    pub fn new_pool(&mut self, alloc: Global, bytes: u64, elements: u64) -> u8
+        ensures { MakesPool bytes elements self.old.pool.held result self.new.pool.held }
+    {
+        if self.is_made {
+            return HAS_POOL;
+        }
+        let pool = TenantPool {
+            pool: Pool::new(alloc, bytes, elements),
+        };
+        let Ok(pool) = Box::new(alloc, pool) else {
+            return NO_ROOM;
+        };
+        self.put(pool);
+        DONE
+    }
+
+    /// Ends the pool of a handle with all its tenants, if there is one.
+    pub fn drop_pool(&mut self, alloc: Global)
+        ensures { self.new.pool.held ≡ None }
+    {
+        let _pool = self.take(alloc);
+    }
+
+    /// Replies to a call on the machine of a tenant, if the numbers stand for one.
+    pub fn call(&mut self, alloc: Global, tenant: usize, call: &CallStruct) -> ReplyStruct
+        ensures step { ActsOnHeld (only NO_POOL) self.old.pool.held result self.new.pool.held
+            (TenantRepliesToStruct tenant call.now result) }
+        ensures caps { KeepsCaps self.old.pool.held self.new.pool.held }
+    {
+        on_pool!(self, alloc, pool => pool.reply_to_struct(tenant, call))
+    }
+}
+
+/// A pool whose tenants are called by numbers and by lines.
+#[derive(Drop)]
+pub struct TenantPool {
+    pool: Pool<'static>,
+}
+
+impl Model for TenantPool {
+    ghost use Rattle.wasmi_budget.specs.Pool.{PoolValue};
+
+    ghost Value = { PoolValue };
+
+    ghost view = { λ held. held.pool };
+}
+
+impl TenantPool {
+    ghost use Rattle.wasmi_budget.specs.Pool.{IsWithinCaps, RunsTenant};
+    ghost use Rattle.wasmi_c.specs.Pool.{AddsNewTenant, RefusesTenant, RunsTenantLines, TenantReadsOut, TenantReplies, TenantRepliesToCopy, pool_totals, tenant_totals};
+
+    /// Does nothing: its contract says that the pool is within its caps.
+    pub fn show_within(&self)
+        ensures { IsWithinCaps self.now }
+    {
+        let _ = self.pool.len();
+    }
+
+    /// Adds a machine with nothing on it, whose meter is that of the limits. Their caps aren't
+    /// read.
+    pub fn add(&mut self, alloc: Global, limits: &Limits) -> ReplyStruct
+        ensures step { AddsNewTenant limits.now result self.old self.new }
+        ensures caps { self.new.caps ≡ self.old.caps }
+    {
+        match self.pool.add(Machine::new(alloc, limits.fuel())) {
+            Ok(index) => ReplyStruct::with_number(DONE, index as u64),
+            Err(_) => ReplyStruct::only(NO_ROOM),
+        }
+    }
+
+    /// Replies to the call that numbers stand for, if there is one, on the machine of a tenant.
+    pub fn reply_to_struct(&mut self, tenant: usize, numbers: &CallStruct) -> ReplyStruct
+        ensures step { TenantRepliesToStruct tenant numbers.now result self.old self.new }
+        ensures caps { self.new.caps ≡ self.old.caps }
+    {
+        match &numbers.call() {
+            Some(call) => self.reply(tenant, call),
+            None => ReplyStruct::only(NO_CALL),
+        }
+    }
+
+    /// Replies to one call on the machine of a tenant.
+    #[tactic(auto, unfolding(crate::specs::Pool::TenantReplies))]
+    fn reply(&mut self, tenant: usize, call: &Call) -> ReplyStruct
+        ensures step { TenantReplies tenant call.now result self.old self.new }
+        ensures caps { self.new.caps ≡ self.old.caps }
+    {
+        match self.run(tenant, slice::from_ref(call)) {
+            Ok(replies) => ReplyStruct::from_reply(&replies[0]),
+            Err(refusal) => refusal,
+        }
+    }
+
+    /// Runs calls on the machine of a tenant, or says why not; then the pool is the same.
+    fn run(&mut self, tenant: usize, calls: &[Call]) -> Result<Vec<Reply>, ReplyStruct>
+        ensures ran { IfOk result
+            (λ replies. RunsTenant self.old tenant calls.now replies.items self.new) }
+        ensures refused { IfErr result
+            (λ reply. RefusesTenant tenant self.old reply × (self.new ≡ self.old)) }
+        ensures caps { self.new.caps ≡ self.old.caps }
+    {
+        match self.pool.run(tenant, calls) {
+            Ok(replies) => Ok(replies),
+            Err(PoolError::NoTenant) => Err(ReplyStruct::only(NO_TENANT)),
+            Err(PoolError::OutOfMemory) => Err(ReplyStruct::only(NO_ROOM)),
+        }
+    }
+
+    /// Copies the bytes of a memory of a tenant from an offset on to the caller's.
+    pub fn read(&self, tenant: usize, memory: usize, offset: usize, bytes: &mut [u8]) -> ReplyStruct
+        ensures { TenantReadsOut tenant memory offset bytes.old result bytes.new self.now self.now }
+    {
+        let Some(machine) = self.pool.machine(tenant) else {
+            return ReplyStruct::only(NO_TENANT);
+        };
+        read_out(machine, memory, offset, bytes)
+    }
+
+    /// Writes a copy of the caller's bytes over those of a memory of a tenant from an offset on.
+    #[tactic(auto, unfolding(crate::specs::Pool::TenantRepliesToCopy))]
+    pub fn write(
+        &mut self,
+        alloc: Global,
+        tenant: usize,
+        memory: usize,
+        offset: usize,
+        bytes: &[u8],
+    ) -> ReplyStruct
+        ensures step { TenantRepliesToCopy tenant (Write memory offset) bytes.now result self.old
+            self.new }
+        ensures caps { self.new.caps ≡ self.old.caps }
+    {
+        let Ok(bytes) = Vec::from_slice(alloc, bytes) else {
+            return ReplyStruct::only(NO_ROOM);
+        };
+        let call = Call::Write {
+            memory,
+            offset,
+            bytes,
+        };
+        self.reply(tenant, &call)
+    }
+
+    /// Runs lines of calls on the machine of a tenant, and writes their replies to the front of a
+    /// text.
+    #[tactic(auto, unfolding(crate::specs::Pool::RunsTenantLines))]
+    pub fn run_lines(
+        &mut self,
+        alloc: Global,
+        tenant: usize,
+        lines: &[u8],
+        text: &mut [u8],
+    ) -> ReplyStruct
+        ensures step { RunsTenantLines tenant lines.now text.old result text.new self.old self.new }
+        ensures caps { self.new.caps ≡ self.old.caps }
+    {
+        let script = match headless(alloc, lines) {
+            Ok(script) => script,
+            Err(refusal) => return refusal,
+        };
+        let calls = script.parts.calls();
+        let replies = match self.run(tenant, calls) {
+            Ok(replies) => replies,
+            Err(refusal) => return refusal,
+        };
+        write_out(calls, &replies, text)
+    }
+
+    /// What a tenant's machine has.
+    pub fn tenant_totals(&self, tenant: usize) -> Totals
+        ensures { result ≡ tenant_totals tenant self.now }
+    {
+        let pool = &self.pool;
+        let held = (pool.held_bytes(tenant), pool.held_elements(tenant));
+        let (Some(bytes), Some(elements)) = held else {
+            return Totals::from_amounts(NO_TENANT, 0, 0);
+        };
+        Totals::from_amounts(DONE, u128::from(bytes), u128::from(elements))
+    }
+
+    /// What all tenants' machines have.
+    pub fn totals(&self) -> Totals
+        ensures { result ≡ pool_totals self.now }
+    {
+        let held = self.pool.held_by_all();
+        Totals::from_amounts(DONE, u128::from(held.bytes), u128::from(held.elements))
+    }
+}

@@ -1,13 +1,11 @@
 //! The statuses that calls return, besides the numbers of trap codes. Contracts cite these
 //! constants; `tools/header` compares them with the headers, and with those that were released.
 ghost use Rattle.std.specs.Prelude.{◌≡◌};
-ghost use Rattle.wasmi_c.specs.Status.{fuel_status, global_status, memory_status, segment_status, table_status};
+ghost use Rattle.wasmi_c.specs.Status.{memory_status, table_status};
 ghost use Rattle.wasmi_c.specs.MemoryCalls.{memory_fuel_needed};
 ghost use Rattle.wasmi_c.specs.TableCalls.{table_fuel_needed};
 
-use wasmi_meter::{FuelError, MemoryError, TableError};
-use wasmi_store::SegmentError;
-use wasmi_typed::GlobalError;
+use wasmi_meter::{MemoryError, TableError};
 
 /// The call was done.
 pub const DONE: u8 = 0;
@@ -140,36 +138,6 @@ pub fn table_status(error: TableError) -> u8
         TableError::CopyOutOfBounds => TABLE_COPY,
         TableError::ElementTypeMismatch => TABLE_TYPE,
         TableError::OutOfFuel { required_fuel: _ } => TABLE_OUT_OF_FUEL,
-    }
-}
-
-/// The status of a refused call on a meter.
-pub fn fuel_status(error: &FuelError) -> u8
-    ensures { result ≡ fuel_status error.now }
-{
-    match error {
-        FuelError::FuelMeteringDisabled => METERING_DISABLED,
-        FuelError::OutOfFuel { required_fuel: _ } => OUT_OF_FUEL,
-    }
-}
-
-/// The status of a refused call on a global.
-pub fn global_status(error: &GlobalError) -> u8
-    ensures { result ≡ global_status error.now }
-{
-    match error {
-        GlobalError::ImmutableWrite => GLOBAL_IMMUTABLE,
-        GlobalError::TypeMismatch => GLOBAL_TYPE,
-    }
-}
-
-/// The status of an element segment that was not made.
-pub fn segment_status(error: &SegmentError) -> u8
-    ensures { result ≡ segment_status error.now }
-{
-    match error {
-        SegmentError::TooManyItems => SEGMENT_TOO_MANY_ITEMS,
-        SegmentError::OutOfSystemMemory => SEGMENT_OUT_OF_MEMORY,
     }
 }
 

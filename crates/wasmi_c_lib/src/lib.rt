@@ -5,7 +5,6 @@ mod instructions;
 mod loads;
 mod machine;
 mod memory;
-mod pool;
 mod scalar;
 mod stores;
 mod table;

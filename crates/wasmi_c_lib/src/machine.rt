@@ -1,10 +1,11 @@
-//! A machine by a handle.
+//! A machine by a handle, and a pool of machines. `include/wasmi_machine.h` describes each call.
 ghost use Rattle.std.specs.Prelude.{◌≡◌, ℕ, List, None, Some};
 ghost use Rattle.wasmi_core.specs.declared.calls.Call.TheVariants.{GetFuel, GrowMemory, Write};
-ghost use Rattle.wasmi_c.specs.Machine.Calls.{RepliesInStatus, RepliesInWord, item_load, item_store, vector_binary, OnHeld, ReadsOut, RepliesToCopy, RepliesToSegment, RepliesToStruct, PaysFuel, no_totals, totals_of, RunsLines};
+ghost use Rattle.wasmi_c.specs.Machine.Calls.{RepliesInStatus, RepliesInWord, item_load, item_store, vector_binary, ActsOnHeld, OnHeld, ReadsOut, RepliesToCopy, RepliesToSegment, RepliesToStruct, PaysFuel, no_totals, totals_of, RunsLines};
 ghost use Rattle.wasmi_c.specs.Machine.NewMachines.{IsNewMachine, MakesMachine, MakesWithAnswers};
 ghost use Rattle.wasmi_c.specs.Machine.Replies.{only};
-ghost use Rattle.wasmi_c.specs.declared.status.TheConstants.{NO_MACHINE};
+ghost use Rattle.wasmi_c.specs.Pool.{AddsNewTenant, KeepsCaps, MakesPool, RunsTenantLines, TenantReadsOut, TenantRepliesToCopy, TenantRepliesToStruct, no_pool_totals, pool_totals, tenant_totals};
+ghost use Rattle.wasmi_c.specs.declared.status.TheConstants.{NO_MACHINE, NO_POOL};
 ghost use Rattle.wasmi_c.specs.declared.machine.reply_struct.ReplyStruct.{ReplyStruct};
 
 use std::alloc::Global;
@@ -12,10 +13,10 @@ use wasmi_c::machine::call_struct::CallStruct;
 use wasmi_c::machine::handle::Handle;
 use wasmi_c::machine::limits::{Limits, Totals};
 use wasmi_c::machine::reply_struct::ReplyStruct;
-use wasmi_c::on_machine;
-use wasmi_c::status::NO_MACHINE;
+use wasmi_c::pool::PoolHandle;
+use wasmi_c::status::{NO_MACHINE, NO_POOL};
+use wasmi_c::{on_machine, on_pool};
 
-/// Makes a machine with nothing on it: `Handle::new_machine`.
 #[unsafe(no_mangle)]
 pub extern "C" fn wasmi_machine_new(alloc: Global, handle: &mut Handle, limits: &Limits) -> u8
     ensures { MakesMachine (IsNewMachine limits.now) handle.old.machine.held result
@@ -24,7 +25,6 @@ pub extern "C" fn wasmi_machine_new(alloc: Global, handle: &mut Handle, limits: 
     handle.new_machine(alloc, limits)
 }
 
-/// Makes a machine whose limiter answers from a list: `Handle::new_with_answers`.
 #[unsafe(no_mangle)]
 pub extern "C" fn wasmi_machine_new_with_answers(
     alloc: Global,
@@ -38,7 +38,6 @@ pub extern "C" fn wasmi_machine_new_with_answers(
     handle.new_with_answers(alloc, limits, answers)
 }
 
-/// Ends the machine of a handle, if there is one: `Handle::drop_machine`.
 #[unsafe(no_mangle)]
 pub extern "C" fn wasmi_machine_drop(alloc: Global, handle: &mut Handle)
     ensures { handle.new.machine.held ≡ None }
@@ -46,7 +45,6 @@ pub extern "C" fn wasmi_machine_drop(alloc: Global, handle: &mut Handle)
     handle.drop_machine(alloc);
 }
 
-/// Replies to a call: `Handle::call`.
 #[unsafe(no_mangle)]
 pub extern "C" fn wasmi_machine_call(handle: &mut Handle, call: &CallStruct) -> ReplyStruct
     ensures { OnHeld (RepliesToStruct call.now) (only NO_MACHINE)
@@ -55,7 +53,6 @@ pub extern "C" fn wasmi_machine_call(handle: &mut Handle, call: &CallStruct) -> 
     handle.call(call)
 }
 
-/// Copies bytes of a memory from an offset on to the caller's array, as many as it has.
 #[unsafe(no_mangle)]
 pub extern "C" fn wasmi_machine_read(
     handle: &mut Handle,
@@ -69,12 +66,9 @@ pub extern "C" fn wasmi_machine_read(
         (only NO_MACHINE, bytes.old)
         handle.old.machine.held (result, bytes.new) handle.new.machine.held }
 {
-    on_machine!(handle, ReplyStruct::only(NO_MACHINE), machine => {
-        machine.read(memory, offset, bytes)
-    })
+    on_machine!(handle, machine => machine.read(memory, offset, bytes))
 }
 
-/// Writes the caller's bytes over those of a memory from an offset on, by a copy of them.
 #[unsafe(no_mangle)]
 pub extern "C" fn wasmi_machine_write(
     alloc: Global,
@@ -86,12 +80,9 @@ pub extern "C" fn wasmi_machine_write(
     ensures { OnHeld (RepliesToCopy (Write memory offset) bytes.now) (only NO_MACHINE)
         handle.old.machine.held result handle.new.machine.held }
 {
-    on_machine!(handle, ReplyStruct::only(NO_MACHINE), machine => {
-        machine.write(alloc, memory, offset, bytes)
-    })
+    on_machine!(handle, machine => machine.write(alloc, memory, offset, bytes))
 }
 
-/// Makes an element segment of a copy of the caller's references.
 #[unsafe(no_mangle)]
 pub extern "C" fn wasmi_machine_new_segment(
     alloc: Global,
@@ -102,13 +93,9 @@ pub extern "C" fn wasmi_machine_new_segment(
     ensures { OnHeld (RepliesToSegment ty items.now) (only NO_MACHINE)
         handle.old.machine.held result handle.new.machine.held }
 {
-    on_machine!(handle, ReplyStruct::only(NO_MACHINE), machine => {
-        machine.new_segment(alloc, ty, items)
-    })
+    on_machine!(handle, machine => machine.new_segment(alloc, ty, items))
 }
 
-/// Gives how many bytes and elements the machine has. Without caps its cost grows with the number of
-/// memories and tables that were ever made.
 #[unsafe(no_mangle)]
 pub extern "C" fn wasmi_machine_totals(handle: &mut Handle) -> Totals
     ensures { OnHeld
@@ -118,16 +105,14 @@ pub extern "C" fn wasmi_machine_totals(handle: &mut Handle) -> Totals
     on_machine!(handle, Totals::from_amounts(NO_MACHINE, 0, 0), machine => machine.totals())
 }
 
-/// Takes fuel that isn't a call's; the number is what is left.
 #[unsafe(no_mangle)]
 pub extern "C" fn wasmi_machine_consume_fuel(handle: &mut Handle, amount: u64) -> ReplyStruct
     ensures { OnHeld (PaysFuel amount) (only NO_MACHINE)
         handle.old.machine.held result handle.new.machine.held }
 {
-    on_machine!(handle, ReplyStruct::only(NO_MACHINE), machine => machine.consume_fuel(amount))
+    on_machine!(handle, machine => machine.consume_fuel(amount))
 }
 
-/// Loads an item from `ptr + offset`, by the load that has the number, and sets `value` to it.
 #[unsafe(no_mangle)]
 pub extern "C" fn wasmi_machine_load(
     handle: &mut Handle,
@@ -144,7 +129,6 @@ pub extern "C" fn wasmi_machine_load(
     on_machine!(handle, NO_MACHINE, machine => machine.load(op, memory, ptr, offset, value))
 }
 
-/// Stores an item at `ptr + offset`, by the store that has the number.
 #[unsafe(no_mangle)]
 pub extern "C" fn wasmi_machine_store(
     handle: &mut Handle,
@@ -160,7 +144,6 @@ pub extern "C" fn wasmi_machine_store(
     on_machine!(handle, NO_MACHINE, machine => machine.store(op, memory, ptr, offset, value))
 }
 
-/// Sets a register to what the instruction of a number makes of the vectors in two registers.
 #[unsafe(no_mangle)]
 pub extern "C" fn wasmi_machine_binary(handle: &mut Handle, op: u16, dst: u8, a: u8, b: u8) -> u8
     ensures { OnHeld (RepliesInStatus (vector_binary op dst a b)) NO_MACHINE
@@ -169,7 +152,6 @@ pub extern "C" fn wasmi_machine_binary(handle: &mut Handle, op: u16, dst: u8, a:
     on_machine!(handle, NO_MACHINE, machine => machine.binary(op, dst, a, b))
 }
 
-/// Grows a memory, and sets `number` to its old size in pages, or to the fuel that it lacks.
 #[unsafe(no_mangle)]
 pub extern "C" fn wasmi_machine_grow(
     handle: &mut Handle,
@@ -184,7 +166,6 @@ pub extern "C" fn wasmi_machine_grow(
     on_machine!(handle, NO_MACHINE, machine => machine.grow(memory, pages, number))
 }
 
-/// Sets `left` to the fuel that is left.
 #[unsafe(no_mangle)]
 pub extern "C" fn wasmi_machine_fuel_left(handle: &mut Handle, left: &mut u64) -> u8
     ensures { OnHeld (RepliesInWord (Some GetFuel) left.old) (NO_MACHINE, left.old)
@@ -193,8 +174,6 @@ pub extern "C" fn wasmi_machine_fuel_left(handle: &mut Handle, left: &mut u64) -
     on_machine!(handle, NO_MACHINE, machine => machine.fuel_left(left))
 }
 
-/// Runs lines of calls, and writes as much of the text of their replies as fits. The number is the
-/// length of the whole text, which takes no memory, or that of the first bad line.
 #[unsafe(no_mangle)]
 pub extern "C" fn wasmi_machine_run_lines(
     alloc: Global,
@@ -207,7 +186,122 @@ pub extern "C" fn wasmi_machine_run_lines(
         (only NO_MACHINE, text.old)
         handle.old.machine.held (result, text.new) handle.new.machine.held }
 {
-    on_machine!(handle, ReplyStruct::only(NO_MACHINE), machine => {
-        machine.run_lines(alloc, lines, text)
-    })
+    on_machine!(handle, machine => machine.run_lines(alloc, lines, text))
+}
+
+#[unsafe(no_mangle)]
+pub extern "C" fn wasmi_pool_new(
+    alloc: Global,
+    handle: &mut PoolHandle,
+    bytes: u64,
+    elements: u64,
+) -> u8
+    ensures { MakesPool bytes elements handle.old.pool.held result handle.new.pool.held }
+{
+    handle.new_pool(alloc, bytes, elements)
+}
+
+#[unsafe(no_mangle)]
+pub extern "C" fn wasmi_pool_drop(alloc: Global, handle: &mut PoolHandle)
+    ensures { handle.new.pool.held ≡ None }
+{
+    handle.drop_pool(alloc);
+}
+
+#[unsafe(no_mangle)]
+pub extern "C" fn wasmi_pool_add(
+    alloc: Global,
+    handle: &mut PoolHandle,
+    limits: &Limits,
+) -> ReplyStruct
+    ensures step { ActsOnHeld (only NO_POOL) handle.old.pool.held result handle.new.pool.held
+        (AddsNewTenant limits.now result) }
+    ensures caps { KeepsCaps handle.old.pool.held handle.new.pool.held }
+{
+    on_pool!(handle, alloc, pool => pool.add(alloc, limits))
+}
+
+#[unsafe(no_mangle)]
+pub extern "C" fn wasmi_pool_call(
+    alloc: Global,
+    handle: &mut PoolHandle,
+    tenant: usize,
+    call: &CallStruct,
+) -> ReplyStruct
+    ensures step { ActsOnHeld (only NO_POOL) handle.old.pool.held result handle.new.pool.held
+        (TenantRepliesToStruct tenant call.now result) }
+    ensures caps { KeepsCaps handle.old.pool.held handle.new.pool.held }
+{
+    handle.call(alloc, tenant, call)
+}
+
+#[unsafe(no_mangle)]
+pub extern "C" fn wasmi_pool_read(
+    alloc: Global,
+    handle: &mut PoolHandle,
+    tenant: usize,
+    memory: usize,
+    offset: usize,
+    bytes: &mut [u8],
+) -> ReplyStruct
+    ensures step { ActsOnHeld {R = ReplyStruct × List ℕ} (only NO_POOL, bytes.old)
+        handle.old.pool.held (result, bytes.new) handle.new.pool.held
+        (TenantReadsOut tenant memory offset bytes.old result bytes.new) }
+    ensures caps { KeepsCaps handle.old.pool.held handle.new.pool.held }
+{
+    on_pool!(handle, alloc, pool => pool.read(tenant, memory, offset, bytes))
+}
+
+#[unsafe(no_mangle)]
+pub extern "C" fn wasmi_pool_write(
+    alloc: Global,
+    handle: &mut PoolHandle,
+    tenant: usize,
+    memory: usize,
+    offset: usize,
+    bytes: &[u8],
+) -> ReplyStruct
+    ensures step { ActsOnHeld (only NO_POOL) handle.old.pool.held result handle.new.pool.held
+        (TenantRepliesToCopy tenant (Write memory offset) bytes.now result) }
+    ensures caps { KeepsCaps handle.old.pool.held handle.new.pool.held }
+{
+    on_pool!(handle, alloc, pool => pool.write(alloc, tenant, memory, offset, bytes))
+}
+
+#[unsafe(no_mangle)]
+pub extern "C" fn wasmi_pool_run_lines(
+    alloc: Global,
+    handle: &mut PoolHandle,
+    tenant: usize,
+    lines: &[u8],
+    text: &mut [u8],
+) -> ReplyStruct
+    ensures step { ActsOnHeld {R = ReplyStruct × List ℕ} (only NO_POOL, text.old)
+        handle.old.pool.held (result, text.new) handle.new.pool.held
+        (RunsTenantLines tenant lines.now text.old result text.new) }
+    ensures caps { KeepsCaps handle.old.pool.held handle.new.pool.held }
+{
+    on_pool!(handle, alloc, pool => pool.run_lines(alloc, tenant, lines, text))
+}
+
+#[unsafe(no_mangle)]
+pub extern "C" fn wasmi_pool_tenant_totals(
+    alloc: Global,
+    handle: &mut PoolHandle,
+    tenant: usize,
+) -> Totals
+    ensures step { ActsOnHeld no_pool_totals handle.old.pool.held result handle.new.pool.held
+        (λ pool pool'. (pool' ≡ pool) × (result ≡ tenant_totals tenant pool)) }
+    ensures caps { KeepsCaps handle.old.pool.held handle.new.pool.held }
+{
+    on_pool!(handle, alloc, Totals::from_amounts(NO_POOL, 0, 0), pool => pool.tenant_totals(tenant))
+}
+
+#[unsafe(no_mangle)]
+pub extern "C" fn wasmi_pool_totals(alloc: Global, handle: &mut PoolHandle) -> Totals
+    ensures step { ActsOnHeld no_pool_totals handle.old.pool.held result handle.new.pool.held
+        (λ pool pool'. (pool' ≡ pool) × (result ≡ pool_totals pool)) }
+    ensures caps { KeepsCaps handle.old.pool.held handle.new.pool.held }
+{
+    on_pool!(handle, alloc, Totals::from_amounts(NO_POOL, 0, 0), pool => pool.totals())
 }

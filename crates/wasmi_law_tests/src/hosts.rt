@@ -20,12 +20,13 @@ ghost use Rattle.wasmi_c.specs.MemoryCalls.{by_pages, of_memory};
 ghost use Rattle.wasmi_c.specs.TableCalls.{by_elements, of_table};
 
 use std::alloc::Global;
-use wasmi_c::laws::{one_quota_holds_all, settlements_are_creations, settlements_are_growths};
+use wasmi_c::laws::{
+    calls_are_runs, one_quota_holds_all, settlements_are_creations, settlements_are_growths,
+};
 use wasmi_c::machine::call_struct::CallStruct;
 use wasmi_c::machine::handle::Handle;
-use wasmi_c::machine::laws;
 use wasmi_c::machine::reply_struct::ReplyStruct;
-use wasmi_c::pool::handle::PoolHandle;
+use wasmi_c::pool::PoolHandle;
 use wasmi_c::status::DONE;
 use wasmi_c::{
     HostAnswers, MemoryNumbers, MeterNumbers, QuotaNumbers, TableNumbers, memory as host_memory,
@@ -45,7 +46,7 @@ pub fn call_twice(
         → call_of first.now ≡ Some call → call_of second.now ≡ Some call'
         → RunsBoth call call' machine result handle.new.machine.held }
 {
-    laws::calls_are_runs();
+    calls_are_runs();
     let reply = handle.call(first);
     (reply, handle.call(second))
 }

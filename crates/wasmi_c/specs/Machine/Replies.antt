@@ -7,13 +7,13 @@ use Rattle.wasmi_raw.specs.RawVal.{raw_of}
 use Rattle.wasmi_raw.specs.declared.raw.RawVal.{RawVal}
 use Rattle.wasmi_typed.specs.declared.typed_ref.TypedRawRef.{TypedRawRef}
 use Rattle.wasmi_meter.specs.declared.error.MemoryError.{MemoryError}
-use Rattle.wasmi_meter.specs.declared.error.MemoryError.TheVariants as memory
 use Rattle.wasmi_meter.specs.declared.error.TableError.{TableError}
-use Rattle.wasmi_meter.specs.declared.error.TableError.TheVariants as table
 use Rattle.wasmi_meter.specs.declared.fuel.FuelError.{FuelError}
 use Rattle.wasmi_meter.specs.declared.fuel.FuelError.TheVariants as fuel
 use Rattle.wasmi_core.specs.declared.calls.Reply.{Reply}
 use Rattle.wasmi_core.specs.declared.calls.Reply.TheVariants as reply
+use Rattle.wasmi_c.specs.MemoryCalls.{memory_fuel_needed}
+use Rattle.wasmi_c.specs.TableCalls.{table_fuel_needed}
 use Rattle.wasmi_c.specs.Status.{memory_status, table_status, fuel_status, global_status, segment_status}
 use Rattle.wasmi_c.specs.declared.status.TheConstants.{DONE, NO_ELEMENT, NO_REGION, NO_ROOM, NO_SUCH}
 use Rattle.wasmi_c.specs.declared.machine.reply_struct.ReplyStruct.{ReplyStruct}
@@ -46,13 +46,11 @@ with_reference element = record (only DONE) { reference = element.raw; ty = refe
 
 -- the fuel that a refused call on a memory needs, else 0
 abbrev pub memory_fuel : MemoryError → ℕ
-memory_fuel (memory.OutOfFuel required) = required
-memory_fuel error = 0
+memory_fuel error = memory_fuel_needed error 0
 
 -- the fuel that a refused call on a table needs, else 0
 abbrev pub table_fuel : TableError → ℕ
-table_fuel (table.OutOfFuel required) = required
-table_fuel error = 0
+table_fuel error = table_fuel_needed error 0
 
 -- the fuel that a refused call on the meter needs, else 0
 abbrev pub meter_fuel : FuelError → ℕ

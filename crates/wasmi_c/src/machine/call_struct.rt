@@ -1,11 +1,27 @@
-//! Calls as structs of plain numbers.
+//! Calls as structs of plain numbers, and the calls that these stand for.
 ghost use Rattle.std.specs.Prelude.{◌≡◌};
-ghost use Rattle.wasmi_c.specs.Machine.CallStructs.{memory_type_in, mutability_of, table_type_in, typed_reference_of};
+ghost use Rattle.wasmi_c.specs.Machine.CallStructs.{binary_call, call_of, load_call, mutability_of, store_call, table_call, typed_reference_of, unary_call, value_call};
+ghost use Rattle.wasmi_c.specs.Machine.Calls.{item_load_numbered, item_store_numbered, vector_binary_numbered};
 
-use crate::types::{if_flag, memory_type, reference_type, table_type};
+use crate::instruction::binary::{Binary, binary_numbered};
+use crate::instruction::lanes::{extraction, lane_load, lane_store, replacement};
+use crate::instruction::load::{Load, load_numbered};
+use crate::instruction::shuffle::lanes_of;
+use crate::instruction::store::{Store, store_numbered};
+use crate::instruction::ternary::ternary_numbered;
+use crate::instruction::unary::{Unary, unary_numbered};
+use crate::types::{if_flag, memory_type, reference_type, table_type, to_u32, val_type};
+use wasmi_core::Call;
+use wasmi_ops::{BinaryOp, LoadOp, StoreOp};
 use wasmi_raw::{RawRef, RawVal};
-use wasmi_store::{MemoryType, TableType};
-use wasmi_typed::{Mutability, TypedRawRef};
+use wasmi_typed::{GlobalType, Mutability, TypedRawRef, TypedRawVal};
+
+/// The kind of loads.
+pub(super) const LOAD: u16 = 5;
+/// The kind of stores.
+pub(super) const STORE: u16 = 6;
+/// The kind of instructions of two registers.
+pub(super) const BINARY: u16 = 24;
 
 /// A call as numbers: its kind, and its operands, of which each kind reads its own.
 #[repr(C)]
@@ -60,15 +76,228 @@ pub struct CallStruct {
 }
 
 impl CallStruct {
+    /// The call, if there is one: its kind, its instruction, its lane and its types are ones that
+    /// there are, and its numbers fit. `include/wasmi_machine.h` has the numbers of the kinds.
+    #[tactic(auto, unfolding(crate::specs::Machine::CallStructs::call_of))]
+    pub fn call(&self) -> Option<Call>
+        ensures { result ≡ call_of self.now }
+    {
+        let count = self.count;
+        let maximum = if_flag(self.has_maximum, self.maximum);
+        Some(match self.kind {
+            LOAD => self.load_call()?,
+            STORE => self.store_call()?,
+            BINARY => self.binary_call()?,
+            0 => Call::SetFuel(count),
+            1 => Call::GetFuel,
+            2 => Call::NewMemory(memory_type(count, maximum, self.is_64, self.page_size_log2)?),
+            3 => Call::GrowMemory {
+                memory: self.index,
+                pages: count,
+            },
+            4 => Call::DropMemory(self.index),
+            7 => Call::LoadLane {
+                op: lane_load(self.op, self.lane).ok()?,
+                dst: self.dst,
+                a: self.a,
+                memory: self.index,
+                ptr: self.ptr,
+                offset: self.offset,
+            },
+            8 => Call::StoreLane {
+                op: lane_store(self.op, self.lane).ok()?,
+                a: self.a,
+                memory: self.index,
+                ptr: self.ptr,
+                offset: self.offset,
+            },
+            _ => return self.table_call(),
+        })
+    }
+
+    /// A call on tables and element segments, or one on globals and registers.
+    #[tactic(auto, unfolding(crate::specs::Machine::CallStructs::table_call))]
+    fn table_call(&self) -> Option<Call>
+        ensures { result ≡ table_call self.now }
+    {
+        let table = self.index;
+        let maximum = if_flag(self.has_maximum, self.maximum);
+        Some(match self.kind {
+            9 => Call::NewTable {
+                ty: table_type(self.ty, self.count, maximum, self.is_64)?,
+                init: self.typed_reference()?,
+            },
+            10 => Call::GrowTable {
+                table,
+                delta: self.count,
+                init: self.typed_reference()?,
+            },
+            11 => Call::DropTable(table),
+            12 => Call::GetElement {
+                table,
+                index: self.to,
+            },
+            13 => Call::SetElement {
+                table,
+                index: self.to,
+                value: self.typed_reference()?,
+            },
+            14 => Call::InitTable {
+                table,
+                segment: self.source,
+                dst: self.to,
+                src: to_u32(self.from)?,
+                len: to_u32(self.count)?,
+            },
+            15 => Call::CopyTable {
+                dst_table: table,
+                dst: self.to,
+                src_table: self.source,
+                src: self.from,
+                len: self.count,
+            },
+            16 => Call::FillTable {
+                table,
+                dst: self.to,
+                value: self.typed_reference()?,
+                len: self.count,
+            },
+            17 => Call::DropItems(table),
+            _ => return self.value_call(),
+        })
+    }
+
+    /// A call on globals and registers.
+    #[tactic(auto, unfolding(crate::specs::Machine::CallStructs::value_call))]
+    fn value_call(&self) -> Option<Call>
+        ensures { result ≡ value_call self.now }
+    {
+        let (dst, a, b) = (self.dst, self.a, self.b);
+        Some(match self.kind {
+            18 => Call::NewGlobal {
+                value: self.value,
+                ty: GlobalType::new(val_type(self.ty)?, self.mutability()),
+            },
+            19 => Call::SetGlobal {
+                global: self.index,
+                value: TypedRawVal::new(val_type(self.ty)?, self.value),
+            },
+            20 => Call::GetGlobal(self.index),
+            21 => Call::SetRegister {
+                dst,
+                value: self.value,
+            },
+            22 => Call::GetRegister(a),
+            23 => self.unary_call()?,
+            25 => Call::Ternary {
+                op: ternary_numbered(self.op)?,
+                dst,
+                a,
+                b,
+                c: self.c,
+            },
+            26 => Call::Extract {
+                op: extraction(self.op, self.lane).ok()?,
+                a,
+            },
+            27 => Call::Replace {
+                op: replacement(self.op, self.lane).ok()?,
+                dst,
+                a,
+                item: b,
+            },
+            28 => Call::Shuffle {
+                dst,
+                a,
+                b,
+                lanes: lanes_of(self.lanes)?,
+            },
+            _ => return None,
+        })
+    }
+
+    /// A load of an item or of a vector.
+    fn load_call(&self) -> Option<Call>
+        ensures { result ≡ load_call self.now }
+    {
+        let (memory, ptr, offset) = (self.index, self.ptr, self.offset);
+        Some(match load_numbered(self.op)? {
+            Load::Scalar(op) => Call::Load {
+                op,
+                memory,
+                ptr,
+                offset,
+            },
+            Load::Vector(op) => Call::VectorLoad {
+                op,
+                dst: self.dst,
+                memory,
+                ptr,
+                offset,
+            },
+        })
+    }
+
+    /// A store of an item or of a vector.
+    fn store_call(&self) -> Option<Call>
+        ensures { result ≡ store_call self.now }
+    {
+        let (memory, ptr, offset) = (self.index, self.ptr, self.offset);
+        Some(match store_numbered(self.op)? {
+            Store::Scalar(op) => Call::Store {
+                op,
+                memory,
+                ptr,
+                offset,
+                value: self.value,
+            },
+            Store::V128Store => Call::VectorStore {
+                a: self.a,
+                memory,
+                ptr,
+                offset,
+            },
+        })
+    }
+
+    /// An instruction of one register: one that makes a vector of an item, one on a vector, or a
+    /// test.
+    fn unary_call(&self) -> Option<Call>
+        ensures { result ≡ unary_call self.now }
+    {
+        let (dst, a) = (self.dst, self.a);
+        match unary_numbered(self.op)? {
+            Unary::Scalar(_) => None,
+            Unary::Make(op) => Some(Call::Make { op, dst, a }),
+            Unary::Vector(op) => Some(Call::Unary { op, dst, a }),
+            Unary::Test(op) => Some(Call::Test { op, a }),
+        }
+    }
+
+    /// An instruction of two registers, or a shift by an amount.
+    fn binary_call(&self) -> Option<Call>
+        ensures { result ≡ binary_call self.now }
+    {
+        let (dst, a, b) = (self.dst, self.a, self.b);
+        match binary_numbered(self.op)? {
+            Binary::Scalar(_) => None,
+            Binary::Vector(op) => Some(Call::Binary { op, dst, a, b }),
+            Binary::Shift(op) => {
+                let amount = to_u32(self.count)?;
+                Some(Call::Shift { op, dst, a, amount })
+            }
+        }
+    }
+
     /// The reference with its type.
-    pub fn typed_reference(&self) -> Option<TypedRawRef>
+    fn typed_reference(&self) -> Option<TypedRawRef>
         ensures { result ≡ typed_reference_of self.now }
     {
         Some(TypedRawRef::new(RawRef::from(self.reference), reference_type(self.ty)?))
     }
 
     /// Whether a global can be written.
-    pub fn mutability(&self) -> Mutability
+    fn mutability(&self) -> Mutability
         ensures { result ≡ mutability_of self.now }
     {
         if self.is_mutable == 0 {
@@ -77,20 +306,61 @@ impl CallStruct {
             Mutability::Var
         }
     }
+}
 
-    /// The type of a memory.
-    pub fn memory_type(&self) -> Option<MemoryType>
-        ensures { result ≡ memory_type_in self.now }
-    {
-        let maximum = if_flag(self.has_maximum, self.maximum);
-        memory_type(self.count, maximum, self.is_64, self.page_size_log2)
+/// The load of an item that has a number, if there is one.
+#[tactic(auto, unfolding(crate::specs::Instruction::load_numbered))]
+pub(super) fn item_load_numbered(number: u16) -> Option<LoadOp>
+    ensures { result ≡ item_load_numbered number }
+{
+    match number {
+        // Each of the first by itself, so that a load's code is reached by one jump.
+        0 => Some(LoadOp::I32Load8S),
+        1 => Some(LoadOp::I32Load8U),
+        2 => Some(LoadOp::I32Load16S),
+        3 => Some(LoadOp::I32Load16U),
+        4 => Some(LoadOp::I64Load8S),
+        5 => Some(LoadOp::I64Load8U),
+        6 => Some(LoadOp::I64Load16S),
+        7 => Some(LoadOp::I64Load16U),
+        8 => Some(LoadOp::I64Load32S),
+        9 => Some(LoadOp::I64Load32U),
+        10 => Some(LoadOp::LoadU32),
+        11 => Some(LoadOp::LoadU64),
+        _ => match load_numbered(number)? {
+            Load::Scalar(op) => Some(op),
+            Load::Vector(_) => None,
+        },
     }
+}
 
-    /// The type of a table.
-    pub fn table_type(&self) -> Option<TableType>
-        ensures { result ≡ table_type_in self.now }
-    {
-        let maximum = if_flag(self.has_maximum, self.maximum);
-        table_type(self.ty, self.count, maximum, self.is_64)
+/// The store of an item that has a number, if there is one.
+#[tactic(auto, unfolding(crate::specs::Instruction::store_numbered))]
+pub(super) fn item_store_numbered(number: u16) -> Option<StoreOp>
+    ensures { result ≡ item_store_numbered number }
+{
+    match number {
+        // As for the loads.
+        0 => Some(StoreOp::I32Store8),
+        1 => Some(StoreOp::I32Store16),
+        2 => Some(StoreOp::I64Store8),
+        3 => Some(StoreOp::I64Store16),
+        4 => Some(StoreOp::I64Store32),
+        5 => Some(StoreOp::Store32),
+        6 => Some(StoreOp::Store64),
+        _ => match store_numbered(number)? {
+            Store::Scalar(op) => Some(op),
+            Store::V128Store => None,
+        },
+    }
+}
+
+/// The instruction on two vectors that has a number, if there is one.
+pub(super) fn vector_binary_numbered(number: u16) -> Option<BinaryOp>
+    ensures { result ≡ vector_binary_numbered number }
+{
+    match binary_numbered(number)? {
+        Binary::Vector(op) => Some(op),
+        _ => None,
     }
 }

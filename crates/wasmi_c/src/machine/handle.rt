@@ -1,6 +1,6 @@
 //! What C holds: a machine with its limiter, or none. A call works on the machine where it is.
 //! `include/wasmi_machine.h` says which statuses calls return, in which order.
-ghost use Rattle.std.specs.Prelude.{◌≡◌, Some, None, is_some, MatchOption};
+ghost use Rattle.std.specs.Prelude.{◌≡◌, None, is_some};
 ghost use Rattle.wasmi_c.specs.Machine.Calls.{OnHeld, RepliesToStruct};
 ghost use Rattle.wasmi_c.specs.Machine.NewMachines.{IsNewMachine, MakesMachine, MakesWithAnswers};
 ghost use Rattle.wasmi_c.specs.Machine.Replies.{only};
@@ -9,10 +9,10 @@ ghost use Rattle.wasmi_c.specs.declared.status.TheConstants.{NO_MACHINE};
 use crate::held_box::HeldBox;
 use crate::machine::call_struct::CallStruct;
 use crate::machine::limited_machine::LimitedMachine;
-use crate::machine::limits::{Limits, answers_of, are_answers};
+use crate::machine::limits::{Limits, answers_of};
 use crate::machine::machine_box::MachineBox;
 use crate::machine::reply_struct::ReplyStruct;
-use crate::pool::handle::PoolHandle;
+use crate::pool::PoolHandle;
 use crate::status::{DONE, HAS_MACHINE, NO_ANSWER, NO_MACHINE, NO_ROOM};
 use std::alloc::Global;
 use std::mem;
@@ -20,6 +20,9 @@ use std::mem;
 /// What a call on the machine of a handle returns; or what is returned where there is none.
 #[macro_export]
 macro_rules! on_machine {
+    ($handle:expr, $machine:ident => $call:expr) => {
+        $crate::on_machine!($handle, ReplyStruct::only(NO_MACHINE), $machine => $call)
+    };
     ($handle:expr, $none:expr, $machine:ident => $call:expr) => {{
         if !$handle.is_made() {
             return $none;
@@ -41,8 +44,6 @@ pub struct Handle {
 }
 
 impl Handle {
-    ghost use Rattle.wasmi_c.specs.Machine.Caps.{IsCapped};
-
     /// Whether there is a machine.
     pub fn is_made(&self) -> bool
         ensures { result ≡ is_some self.now.machine.held }
@@ -50,34 +51,17 @@ impl Handle {
         self.is_made
     }
 
-    /// Takes the machine out, if there is one. It takes no memory.
-    #[inline(always)]
-    pub fn take(&mut self, alloc: Global) -> Option<Box<LimitedMachine>>
-        ensures taken { MatchOption result (self.old.machine.held ≡ None)
-            (λ machine. self.old.machine.held ≡ Some machine.value) }
-        ensures left { self.new.machine.held ≡ None }
+    /// Puts a machine in where there is none.
+    fn hold(&mut self, alloc: Global, machine: LimitedMachine) -> u8
+        ensures { MakesMachine (λ held. held ≡ machine.entry) self.old.machine.held result
+            self.new.machine.held }
     {
-        let none = Handle {
-            machine: MachineBox::from_held(HeldBox::empty(alloc)),
-            is_made: false,
-        };
-        let Handle { machine, is_made } = mem::replace(self, none);
-        if is_made {
-            Some(machine.into_held().into_box())
-        } else {
-            machine.into_held().end();
-            None
+        if self.is_made() {
+            return HAS_MACHINE;
         }
-    }
-
-    /// Puts a machine in where there is none. It takes no memory.
-    #[inline(always)]
-    pub fn put(&mut self, machine: Box<LimitedMachine>)
-        requires empty { self.old.machine.held ≡ None }
-        ensures held { self.new.machine.held ≡ Some machine.entry.value }
-        ensures within { IsCapped machine.entry.value }
-    {
-        machine.show_within();
+        let Ok(machine) = Box::new(alloc, machine) else {
+            return NO_ROOM;
+        };
         let made = Handle {
             machine: MachineBox::from_held(HeldBox::from_box(machine)),
             is_made: true,
@@ -87,26 +71,22 @@ impl Handle {
             is_made: _,
         } = mem::replace(self, made);
         machine.into_held().end();
+        DONE
     }
 
     /// Makes a machine in a handle that has none.
+    #[tactic(auto, using(crate::proofs::MachineLemmas::made_so))]
     pub fn new_machine(&mut self, alloc: Global, limits: &Limits) -> u8
         ensures { MakesMachine (IsNewMachine limits.now) self.old.machine.held result
             self.new.machine.held }
     {
-        if self.is_made() {
-            return HAS_MACHINE;
-        }
-        let Ok(machine) = Box::new(alloc, LimitedMachine::new(alloc, limits)) else {
-            return NO_ROOM;
-        };
-        self.put(machine);
-        DONE
+        self.hold(alloc, LimitedMachine::new(alloc, limits))
     }
 
     /// Makes a machine with a list of answers in a handle that has none. Each byte is the number of
     /// an answer: 0 permits, 1 denies, 2 is an error, and 3 permits and returns an error to a
     /// notice. The caps of the limits aren't read.
+    #[tactic(auto, using(crate::proofs::MachineLemmas::made_with_answers))]
     pub fn new_with_answers(&mut self, alloc: Global, limits: &Limits, answers: &[u8]) -> u8
         ensures { MakesWithAnswers limits.now answers.now self.old.machine.held result
             self.new.machine.held }
@@ -114,25 +94,30 @@ impl Handle {
         if self.is_made() {
             return HAS_MACHINE;
         }
-        if !are_answers(answers) {
+        if !answers.iter().all(|number| *number < 4) {
             return NO_ANSWER;
         }
         let Ok(answers) = answers_of(alloc, answers) else {
             return NO_ROOM;
         };
-        let machine = LimitedMachine::with_answers(alloc, limits, answers);
-        let Ok(machine) = Box::new(alloc, machine) else {
-            return NO_ROOM;
-        };
-        self.put(machine);
-        DONE
+        self.hold(alloc, LimitedMachine::with_answers(alloc, limits, answers))
     }
 
     /// Ends the machine of a handle, if there is one.
     pub fn drop_machine(&mut self, alloc: Global)
         ensures { self.new.machine.held ≡ None }
     {
-        let _machine = self.take(alloc);
+        let none = Handle {
+            machine: MachineBox::from_held(HeldBox::empty(alloc)),
+            is_made: false,
+        };
+        let Handle { machine, is_made } = mem::replace(self, none);
+        let held = machine.into_held();
+        if is_made {
+            let _machine = held.into_box();
+        } else {
+            held.end();
+        }
     }
 
     /// Replies to a call, if the numbers stand for one.
@@ -141,7 +126,7 @@ impl Handle {
         ensures { OnHeld (RepliesToStruct call.now) (only NO_MACHINE)
             self.old.machine.held result self.new.machine.held }
     {
-        on_machine!(self, ReplyStruct::only(NO_MACHINE), machine => machine.reply_to_struct(call))
+        on_machine!(self, machine => machine.reply_to_struct(call))
     }
 }
 

@@ -1,23 +1,30 @@
 //! A machine with the limiter that it asks.
-ghost use Rattle.std.specs.Prelude.{◌≡◌, IfOk, ◌↔◌, IsTrue, MatchResult, OnErr};
+ghost use Rattle.std.specs.Prelude.{◌≡◌, Some, IfOk, MatchResult, OnErr};
 ghost use Rattle.wasmi_meter.specs.AnyLimiter.{caps_of};
-ghost use Rattle.wasmi_core.specs.declared.calls.Call.TheVariants.{NewSegment, Write};
-ghost use Rattle.wasmi_c.specs.Machine.Calls.{ReadsOut, MachineRuns, RefusesLines, RunsLines, WritesOut, no_header};
+ghost use Rattle.wasmi_core.specs.declared.calls.Call.TheVariants.{GetFuel, GrowMemory, Load, NewSegment, Store, Write};
+ghost use Rattle.wasmi_c.specs.Machine.Calls.{ReadsOut, MachineRuns, RefusesLines, RunsLines, WritesOut, no_header, item_load, item_store, vector_binary, word_after};
+ghost use Rattle.wasmi_c.specs.Machine.Replies.{status_of};
 ghost use Rattle.wasmi_grammar.specs.Lines.{WritesScript};
 ghost use Rattle.wasmi_script.specs.Outcomes.{replies_text};
 
-use crate::machine::call_struct::CallStruct;
-use crate::machine::laws;
+use crate::laws;
+use crate::machine::call_struct::{
+    BINARY, CallStruct, LOAD, STORE, item_load_numbered, item_store_numbered,
+    vector_binary_numbered,
+};
 use crate::machine::limits::{Limits, Totals};
 use crate::machine::reply_struct::ReplyStruct;
-use crate::status::{BAD_LINE, DONE, HEADER_LINE, NO_CALL, NO_ROOM, NO_SUCH, TEXT_CUT};
+use crate::status::{
+    BAD_LINE, DONE, HEADER_LINE, NO_CALL, NO_ROOM, NO_SUCH, TEXT_CUT, memory_refusal,
+};
 use crate::types::reference_type;
 use std::alloc::{AllocError, Global};
 use std::marker::Model;
 use wasmi_core::{Call, Machine, Reply, run_lending};
-use wasmi_grammar::{Header, ParseError, Script, parse};
+use wasmi_grammar::{ParseError, Script, parse};
 use wasmi_meter::{AnswerList, AnyLimiter, LimiterAnswer};
-use wasmi_raw::RawRef;
+use wasmi_ops::{LoadOp, StoreOp};
+use wasmi_raw::{RawRef, RawVal};
 use wasmi_script::write_lines;
 
 /// A machine with the limiter that it asks. A quota holds what it has, so it is within its caps.
@@ -38,7 +45,7 @@ impl Model for LimitedMachine {
 }
 
 impl LimitedMachine {
-    ghost use Rattle.wasmi_c.specs.Machine.Calls.{MachineReplies, RepliesInStruct, RepliesToCopy, RepliesToSegment, RepliesToStruct, PaysFuel, totals_of};
+    ghost use Rattle.wasmi_c.specs.Machine.Calls.{MachineReplies, RepliesInStatus, RepliesInStruct, RepliesInWord, RepliesToCopy, RepliesToSegment, RepliesToStruct, PaysFuel, totals_of};
     ghost use Rattle.wasmi_c.specs.Machine.Caps.{IsCapped};
     ghost use Rattle.wasmi_c.specs.Machine.NewMachines.{IsNewMachine, IsNewWithAnswers};
 
@@ -94,19 +101,26 @@ impl LimitedMachine {
 
     /// Replies to the call that numbers stand for, if there is one.
     #[inline(always)]
+    #[tactic(auto, unfolding(crate::specs::Machine::CallStructs::call_of))]
     pub fn reply_to_struct(&mut self, numbers: &CallStruct) -> ReplyStruct
         ensures step { RepliesToStruct numbers.now self.old result self.new }
         ensures caps { caps_of self.new.limiter ≡ caps_of self.old.limiter }
     {
         let (index, ptr, offset) = (numbers.index, numbers.ptr, numbers.offset);
         // These read their own fields alone: to make a `Call` of all takes longer than the call.
-        if let Some(op) = numbers.item_load() {
+        if numbers.kind == LOAD
+            && let Some(op) = item_load_numbered(numbers.op)
+        {
             return ReplyStruct::from_common(self.load_item(op, index, ptr, offset));
         }
-        if let Some(op) = numbers.item_store() {
+        if numbers.kind == STORE
+            && let Some(op) = item_store_numbered(numbers.op)
+        {
             return ReplyStruct::from_common(self.store_item(op, index, ptr, offset, numbers.value));
         }
-        if let Some(op) = numbers.vector_binary() {
+        if numbers.kind == BINARY
+            && let Some(op) = vector_binary_numbered(numbers.op)
+        {
             let (dst, a, b) = (numbers.dst, numbers.a, numbers.b);
             return ReplyStruct::from_common(self.reply(&Call::Binary { op, dst, a, b }));
         }
@@ -114,6 +128,112 @@ impl LimitedMachine {
             Some(call) => self.reply_in_struct(call).by_fields(),
             None => ReplyStruct::only(NO_CALL),
         }
+    }
+
+    /// Loads an item by the load that has the number, if there is one.
+    #[inline(always)]
+    #[tactic(auto, unfolding(crate::specs::Machine::Calls::RepliesInWord))]
+    pub fn load(&self, number: u16, memory: usize, ptr: u64, offset: u64, value: &mut u64) -> u8
+        ensures { RepliesInWord (item_load number memory ptr offset) value.old self.now
+            (result, value.new) self.now }
+    {
+        match item_load_numbered(number) {
+            Some(op) => leave(self.load_item(op, memory, ptr, offset), value),
+            None => NO_CALL,
+        }
+    }
+
+    /// Loads an item.
+    #[inline(always)]
+    fn load_item(&self, op: LoadOp, memory: usize, ptr: u64, offset: u64) -> Reply
+        ensures { MachineReplies (Load op memory ptr offset) self.now result self.now }
+    {
+        let Some(memory) = self.machine.memory(memory) else {
+            return Reply::NoSuch;
+        };
+        match op.load(memory.data(), ptr, offset) {
+            Ok(raw) => Reply::Value(raw),
+            Err(trap) => Reply::Trap(trap),
+        }
+    }
+
+    /// Tells the fuel that is left.
+    #[inline(always)]
+    #[tactic(auto, unfolding(crate::specs::Machine::Calls::RepliesInWord))]
+    pub fn fuel_left(&self, left: &mut u64) -> u8
+        ensures { RepliesInWord (Some GetFuel) left.old self.now (result, left.new) self.now }
+    {
+        match self.machine.fuel().get_fuel() {
+            Ok(amount) => leave(Reply::Number(amount), left),
+            Err(error) => leave(Reply::Fuel(error), left),
+        }
+    }
+
+    /// Stores an item by the store that has the number, if there is one.
+    #[inline(always)]
+    #[tactic(auto, unfolding(crate::specs::Machine::Calls::RepliesInStatus))]
+    pub fn store(&mut self, number: u16, memory: usize, ptr: u64, offset: u64, value: u64) -> u8
+        ensures step { RepliesInStatus (item_store number memory ptr offset value) self.old result
+            self.new }
+        ensures caps { caps_of self.new.limiter ≡ caps_of self.old.limiter }
+    {
+        let Some(op) = item_store_numbered(number) else {
+            return NO_CALL;
+        };
+        let value = RawVal { lo: value, hi: 0 };
+        ReplyStruct::from_common(self.store_item(op, memory, ptr, offset, value)).status
+    }
+
+    /// Stores an item, which asks no limiter.
+    #[inline(always)]
+    #[tactic(auto, using(crate::proofs::MachineLemmas::kept_by_store))]
+    fn store_item(
+        &mut self,
+        op: StoreOp,
+        memory: usize,
+        ptr: u64,
+        offset: u64,
+        value: RawVal,
+    ) -> Reply
+        ensures step { MachineReplies (Store op memory ptr offset value) self.old result self.new }
+        ensures caps { caps_of self.new.limiter ≡ caps_of self.old.limiter }
+    {
+        self.machine.store_item(op, memory, ptr, offset, value)
+    }
+
+    /// Executes the instruction on two vectors that has the number, if there is one.
+    #[inline(always)]
+    #[tactic(auto, unfolding(crate::specs::Machine::Calls::RepliesInStatus))]
+    pub fn binary(&mut self, number: u16, dst: u8, a: u8, b: u8) -> u8
+        ensures step { RepliesInStatus (vector_binary number dst a b) self.old result self.new }
+        ensures caps { caps_of self.new.limiter ≡ caps_of self.old.limiter }
+    {
+        let Some(op) = vector_binary_numbered(number) else {
+            return NO_CALL;
+        };
+        ReplyStruct::from_common(self.reply(&Call::Binary { op, dst, a, b })).status
+    }
+
+    /// Grows a memory by so many pages, and leaves a status and a word of the reply.
+    #[inline(always)]
+    #[tactic(auto, unfolding(crate::specs::Machine::Calls::RepliesInWord))]
+    pub fn grow(&mut self, memory: usize, pages: u64, number: &mut u64) -> u8
+        ensures step { RepliesInWord (Some (GrowMemory memory pages)) number.old self.old
+            (result, number.new) self.new }
+        ensures caps { caps_of self.new.limiter ≡ caps_of self.old.limiter }
+    {
+        leave(self.grow_memory(memory, pages), number)
+    }
+
+    /// Grows a memory by so many pages.
+    #[inline(always)]
+    fn grow_memory(&mut self, memory: usize, pages: u64) -> Reply
+        ensures step { MachineReplies (GrowMemory memory pages) self.old result self.new }
+        ensures caps { caps_of self.new.limiter ≡ caps_of self.old.limiter }
+    {
+        laws::quotas_are_kept();
+        self.machine
+            .grow_memory_lending(memory, pages, &mut self.limiter)
     }
 
     /// Copies the bytes of a memory from an offset on to the caller's.
@@ -214,6 +334,27 @@ impl LimitedMachine {
     }
 }
 
+/// Leaves the word of a reply with the caller, and returns the status. It is matched where it is
+/// returned, since a reply that is kept in a variable is copied.
+#[inline(always)]
+fn leave(reply: Reply, word: &mut u64) -> u8
+    ensures status { result ≡ status_of reply }
+    ensures word { word.new ≡ word_after reply word.old }
+{
+    match reply {
+        Reply::Value(value) => {
+            *word = value.lo;
+            DONE
+        }
+        Reply::Number(number) => {
+            *word = number;
+            DONE
+        }
+        Reply::Memory(error) => memory_refusal(error, word),
+        other => ReplyStruct::from_reply(&other).status,
+    }
+}
+
 /// A copy of the references.
 fn references(alloc: Global, items: &[u32]) -> Result<Vec<RawRef>, AllocError>
     ensures { IfOk result (λ copy. copy.items ≡ items.now) }
@@ -251,7 +392,8 @@ pub(crate) fn headless(alloc: Global, lines: &[u8]) -> Result<Script, ReplyStruc
 {
     match parse(alloc, lines) {
         Ok(script) => {
-            if is_empty(&script.header) {
+            let header = &script.header;
+            if header.meter.is_none() && header.limiter.is_none() && header.region.is_none() {
                 Ok(script)
             } else {
                 Err(ReplyStruct::only(HEADER_LINE))
@@ -262,13 +404,6 @@ pub(crate) fn headless(alloc: Global, lines: &[u8]) -> Result<Script, ReplyStruc
         }
         Err(ParseError::OutOfMemory) => Err(ReplyStruct::only(NO_ROOM)),
     }
-}
-
-/// Whether there is no header line.
-fn is_empty(header: &Header) -> bool
-    ensures { IsTrue result ↔ (header.now ≡ no_header) }
-{
-    header.meter.is_none() && header.limiter.is_none() && header.region.is_none()
 }
 
 /// Writes the replies to calls to the front of the bytes, as much of their text as fits.

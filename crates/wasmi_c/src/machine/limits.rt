@@ -1,7 +1,7 @@
 //! What a machine is made with, and what it has.
-ghost use Rattle.std.specs.Prelude.{◌≡◌, ◌↔◌, All, IfOk, IsTrue, map};
+ghost use Rattle.std.specs.Prelude.{◌≡◌, IfOk, map};
 ghost use Rattle.wasmi_c.specs.Machine.Calls.{totals_in};
-ghost use Rattle.wasmi_c.specs.Machine.NewMachines.{IsNewLimiter, meter_with, IsAnswer, answer_of};
+ghost use Rattle.wasmi_c.specs.Machine.NewMachines.{IsNewLimiter, meter_with, answer_of};
 
 use crate::types::{if_flag, meter};
 use std::alloc::{AllocError, Global};
@@ -79,16 +79,8 @@ impl Totals {
     }
 }
 
-/// Whether each number stands for an answer.
-pub(super) fn are_answers(numbers: &[u8]) -> bool
-    ensures { IsTrue result ↔ All IsAnswer numbers.now }
-{
-    numbers.iter().all(|number| *number < 4)
-}
-
-/// The answers that numbers stand for.
+/// The answers that numbers below 4 stand for.
 pub(super) fn answers_of(alloc: Global, numbers: &[u8]) -> Result<Vec<LimiterAnswer>, AllocError>
-    requires known { All IsAnswer numbers.now }
     ensures answers { IfOk result (λ answers. answers.items ≡ map answer_of numbers.now) }
 {
     numbers.iter().map(|number| answer(*number)).collect(alloc)

@@ -1,14 +1,17 @@
 //! Replies as structs of plain numbers.
 ghost use Rattle.std.specs.Prelude.{◌≡◌};
-ghost use Rattle.wasmi_c.specs.Machine.Replies.{memory_fuel, meter_fuel, number_of, only, reference_number, reply_struct, status_of, table_fuel, with_number, with_value};
+ghost use Rattle.wasmi_c.specs.Machine.Replies.{only, reference_number, reply_struct, with_number, with_value};
 
 use crate::status::{
-    DONE, NO_ELEMENT, NO_REGION, NO_ROOM, NO_SUCH, fuel_status, global_status, memory_status,
-    segment_status, table_status,
+    DONE, GLOBAL_IMMUTABLE, GLOBAL_TYPE, METERING_DISABLED, NO_ELEMENT, NO_REGION, NO_ROOM,
+    NO_SUCH, OUT_OF_FUEL, SEGMENT_OUT_OF_MEMORY, SEGMENT_TOO_MANY_ITEMS, memory_refusal,
+    table_refusal,
 };
 use wasmi_core::Reply;
-use wasmi_meter::{FuelError, MemoryError, TableError};
+use wasmi_meter::FuelError;
 use wasmi_raw::RawVal;
+use wasmi_store::SegmentError;
+use wasmi_typed::GlobalError;
 use wasmi_types::RefType;
 
 /// A reply as numbers. What a reply doesn't have is 0.
@@ -86,9 +89,6 @@ impl ReplyStruct {
             Reply::Trap(trap) => ReplyStruct::only(u8::from(trap)),
             Reply::Value(value) => ReplyStruct::with_value(value),
             Reply::Number(number) => ReplyStruct::with_number(DONE, number),
-            Reply::Memory(error) => {
-                ReplyStruct::with_number(memory_status(error), memory_fuel(error))
-            }
             other => ReplyStruct::from_reply(&other),
         }
     }
@@ -98,13 +98,41 @@ impl ReplyStruct {
         ensures { result ≡ reply_struct reply.now }
     {
         match reply {
+            Reply::Done => ReplyStruct::only(DONE),
+            Reply::Made(index) => ReplyStruct::with_number(DONE, *index as u64),
             Reply::Value(value) => ReplyStruct::with_value(*value),
+            Reply::Number(number) => ReplyStruct::with_number(DONE, *number),
+            Reply::Bytes(bytes) => ReplyStruct::with_number(DONE, bytes.as_slice().len() as u64),
             Reply::Reference(Some(element)) => ReplyStruct {
                 reference: u32::from(element.raw()),
                 ty: reference_number(element.ty()),
                 ..ReplyStruct::only(DONE)
             },
-            _ => ReplyStruct::with_number(status_of(reply), number_of(reply)),
+            Reply::Reference(None) => ReplyStruct::only(NO_ELEMENT),
+            Reply::Memory(error) => {
+                let mut number = 0;
+                let status = memory_refusal(*error, &mut number);
+                ReplyStruct::with_number(status, number)
+            }
+            Reply::Table(error) => {
+                let mut number = 0;
+                let status = table_refusal(*error, &mut number);
+                ReplyStruct::with_number(status, number)
+            }
+            Reply::Fuel(FuelError::FuelMeteringDisabled) => ReplyStruct::only(METERING_DISABLED),
+            Reply::Fuel(FuelError::OutOfFuel { required_fuel }) => {
+                ReplyStruct::with_number(OUT_OF_FUEL, *required_fuel)
+            }
+            Reply::Global(GlobalError::ImmutableWrite) => ReplyStruct::only(GLOBAL_IMMUTABLE),
+            Reply::Global(GlobalError::TypeMismatch) => ReplyStruct::only(GLOBAL_TYPE),
+            Reply::Segment(SegmentError::TooManyItems) => ReplyStruct::only(SEGMENT_TOO_MANY_ITEMS),
+            Reply::Segment(SegmentError::OutOfSystemMemory) => {
+                ReplyStruct::only(SEGMENT_OUT_OF_MEMORY)
+            }
+            Reply::Trap(code) => ReplyStruct::only(u8::from(*code)),
+            Reply::NoSuch => ReplyStruct::only(NO_SUCH),
+            Reply::NoRegion => ReplyStruct::only(NO_REGION),
+            Reply::NoRoom => ReplyStruct::only(NO_ROOM),
         }
     }
 }
@@ -116,74 +144,5 @@ fn reference_number(ty: RefType) -> u8
     match ty {
         RefType::Func => 5,
         RefType::Extern => 6,
-    }
-}
-
-/// The fuel that a refused call on a memory needs; else 0.
-pub fn memory_fuel(error: MemoryError) -> u64
-    ensures { result ≡ memory_fuel error }
-{
-    match error {
-        MemoryError::OutOfFuel { required_fuel } => required_fuel,
-        _ => 0,
-    }
-}
-
-/// The fuel that a refused call on a table needs; else 0.
-fn table_fuel(error: TableError) -> u64
-    ensures { result ≡ table_fuel error }
-{
-    match error {
-        TableError::OutOfFuel { required_fuel } => required_fuel,
-        _ => 0,
-    }
-}
-
-/// The fuel that a refused call on the meter needs; else 0.
-fn meter_fuel(error: &FuelError) -> u64
-    ensures { result ≡ meter_fuel error.now }
-{
-    match error {
-        FuelError::FuelMeteringDisabled => 0,
-        FuelError::OutOfFuel { required_fuel } => *required_fuel,
-    }
-}
-
-/// The status of a reply.
-pub fn status_of(reply: &Reply) -> u8
-    ensures { result ≡ status_of reply.now }
-{
-    match reply {
-        Reply::Done
-        | Reply::Made(_)
-        | Reply::Value(_)
-        | Reply::Number(_)
-        | Reply::Bytes(_)
-        | Reply::Reference(Some(_)) => DONE,
-        Reply::Reference(None) => NO_ELEMENT,
-        Reply::Memory(error) => memory_status(*error),
-        Reply::Table(error) => table_status(*error),
-        Reply::Fuel(error) => fuel_status(error),
-        Reply::Global(error) => global_status(error),
-        Reply::Segment(error) => segment_status(error),
-        Reply::Trap(code) => u8::from(*code),
-        Reply::NoSuch => NO_SUCH,
-        Reply::NoRegion => NO_REGION,
-        Reply::NoRoom => NO_ROOM,
-    }
-}
-
-/// The number of a reply: an index, a size, fuel, how many bytes, or the fuel needed; else 0.
-fn number_of(reply: &Reply) -> u64
-    ensures { result ≡ number_of reply.now }
-{
-    match reply {
-        Reply::Made(index) => *index as u64,
-        Reply::Number(number) => *number,
-        Reply::Bytes(bytes) => bytes.as_slice().len() as u64,
-        Reply::Memory(error) => memory_fuel(*error),
-        Reply::Table(error) => table_fuel(*error),
-        Reply::Fuel(error) => meter_fuel(error),
-        _ => 0,
     }
 }

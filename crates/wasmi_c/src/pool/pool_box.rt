@@ -5,7 +5,7 @@ ghost use Rattle.wasmi_budget.specs.Pool.{PoolValue};
 ghost use Rattle.wasmi_c.specs.HeldBox.{box_or_none_owns, global_token, pool_row};
 
 use crate::held_box::HeldBox;
-use crate::pool::tenant_pool::TenantPool;
+use crate::pool::TenantPool;
 use std::alloc::Global;
 use std::marker::Model;
 

@@ -7,7 +7,7 @@ use Rattle.std_heap.proofs.Global.TheSendSync as handle
 use Rattle.wasmi_c.specs.HeldBox.{pool_row}
 use Rattle.wasmi_c.specs.contracts.pool.pool_box.PoolBox.{the_row, the_type}
 use Rattle.wasmi_c.proofs.HeldBoxLemmas.{owned_keyless}
-use Rattle.wasmi_c.proofs.pool.tenant_pool.TenantPool.TheSendSync.{the_send as home}
+use Rattle.wasmi_c.proofs.pool.TenantPool.TheSendSync.{the_send as home}
 
 pub send : IsSend the_row
 send =

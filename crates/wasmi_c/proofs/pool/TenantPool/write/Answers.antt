@@ -1,6 +1,6 @@
 use Rattle.std.proofs.Common.{inr}
 use Rattle.wasmi_c.specs.Pool.{TenantRepliesToCopy}
-use Rattle.wasmi_c.proofs.pool.tenant_pool.TenantPool.write.Goals as goal
+use Rattle.wasmi_c.proofs.pool.TenantPool.write.Goals as goal
 
 pub returns-clause-step : goal.returns-clause-step
 unfolding TenantRepliesToCopy

@@ -1,4 +1,4 @@
-use Rattle.wasmi_c.proofs.machine.laws.calls_are_runs.Goals as goal
+use Rattle.wasmi_c.proofs.laws.calls_are_runs.Goals as goal
 
 pub returns-clause-join : goal.returns-clause-join
 returns-clause-join c =

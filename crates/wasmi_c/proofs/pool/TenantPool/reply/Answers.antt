@@ -1,6 +1,6 @@
 use Rattle.std.proofs.Common.{rules}
 use Rattle.wasmi_c.proofs.TenantLemmas.{tenant_replied}
-use Rattle.wasmi_c.proofs.pool.tenant_pool.TenantPool.reply.Goals as goal
+use Rattle.wasmi_c.proofs.pool.TenantPool.reply.Goals as goal
 
 pub returns-in-Ok-clause-step : goal.returns-in-Ok-clause-step
 returns-in-Ok-clause-step c =
