@@ -1,8 +1,6 @@
 -- The order of function types, place by place, and the parts of their entries.
 use Rattle.std.proofs.Common.{◌≡◌, ℕ, Bool, true, false, not, List, [], ◌∷◌, length, map, refl, ap, subst, ◌∙◌, nat_le, if◌then◌else◌}
 use Rattle.std.proofs.Math.Seq.{take-append_seam, drop-append_seam}
-use Rattle.std.proofs.lemmas.Grind.{common_steps}
-use Rattle.std.proofs.lemmas.List.{drop-take}
 use Rattle.std.specs.declared.cmp.Ordering.{Ordering}
 use Rattle.std.specs.declared.cmp.Ordering.TheVariants.{Less, Equal, Greater}
 use Rattle.std.specs.Ordering.{bool_cmp, nat_cmp, ordering_then, is_eq}
@@ -78,6 +76,3 @@ function_type_cmp-equal a b = (
 
 -- for `params_results`: the first part of the entries, and the rest
 pub ruleset parts = (take-append_seam, drop-append_seam)
-
--- for `from_entries`: what follows the parameters among the entries that stand inline
-pub ruleset inline_parts = (common_steps, drop-take)

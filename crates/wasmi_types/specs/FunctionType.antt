@@ -7,8 +7,8 @@ use Rattle.std.specs.declared.cmp.Ordering.{Ordering}
 use Rattle.wasmi_types.specs.declared.value.ValType.{ValType}
 use Rattle.wasmi_types.specs.declared.value.ValType.TheVariants.{I32, I64, F32, F64, V128, FuncRef, ExternRef}
 use Rattle.std.specs.Rc.{rc_slice_items}
-use Rattle.wasmi_types.specs.declared.func_type.FuncTypeInner.{FuncTypeInner}
-use Rattle.wasmi_types.specs.declared.func_type.FuncTypeInner.TheVariants.{Inline, Big}
+use Rattle.wasmi_types.specs.declared.func_type.Kept.{Kept}
+use Rattle.wasmi_types.specs.declared.func_type.Kept.TheVariants.{Inline, Big}
 use Rattle.wasmi_types.specs.declared.func_type.FuncTypeError.{FuncTypeError}
 use Rattle.wasmi_types.specs.declared.func_type.FuncTypeError.TheVariants.{TooManyFunctionParams, TooManyFunctionResults, OutOfMemory}
 
@@ -49,19 +49,33 @@ function_type_cmp = on order_key (slice_cmp nat_cmp)
 abbrev pub lists_input : (ValType → List (List ℕ)) → FunctionType → List (List ℕ)
 lists_input input ty = slice input ty.params ++ slice input ty.results
 
--- the function type that is kept
-abbrev pub function_type_of : FuncTypeInner → FunctionType
-function_type_of (Inline params results types) =
-    record { params = take params types; results = take results (drop params types) }
-function_type_of (Big params types) =
-    record { params = take params (rc_slice_items types); results = drop params (rc_slice_items types) }
+-- the value types that are kept, of which those after the entries mean nothing
+abbrev pub kept_types : Kept → List ValType
+kept_types (Inline types) = types
+kept_types (Big types) = rc_slice_items types
 
--- at most 21 entries stand inline, and more on the heap, of at most 1,000 parameters and 1,000 results
-abbrev pub IsKept : FuncTypeInner → Type 0
-IsKept (Inline params results types) = (params + results ≤ 21) × (length types ≡ 21)
-IsKept (Big params types) =
-    (21 < length (rc_slice_items types)) × (params ≤ 1000) × (params ≤ length (rc_slice_items types))
-    × (length (rc_slice_items types) ≤ params + 1000)
+-- the function type of so many parameters and results that are kept
+abbrev pub function_type_of : ℕ → ℕ → Kept → FunctionType
+function_type_of params results kept =
+    let entries = take (params + results) (kept_types kept) in
+    record { params = take params entries; results = drop params entries }
+
+-- at most 21 entries stand inline, and more on the heap
+abbrev pub IsStored : ℕ → Kept → Type 0
+IsStored count (Inline types) = (count ≤ 21) × (length types ≡ 21)
+IsStored count (Big types) = (21 < count) × (length (rc_slice_items types) ≡ count)
+
+-- so many entries of at most 1,000 parameters and 1,000 results are kept
+abbrev pub IsKept : ℕ → ℕ → Kept → Type 0
+IsKept params results kept =
+    (params ≤ 1000) × (results ≤ 1000) × (params + results ≤ length (kept_types kept))
+    × IsStored (params + results) kept
+
+-- these entries are kept
+abbrev pub KeepsEntries : List ValType → Kept → Type 0
+KeepsEntries entries kept =
+    (take (length entries) (kept_types kept) ≡ entries) × (length entries ≤ length (kept_types kept))
+    × IsStored (length entries) kept
 
 -- the text of an error of a function type
 abbrev pub func_type_error_text : FuncTypeError → List ℕ

@@ -1,13 +1,14 @@
 //! Function types, and the errors of making one.
 
-ghost use Rattle.std.specs.Prelude.{◌≡◌, not, nat_le, if◌then◌else◌, ◌↔◌, IsTrue, ◌+◌, ◌<◌, ◌≤◌, ◌++◌, ◌∷◌, [], length, take, drop, IfOk, IfErr, IsErr, OnOk, OnErr};
+ghost use Rattle.std.specs.Prelude.{◌≡◌, not, nat_le, if◌then◌else◌, ◌↔◌, IsTrue, ◌+◌, ◌<◌, ◌≤◌, ◌++◌, ◌∷◌, [], length, take, drop, IfOk, IfErr, IsErr, OnOk, OnErr, Some};
 ghost use Rattle.std.specs.Cmp.{partial_equiv_from_equiv, partial_order_from_agreeing_total};
 ghost use Rattle.std.specs.Cmp.Lexicographic.{on_texts};
 ghost use Rattle.std.specs.Ordering.{as_partial_cmp};
 ghost use Rattle.std.specs.Rc.{rc_slice_items};
 ghost use Rattle.std.proofs.Common.{refl};
-ghost use Rattle.wasmi_types.specs.FunctionType.{entries, entry_count, same_lists, order_key, function_type_cmp, lists_input};
+ghost use Rattle.wasmi_types.specs.FunctionType.{entries, entry_count, same_lists, order_key, function_type_cmp, lists_input, func_type_error_text, KeepsEntries};
 ghost use Rattle.wasmi_types.specs.FunctionTypeProofs.{same_lists_equiv, same_lists_by_cmp, same_lists_alike, same_type_decides};
+ghost use Rattle.wasmi_types.specs.Reading.{EachBecomes, IsReading, IsReadingOf, AfterAll, ReadsNextType, ReadsTypes, IsReadingRefusal};
 
 use crate::ValType;
 use std::alloc::{AllocError, Global};
@@ -32,9 +33,6 @@ pub enum FuncTypeError {
 }
 
 impl fmt::Display for FuncTypeError {
-    ghost use Rattle.std.specs.Prelude.{Some};
-    ghost use Rattle.wasmi_types.specs.FunctionType.{func_type_error_text};
-
     ghost output = { λ error. Some (func_type_error_text error) };
 
     fn fmt<W: fmt::Write>(&self, f: &mut fmt::Formatter<W>) -> fmt::Result {
@@ -54,22 +52,17 @@ impl Error for FuncTypeError {}
 /// Core specification 2.3, function types. Upstream: `wasmi_core::FuncType`.
 #[derive(Drop)]
 pub struct FuncType {
-    inner: FuncTypeInner,
+    len_params: u16,
+    len_results: u16,
+    kept: Kept,
 }
 
+/// The parameters, then the results.
 #[derive(Drop)]
-enum FuncTypeInner {
-    /// The parameters, then the results, then entries that mean nothing.
-    Inline {
-        len_params: u8,
-        len_results: u8,
-        params_results: [ValType; INLINE_SIZE],
-    },
-    /// The parameters, then the results.
-    Big {
-        len_params: u16,
-        params_results: RcSlice<ValType>,
-    },
+enum Kept {
+    /// After them stand entries that mean nothing.
+    Inline([ValType; INLINE_SIZE]),
+    Big(RcSlice<ValType>),
 }
 
 /// How many parameters there are at most, and how many results.
@@ -83,14 +76,12 @@ impl Model for FuncType {
 
     ghost Value = { FunctionType };
 
-    ghost view = { λ ty. function_type_of ty.inner };
+    ghost view = { λ ty. function_type_of ty.len_params ty.len_results ty.kept };
 
-    ghost invariant = { λ ty. IsKept ty.inner };
+    ghost invariant = { λ ty. IsKept ty.len_params ty.len_results ty.kept };
 }
 
 impl FuncType {
-    ghost use Rattle.wasmi_types.specs.Reading.{EachBecomes, IsReading, IsReadingOf, AfterAll};
-
     /// Makes the type of a function with these parameters and results, which `read` reads: its
     /// contract says what each answer means.
     ///
@@ -141,7 +132,6 @@ impl FuncType {
     }
 
     /// The function type of entries of which so many are parameters.
-    #[tactic(auto, using(crate::proofs::FunctionTypeOrderLemmas::inline_parts))]
     fn from_entries(
         alloc: Global,
         entries: &Entries,
@@ -155,20 +145,11 @@ impl FuncType {
         ensures results { IfOk result (λ ty. ty.results ≡ drop len_params entries.now) }
         ensures refused { IsErr result → 21 < length entries.now }
     {
-        if entries.rest.is_empty() {
-            return Ok(FuncType {
-                inner: FuncTypeInner::Inline {
-                    len_params: len_params as u8,
-                    len_results: len_results as u8,
-                    params_results: entries.inline,
-                },
-            });
-        }
+        let kept = entries.kept(alloc)?;
         Ok(FuncType {
-            inner: FuncTypeInner::Big {
-                len_params,
-                params_results: entries.shared(alloc)?,
-            },
+            len_params,
+            len_results,
+            kept,
         })
     }
 
@@ -190,23 +171,14 @@ impl FuncType {
     pub fn len_params(&self) -> u16
         ensures { result ≡ length self.now.params }
     {
-        match &self.inner {
-            FuncTypeInner::Inline { len_params, .. } => u16::from(*len_params),
-            FuncTypeInner::Big { len_params, .. } => *len_params,
-        }
+        self.len_params
     }
 
     /// How many results there are.
     pub fn len_results(&self) -> u16
         ensures { result ≡ length self.now.results }
     {
-        match &self.inner {
-            FuncTypeInner::Inline { len_results, .. } => u16::from(*len_results),
-            FuncTypeInner::Big {
-                len_params,
-                params_results,
-            } => params_results.len() as u16 - *len_params,
-        }
+        self.len_results
     }
 
     /// The types of the parameters, and those of the results.
@@ -236,14 +208,11 @@ impl FuncType {
     fn entries(&self) -> &[ValType]
         ensures { result.now ≡ entries self.now }
     {
-        match &self.inner {
-            FuncTypeInner::Inline {
-                len_params,
-                len_results,
-                params_results,
-            } => &params_results[..usize::from(*len_params) + usize::from(*len_results)],
-            FuncTypeInner::Big { params_results, .. } => params_results.as_slice(),
-        }
+        let types = match &self.kept {
+            Kept::Inline(types) => &types[..],
+            Kept::Big(types) => types.as_slice(),
+        };
+        &types[..usize::from(self.len_params) + usize::from(self.len_results)]
     }
 }
 
@@ -255,25 +224,14 @@ impl Clone for FuncType {
         ensures is_clone { IfOk result (λ copy. copy ≡ self.now) }
         ensures refused { IsErr result → 21 < entry_count self.now }
     {
+        let kept = match &self.kept {
+            Kept::Inline(types) => Kept::Inline(*types),
+            Kept::Big(types) => Kept::Big(types.clone()?),
+        };
         Ok(FuncType {
-            inner: match &self.inner {
-                FuncTypeInner::Inline {
-                    len_params,
-                    len_results,
-                    params_results,
-                } => FuncTypeInner::Inline {
-                    len_params: *len_params,
-                    len_results: *len_results,
-                    params_results: *params_results,
-                },
-                FuncTypeInner::Big {
-                    len_params,
-                    params_results,
-                } => FuncTypeInner::Big {
-                    len_params: *len_params,
-                    params_results: params_results.clone()?,
-                },
-            },
+            len_params: self.len_params,
+            len_results: self.len_results,
+            kept,
         })
     }
 }
@@ -368,8 +326,6 @@ impl Model for Entries {
 }
 
 impl Entries {
-    ghost use Rattle.wasmi_types.specs.Reading.{ReadsNextType, ReadsTypes, IsReadingRefusal};
-
     fn new(alloc: Global) -> Self
         ensures { result ≡ [] }
     {
@@ -394,14 +350,17 @@ impl Entries {
         Ok(())
     }
 
-    /// More entries than stand inline, all of them in shared memory.
-    fn shared(&self, alloc: Global) -> Result<RcSlice<ValType>, AllocError>
-        requires many { 21 < length self.now }
-        ensures items { IfOk result (λ items. rc_slice_items items ≡ self.now) }
+    /// The entries as a function type has them. Memory is taken only for more than 21.
+    fn kept(&self, alloc: Global) -> Result<Kept, AllocError>
+        ensures kept { IfOk result (λ kept. KeepsEntries self.now kept) }
+        ensures refused { IsErr result → 21 < length self.now }
     {
+        if self.rest.is_empty() {
+            return Ok(Kept::Inline(self.inline));
+        }
         let mut items = Vec::from_slice(alloc, &self.inline)?;
         items.extend_from_slice(self.rest.as_slice())?;
-        RcSlice::from_vec(items)
+        Ok(Kept::Big(RcSlice::from_vec(items)?))
     }
 
     /// Appends the next type, and answers whether there was one.

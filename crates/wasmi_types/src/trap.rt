@@ -3,8 +3,9 @@
 ghost use Rattle.std.specs.Prelude.{◌≡◌, Some};
 ghost use Rattle.std.specs.Option.{option_copied, option_copied_mut};
 ghost use Rattle.std.specs.Borrow.{sem, LendsIf};
-ghost use Rattle.wasmi_types.specs.Trap.{code_number, code_message, IsCodeOf};
+ghost use Rattle.wasmi_types.specs.Trap.{code_number, code_message, IsCodeOf, exit_status_of, code_of, host_error_of, with_host_error, text_of};
 ghost use Rattle.wasmi_types.specs.declared.trap.TrapReason.TheVariants as reason;
+ghost use Rattle.wasmi_types.specs.contracts.trap.Trap.{the_row};
 
 use std::error::Error;
 use std::fmt;
@@ -41,9 +42,6 @@ impl<H> Model for Trap<H> {
 }
 
 impl<H: HostError> Trap<H> {
-    ghost use Rattle.wasmi_types.specs.Trap.{exit_status_of, code_of, host_error_of, with_host_error};
-    ghost use Rattle.wasmi_types.specs.contracts.trap.Trap.{the_row};
-
     /// A trap that a message describes.
     pub fn new(message: String) -> Self
         ensures { result ≡ reason.Message message }
@@ -96,7 +94,10 @@ impl<H: HostError> Trap<H> {
             (with_host_error self.old) self.old) }
         ensures value { option_copied_mut result ≡ host_error_of self.old }
     {
-        self.reason.as_host_mut()
+        match &mut self.reason {
+            TrapReason::Host(error) => Some(error),
+            _ => None,
+        }
     }
 
     /// The error of the host, if this carries one. A trap without one is dropped.
@@ -110,25 +111,7 @@ impl<H: HostError> Trap<H> {
     }
 }
 
-impl<H> TrapReason<H> {
-    ghost use Rattle.wasmi_types.specs.Trap.{host_error_of, with_host_error};
-    ghost use Rattle.wasmi_types.specs.contracts.trap.TrapReason.{the_row};
-
-    fn as_host_mut(&mut self) -> Option<&mut H>
-        ensures* writes_back { sem 𝓛 (LendsIf (the_row H.row) H.row self.entry result
-            (with_host_error self.old) self.old) }
-        ensures value { option_copied_mut result ≡ host_error_of self.old }
-    {
-        match self {
-            TrapReason::Host(error) => Some(error),
-            _ => None,
-        }
-    }
-}
-
 impl<H: HostError> fmt::Display for Trap<H> {
-    ghost use Rattle.wasmi_types.specs.Trap.{text_of};
-
     ghost output = { text_of H.output };
 
     fn fmt<W: fmt::Write>(&self, f: &mut fmt::Formatter<W>) -> fmt::Result {

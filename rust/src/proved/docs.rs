@@ -598,8 +598,8 @@ Definitions: [`shift_amount`](crate::specs::typed::Typed#shift_amount).
 
 ```text
 Value = FunctionType
-view = λ ty. function_type_of ty.inner
-invariant = λ ty. IsKept ty.inner
+view = λ ty. function_type_of ty.len_params ty.len_results ty.kept
+invariant = λ ty. IsKept ty.len_params ty.len_results ty.kept
 ```
 
 Definitions: [`FunctionType`](crate::specs::types::FunctionType#FunctionType), [`function_type_of`](crate::specs::types::FunctionType#function_type_of), [`IsKept`](crate::specs::types::FunctionType#IsKept).

@@ -27,8 +27,8 @@ use Rattle.std.specs.declared.cmp.Ordering.{Ordering}
 use Rattle.wasmi_types.specs.declared.value.ValType.{ValType}
 use Rattle.wasmi_types.specs.declared.value.ValType.TheVariants.{I32, I64, F32, F64, V128, FuncRef, ExternRef}
 use Rattle.std.specs.Rc.{rc_slice_items}
-use Rattle.wasmi_types.specs.declared.func_type.FuncTypeInner.{FuncTypeInner}
-use Rattle.wasmi_types.specs.declared.func_type.FuncTypeInner.TheVariants.{Inline, Big}
+use Rattle.wasmi_types.specs.declared.func_type.Kept.{Kept}
+use Rattle.wasmi_types.specs.declared.func_type.Kept.TheVariants.{Inline, Big}
 use Rattle.wasmi_types.specs.declared.func_type.FuncTypeError.{FuncTypeError}
 use Rattle.wasmi_types.specs.declared.func_type.FuncTypeError.TheVariants.{TooManyFunctionParams, TooManyFunctionResults, OutOfMemory}
 
@@ -69,19 +69,33 @@ abbrev pub <b id="function_type_cmp">function_type_cmp</b> : <a href="../../type
 abbrev pub <b id="lists_input">lists_input</b> : (ValType → List (List ℕ)) → <a href="../../types/FunctionType/index.html#FunctionType">FunctionType</a> → List (List ℕ)
 <a href="../../types/FunctionType/index.html#lists_input">lists_input</a> input ty = slice input ty.params ++ slice input ty.results
 
--- the function type that is kept
-abbrev pub <b id="function_type_of">function_type_of</b> : FuncTypeInner → <a href="../../types/FunctionType/index.html#FunctionType">FunctionType</a>
-<a href="../../types/FunctionType/index.html#function_type_of">function_type_of</a> (Inline <a href="../../types/FunctionType/index.html#params">params</a> <a href="../../types/FunctionType/index.html#results">results</a> types) =
-    record { <a href="../../types/FunctionType/index.html#params">params</a> = take <a href="../../types/FunctionType/index.html#params">params</a> types; <a href="../../types/FunctionType/index.html#results">results</a> = take <a href="../../types/FunctionType/index.html#results">results</a> (drop <a href="../../types/FunctionType/index.html#params">params</a> types) }
-<a href="../../types/FunctionType/index.html#function_type_of">function_type_of</a> (Big <a href="../../types/FunctionType/index.html#params">params</a> types) =
-    record { <a href="../../types/FunctionType/index.html#params">params</a> = take <a href="../../types/FunctionType/index.html#params">params</a> (rc_slice_items types); <a href="../../types/FunctionType/index.html#results">results</a> = drop <a href="../../types/FunctionType/index.html#params">params</a> (rc_slice_items types) }
+-- the value types that are kept, of which those after the entries mean nothing
+abbrev pub <b id="kept_types">kept_types</b> : Kept → List ValType
+<a href="../../types/FunctionType/index.html#kept_types">kept_types</a> (Inline types) = types
+<a href="../../types/FunctionType/index.html#kept_types">kept_types</a> (Big types) = rc_slice_items types
 
--- at most 21 entries stand inline, and more on the heap, of at most 1,000 parameters and 1,000 results
-abbrev pub <b id="IsKept">IsKept</b> : FuncTypeInner → Type 0
-<a href="../../types/FunctionType/index.html#IsKept">IsKept</a> (Inline <a href="../../types/FunctionType/index.html#params">params</a> <a href="../../types/FunctionType/index.html#results">results</a> types) = (<a href="../../types/FunctionType/index.html#params">params</a> + <a href="../../types/FunctionType/index.html#results">results</a> ≤ 21) × (length types ≡ 21)
-<a href="../../types/FunctionType/index.html#IsKept">IsKept</a> (Big <a href="../../types/FunctionType/index.html#params">params</a> types) =
-    (21 &lt; length (rc_slice_items types)) × (<a href="../../types/FunctionType/index.html#params">params</a> ≤ 1000) × (<a href="../../types/FunctionType/index.html#params">params</a> ≤ length (rc_slice_items types))
-    × (length (rc_slice_items types) ≤ <a href="../../types/FunctionType/index.html#params">params</a> + 1000)
+-- the function type of so many parameters and results that are kept
+abbrev pub <b id="function_type_of">function_type_of</b> : ℕ → ℕ → Kept → <a href="../../types/FunctionType/index.html#FunctionType">FunctionType</a>
+<a href="../../types/FunctionType/index.html#function_type_of">function_type_of</a> <a href="../../types/FunctionType/index.html#params">params</a> <a href="../../types/FunctionType/index.html#results">results</a> kept =
+    let <a href="../../types/FunctionType/index.html#entries">entries</a> = take (<a href="../../types/FunctionType/index.html#params">params</a> + <a href="../../types/FunctionType/index.html#results">results</a>) (<a href="../../types/FunctionType/index.html#kept_types">kept_types</a> kept) in
+    record { <a href="../../types/FunctionType/index.html#params">params</a> = take <a href="../../types/FunctionType/index.html#params">params</a> <a href="../../types/FunctionType/index.html#entries">entries</a>; <a href="../../types/FunctionType/index.html#results">results</a> = drop <a href="../../types/FunctionType/index.html#params">params</a> <a href="../../types/FunctionType/index.html#entries">entries</a> }
+
+-- at most 21 entries stand inline, and more on the heap
+abbrev pub <b id="IsStored">IsStored</b> : ℕ → Kept → Type 0
+<a href="../../types/FunctionType/index.html#IsStored">IsStored</a> count (Inline types) = (count ≤ 21) × (length types ≡ 21)
+<a href="../../types/FunctionType/index.html#IsStored">IsStored</a> count (Big types) = (21 &lt; count) × (length (rc_slice_items types) ≡ count)
+
+-- so many entries of at most 1,000 parameters and 1,000 results are kept
+abbrev pub <b id="IsKept">IsKept</b> : ℕ → ℕ → Kept → Type 0
+<a href="../../types/FunctionType/index.html#IsKept">IsKept</a> <a href="../../types/FunctionType/index.html#params">params</a> <a href="../../types/FunctionType/index.html#results">results</a> kept =
+    (<a href="../../types/FunctionType/index.html#params">params</a> ≤ 1000) × (<a href="../../types/FunctionType/index.html#results">results</a> ≤ 1000) × (<a href="../../types/FunctionType/index.html#params">params</a> + <a href="../../types/FunctionType/index.html#results">results</a> ≤ length (<a href="../../types/FunctionType/index.html#kept_types">kept_types</a> kept))
+    × <a href="../../types/FunctionType/index.html#IsStored">IsStored</a> (<a href="../../types/FunctionType/index.html#params">params</a> + <a href="../../types/FunctionType/index.html#results">results</a>) kept
+
+-- these entries are kept
+abbrev pub <b id="KeepsEntries">KeepsEntries</b> : List ValType → Kept → Type 0
+<a href="../../types/FunctionType/index.html#KeepsEntries">KeepsEntries</a> <a href="../../types/FunctionType/index.html#entries">entries</a> kept =
+    (take (length <a href="../../types/FunctionType/index.html#entries">entries</a>) (<a href="../../types/FunctionType/index.html#kept_types">kept_types</a> kept) ≡ <a href="../../types/FunctionType/index.html#entries">entries</a>) × (length <a href="../../types/FunctionType/index.html#entries">entries</a> ≤ length (<a href="../../types/FunctionType/index.html#kept_types">kept_types</a> kept))
+    × <a href="../../types/FunctionType/index.html#IsStored">IsStored</a> (length <a href="../../types/FunctionType/index.html#entries">entries</a>) kept
 
 -- the text of an error of a function type
 abbrev pub <b id="func_type_error_text">func_type_error_text</b> : FuncTypeError → List ℕ

@@ -53,27 +53,22 @@ mod func_type {
     ///
     /// ```text
     /// Value = FunctionType
-    /// view = λ ty. function_type_of ty.inner
-    /// invariant = λ ty. IsKept ty.inner
+    /// view = λ ty. function_type_of ty.len_params ty.len_results ty.kept
+    /// invariant = λ ty. IsKept ty.len_params ty.len_results ty.kept
     /// ```
     ///
     /// Definitions: [`FunctionType`](crate::specs::types::FunctionType#FunctionType), [`function_type_of`](crate::specs::types::FunctionType#function_type_of), [`IsKept`](crate::specs::types::FunctionType#IsKept).
     pub struct FuncType {
-        inner: FuncTypeInner,
+        len_params: u16,
+        len_results: u16,
+        kept: Kept,
     }
 
-    enum FuncTypeInner {
-        /// The parameters, then the results, then entries that mean nothing.
-        Inline {
-            len_params: u8,
-            len_results: u8,
-            params_results: [ValType; INLINE_SIZE],
-        },
-        /// The parameters, then the results.
-        Big {
-            len_params: u16,
-            params_results: RcSlice<ValType>,
-        },
+    /// The parameters, then the results.
+    enum Kept {
+        /// After them stand entries that mean nothing.
+        Inline([ValType; INLINE_SIZE]),
+        Big(RcSlice<ValType>),
     }
 
     /// How many parameters there are at most, and how many results.
@@ -166,20 +161,11 @@ mod func_type {
             len_params: u16,
             len_results: u16,
         ) -> Result<Self, AllocError> {
-            if entries.rest.is_empty() {
-                return Ok(FuncType {
-                    inner: FuncTypeInner::Inline {
-                        len_params: len_params as u8,
-                        len_results: len_results as u8,
-                        params_results: entries.inline,
-                    },
-                });
-            }
+            let kept = entries.kept()?;
             Ok(FuncType {
-                inner: FuncTypeInner::Big {
-                    len_params,
-                    params_results: entries.shared()?,
-                },
+                len_params,
+                len_results,
+                kept,
             })
         }
 
@@ -216,10 +202,7 @@ mod func_type {
         /// ```
         #[inline]
         pub fn len_params(&self) -> u16 {
-            match &self.inner {
-                FuncTypeInner::Inline { len_params, .. } => u16::from(*len_params),
-                FuncTypeInner::Big { len_params, .. } => *len_params,
-            }
+            self.len_params
         }
 
         /// How many results there are.
@@ -231,13 +214,7 @@ mod func_type {
         /// ```
         #[inline]
         pub fn len_results(&self) -> u16 {
-            match &self.inner {
-                FuncTypeInner::Inline { len_results, .. } => u16::from(*len_results),
-                FuncTypeInner::Big {
-                    len_params,
-                    params_results,
-                } => params_results.len() as u16 - *len_params,
-            }
+            self.len_results
         }
 
         /// The types of the parameters, and those of the results.
@@ -285,14 +262,11 @@ mod func_type {
         /// Definitions: [`entries`](crate::specs::types::FunctionType#entries).
         #[inline]
         fn entries(&self) -> &[ValType] {
-            match &self.inner {
-                FuncTypeInner::Inline {
-                    len_params,
-                    len_results,
-                    params_results,
-                } => &params_results[..usize::from(*len_params) + usize::from(*len_results)],
-                FuncTypeInner::Big { params_results, .. } => params_results.as_slice(),
-            }
+            let types = match &self.kept {
+                Kept::Inline(types) => &types[..],
+                Kept::Big(types) => types.as_slice(),
+            };
+            &types[..usize::from(self.len_params) + usize::from(self.len_results)]
         }
     }
 
@@ -314,25 +288,14 @@ mod func_type {
         /// Definitions: [`entry_count`](crate::specs::types::FunctionType#entry_count).
         #[inline]
         fn try_clone(&self) -> Result<Self, AllocError> {
+            let kept = match &self.kept {
+                Kept::Inline(types) => Kept::Inline(*types),
+                Kept::Big(types) => Kept::Big(types.try_clone()?),
+            };
             Ok(FuncType {
-                inner: match &self.inner {
-                    FuncTypeInner::Inline {
-                        len_params,
-                        len_results,
-                        params_results,
-                    } => FuncTypeInner::Inline {
-                        len_params: *len_params,
-                        len_results: *len_results,
-                        params_results: *params_results,
-                    },
-                    FuncTypeInner::Big {
-                        len_params,
-                        params_results,
-                    } => FuncTypeInner::Big {
-                        len_params: *len_params,
-                        params_results: params_results.try_clone()?,
-                    },
-                },
+                len_params: self.len_params,
+                len_results: self.len_results,
+                kept,
             })
         }
     }
@@ -478,19 +441,24 @@ mod func_type {
             Ok(())
         }
 
-        /// More entries than stand inline, all of them in shared memory.
+        /// The entries as a function type has them. Memory is taken only for more than 21.
         ///
         /// # Contract
         ///
         /// ```text
-        /// requires many: 21 < length self.now
-        /// ensures items: IfOk result (λ items. rc_slice_items items ≡ self.now)
+        /// ensures kept: IfOk result (λ kept. KeepsEntries self.now kept)
+        /// ensures refused: IsErr result → 21 < length self.now
         /// ```
+        ///
+        /// Definitions: [`KeepsEntries`](crate::specs::types::FunctionType#KeepsEntries).
         #[inline]
-        fn shared(&self) -> Result<RcSlice<ValType>, AllocError> {
+        fn kept(&self) -> Result<Kept, AllocError> {
+            if self.rest.is_empty() {
+                return Ok(Kept::Inline(self.inline));
+            }
             let mut items = Vec::from_slice(&self.inline)?;
             items.extend_from_slice(self.rest.as_slice())?;
-            RcSlice::from_vec(items)
+            Ok(Kept::Big(RcSlice::from_vec(items)?))
         }
 
         /// Appends the next type, and answers whether there was one.
@@ -801,7 +769,10 @@ mod trap {
         /// Definitions: [`with_host_error`](crate::specs::types::Trap#with_host_error), [`host_error_of`](crate::specs::types::Trap#host_error_of).
         #[inline]
         pub fn downcast_mut(&mut self) -> Option<&mut H> {
-            self.reason.as_host_mut()
+            match &mut self.reason {
+                TrapReason::Host(error) => Some(error),
+                _ => None,
+            }
         }
 
         /// The error of the host, if this carries one. A trap without one is dropped.
@@ -816,25 +787,6 @@ mod trap {
         #[inline]
         pub fn downcast(self) -> Option<H> {
             match self.reason {
-                TrapReason::Host(error) => Some(error),
-                _ => None,
-            }
-        }
-    }
-
-    impl<H> TrapReason<H> {
-        /// # Contract
-        ///
-        /// ```text
-        /// ensures* writes_back: sem 𝓛 (LendsIf (the_row H.row) H.row self.entry result
-        ///     (with_host_error self.old) self.old)
-        /// ensures value: option_copied_mut result ≡ host_error_of self.old
-        /// ```
-        ///
-        /// Definitions: [`with_host_error`](crate::specs::types::Trap#with_host_error), [`host_error_of`](crate::specs::types::Trap#host_error_of).
-        #[inline]
-        fn as_host_mut(&mut self) -> Option<&mut H> {
-            match self {
                 TrapReason::Host(error) => Some(error),
                 _ => None,
             }
