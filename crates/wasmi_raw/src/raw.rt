@@ -1,6 +1,7 @@
 //! Raw values, and what it means to read and write one.
 
 ghost use Rattle.std.specs.Prelude.{◌≡◌};
+ghost use Rattle.wasmi_raw.specs.RawVal.{raw_of};
 
 /// A raw value: two words of 64 bits, without a type.
 ///
@@ -16,8 +17,6 @@ pub struct RawVal {
 }
 
 impl RawVal {
-    ghost use Rattle.wasmi_raw.specs.RawVal.{raw_of};
-
     /// The raw value with `lo` as its low word, and 0 as its high word.
     pub fn from_bits64(lo: u64) -> RawVal
         ensures { result ≡ raw_of lo }
