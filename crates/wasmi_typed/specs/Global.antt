@@ -2,15 +2,14 @@
 use Rattle.std.specs.Prelude.{◌≡◌, ◌≢◌, Result, Ok, Err, ℕ, List, codes}
 use Rattle.wasmi_raw.specs.declared.raw.RawVal.{RawVal}
 use Rattle.wasmi_typed.specs.declared.typed.TypedRawVal.{TypedRawVal}
-use Rattle.wasmi_typed.specs.declared.global.GlobalType.{GlobalType}
+use Rattle.wasmi_typed.specs.declared.global.Global.{Global}
 use Rattle.wasmi_typed.specs.declared.global.GlobalError.{GlobalError}
 use Rattle.wasmi_typed.specs.declared.global.GlobalError.TheVariants.{ImmutableWrite, TypeMismatch}
 use Rattle.wasmi_typed.specs.declared.global.Mutability.TheVariants.{Const, Var}
 
 -- a global variable: its present value and its type
-pub record GlobalInstance : Type 0 where
-  pub value : RawVal
-  pub ty : GlobalType
+abbrev pub GlobalInstance : Type 0
+GlobalInstance = Global
 
 -- the global variable with another value
 abbrev pub with_value : GlobalInstance → RawVal → GlobalInstance

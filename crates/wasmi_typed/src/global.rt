@@ -1,13 +1,12 @@
 //! Global variables.
 
-ghost use Rattle.std.specs.Prelude.{◌≡◌, ◌↔◌, IsTrue};
+ghost use Rattle.std.specs.Prelude.{◌≡◌, ◌↔◌, IsTrue, Some};
 ghost use Rattle.std.specs.Borrow.{sem};
-ghost use Rattle.wasmi_typed.specs.Global.{SetsGlobal};
+ghost use Rattle.wasmi_typed.specs.Global.{SetsGlobal, global_error_text};
 ghost use Rattle.wasmi_typed.specs.Lending.{LendsValue};
 
 use crate::typed::TypedRawVal;
 use std::fmt;
-use std::marker::Model;
 use wasmi_raw::RawVal;
 use wasmi_types::ValType;
 
@@ -22,17 +21,23 @@ pub enum GlobalError {
     TypeMismatch,
 }
 
-impl fmt::Display for GlobalError {
-    ghost use Rattle.std.specs.Prelude.{Some};
-    ghost use Rattle.wasmi_typed.specs.Global.{global_error_text};
+impl GlobalError {
+    /// Its text.
+    pub fn words(&self) -> &'static str
+        ensures { result.now ≡ global_error_text self.now }
+    {
+        match self {
+            Self::ImmutableWrite => "tried to write to immutable global variable",
+            Self::TypeMismatch => "tried to write value of non-matching type to global variable",
+        }
+    }
+}
 
+impl fmt::Display for GlobalError {
     ghost output = { λ error. Some (global_error_text error) };
 
     fn fmt<W: fmt::Write>(&self, f: &mut fmt::Formatter<W>) -> fmt::Result {
-        f.write_str(match self {
-            Self::ImmutableWrite => "tried to write to immutable global variable",
-            Self::TypeMismatch => "tried to write value of non-matching type to global variable",
-        })
+        f.write_str(self.words())
     }
 }
 
@@ -109,14 +114,6 @@ impl GlobalType {
 pub struct Global {
     value: RawVal,
     ty: GlobalType,
-}
-
-impl Model for Global {
-    ghost use Rattle.wasmi_typed.specs.Global.{GlobalInstance};
-
-    ghost Value = { GlobalInstance };
-
-    ghost view = { λ global. record { value = global.value; ty = global.ty } };
 }
 
 impl Global {

@@ -69,11 +69,7 @@ pub trait IntoShiftAmount: sealed::Sealed<<Self as IntoShiftAmount>::Lane> {
 fn unless_zero(bits: u8) -> Option<ShiftAmount>
     ensures { result ≡ (if bits == 0 then None else Some bits) }
 {
-    if bits == 0 {
-        None
-    } else {
-        Some(ShiftAmount { bits })
-    }
+    (bits != 0).then_some(ShiftAmount { bits })
 }
 
 impl IntoShiftAmount for i8 {

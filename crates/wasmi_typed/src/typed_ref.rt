@@ -4,6 +4,7 @@ ghost use Rattle.std.specs.Prelude.{◌≡◌, Some, None, MatchResult};
 ghost use Rattle.std.specs.Int.{w32};
 ghost use Rattle.wasmi_raw.specs.RawVal.{raw_of, unsigned_in};
 ghost use Rattle.wasmi_types.specs.Value.{reference_of, value_of};
+ghost use Rattle.wasmi_typed.specs.Typed.{not_a_reference_text, IsReference};
 
 use crate::typed::TypedRawVal;
 use std::fmt;
@@ -70,8 +71,6 @@ impl From<TypedRawRef> for TypedRawVal {
 pub struct NotAReference;
 
 impl fmt::Display for NotAReference {
-    ghost use Rattle.wasmi_typed.specs.Typed.{not_a_reference_text};
-
     ghost output = { λ _. Some not_a_reference_text };
 
     fn fmt<W: fmt::Write>(&self, f: &mut fmt::Formatter<W>) -> fmt::Result {
@@ -82,8 +81,6 @@ impl fmt::Display for NotAReference {
 impl std::error::Error for NotAReference {}
 
 impl TryFrom<TypedRawVal> for TypedRawRef {
-    ghost use Rattle.wasmi_typed.specs.Typed.{IsReference};
-
     type Error = NotAReference;
 
     ghost try_from_gives = { IsReference };

@@ -564,32 +564,31 @@ pub mod typed {
 <pre><code>use Rattle.std.specs.Prelude.{◌≡◌, ◌≢◌, Result, Ok, Err, ℕ, List, codes}
 use Rattle.wasmi_raw.specs.declared.raw.RawVal.{RawVal}
 use Rattle.wasmi_typed.specs.declared.typed.TypedRawVal.{TypedRawVal}
-use Rattle.wasmi_typed.specs.declared.global.GlobalType.{GlobalType}
+use Rattle.wasmi_typed.specs.declared.global.Global.{Global}
 use Rattle.wasmi_typed.specs.declared.global.GlobalError.{GlobalError}
 use Rattle.wasmi_typed.specs.declared.global.GlobalError.TheVariants.{ImmutableWrite, TypeMismatch}
 use Rattle.wasmi_typed.specs.declared.global.Mutability.TheVariants.{Const, Var}
 
 -- a global variable: its present value and its type
-pub record <b id="GlobalInstance">GlobalInstance</b> : Type 0 where
-  pub <b id="value">value</b> : RawVal
-  pub <b id="ty">ty</b> : GlobalType
+abbrev pub <b id="GlobalInstance">GlobalInstance</b> : Type 0
+<a href="../../typed/Global/index.html#GlobalInstance">GlobalInstance</a> = Global
 
 -- the global variable with another value
 abbrev pub <b id="with_value">with_value</b> : <a href="../../typed/Global/index.html#GlobalInstance">GlobalInstance</a> → RawVal → <a href="../../typed/Global/index.html#GlobalInstance">GlobalInstance</a>
-<a href="../../typed/Global/index.html#with_value">with_value</a> global <a href="../../typed/Global/index.html#value">value</a> = record global { <a href="../../typed/Global/index.html#value">value</a> = <a href="../../typed/Global/index.html#value">value</a> }
+<a href="../../typed/Global/index.html#with_value">with_value</a> global value = record global { value = value }
 
 -- a global variable is set, unless it is a constant or the value is of another type, in this order
 abbrev pub <b id="SetsGlobal">SetsGlobal</b> : <a href="../../typed/Global/index.html#GlobalInstance">GlobalInstance</a> → TypedRawVal → Result (Unit {0}) GlobalError → <a href="../../typed/Global/index.html#GlobalInstance">GlobalInstance</a> → Type 0
-<a href="../../typed/Global/index.html#SetsGlobal">SetsGlobal</a> global <a href="../../typed/Global/index.html#value">value</a> (Ok _) global&#x27; =
+<a href="../../typed/Global/index.html#SetsGlobal">SetsGlobal</a> global value (Ok _) global&#x27; =
     (global.ty.mutability ≡ Var) × (global.ty.content ≡ value.ty) × (global&#x27; ≡ <a href="../../typed/Global/index.html#with_value">with_value</a> global value.raw)
-<a href="../../typed/Global/index.html#SetsGlobal">SetsGlobal</a> global <a href="../../typed/Global/index.html#value">value</a> (Err ImmutableWrite) global&#x27; = (global.ty.mutability ≡ Const) × (global&#x27; ≡ global)
-<a href="../../typed/Global/index.html#SetsGlobal">SetsGlobal</a> global <a href="../../typed/Global/index.html#value">value</a> (Err TypeMismatch) global&#x27; =
+<a href="../../typed/Global/index.html#SetsGlobal">SetsGlobal</a> global value (Err ImmutableWrite) global&#x27; = (global.ty.mutability ≡ Const) × (global&#x27; ≡ global)
+<a href="../../typed/Global/index.html#SetsGlobal">SetsGlobal</a> global value (Err TypeMismatch) global&#x27; =
     (global.ty.mutability ≡ Var) × (global.ty.content ≢ value.ty) × (global&#x27; ≡ global)
 
 -- the text of an error of a global variable
 abbrev pub <b id="global_error_text">global_error_text</b> : GlobalError → List ℕ
 <a href="../../typed/Global/index.html#global_error_text">global_error_text</a> ImmutableWrite = codes "tried to write to immutable global variable"
-<a href="../../typed/Global/index.html#global_error_text">global_error_text</a> TypeMismatch = codes "tried to write <a href="../../typed/Global/index.html#value">value</a> of non-matching type to global variable"
+<a href="../../typed/Global/index.html#global_error_text">global_error_text</a> TypeMismatch = codes "tried to write value of non-matching type to global variable"
 </code></pre>
 "####]
     pub mod Global {}

@@ -19,6 +19,27 @@ mod global {
         TypeMismatch,
     }
 
+    impl GlobalError {
+        /// Its text.
+        ///
+        /// # Contract
+        ///
+        /// ```text
+        /// ensures: result.now ≡ global_error_text self.now
+        /// ```
+        ///
+        /// Definitions: [`global_error_text`](crate::specs::typed::Global#global_error_text).
+        #[inline]
+        pub(crate) fn words(&self) -> &'static str {
+            match self {
+                Self::ImmutableWrite => "tried to write to immutable global variable",
+                Self::TypeMismatch => {
+                    "tried to write value of non-matching type to global variable"
+                }
+            }
+        }
+    }
+
     /// # Contract
     ///
     /// ```text
@@ -29,12 +50,7 @@ mod global {
     impl fmt::Display for GlobalError {
         #[inline]
         fn fmt(&self, f: &mut fmt::Formatter<'_>) -> fmt::Result {
-            f.write_str(match self {
-                Self::ImmutableWrite => "tried to write to immutable global variable",
-                Self::TypeMismatch => {
-                    "tried to write value of non-matching type to global variable"
-                }
-            })
+            f.write_str(self.words())
         }
     }
 
@@ -132,15 +148,6 @@ mod global {
     /// A global variable, which contracts see as its present value and its type.
     ///
     /// Core specification 4.2, global instances. Upstream: `wasmi_core::Global`.
-    ///
-    /// # Model
-    ///
-    /// ```text
-    /// Value = GlobalInstance
-    /// view = λ global. record { value = global.value; ty = global.ty }
-    /// ```
-    ///
-    /// Definitions: [`GlobalInstance`](crate::specs::typed::Global#GlobalInstance).
     #[doc = examples!(typed Global)]
     #[derive(Debug)]
     pub struct Global {
@@ -330,11 +337,7 @@ mod shift_amount {
     /// ```
     #[inline]
     fn unless_zero(bits: u8) -> Option<ShiftAmount> {
-        if bits == 0 {
-            None
-        } else {
-            Some(ShiftAmount { bits })
-        }
+        (bits != 0).then_some(ShiftAmount { bits })
     }
 
     impl IntoShiftAmount for i8 {
