@@ -1,5 +1,5 @@
 -- What the errors of fuel meters, limiters, linear memories and tables print.
-use Rattle.std.specs.Prelude.{ℕ, List, ◌++◌, codes}
+use Rattle.std.specs.Prelude.{ℕ, List, ◌++◌, Option, None, Some, codes}
 use Rattle.std.specs.Fmt.{decimal}
 use Rattle.wasmi_meter.specs.declared.error.LimiterError.{LimiterError}
 use Rattle.wasmi_meter.specs.declared.error.LimiterError.TheVariants as limiter
@@ -9,6 +9,11 @@ use Rattle.wasmi_meter.specs.declared.error.TableError.{TableError}
 use Rattle.wasmi_meter.specs.declared.error.TableError.TheVariants as table
 use Rattle.wasmi_meter.specs.declared.fuel.FuelError.{FuelError}
 use Rattle.wasmi_meter.specs.declared.fuel.FuelError.TheVariants as fuel
+
+-- words, and the number after them, if there is one
+abbrev pub numbered : List ℕ → Option ℕ → List ℕ
+numbered words None = words
+numbered words (Some number) = words ++ decimal number
 
 -- the text of a limiter's error
 abbrev pub limiter_error_text : LimiterError → List ℕ

@@ -1,5 +1,6 @@
 //! Amounts of both kinds.
 ghost use Rattle.std.specs.Prelude.{◌≡◌};
+ghost use Rattle.wasmi_meter.specs.Capped.{amount_of};
 
 use crate::limiter::Kind;
 
@@ -13,8 +14,6 @@ pub struct Amounts {
 }
 
 impl Amounts {
-    ghost use Rattle.wasmi_meter.specs.Capped.{amount_of};
-
     /// The amount of one kind.
     pub fn of(&self, kind: Kind) -> u64
         ensures { result ≡ amount_of self.now kind }

@@ -1,6 +1,6 @@
 //! A limiter that answers from a list.
 ghost use Rattle.std.specs.Prelude.{◌≡◌};
-ghost use Rattle.wasmi_meter.specs.AnswerList.{answer_by, notice_answer_by};
+ghost use Rattle.wasmi_meter.specs.AnswerList.{new_answers, answer_list_rules};
 
 use crate::error::LimiterError;
 use crate::limiter::{Kind, LimiterByKind};
@@ -17,29 +17,6 @@ pub enum LimiterAnswer {
     Error,
     /// It may grow, and the answer to a notice of it is an error.
     Complain,
-}
-
-impl LimiterAnswer {
-    /// The answer to the question.
-    pub fn to_question(self) -> Result<bool, LimiterError>
-        ensures { result ≡ answer_by self }
-    {
-        match self {
-            LimiterAnswer::Permit | LimiterAnswer::Complain => Ok(true),
-            LimiterAnswer::Deny => Ok(false),
-            LimiterAnswer::Error => Err(LimiterError::ResourceLimiterDeniedAllocation),
-        }
-    }
-
-    /// The answer to a notice after the question.
-    pub fn to_notice(self) -> Result<(), LimiterError>
-        ensures { result ≡ notice_answer_by self }
-    {
-        match self {
-            LimiterAnswer::Complain => Err(LimiterError::ResourceLimiterDeniedAllocation),
-            _ => Ok(()),
-        }
-    }
 }
 
 /// A limiter that answers each question by the next answer of a list, and permits once there is
@@ -66,8 +43,6 @@ impl Model for AnswerList {
 }
 
 impl AnswerList {
-    ghost use Rattle.wasmi_meter.specs.AnswerList.{TakesAnswer, new_answers};
-
     /// A limiter that was asked nothing yet.
     pub fn new(answers: Vec<LimiterAnswer>) -> Self
         ensures { result ≡ new_answers answers.items }
@@ -78,11 +53,12 @@ impl AnswerList {
             last: LimiterAnswer::Permit,
         }
     }
+}
 
-    /// Answers a question of either kind by the next answer.
-    fn answer(&mut self) -> Result<bool, LimiterError>
-        ensures { TakesAnswer self.old result self.new }
-    {
+impl LimiterByKind for AnswerList {
+    ghost kind_rules = { answer_list_rules };
+
+    fn growing(&mut self, _: Kind, _: usize, _: usize) -> Result<bool, LimiterError> {
         self.last = match self.answers.get(self.taken) {
             Some(answer) => {
                 self.taken += 1;
@@ -90,20 +66,17 @@ impl AnswerList {
             }
             None => LimiterAnswer::Permit,
         };
-        self.last.to_question()
-    }
-}
-
-impl LimiterByKind for AnswerList {
-    ghost use Rattle.wasmi_meter.specs.AnswerList.{answer_list_rules};
-
-    ghost kind_rules = { answer_list_rules };
-
-    fn growing(&mut self, _: Kind, _: usize, _: usize) -> Result<bool, LimiterError> {
-        self.answer()
+        match self.last {
+            LimiterAnswer::Permit | LimiterAnswer::Complain => Ok(true),
+            LimiterAnswer::Deny => Ok(false),
+            LimiterAnswer::Error => Err(LimiterError::ResourceLimiterDeniedAllocation),
+        }
     }
 
     fn grow_failed(&mut self, _: Kind) -> Result<(), LimiterError> {
-        self.last.to_notice()
+        match self.last {
+            LimiterAnswer::Complain => Err(LimiterError::ResourceLimiterDeniedAllocation),
+            _ => Ok(()),
+        }
     }
 }

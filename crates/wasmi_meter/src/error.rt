@@ -1,7 +1,7 @@
 //! Why calls on memories and tables are refused, and the error of a resource limiter.
 ghost use Rattle.std.specs.Prelude.{◌≡◌, Some};
 ghost use Rattle.wasmi_meter.specs.Meter.{IsOfFuel};
-ghost use Rattle.wasmi_meter.specs.Texts.{limiter_error_text, memory_error_text, table_error_text};
+ghost use Rattle.wasmi_meter.specs.Texts.{limiter_error_text, memory_error_text, numbered, table_error_text};
 ghost use Rattle.wasmi_meter.specs.declared.error.MemoryError.TheVariants as memory;
 ghost use Rattle.wasmi_meter.specs.declared.error.TableError.TheVariants as table;
 
@@ -53,11 +53,12 @@ pub enum MemoryError {
     OutOfFuel { required_fuel: u64 },
 }
 
-impl fmt::Display for MemoryError {
-    ghost output = { λ error. Some (memory_error_text error) };
-
-    fn fmt<W: fmt::Write>(&self, f: &mut fmt::Formatter<W>) -> fmt::Result {
-        let text = match self {
+impl MemoryError {
+    /// The words of its text, and the number after them, if there is one.
+    pub fn words(&self) -> (&'static str, Option<u64>)
+        ensures { numbered result.0.now result.1 ≡ memory_error_text self.now }
+    {
+        let words = match self {
             Self::OutOfSystemMemory => {
                 "tried to allocate more virtual memory than available on the system"
             }
@@ -74,11 +75,23 @@ impl fmt::Display for MemoryError {
             Self::MaximumSizeOverflow => {
                 "the maximum size of the memory type overflows the system index type"
             }
-            Self::OutOfFuel { required_fuel } => {
-                return write!(f, "not enough fuel. required={required_fuel}");
-            }
+            Self::OutOfFuel { required_fuel } => return (
+                "not enough fuel. required=",
+                Some(*required_fuel),
+            ),
         };
-        f.write_str(text)
+        (words, None)
+    }
+}
+
+impl fmt::Display for MemoryError {
+    ghost output = { λ error. Some (memory_error_text error) };
+
+    fn fmt<W: fmt::Write>(&self, f: &mut fmt::Formatter<W>) -> fmt::Result {
+        match self.words() {
+            (words, None) => f.write_str(words),
+            (words, Some(number)) => write!(f, "{words}{number}"),
+        }
     }
 }
 
@@ -114,11 +127,12 @@ pub enum TableError {
     OutOfFuel { required_fuel: u64 },
 }
 
-impl fmt::Display for TableError {
-    ghost output = { λ error. Some (table_error_text error) };
-
-    fn fmt<W: fmt::Write>(&self, f: &mut fmt::Formatter<W>) -> fmt::Result {
-        let text = match self {
+impl TableError {
+    /// The words of its text, and the number after them, if there is one.
+    pub fn words(&self) -> (&'static str, Option<u64>)
+        ensures { numbered result.0.now result.1 ≡ table_error_text self.now }
+    {
+        let words = match self {
             Self::OutOfSystemMemory => {
                 "tried to allocate more virtual memory than available on the system"
             }
@@ -133,11 +147,23 @@ impl fmt::Display for TableError {
             Self::SetOutOfBounds => "out of bounds table access: `table.set`",
             Self::CopyOutOfBounds => "out of bounds table access: `table.copy`",
             Self::ElementTypeMismatch => "encountered mismatching table element type",
-            Self::OutOfFuel { required_fuel } => {
-                return write!(f, "not enough fuel: required={required_fuel}");
-            }
+            Self::OutOfFuel { required_fuel } => return (
+                "not enough fuel: required=",
+                Some(*required_fuel),
+            ),
         };
-        f.write_str(text)
+        (words, None)
+    }
+}
+
+impl fmt::Display for TableError {
+    ghost output = { λ error. Some (table_error_text error) };
+
+    fn fmt<W: fmt::Write>(&self, f: &mut fmt::Formatter<W>) -> fmt::Result {
+        match self.words() {
+            (words, None) => f.write_str(words),
+            (words, Some(number)) => write!(f, "{words}{number}"),
+        }
     }
 }
 

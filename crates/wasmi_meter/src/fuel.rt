@@ -1,6 +1,8 @@
 //! Fuel that work takes, at costs that a host may choose.
 ghost use Rattle.std.specs.Prelude.{◌≡◌, ℕ, ◌-◌, ◌≤◌, ◌<◌, Option, Some, None, Result, Ok, Err, IsSome, if◌then◌else◌};
 ghost use Rattle.wasmi_meter.specs.declared.fuel.CustomFuelCosts.{CustomFuelCosts};
+ghost use Rattle.wasmi_meter.specs.Meter.{costs_of, cut_product, copy_cost, Meter, amount_left, meter_set, ConsumesFuel, default_costs, Computes};
+ghost use Rattle.wasmi_meter.specs.Texts.{fuel_error_text, numbered};
 
 use std::fmt;
 use std::marker::Model;
@@ -101,8 +103,6 @@ pub struct FuelCostsProvider {
 }
 
 impl FuelCostsProvider {
-    ghost use Rattle.wasmi_meter.specs.Meter.{costs_of, cut_product, copy_cost};
-
     /// The costs that a host chose.
     pub fn custom(custom: CustomFuelCosts) -> Self
         ensures { costs_of result ≡ custom }
@@ -173,17 +173,25 @@ impl FuelError {
     {
         FuelError::OutOfFuel { required_fuel }
     }
+
+    /// The words of its text, and the number after them, if there is one.
+    pub fn words(&self) -> (&'static str, Option<u64>)
+        ensures { numbered result.0.now result.1 ≡ fuel_error_text self.now }
+    {
+        match self {
+            Self::FuelMeteringDisabled => ("fuel metering is disabled", None),
+            Self::OutOfFuel { required_fuel } => ("ouf of fuel. required=", Some(*required_fuel)),
+        }
+    }
 }
 
 impl fmt::Display for FuelError {
-    ghost use Rattle.wasmi_meter.specs.Texts.{fuel_error_text};
-
     ghost output = { λ error. Some (fuel_error_text error) };
 
     fn fmt<W: fmt::Write>(&self, f: &mut fmt::Formatter<W>) -> fmt::Result {
-        match self {
-            Self::FuelMeteringDisabled => f.write_str("fuel metering is disabled"),
-            Self::OutOfFuel { required_fuel } => write!(f, "ouf of fuel. required={required_fuel}"),
+        match self.words() {
+            (words, None) => f.write_str(words),
+            (words, Some(number)) => write!(f, "{words}{number}"),
         }
     }
 }
@@ -213,8 +221,6 @@ impl Model for Fuel {
 }
 
 impl Fuel {
-    ghost use Rattle.wasmi_meter.specs.Meter.{Meter, amount_left, meter_set, ConsumesFuel, costs_of, default_costs, Computes};
-
     /// A meter that has no fuel yet.
     pub fn new(enabled: bool, costs: FuelCostsProvider) -> Self
         ensures { result

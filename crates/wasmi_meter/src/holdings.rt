@@ -1,5 +1,6 @@
 //! What is held of each kind, with the last difference that was taken.
 ghost use Rattle.std.specs.Prelude.{◌≡◌, None};
+ghost use Rattle.wasmi_meter.specs.Capped.{Takes, without_last};
 
 use crate::amounts::Amounts;
 use crate::limiter::Kind;
@@ -13,8 +14,6 @@ pub struct Holdings {
 }
 
 impl Holdings {
-    ghost use Rattle.wasmi_meter.specs.Capped.{Takes, without_last};
-
     /// Holdings of these amounts, of which nothing can be given back.
     pub fn new(held: Amounts) -> Self
         ensures { result ≡ record { held = held; last = None } }

@@ -89,14 +89,6 @@ impl<'a, L> From<&'a mut L> for LimiterRef<&'a mut L> {
     }
 }
 
-impl<'a, L> From<Option<&'a mut L>> for LimiterRef<&'a mut L> {
-    ghost from_gives = { λ limiter r. loan r ≡ limiter };
-
-    fn from(limiter: Option<&'a mut L>) -> Self {
-        LimiterRef { limiter }
-    }
-}
-
 impl<R> LimiterRef<R> {
     /// Ends the loan, and returns the reference to the limiter, if there is one. From then on the
     /// state of the limiter is known.

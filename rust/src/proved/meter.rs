@@ -52,43 +52,6 @@ mod answer_list {
         Complain,
     }
 
-    impl LimiterAnswer {
-        /// The answer to the question.
-        ///
-        /// # Contract
-        ///
-        /// ```text
-        /// ensures: result ≡ answer_by self
-        /// ```
-        ///
-        /// Definitions: [`answer_by`](crate::specs::meter::AnswerList#answer_by).
-        #[inline]
-        pub fn to_question(self) -> Result<bool, LimiterError> {
-            match self {
-                LimiterAnswer::Permit | LimiterAnswer::Complain => Ok(true),
-                LimiterAnswer::Deny => Ok(false),
-                LimiterAnswer::Error => Err(LimiterError::ResourceLimiterDeniedAllocation),
-            }
-        }
-
-        /// The answer to a notice after the question.
-        ///
-        /// # Contract
-        ///
-        /// ```text
-        /// ensures: result ≡ notice_answer_by self
-        /// ```
-        ///
-        /// Definitions: [`notice_answer_by`](crate::specs::meter::AnswerList#notice_answer_by).
-        #[inline]
-        pub fn to_notice(self) -> Result<(), LimiterError> {
-            match self {
-                LimiterAnswer::Complain => Err(LimiterError::ResourceLimiterDeniedAllocation),
-                _ => Ok(()),
-            }
-        }
-    }
-
     /// A limiter that answers each question by the next answer of a list, and permits once there is
     /// none left. It answers a notice by the answer to the last question, and accepts one before the
     /// first question.
@@ -130,27 +93,6 @@ mod answer_list {
                 last: LimiterAnswer::Permit,
             }
         }
-
-        /// Answers a question of either kind by the next answer.
-        ///
-        /// # Contract
-        ///
-        /// ```text
-        /// ensures: TakesAnswer self.old result self.new
-        /// ```
-        ///
-        /// Definitions: [`TakesAnswer`](crate::specs::meter::AnswerList#TakesAnswer).
-        #[inline]
-        fn answer(&mut self) -> Result<bool, LimiterError> {
-            self.last = match self.answers.get(self.taken) {
-                Some(answer) => {
-                    self.taken += 1;
-                    *answer
-                }
-                None => LimiterAnswer::Permit,
-            };
-            self.last.to_question()
-        }
     }
 
     /// # Contract
@@ -163,12 +105,26 @@ mod answer_list {
     impl LimiterByKind for AnswerList {
         #[inline]
         fn growing(&mut self, _: Kind, _: usize, _: usize) -> Result<bool, LimiterError> {
-            self.answer()
+            self.last = match self.answers.get(self.taken) {
+                Some(answer) => {
+                    self.taken += 1;
+                    *answer
+                }
+                None => LimiterAnswer::Permit,
+            };
+            match self.last {
+                LimiterAnswer::Permit | LimiterAnswer::Complain => Ok(true),
+                LimiterAnswer::Deny => Ok(false),
+                LimiterAnswer::Error => Err(LimiterError::ResourceLimiterDeniedAllocation),
+            }
         }
 
         #[inline]
         fn grow_failed(&mut self, _: Kind) -> Result<(), LimiterError> {
-            self.last.to_notice()
+            match self.last {
+                LimiterAnswer::Complain => Err(LimiterError::ResourceLimiterDeniedAllocation),
+                _ => Ok(()),
+            }
         }
     }
 }
@@ -417,17 +373,19 @@ mod error {
         },
     }
 
-    /// # Contract
-    ///
-    /// ```text
-    /// output = λ error. Some (memory_error_text error)
-    /// ```
-    ///
-    /// Definitions: [`memory_error_text`](crate::specs::meter::Texts#memory_error_text).
-    impl fmt::Display for MemoryError {
+    impl MemoryError {
+        /// The words of its text, and the number after them, if there is one.
+        ///
+        /// # Contract
+        ///
+        /// ```text
+        /// ensures: numbered result.0.now result.1 ≡ memory_error_text self.now
+        /// ```
+        ///
+        /// Definitions: [`numbered`](crate::specs::meter::Texts#numbered), [`memory_error_text`](crate::specs::meter::Texts#memory_error_text).
         #[inline]
-        fn fmt(&self, f: &mut fmt::Formatter<'_>) -> fmt::Result {
-            let text = match self {
+        pub(crate) fn words(&self) -> (&'static str, Option<u64>) {
+            let words = match self {
                 Self::OutOfSystemMemory => {
                     "tried to allocate more virtual memory than available on the system"
                 }
@@ -445,10 +403,27 @@ mod error {
                     "the maximum size of the memory type overflows the system index type"
                 }
                 Self::OutOfFuel { required_fuel } => {
-                    return write!(f, "not enough fuel. required={required_fuel}");
+                    return ("not enough fuel. required=", Some(*required_fuel));
                 }
             };
-            f.write_str(text)
+            (words, None)
+        }
+    }
+
+    /// # Contract
+    ///
+    /// ```text
+    /// output = λ error. Some (memory_error_text error)
+    /// ```
+    ///
+    /// Definitions: [`memory_error_text`](crate::specs::meter::Texts#memory_error_text).
+    impl fmt::Display for MemoryError {
+        #[inline]
+        fn fmt(&self, f: &mut fmt::Formatter<'_>) -> fmt::Result {
+            match self.words() {
+                (words, None) => f.write_str(words),
+                (words, Some(number)) => write!(f, "{words}{number}"),
+            }
         }
     }
 
@@ -488,17 +463,19 @@ mod error {
         },
     }
 
-    /// # Contract
-    ///
-    /// ```text
-    /// output = λ error. Some (table_error_text error)
-    /// ```
-    ///
-    /// Definitions: [`table_error_text`](crate::specs::meter::Texts#table_error_text).
-    impl fmt::Display for TableError {
+    impl TableError {
+        /// The words of its text, and the number after them, if there is one.
+        ///
+        /// # Contract
+        ///
+        /// ```text
+        /// ensures: numbered result.0.now result.1 ≡ table_error_text self.now
+        /// ```
+        ///
+        /// Definitions: [`numbered`](crate::specs::meter::Texts#numbered), [`table_error_text`](crate::specs::meter::Texts#table_error_text).
         #[inline]
-        fn fmt(&self, f: &mut fmt::Formatter<'_>) -> fmt::Result {
-            let text = match self {
+        pub(crate) fn words(&self) -> (&'static str, Option<u64>) {
+            let words = match self {
                 Self::OutOfSystemMemory => {
                     "tried to allocate more virtual memory than available on the system"
                 }
@@ -514,10 +491,27 @@ mod error {
                 Self::CopyOutOfBounds => "out of bounds table access: `table.copy`",
                 Self::ElementTypeMismatch => "encountered mismatching table element type",
                 Self::OutOfFuel { required_fuel } => {
-                    return write!(f, "not enough fuel: required={required_fuel}");
+                    return ("not enough fuel: required=", Some(*required_fuel));
                 }
             };
-            f.write_str(text)
+            (words, None)
+        }
+    }
+
+    /// # Contract
+    ///
+    /// ```text
+    /// output = λ error. Some (table_error_text error)
+    /// ```
+    ///
+    /// Definitions: [`table_error_text`](crate::specs::meter::Texts#table_error_text).
+    impl fmt::Display for TableError {
+        #[inline]
+        fn fmt(&self, f: &mut fmt::Formatter<'_>) -> fmt::Result {
+            match self.words() {
+                (words, None) => f.write_str(words),
+                (words, Some(number)) => write!(f, "{words}{number}"),
+            }
         }
     }
 
@@ -800,6 +794,25 @@ mod fuel {
         pub fn out_of_fuel(required_fuel: u64) -> Self {
             FuelError::OutOfFuel { required_fuel }
         }
+
+        /// The words of its text, and the number after them, if there is one.
+        ///
+        /// # Contract
+        ///
+        /// ```text
+        /// ensures: numbered result.0.now result.1 ≡ fuel_error_text self.now
+        /// ```
+        ///
+        /// Definitions: [`numbered`](crate::specs::meter::Texts#numbered), [`fuel_error_text`](crate::specs::meter::Texts#fuel_error_text).
+        #[inline]
+        pub(crate) fn words(&self) -> (&'static str, Option<u64>) {
+            match self {
+                Self::FuelMeteringDisabled => ("fuel metering is disabled", None),
+                Self::OutOfFuel { required_fuel } => {
+                    ("ouf of fuel. required=", Some(*required_fuel))
+                }
+            }
+        }
     }
 
     /// # Contract
@@ -812,11 +825,9 @@ mod fuel {
     impl fmt::Display for FuelError {
         #[inline]
         fn fmt(&self, f: &mut fmt::Formatter<'_>) -> fmt::Result {
-            match self {
-                Self::FuelMeteringDisabled => f.write_str("fuel metering is disabled"),
-                Self::OutOfFuel { required_fuel } => {
-                    write!(f, "ouf of fuel. required={required_fuel}")
-                }
+            match self.words() {
+                (words, None) => f.write_str(words),
+                (words, Some(number)) => write!(f, "{words}{number}"),
             }
         }
     }
@@ -1727,20 +1738,6 @@ mod limiter_ref {
             LimiterRef {
                 limiter: Some(limiter),
             }
-        }
-    }
-
-    /// # Contract
-    ///
-    /// ```text
-    /// from_gives = λ limiter r. loan r ≡ limiter
-    /// ```
-    ///
-    /// Definitions: [`loan`](crate::specs::meter::Limiter#loan).
-    impl<'a, L> From<Option<&'a mut L>> for LimiterRef<&'a mut L> {
-        #[inline]
-        fn from(limiter: Option<&'a mut L>) -> Self {
-            LimiterRef { limiter }
         }
     }
 

@@ -2663,7 +2663,7 @@ abbrev pub <b id="copy_cost">copy_cost</b> : CustomFuelCosts → ℕ → ℕ →
     pub mod Meter {}
     #[doc = r####"What the errors of fuel meters, limiters, linear memories and tables print.
 
-<pre><code>use Rattle.std.specs.Prelude.{ℕ, List, ◌++◌, codes}
+<pre><code>use Rattle.std.specs.Prelude.{ℕ, List, ◌++◌, Option, None, Some, codes}
 use Rattle.std.specs.Fmt.{decimal}
 use Rattle.wasmi_meter.specs.declared.error.LimiterError.{LimiterError}
 use Rattle.wasmi_meter.specs.declared.error.LimiterError.TheVariants as limiter
@@ -2673,6 +2673,11 @@ use Rattle.wasmi_meter.specs.declared.error.TableError.{TableError}
 use Rattle.wasmi_meter.specs.declared.error.TableError.TheVariants as table
 use Rattle.wasmi_meter.specs.declared.fuel.FuelError.{FuelError}
 use Rattle.wasmi_meter.specs.declared.fuel.FuelError.TheVariants as fuel
+
+-- words, and the number after them, if there is one
+abbrev pub <b id="numbered">numbered</b> : List ℕ → Option ℕ → List ℕ
+<a href="../../meter/Texts/index.html#numbered">numbered</a> words None = words
+<a href="../../meter/Texts/index.html#numbered">numbered</a> words (Some number) = words ++ decimal number
 
 -- the text of a limiter&#x27;s error
 abbrev pub <b id="limiter_error_text">limiter_error_text</b> : LimiterError → List ℕ
