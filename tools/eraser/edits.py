@@ -83,7 +83,7 @@ HIDDEN = {
 }
 EDITS += [(module, f"pub fn {name}(", f"pub(crate) fn {name}(", 1) for module, names in HIDDEN.items() for name in names]
 EDITS += [("store", f"pub fn {name}(self", f"pub(crate) fn {name}(self", 2) for name in ("grown_size", "maximum_size")]
-EDITS += [(module, "pub fn words(&self)", "pub(crate) fn words(&self)", count) for module, count in (("meter", 3), ("typed", 1))]
+EDITS += [(module, "pub fn words(&self)", "pub(crate) fn words(&self)", count) for module, count in (("meter", 3), ("typed", 1), ("store", 1))]
 
 # Texts that rustc's LLVM compiles badly, or that older compilers lack.
 EDITS += [

@@ -4,6 +4,7 @@ use Rattle.std.specs.Option.{option_map, option_map_or, ForSome}
 use Rattle.wasmi_types.specs.declared.index_ty.IndexType.{IndexType}
 use Rattle.wasmi_types.specs.declared.index_ty.IndexType.TheVariants.{I32}
 use Rattle.wasmi_types.specs.Value.{address_bits}
+use Rattle.wasmi_store.specs.declared.memory.ty.MemoryTypeBuilder.{MemoryTypeBuilder}
 use Rattle.wasmi_store.specs.declared.memory.ty.PageSize.{PageSize}
 use Rattle.wasmi_store.specs.declared.memory.ty.PageSize.TheVariants.{Byte, Wasm}
 use Rattle.wasmi_types.specs.Access.{overwrite}
@@ -75,11 +76,8 @@ pub record IsSubtype (a b : MemoryTypeValue) : Type 0 where
   pub maximum : IsNoLooser a.maximum b.maximum
 
 -- what a builder was told: as a memory type, with the page size as a power of two
-pub record Settings : Type 0 where
-  pub index : IndexType
-  pub page_size_log2 : ℕ
-  pub minimum : ℕ
-  pub maximum : Option ℕ
+abbrev pub Settings : Type 0
+Settings = MemoryTypeBuilder
 
 -- what a builder begins with
 abbrev pub default_settings : Settings

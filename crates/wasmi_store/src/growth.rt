@@ -71,8 +71,11 @@ pub fn decide_growth<L: ResourceLimiter>(
     }
     let paid = charge::<u8>(fuel, (size - old_size) as u64);
     if let Err(required_fuel) = paid {
-        let cause = MemoryError::OutOfFuel { required_fuel };
-        return Err(tell(limiter, cause, MEMORY_DENIED));
+        return Err(tell(
+            limiter,
+            MemoryError::OutOfFuel { required_fuel },
+            MEMORY_DENIED,
+        ));
     }
     Ok(())
 }

@@ -4,9 +4,10 @@ ghost use Rattle.std.specs.Borrow.{sem, Lends, Array, u8};
 ghost use Rattle.wasmi_types.specs.Access.{at};
 ghost use Rattle.wasmi_meter.specs.Limiter.{optional_rules, lent_limiter, KeepsLoan};
 ghost use Rattle.wasmi_meter.specs.Meter.{copy_cost, Charges, due, meter_at_entry, meter_at_exit};
-ghost use Rattle.wasmi_store.specs.Buffer.{fits_room};
+ghost use Rattle.wasmi_store.specs.Buffer.{fits_room, Owned, Lent, with_bytes};
 ghost use Rattle.wasmi_store.specs.Growth.{filled, copied, BulkWrites, metered_value, metered, IsAsked};
-ghost use Rattle.wasmi_store.specs.Memory.{MemoryValue, PermitsMinimum, GrowsMemory, IsSized, size_question, growth_of, in_bounds};
+ghost use Rattle.wasmi_store.specs.Memory.{MemoryValue, PermitsMinimum, GrowsMemory, IsSized, size_question, growth_of, in_bounds, MakesMemory, memory_of, buffer_of, pages_of, dynamic_type, WritesMemory, KeepsPlace, IsSubtype};
+ghost use Rattle.wasmi_store.specs.contracts.memory.LinearMemory.{the_row};
 
 mod buffer;
 mod ty;
@@ -49,9 +50,6 @@ impl<R: Region> Model for LinearMemory<R> {
 pub type Memory<'r> = LinearMemory<&'r mut [u8]>;
 
 impl<'r> LinearMemory<&'r mut [u8]> {
-    ghost use Rattle.wasmi_store.specs.Buffer.{Owned, Lent};
-    ghost use Rattle.wasmi_store.specs.Memory.{MakesMemory};
-
     /// A memory of zeros, at the minimum of its type. It takes no fuel.
     ///
     /// Errors, in the order of the tests: `MinimumSizeOverflow` if the minimum has 2^64 bytes or
@@ -113,10 +111,6 @@ impl<'r> LinearMemory<&'r mut [u8]> {
 }
 
 impl<R: Region> LinearMemory<R> {
-    ghost use Rattle.wasmi_store.specs.Memory.{memory_of, buffer_of, pages_of, dynamic_type, WritesMemory, KeepsPlace, IsSubtype};
-    ghost use Rattle.wasmi_store.specs.Buffer.{with_bytes};
-    ghost use Rattle.wasmi_store.specs.contracts.memory.LinearMemory.{the_row};
-
     /// The type that it was made with.
     pub fn ty(&self) -> MemoryType
         ensures { result ≡ self.now.ty }

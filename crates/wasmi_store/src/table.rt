@@ -5,6 +5,7 @@ ghost use Rattle.wasmi_meter.specs.Limiter.{optional_rules, lent_limiter, KeepsL
 ghost use Rattle.wasmi_meter.specs.Meter.{meter_at_entry, meter_at_exit};
 ghost use Rattle.wasmi_store.specs.Growth.{metered_value, metered};
 ghost use Rattle.wasmi_store.specs.Segment.{segment_of};
+ghost use Rattle.wasmi_store.specs.Table.{IsSubtype, TableValue, IsSized, size_of, dynamic_type, element_at, element_price, MakesTable, GrowsTableRaw, GrowsTable, SetsTable, SetsTableRaw, WritesTable, filling_of, raw_filling_of, copy_of, initialization_of};
 
 mod element;
 mod ty;
@@ -49,8 +50,6 @@ impl Model for Table {
 }
 
 impl Table {
-    ghost use Rattle.wasmi_store.specs.Table.{IsSubtype, TableValue, IsSized, size_of, dynamic_type, element_at, element_price, MakesTable, GrowsTableRaw, GrowsTable, SetsTable, SetsTableRaw, WritesTable, filling_of, raw_filling_of, copy_of, initialization_of};
-
     /// A table at the minimum of its type, each element of which is the given reference. It takes
     /// no fuel.
     ///
@@ -392,15 +391,8 @@ impl Table {
             (metered self.old (Some fuel.old)) result (metered self.new (Some fuel.new)) }
     {
         self.ty.ensure_element_type_matches(val.ty)?;
-        let outside = TableError::FillOutOfBounds;
-        fill_items(
-            self.elements.as_mut_slice(),
-            dst,
-            val.raw,
-            len,
-            outside,
-            fuel,
-        )
+        let (elements, outside) = (self.elements.as_mut_slice(), TableError::FillOutOfBounds);
+        fill_items(elements, dst, val.raw, len, outside, fuel)
     }
 
     /// Fills `len` elements from `dst` on with a reference. Errors, in the order of the tests:

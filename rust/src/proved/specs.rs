@@ -2922,6 +2922,7 @@ use Rattle.std.specs.Option.{option_map, option_map_or, ForSome}
 use Rattle.wasmi_types.specs.declared.index_ty.IndexType.{IndexType}
 use Rattle.wasmi_types.specs.declared.index_ty.IndexType.TheVariants.{I32}
 use Rattle.wasmi_types.specs.Value.{<a href="../../types/Value/index.html#address_bits">address_bits</a>}
+use Rattle.wasmi_store.specs.declared.memory.ty.MemoryTypeBuilder.{MemoryTypeBuilder}
 use Rattle.wasmi_store.specs.declared.memory.ty.PageSize.{PageSize}
 use Rattle.wasmi_store.specs.declared.memory.ty.PageSize.TheVariants.{Byte, Wasm}
 use Rattle.wasmi_types.specs.Access.{<a href="../../types/Access/index.html#overwrite">overwrite</a>}
@@ -2993,15 +2994,12 @@ pub record <b id="IsSubtype">IsSubtype</b> (a b : <a href="../../store/Memory/in
   pub <b id="maximum">maximum</b> : <a href="../../store/Memory/index.html#IsNoLooser">IsNoLooser</a> a.maximum b.maximum
 
 -- what a builder was told: as a memory type, with the page size as a power of two
-pub record <b id="Settings">Settings</b> : Type 0 where
-  pub <b id="index">index</b> : IndexType
-  pub <b id="page_size_log2">page_size_log2</b> : ℕ
-  pub <b id="minimum">minimum</b> : ℕ
-  pub <b id="maximum">maximum</b> : Option ℕ
+abbrev pub <b id="Settings">Settings</b> : Type 0
+<a href="../../store/Memory/index.html#Settings">Settings</a> = MemoryTypeBuilder
 
 -- what a builder begins with
 abbrev pub <b id="default_settings">default_settings</b> : <a href="../../store/Memory/index.html#Settings">Settings</a>
-<a href="../../store/Memory/index.html#default_settings">default_settings</a> = record { <a href="../../store/Memory/index.html#index">index</a> = I32; <a href="../../store/Memory/index.html#page_size_log2">page_size_log2</a> = 16; <a href="../../store/Memory/index.html#minimum">minimum</a> = 0; <a href="../../store/Memory/index.html#maximum">maximum</a> = None }
+<a href="../../store/Memory/index.html#default_settings">default_settings</a> = record { <a href="../../store/Memory/index.html#index">index</a> = I32; page_size_log2 = 16; <a href="../../store/Memory/index.html#minimum">minimum</a> = 0; <a href="../../store/Memory/index.html#maximum">maximum</a> = None }
 
 -- the type that the settings name, if there is a page of that size
 abbrev pub <b id="named_type">named_type</b> : <a href="../../store/Memory/index.html#Settings">Settings</a> → Option <a href="../../store/Memory/index.html#MemoryTypeValue">MemoryTypeValue</a>

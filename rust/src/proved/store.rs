@@ -242,8 +242,11 @@ pub mod growth {
         }
         let paid = charge::<u8>(fuel, (size - old_size) as u64);
         if let Err(required_fuel) = paid {
-            let cause = MemoryError::OutOfFuel { required_fuel };
-            return Err(tell(limiter, cause, MEMORY_DENIED));
+            return Err(tell(
+                limiter,
+                MemoryError::OutOfFuel { required_fuel },
+                MEMORY_DENIED,
+            ));
         }
         Ok(())
     }
@@ -635,8 +638,8 @@ mod memory {
         /// A page has one byte or 64 KiB.
         #[derive(Clone, Copy, Debug, PartialEq, Eq)]
         pub(super) enum PageSize {
-            Byte,
-            Wasm,
+            Byte = 0,
+            Wasm = 16,
         }
 
         impl PageSize {
@@ -680,10 +683,7 @@ mod memory {
             /// Definitions: [`page_log2`](crate::specs::store::Memory#page_log2).
             #[inline]
             fn log2(self) -> u8 {
-                match self {
-                    PageSize::Byte => 0,
-                    PageSize::Wasm => 16,
-                }
+                self as u8
             }
         }
 
@@ -972,20 +972,6 @@ mod memory {
         /// Builds a [`MemoryType`] step by step.
         ///
         /// Upstream: `wasmi_core::MemoryTypeBuilder`.
-        ///
-        /// # Model
-        ///
-        /// ```text
-        /// Value = Settings
-        /// view = λ b. record {
-        ///     index = b.index;
-        ///     page_size_log2 = b.page_size_log2;
-        ///     minimum = b.minimum;
-        ///     maximum = b.maximum;
-        ///     }
-        /// ```
-        ///
-        /// Definitions: [`Settings`](crate::specs::store::Memory#Settings).
         pub struct MemoryTypeBuilder {
             index: IndexType,
             page_size_log2: u8,
@@ -1760,6 +1746,25 @@ mod table {
             OutOfSystemMemory,
         }
 
+        impl SegmentError {
+            /// Its text.
+            ///
+            /// # Contract
+            ///
+            /// ```text
+            /// ensures: result.now ≡ segment_error_text self.now
+            /// ```
+            ///
+            /// Definitions: [`segment_error_text`](crate::specs::store::Segment#segment_error_text).
+            #[inline]
+            pub(crate) fn words(&self) -> &'static str {
+                match self {
+                    Self::TooManyItems => "too many items in an element segment",
+                    Self::OutOfSystemMemory => "out of memory",
+                }
+            }
+        }
+
         /// # Contract
         ///
         /// ```text
@@ -1770,10 +1775,7 @@ mod table {
         impl fmt::Display for SegmentError {
             #[inline]
             fn fmt(&self, f: &mut fmt::Formatter<'_>) -> fmt::Result {
-                f.write_str(match self {
-                    Self::TooManyItems => "too many items in an element segment",
-                    Self::OutOfSystemMemory => "out of memory",
-                })
+                f.write_str(self.words())
             }
         }
 
@@ -2814,15 +2816,8 @@ mod table {
             fuel: &mut Fuel,
         ) -> Result<(), TableError> {
             self.ty.ensure_element_type_matches(val.ty)?;
-            let outside = TableError::FillOutOfBounds;
-            fill_items(
-                self.elements.as_mut_slice(),
-                dst,
-                val.raw,
-                len,
-                outside,
-                fuel,
-            )
+            let (elements, outside) = (self.elements.as_mut_slice(), TableError::FillOutOfBounds);
+            fill_items(elements, dst, val.raw, len, outside, fuel)
         }
 
         /// Fills `len` elements from `dst` on with a reference. Errors, in the order of the tests:

@@ -2,7 +2,7 @@
 ghost use Rattle.std.specs.Prelude.{◌≡◌, ◌≤◌, ◌<◌, ℕ, List, length, take, drop, IfOk, IfErr, IsOk, ◌↔◌, ◌-◌, OnOk, OnErr, true, false};
 ghost use Rattle.std.proofs.Common.{refl};
 ghost use Rattle.std.specs.Borrow.{sem, Lends, Array, u8};
-ghost use Rattle.wasmi_store.specs.Buffer.{refilled_front, region_refilled};
+ghost use Rattle.wasmi_store.specs.Buffer.{refilled_front, region_refilled, block, block_refilled, with_bytes, with_zeros, fits_room, CanFail, Owned, Lent, zeros_in};
 
 use crate::range::fill_range;
 use std::alloc::Global;
@@ -64,7 +64,6 @@ enum Storage<R: Region> {
 }
 
 impl<R: Region> Storage<R> {
-    ghost use Rattle.wasmi_store.specs.Buffer.{block, block_refilled};
     ghost use Rattle.wasmi_store.specs.contracts.memory.buffer.Storage.{the_row};
 
     fn front_mut(&mut self, end: usize) -> &mut [u8]
@@ -113,7 +112,6 @@ impl<R: Region + Drop> Drop for Buffer<R> {
 pub type ByteBuffer<'r> = Buffer<&'r mut [u8]>;
 
 impl<R: Region> Buffer<R> {
-    ghost use Rattle.wasmi_store.specs.Buffer.{with_bytes, with_zeros, fits_room, CanFail};
     ghost use Rattle.wasmi_store.specs.contracts.memory.buffer.Buffer.{the_row};
 
     /// The bytes.
@@ -184,8 +182,6 @@ impl<R: Region> Buffer<R> {
 }
 
 impl<'r> Buffer<&'r mut [u8]> {
-    ghost use Rattle.wasmi_store.specs.Buffer.{Owned, Lent, zeros_in, fits_room};
-
     /// A buffer of `size` zeros in memory of its own. The only error is `OutOfSystemMemory`.
     pub fn new(alloc: Global, size: usize) -> Result<ByteBuffer<'r>, MemoryError>
         ensures ok { IfOk result (λ b. b ≡ zeros_in Owned size) }

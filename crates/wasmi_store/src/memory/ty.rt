@@ -1,7 +1,8 @@
 //! The types of linear memories.
 ghost use Rattle.std.specs.Prelude.{◌≡◌, ◌+◌, ◌-◌, ◌*◌, ◌/◌, ◌%◌, ◌^◌, ◌≤◌, ◌<◌, ◌↔◌, ℕ, Option, Some, None, IsTrue, true, false, MatchOption, MatchResult, IsSomeAnd, nat_lt, if◌then◌else◌, min};
 ghost use Rattle.wasmi_types.specs.Value.{address_bits};
-ghost use Rattle.wasmi_store.specs.Memory.{IsNoLooser, page_bytes};
+ghost use Rattle.wasmi_store.specs.Memory.{IsNoLooser, page_bytes, page_log2, page_of_log2, minimum_bytes, maximum_bytes, in_bounds, IsSubtype, IsValid, default_settings, named_type};
+ghost use Rattle.wasmi_types.specs.declared.index_ty.IndexType.TheVariants.{I64, I32};
 
 use std::marker::Model;
 use wasmi_meter::MemoryError;
@@ -10,13 +11,11 @@ use wasmi_types::IndexType;
 /// A page has one byte or 64 KiB.
 #[derive(Clone, Copy, Debug, PartialEq, Eq)]
 pub(super) enum PageSize {
-    Byte,
-    Wasm,
+    Byte = 0,
+    Wasm = 16,
 }
 
 impl PageSize {
-    ghost use Rattle.wasmi_store.specs.Memory.{page_bytes, page_log2, page_of_log2};
-
     fn from_log2(log2: u8) -> Option<Self>
         ensures { result ≡ page_of_log2 log2 }
     {
@@ -39,10 +38,7 @@ impl PageSize {
     fn log2(self) -> u8
         ensures { result ≡ page_log2 self }
     {
-        match self {
-            PageSize::Byte => 0,
-            PageSize::Wasm => 16,
-        }
+        self as u8
     }
 }
 
@@ -74,9 +70,6 @@ impl Model for MemoryType {
 }
 
 impl MemoryType {
-    ghost use Rattle.wasmi_store.specs.Memory.{page_bytes, page_log2, minimum_bytes, maximum_bytes, in_bounds, IsSubtype, IsValid, default_settings};
-    ghost use Rattle.wasmi_types.specs.declared.index_ty.IndexType.TheVariants.{I64};
-
     /// A builder with the defaults: a minimum of 0, no maximum, pages of 64 KiB, 32-bit addresses.
     pub fn builder() -> MemoryTypeBuilder
         ensures { result ≡ default_settings }
@@ -227,22 +220,7 @@ pub struct MemoryTypeBuilder {
     maximum: Option<u64>,
 }
 
-impl Model for MemoryTypeBuilder {
-    ghost use Rattle.wasmi_store.specs.Memory.{Settings};
-
-    ghost Value = { Settings };
-
-    ghost view = { λ b. record {
-      index = b.index;
-      page_size_log2 = b.page_size_log2;
-      minimum = b.minimum;
-      maximum = b.maximum;
-    } };
-}
-
 impl Default for MemoryTypeBuilder {
-    ghost use Rattle.wasmi_store.specs.Memory.{default_settings};
-
     ghost is_default = { λ b. b ≡ default_settings };
 
     fn default() -> Self {
@@ -256,9 +234,6 @@ impl Default for MemoryTypeBuilder {
 }
 
 impl MemoryTypeBuilder {
-    ghost use Rattle.wasmi_store.specs.Memory.{IsValid, named_type};
-    ghost use Rattle.wasmi_types.specs.declared.index_ty.IndexType.TheVariants.{I32, I64};
-
     /// Sets whether addresses have 64 bits. The default is 32 bits.
     pub fn memory64(&mut self, memory64: bool) -> &mut Self
         ensures same_reference { result.ghost_name ≡ self.entry.ghost_name }

@@ -1,5 +1,5 @@
 //! Element segments: references that a table can be initialized from.
-ghost use Rattle.std.specs.Prelude.{◌≡◌, ◌<◌, ◌^◌, length};
+ghost use Rattle.std.specs.Prelude.{◌≡◌, ◌<◌, ◌^◌, length, Some};
 
 use std::alloc::Global;
 use std::fmt;
@@ -18,17 +18,27 @@ pub enum SegmentError {
     OutOfSystemMemory,
 }
 
+impl SegmentError {
+    ghost use Rattle.wasmi_store.specs.Segment.{segment_error_text};
+
+    /// Its text.
+    pub fn words(&self) -> &'static str
+        ensures { result.now ≡ segment_error_text self.now }
+    {
+        match self {
+            Self::TooManyItems => "too many items in an element segment",
+            Self::OutOfSystemMemory => "out of memory",
+        }
+    }
+}
+
 impl fmt::Display for SegmentError {
-    ghost use Rattle.std.specs.Prelude.{Some};
     ghost use Rattle.wasmi_store.specs.Segment.{segment_error_text};
 
     ghost output = { λ error. Some (segment_error_text error) };
 
     fn fmt<W: fmt::Write>(&self, f: &mut fmt::Formatter<W>) -> fmt::Result {
-        f.write_str(match self {
-            Self::TooManyItems => "too many items in an element segment",
-            Self::OutOfSystemMemory => "out of memory",
-        })
+        f.write_str(self.words())
     }
 }
 

@@ -1,6 +1,8 @@
 //! The types of tables.
 ghost use Rattle.std.specs.Prelude.{◌≡◌, ◌≤◌, ◌+◌, ◌-◌, ◌^◌, ◌↔◌, IfSome, IsTrue, true, false, MatchOption, MatchResult};
 ghost use Rattle.wasmi_types.specs.Value.{address_bits};
+ghost use Rattle.wasmi_store.specs.Table.{IsSubtype, IsValid, is_indexable, is_within_maximum, same_type};
+ghost use Rattle.wasmi_types.specs.declared.index_ty.IndexType.TheVariants.{I32, I64};
 
 use crate::memory::is_no_looser;
 use std::marker::Model;
@@ -40,9 +42,6 @@ impl Model for TableType {
 }
 
 impl TableType {
-    ghost use Rattle.wasmi_store.specs.Table.{IsSubtype, IsValid, is_indexable, is_within_maximum, same_type};
-    ghost use Rattle.wasmi_types.specs.declared.index_ty.IndexType.TheVariants.{I32, I64};
-
     /// A type with 32-bit indices. The minimum isn't above the maximum.
     pub fn new(element: RefType, minimum: u32, maximum: Option<u32>) -> Self
         requires ordered { IfSome maximum (λ most. minimum ≤ most) }

@@ -7,11 +7,11 @@ use Rattle.wasmi_store.proofs.table.Table.fill_metered.Goals as goal
 
 pub returns : goal.returns
 returns c =
-    let long = c.fill_items.ensures.len ∙ ap length c.as_mut_slice.ensures.value ∙ sym c.self.inside.elements.ok.0 in
+    let long = c.fill_items.ensures.len ∙ ap length c.as_mut_slice-elements.ensures.value ∙ sym c.self.inside.elements.ok.0 in
     rw (← c.self.view_is, with_items_is c.self.inside.elements _ long)
     (writes_elements (filling_of c.args.dst c.args.val c.args.len) c.self.inside.ty _ _
     c.in_ok-ensure_element_type_matches.ensures _ _ _
-    (rw c.as_mut_slice.ensures.value at c.fill_items.ensures.written))
+    (rw c.as_mut_slice-elements.ensures.value at c.fill_items.ensures.written))
 
 pub invariant_of-self : goal.invariant_of-self
 invariant_of-self c = grind (arith, common_steps)
