@@ -2,15 +2,13 @@
 use Rattle.std.proofs.Common.{◌≡◌, ℕ, List, map, refl, true}
 use denote.Enum.Bare.{Bare}
 use denote.Enum.Declared.{Record}
-use Rattle.wasmi_ops.specs.declared.scalar.TheConstants.{LOADS, STORES, SCALAR_UNARIES, SCALAR_BINARIES}
+use Rattle.wasmi_ops.specs.declared.scalar.TheConstants.{LOADS, STORES}
 use Rattle.wasmi_ops.specs.declared.vector.TheConstants.{MAKES, UNARIES, BINARIES, TERNARIES, SHIFTS, TESTS, EXTRACTIONS, REPLACEMENTS, LANE_LOADS, LANE_STORES, VECTOR_LOADS}
-use Rattle.wasmi_ops.specs.ScalarOps.{load_name, store_name, scalar_unary_name, scalar_binary_name}
+use Rattle.wasmi_ops.specs.ScalarOps.{load_name, store_name}
 use Rattle.wasmi_ops.specs.VectorOps.{make_name, unary_name, binary_name, ternary_name, shift_name, test_name, vector_load_name}
 use Rattle.wasmi_ops.specs.LaneOps.{extract_name, extract_op, replace_name, replace_op, load_lane_name, load_lane_op, store_lane_name, store_lane_op}
 use Rattle.wasmi_ops.specs.contracts.scalar.LoadOp as load
 use Rattle.wasmi_ops.specs.contracts.scalar.StoreOp as store
-use Rattle.wasmi_ops.specs.contracts.scalar.ScalarUnaryOp as scalar_unary
-use Rattle.wasmi_ops.specs.contracts.scalar.ScalarBinaryOp as scalar_binary
 use Rattle.wasmi_ops.specs.contracts.vector.MakeOp as make
 use Rattle.wasmi_ops.specs.contracts.vector.UnaryOp as unary
 use Rattle.wasmi_ops.specs.contracts.vector.BinaryOp as binary
@@ -34,15 +32,9 @@ tells : (N : Record) (bare : Bare N.parts) (name_of : N.D → List ℕ) (list : 
     → has_each N bare name_of (map (λ entry. (entry.0.now, entry.1)) list) ≡ true → Tells list name_of
 tells N bare name_of list = tells_names N bare name_of (map (λ entry. (entry.0.now, entry.1)) list)
 
--- each list of names of scalar instructions tells what they mean
-pub scalar_names : Tells LOADS load_name × Tells STORES store_name × Tells SCALAR_UNARIES scalar_unary_name
-    × Tells SCALAR_BINARIES scalar_binary_name
-scalar_names = (
-  tells load.enum tt load_name LOADS refl refl,
-  tells store.enum tt store_name STORES refl refl,
-  tells scalar_unary.enum tt scalar_unary_name SCALAR_UNARIES refl refl,
-  tells scalar_binary.enum tt scalar_binary_name SCALAR_BINARIES refl refl,
-)
+-- each list of names of loads and stores of numbers tells what they mean
+pub access_names : Tells LOADS load_name × Tells STORES store_name
+access_names = (tells load.enum tt load_name LOADS refl refl, tells store.enum tt store_name STORES refl refl)
 
 -- each list of names of vector instructions on whole vectors tells what they mean
 pub vector_names : Tells MAKES make_name × Tells UNARIES unary_name × Tells BINARIES binary_name
@@ -68,7 +60,7 @@ lane_names = (
   tells lane_store.enum tt store_lane_name LANE_STORES refl refl,
 )
 
-pub ruleset op_names = (scalar_names, vector_names, lane_names)
+pub ruleset op_names = (access_names, vector_names, lane_names)
 
 -- a name and an index that are read name the instruction on the lane
 pub on_lanes : NamesOnLane extract_name extract_op × NamesOnLane replace_name replace_op

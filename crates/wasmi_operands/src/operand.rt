@@ -4,7 +4,7 @@
 ghost use Rattle.std.specs.Prelude.{◌≡◌, ℕ, List, length, map};
 ghost use Rattle.wasmi_operands.specs.Names.{WritesAnswer, IsName, IsNamed, mutability_word, reference_word, value_word, width_word};
 ghost use Rattle.wasmi_operands.specs.LineWords.{Accepts, AcceptsWithMemory, WritesNumber, WritesLimit, WritesEach, word_at};
-ghost use Rattle.wasmi_ops.specs.ScalarOps.{load_name, store_name, scalar_binary_name, scalar_unary_name};
+ghost use Rattle.wasmi_ops.specs.ScalarOps.{load_name, store_name};
 ghost use Rattle.wasmi_ops.specs.VectorOps.{vector_load_name, binary_name, make_name, shift_name, ternary_name, test_name, unary_name};
 ghost use Rattle.wasmi_ops.specs.LaneOps.{extract_name, load_lane_name, replace_name, store_lane_name};
 
@@ -15,9 +15,8 @@ use wasmi_lanes::ImmLaneIdx32;
 use wasmi_meter::LimiterAnswer;
 use wasmi_ops::{
     BINARIES, BinaryOp, EXTRACTIONS, ExtractKind, LANE_LOADS, LANE_STORES, LOADS, LoadLaneKind,
-    LoadOp, MAKES, MakeOp, REPLACEMENTS, ReplaceKind, SCALAR_BINARIES, SCALAR_UNARIES, SHIFTS,
-    STORES, ScalarBinaryOp, ScalarUnaryOp, ShiftOp, StoreLaneKind, StoreOp, TERNARIES, TESTS,
-    TernaryOp, TestOp, UNARIES, UnaryOp, VECTOR_LOADS, VectorLoadOp,
+    LoadOp, MAKES, MakeOp, REPLACEMENTS, ReplaceKind, SHIFTS, STORES, ShiftOp, StoreLaneKind,
+    StoreOp, TERNARIES, TESTS, TernaryOp, TestOp, UNARIES, UnaryOp, VECTOR_LOADS, VectorLoadOp,
 };
 use wasmi_raw::RawRef;
 use wasmi_typed::Mutability;
@@ -69,8 +68,7 @@ impl Operand for RawRef {
     ghost writes = { WritesNumber 32 };
 
     fn from_word(word: &str) -> Result<Self, LineError> {
-        let bits: u32 = number(word)?;
-        Ok(RawRef::from(bits))
+        Ok(RawRef::from(number::<u32>(word)?))
     }
 }
 
@@ -101,8 +99,7 @@ impl Operand for ImmLaneIdx32 {
     ghost writes = { WritesNumber 5 };
 
     fn from_word(word: &str) -> Result<Self, LineError> {
-        let index: u8 = number(word)?;
-        ImmLaneIdx32::try_from(index).map_err(|_| LineError::BadCommand)
+        ImmLaneIdx32::try_from(number::<u8>(word)?).map_err(|_| LineError::BadCommand)
     }
 }
 
@@ -158,22 +155,6 @@ impl Operand for LimiterAnswer {
             "complain" => Ok(LimiterAnswer::Complain),
             _ => Err(LineError::BadCommand),
         }
-    }
-}
-
-impl Operand for ScalarUnaryOp {
-    ghost writes = { IsName scalar_unary_name };
-
-    fn from_word(word: &str) -> Result<Self, LineError> {
-        op_named(&SCALAR_UNARIES, word)
-    }
-}
-
-impl Operand for ScalarBinaryOp {
-    ghost writes = { IsName scalar_binary_name };
-
-    fn from_word(word: &str) -> Result<Self, LineError> {
-        op_named(&SCALAR_BINARIES, word)
     }
 }
 

@@ -175,9 +175,8 @@ pub mod operand {
     use crate::proved::operands::error::LineError;
     use crate::proved::ops::{
         BINARIES, BinaryOp, EXTRACTIONS, ExtractKind, LANE_LOADS, LANE_STORES, LOADS, LoadLaneKind,
-        LoadOp, MAKES, MakeOp, REPLACEMENTS, ReplaceKind, SCALAR_BINARIES, SCALAR_UNARIES, SHIFTS,
-        STORES, ScalarBinaryOp, ScalarUnaryOp, ShiftOp, StoreLaneKind, StoreOp, TERNARIES, TESTS,
-        TernaryOp, TestOp, UNARIES, UnaryOp, VECTOR_LOADS, VectorLoadOp,
+        LoadOp, MAKES, MakeOp, REPLACEMENTS, ReplaceKind, SHIFTS, STORES, ShiftOp, StoreLaneKind,
+        StoreOp, TERNARIES, TESTS, TernaryOp, TestOp, UNARIES, UnaryOp, VECTOR_LOADS, VectorLoadOp,
     };
     use crate::proved::raw::RawRef;
     use crate::proved::typed::Mutability;
@@ -271,8 +270,7 @@ pub mod operand {
     impl Operand for RawRef {
         #[inline]
         fn from_word(word: &str) -> Result<Self, LineError> {
-            let bits: u32 = number(word)?;
-            Ok(RawRef::from(bits))
+            Ok(RawRef::from(number::<u32>(word)?))
         }
     }
 
@@ -321,8 +319,7 @@ pub mod operand {
     impl Operand for ImmLaneIdx32 {
         #[inline]
         fn from_word(word: &str) -> Result<Self, LineError> {
-            let index: u8 = number(word)?;
-            ImmLaneIdx32::try_from(index).map_err(|_| LineError::BadCommand)
+            ImmLaneIdx32::try_from(number::<u8>(word)?).map_err(|_| LineError::BadCommand)
         }
     }
 
@@ -402,34 +399,6 @@ pub mod operand {
                 "complain" => Ok(LimiterAnswer::Complain),
                 _ => Err(LineError::BadCommand),
             }
-        }
-    }
-
-    /// # Contract
-    ///
-    /// ```text
-    /// writes = IsName scalar_unary_name
-    /// ```
-    ///
-    /// Definitions: [`IsName`](crate::specs::operands::Names#IsName), [`scalar_unary_name`](crate::specs::ops::ScalarOps#scalar_unary_name).
-    impl Operand for ScalarUnaryOp {
-        #[inline]
-        fn from_word(word: &str) -> Result<Self, LineError> {
-            op_named(&SCALAR_UNARIES, word)
-        }
-    }
-
-    /// # Contract
-    ///
-    /// ```text
-    /// writes = IsName scalar_binary_name
-    /// ```
-    ///
-    /// Definitions: [`IsName`](crate::specs::operands::Names#IsName), [`scalar_binary_name`](crate::specs::ops::ScalarOps#scalar_binary_name).
-    impl Operand for ScalarBinaryOp {
-        #[inline]
-        fn from_word(word: &str) -> Result<Self, LineError> {
-            op_named(&SCALAR_BINARIES, word)
         }
     }
 
