@@ -228,8 +228,7 @@ pub enum Call {
         ptr: u64,
         offset: u64,
     },
-    /// Loads a lane of a vector from a memory at `ptr + offset`: `Done`, or `Trap` if it ends past
-    /// it.
+    /// Loads a lane from a memory at `ptr + offset`: `Done`, or `Trap` if it ends past it.
     LoadLane {
         op: LoadLaneOp,
         dst: u8,
@@ -245,8 +244,7 @@ pub enum Call {
         ptr: u64,
         offset: u64,
     },
-    /// Stores a lane of a vector to a memory at `ptr + offset`: `Done`, or `Trap` if it would end
-    /// past it.
+    /// Stores a lane to a memory at `ptr + offset`: `Done`, or `Trap` if it would end past it.
     StoreLane {
         op: StoreLaneOp,
         a: u8,
@@ -256,60 +254,31 @@ pub enum Call {
     },
 }
 
+/// The name of a call's variant, of which there are these.
+macro_rules! name_of {
+    ($call:ident: $($variant:ident)*) => {
+        match $call {
+            $(Call::$variant { .. } => stringify!($variant),)*
+        }
+    };
+}
+
 /// Shows the name of the call, without its operands.
 impl Debug for Call {
     fn fmt<W: Write>(&self, f: &mut Formatter<W>) -> fmt::Result {
-        f.write_str(self.name())
+        f.write_str(name_of!(self:
+            SetFuel GetFuel NewMemory NewLentMemory GrowMemory DropMemory Read Write Load Store
+            NewTable GrowTable DropTable GetElement SetElement InitTable CopyTable FillTable
+            NewSegment DropItems NewGlobal SetGlobal GetGlobal SetRegister GetRegister Make Unary
+            Binary Ternary Shift Test Extract Replace Shuffle VectorLoad LoadLane VectorStore
+            StoreLane
+        ))
     }
 }
 
 impl Call {
     ghost use Rattle.wasmi_core.specs.Account.{SetsNoFuel};
     ghost use Rattle.wasmi_core.specs.State.{IsValidCall};
-
-    // The name of the variant.
-    fn name(&self) -> &'static str {
-        match self {
-            Call::SetFuel(_) => "SetFuel",
-            Call::GetFuel => "GetFuel",
-            Call::NewMemory(_) => "NewMemory",
-            Call::NewLentMemory(_) => "NewLentMemory",
-            Call::GrowMemory { .. } => "GrowMemory",
-            Call::DropMemory(_) => "DropMemory",
-            Call::Read { .. } => "Read",
-            Call::Write { .. } => "Write",
-            Call::Load { .. } => "Load",
-            Call::Store { .. } => "Store",
-            Call::NewTable { .. } => "NewTable",
-            Call::GrowTable { .. } => "GrowTable",
-            Call::DropTable(_) => "DropTable",
-            Call::GetElement { .. } => "GetElement",
-            Call::SetElement { .. } => "SetElement",
-            Call::InitTable { .. } => "InitTable",
-            Call::CopyTable { .. } => "CopyTable",
-            Call::FillTable { .. } => "FillTable",
-            Call::NewSegment { .. } => "NewSegment",
-            Call::DropItems(_) => "DropItems",
-            Call::NewGlobal { .. } => "NewGlobal",
-            Call::SetGlobal { .. } => "SetGlobal",
-            Call::GetGlobal(_) => "GetGlobal",
-            Call::SetRegister { .. } => "SetRegister",
-            Call::GetRegister(_) => "GetRegister",
-            Call::Make { .. } => "Make",
-            Call::Unary { .. } => "Unary",
-            Call::Binary { .. } => "Binary",
-            Call::Ternary { .. } => "Ternary",
-            Call::Shift { .. } => "Shift",
-            Call::Test { .. } => "Test",
-            Call::Extract { .. } => "Extract",
-            Call::Replace { .. } => "Replace",
-            Call::Shuffle { .. } => "Shuffle",
-            Call::VectorLoad { .. } => "VectorLoad",
-            Call::LoadLane { .. } => "LoadLane",
-            Call::VectorStore { .. } => "VectorStore",
-            Call::StoreLane { .. } => "StoreLane",
-        }
-    }
 
     /// Whether it is `SetFuel`. A list without one can be billed: see
     /// [`crate::laws::charges_are_spent`].

@@ -1,10 +1,9 @@
 //! The memories of a machine, by their indices.
-ghost use Rattle.std.specs.Prelude.{◌≡◌, ◌+◌, Some};
+ghost use Rattle.std.specs.Prelude.{◌+◌};
 ghost use Rattle.wasmi_meter.specs.Limiter.{optional_rules, lent_limiter, KeepsLoan};
 ghost use Rattle.wasmi_store.specs.Buffer.{Owned};
-ghost use Rattle.wasmi_store.specs.Growth.{metered_value, WithCharge};
-ghost use Rattle.wasmi_store.specs.Memory.{MakesMemory, GrowsMemoryCharging};
-ghost use Rattle.wasmi_core.specs.Effects.{reply_of, reply_or_no_such, ActsAt, Creates};
+ghost use Rattle.wasmi_store.specs.Memory.{MakesMemory};
+ghost use Rattle.wasmi_core.specs.Effects.{reply_or_no_such, Creates};
 ghost use Rattle.std.specs.Option.{option_copied_mut};
 ghost use Rattle.wasmi_core.specs.MemoryEffects.{bytes_of_stored, CreatesLent, ReadsBytes, WritesMemoryAt, StoresMemoryAt, StoresMemory};
 ghost use Rattle.wasmi_types.specs.Access.{at};
@@ -12,7 +11,7 @@ ghost use Rattle.wasmi_types.specs.Access.{at};
 use crate::calls::{ByteList, Reply};
 use crate::slots::Slots;
 use std::alloc::Global;
-use wasmi_meter::{Fuel, MemoryError, ResourceLimiter, ResourceLimiterRef};
+use wasmi_meter::{MemoryError, ResourceLimiter, ResourceLimiterRef};
 use wasmi_ops::{StoreLaneOp, StoreOp};
 use wasmi_raw::{RawVal, V128};
 use wasmi_store::range::lies_within;
@@ -33,7 +32,7 @@ impl<'r> Slots<Memory<'r>> {
             (MakesMemory (optional_rules L.rules) Owned ty) self.old.slots.items
             (lent_limiter limiter.old) result self.new.slots.items (lent_limiter limiter.new) }
     {
-        if !self.reserve() {
+        if self.slots.try_reserve(1).is_err() {
             return Reply::NoRoom;
         }
         match Memory::new(alloc, ty, limiter) {
@@ -60,7 +59,7 @@ impl<'r> Slots<Memory<'r>> {
         let Some(region) = spare.take() else {
             return Reply::NoRegion;
         };
-        if self.reserve() {
+        if self.slots.try_reserve(1).is_ok() {
             match Memory::new_static(ty, limiter, region) {
                 Ok(memory) => Reply::Made(self.push(memory)),
                 Err(error) => Reply::Memory(error),
@@ -68,29 +67,6 @@ impl<'r> Slots<Memory<'r>> {
         } else {
             *spare = Some(region);
             Reply::NoRoom
-        }
-    }
-
-    /// Grows a memory by so many pages.
-    pub(crate) fn grow<L: ResourceLimiter>(
-        &mut self,
-        index: usize,
-        pages: u64,
-        fuel: &mut Fuel,
-        limiter: &mut ResourceLimiterRef<L>,
-    ) -> Option<Reply>
-        ensures loan { KeepsLoan limiter.old limiter.new }
-        ensures grown { WithCharge
-            (ActsAt index (reply_of Reply.Number Reply.Memory)
-            (GrowsMemoryCharging (optional_rules L.rules) pages))
-            (metered_value self.old.slots.items (Some fuel.old) (lent_limiter limiter.old))
-            (reply_or_no_such result)
-            (metered_value self.new.slots.items (Some fuel.new) (lent_limiter limiter.new)) }
-    {
-        let memory = self.live_mut(index)?;
-        match memory.grow_metered(pages, fuel, limiter) {
-            Ok(size) => Some(Reply::Number(size)),
-            Err(error) => Some(Reply::Memory(error)),
         }
     }
 
@@ -119,7 +95,8 @@ impl<'r> Slots<Memory<'r>> {
             (reply_or_no_such result) self.new.slots.items }
     {
         let memory = self.live_mut(index)?;
-        Some(store_reply(store(memory, ptr, offset, stored)))
+        let answer = store(memory, ptr, offset, stored);
+        Some(answer.map_or_else(Reply::Trap, |()| Reply::Done))
     }
 }
 
@@ -129,14 +106,6 @@ pub(crate) enum Stored {
     Number(StoreOp, RawVal),
     Vector(V128),
     Lane(StoreLaneOp, V128),
-}
-
-/// The reply to a store.
-#[inline(always)]
-fn store_reply(answer: Result<(), TrapCode>) -> Reply
-    ensures { result ≡ reply_of (λ _. Reply.Done) Reply.Trap answer }
-{
-    answer.map_or_else(Reply::Trap, |()| Reply::Done)
 }
 
 /// A part of a list of bytes: its bounds are tested before the reply's buffer is allocated.

@@ -1,5 +1,5 @@
 //! Slots: what was made, each at the index of its making.
-ghost use Rattle.std.specs.Prelude.{◌≡◌, ◌<◌, ◌++◌, ℕ, [], ◌∷◌, length, map, sum, IsTrue, IsSome, Some};
+ghost use Rattle.std.specs.Prelude.{◌≡◌, ◌<◌, ◌++◌, ℕ, [], ◌∷◌, length, map, sum, IsSome, Some};
 ghost use Rattle.std.specs.Borrow.{sem, Lends, LendsIf};
 ghost use Rattle.std.specs.Option.{option_copied, option_copied_mut};
 ghost use Rattle.std.specs.Vec.{vec_capacity};
@@ -121,14 +121,6 @@ impl<T> Slots<T> {
         ensures value { live_at self.old.slots.items index ≡ Some result.now }
     {
         self.slots[index].value_mut()
-    }
-
-    /// Has room for one more slot, if memory isn't refused.
-    pub(crate) fn reserve(&mut self) -> bool
-        ensures room { IsTrue result → length self.new.slots.items < vec_capacity self.new.slots }
-        ensures same { self.new.slots.items ≡ self.old.slots.items }
-    {
-        self.slots.try_reserve(1).is_ok()
     }
 
     /// Puts a value into a new slot, and returns its index.

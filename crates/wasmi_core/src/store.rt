@@ -49,22 +49,11 @@ impl<'r> Model for MachineStore<'r> {
 }
 
 impl<'r> MachineStore<'r> {
-    ghost use Rattle.wasmi_core.specs.ValueEffects.{SetsFuel};
     ghost use Rattle.wasmi_core.specs.Steps.{RepliesWith, RepliesWithoutLimiter, subject_of, Memories, Tables, RegisterFile, VectorAccesses};
     ghost use Rattle.wasmi_core.specs.State.{world};
     ghost use Rattle.wasmi_core.specs.declared.calls.Call.TheVariants.{GrowMemory};
 
-    fn set_fuel(&mut self, fuel: u64) -> Reply
-        ensures { SetsFuel fuel self.old result self.new }
-    {
-        match self.fuel.set_fuel(fuel) {
-            Ok(()) => Reply::Done,
-            Err(error) => Reply::Fuel(error),
-        }
-    }
-
-    /// Grows a memory by so many pages. A function of the store, since the prover covers no call
-    /// that borrows two fields of a field.
+    /// Grows a memory by so many pages.
     #[inline(always)]
     pub(crate) fn grow_memory<L: ResourceLimiter>(
         &mut self,
@@ -77,7 +66,9 @@ impl<'r> MachineStore<'r> {
             (world self.old (lent_limiter limiter.old)) (reply_or_no_such result)
             (world self.new (lent_limiter limiter.new)) }
     {
-        self.memories.grow(memory, pages, &mut self.fuel, limiter)
+        let memory = self.memories.live_mut(memory)?;
+        let grown = memory.grow_metered(pages, &mut self.fuel, limiter);
+        Some(grown.map_or_else(Reply::Memory, Reply::Number))
     }
 
     /// Executes one call.
@@ -93,7 +84,10 @@ impl<'r> MachineStore<'r> {
             (world self.new (lent_limiter limiter.new)) }
     {
         match call {
-            Call::SetFuel(fuel) => self.set_fuel(*fuel),
+            Call::SetFuel(fuel) => self
+                .fuel
+                .set_fuel(*fuel)
+                .map_or_else(Reply::Fuel, |()| Reply::Done),
             Call::GetFuel => self.fuel.get_fuel().map_or_else(Reply::Fuel, Reply::Number),
             Call::NewMemory(_)
             | Call::NewLentMemory(_)

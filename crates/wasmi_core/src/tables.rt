@@ -29,7 +29,7 @@ impl Slots<Table> {
             (MakesTable (optional_rules L.rules) ty init) self.old.slots.items
             (lent_limiter limiter.old) result self.new.slots.items (lent_limiter limiter.new) }
     {
-        if !self.reserve() {
+        if self.slots.try_reserve(1).is_err() {
             return Reply::NoRoom;
         }
         match Table::new(alloc, ty, init, limiter) {

@@ -190,8 +190,7 @@ mod calls {
             ptr: u64,
             offset: u64,
         },
-        /// Loads a lane of a vector from a memory at `ptr + offset`: `Done`, or `Trap` if it ends past
-        /// it.
+        /// Loads a lane from a memory at `ptr + offset`: `Done`, or `Trap` if it ends past it.
         LoadLane {
             op: LoadLaneOp,
             dst: u8,
@@ -207,8 +206,7 @@ mod calls {
             ptr: u64,
             offset: u64,
         },
-        /// Stores a lane of a vector to a memory at `ptr + offset`: `Done`, or `Trap` if it would end
-        /// past it.
+        /// Stores a lane to a memory at `ptr + offset`: `Done`, or `Trap` if it would end past it.
         StoreLane {
             op: StoreLaneOp,
             a: u8,
@@ -218,60 +216,30 @@ mod calls {
         },
     }
 
+    /// The name of a call's variant, of which there are these.
+    macro_rules! name_of {
+    ($call:ident: $($variant:ident)*) => {
+        match $call {
+            $(Call::$variant { .. } => stringify!($variant),)*
+        }
+    };
+}
+
     /// Shows the name of the call, without its operands.
     impl Debug for Call {
         #[inline]
         fn fmt(&self, f: &mut Formatter<'_>) -> fmt::Result {
-            f.write_str(self.name())
+            f.write_str(name_of!(self:
+            SetFuel GetFuel NewMemory NewLentMemory GrowMemory DropMemory Read Write Load Store
+            NewTable GrowTable DropTable GetElement SetElement InitTable CopyTable FillTable
+            NewSegment DropItems NewGlobal SetGlobal GetGlobal SetRegister GetRegister Make Unary
+            Binary Ternary Shift Test Extract Replace Shuffle VectorLoad LoadLane VectorStore
+            StoreLane
+        ))
         }
     }
 
     impl Call {
-        // The name of the variant.
-        #[inline]
-        fn name(&self) -> &'static str {
-            match self {
-                Call::SetFuel(_) => "SetFuel",
-                Call::GetFuel => "GetFuel",
-                Call::NewMemory(_) => "NewMemory",
-                Call::NewLentMemory(_) => "NewLentMemory",
-                Call::GrowMemory { .. } => "GrowMemory",
-                Call::DropMemory(_) => "DropMemory",
-                Call::Read { .. } => "Read",
-                Call::Write { .. } => "Write",
-                Call::Load { .. } => "Load",
-                Call::Store { .. } => "Store",
-                Call::NewTable { .. } => "NewTable",
-                Call::GrowTable { .. } => "GrowTable",
-                Call::DropTable(_) => "DropTable",
-                Call::GetElement { .. } => "GetElement",
-                Call::SetElement { .. } => "SetElement",
-                Call::InitTable { .. } => "InitTable",
-                Call::CopyTable { .. } => "CopyTable",
-                Call::FillTable { .. } => "FillTable",
-                Call::NewSegment { .. } => "NewSegment",
-                Call::DropItems(_) => "DropItems",
-                Call::NewGlobal { .. } => "NewGlobal",
-                Call::SetGlobal { .. } => "SetGlobal",
-                Call::GetGlobal(_) => "GetGlobal",
-                Call::SetRegister { .. } => "SetRegister",
-                Call::GetRegister(_) => "GetRegister",
-                Call::Make { .. } => "Make",
-                Call::Unary { .. } => "Unary",
-                Call::Binary { .. } => "Binary",
-                Call::Ternary { .. } => "Ternary",
-                Call::Shift { .. } => "Shift",
-                Call::Test { .. } => "Test",
-                Call::Extract { .. } => "Extract",
-                Call::Replace { .. } => "Replace",
-                Call::Shuffle { .. } => "Shuffle",
-                Call::VectorLoad { .. } => "VectorLoad",
-                Call::LoadLane { .. } => "LoadLane",
-                Call::VectorStore { .. } => "VectorStore",
-                Call::StoreLane { .. } => "StoreLane",
-            }
-        }
-
         /// Whether it is `SetFuel`. A list without one can be billed: see
         /// [`laws::charges_are_spent`](crate::proved::machine::laws::charges_are_spent).
         ///
@@ -963,7 +931,7 @@ mod memories {
 
     use crate::proved::machine::calls::{ByteList, Reply};
     use crate::proved::machine::slots::Slots;
-    use crate::proved::meter::{Fuel, MemoryError, ResourceLimiter, ResourceLimiterRef};
+    use crate::proved::meter::{MemoryError, ResourceLimiter, ResourceLimiterRef};
     use crate::proved::ops::{StoreLaneOp, StoreOp};
     use crate::proved::raw::{RawVal, V128};
     use crate::proved::store::range::lies_within;
@@ -991,7 +959,7 @@ mod memories {
             ty: MemoryType,
             limiter: &mut ResourceLimiterRef<L>,
         ) -> Reply {
-            if !self.reserve() {
+            if self.slots.try_reserve(1).is_err() {
                 return Reply::NoRoom;
             }
             match Memory::new(ty, limiter) {
@@ -1025,7 +993,7 @@ mod memories {
             let Some(region) = spare.take() else {
                 return Reply::NoRegion;
             };
-            if self.reserve() {
+            if self.slots.try_reserve(1).is_ok() {
                 match Memory::new_static(ty, limiter, region) {
                     Ok(memory) => Reply::Made(self.push(memory)),
                     Err(error) => Reply::Memory(error),
@@ -1033,36 +1001,6 @@ mod memories {
             } else {
                 *spare = Some(region);
                 Reply::NoRoom
-            }
-        }
-
-        /// Grows a memory by so many pages.
-        ///
-        /// # Contract
-        ///
-        /// ```text
-        /// ensures loan: KeepsLoan limiter.old limiter.new
-        /// ensures grown: WithCharge
-        ///     (ActsAt index (reply_of Reply.Number Reply.Memory)
-        ///     (GrowsMemoryCharging (optional_rules L.rules) pages))
-        ///     (metered_value self.old.slots.items (Some fuel.old) (lent_limiter limiter.old))
-        ///     (reply_or_no_such result)
-        ///     (metered_value self.new.slots.items (Some fuel.new) (lent_limiter limiter.new))
-        /// ```
-        ///
-        /// Definitions: [`KeepsLoan`](crate::specs::meter::Limiter#KeepsLoan), [`WithCharge`](crate::specs::store::Growth#WithCharge), [`ActsAt`](crate::specs::machine::Effects#ActsAt), [`reply_of`](crate::specs::machine::Effects#reply_of), [`GrowsMemoryCharging`](crate::specs::store::Memory#GrowsMemoryCharging), [`optional_rules`](crate::specs::meter::Limiter#optional_rules), [`metered_value`](crate::specs::store::Growth#metered_value), [`lent_limiter`](crate::specs::meter::Limiter#lent_limiter), [`reply_or_no_such`](crate::specs::machine::Effects#reply_or_no_such).
-        #[inline(always)]
-        pub(crate) fn grow<L: ResourceLimiter>(
-            &mut self,
-            index: usize,
-            pages: u64,
-            fuel: &mut Fuel,
-            limiter: &mut ResourceLimiterRef<L>,
-        ) -> Option<Reply> {
-            let memory = self.live_mut(index)?;
-            match memory.grow_metered(pages, fuel, limiter) {
-                Ok(size) => Some(Reply::Number(size)),
-                Err(error) => Some(Reply::Memory(error)),
             }
         }
 
@@ -1104,7 +1042,8 @@ mod memories {
             stored: Stored,
         ) -> Option<Reply> {
             let memory = self.live_mut(index)?;
-            Some(store_reply(store(memory, ptr, offset, stored)))
+            let answer = store(memory, ptr, offset, stored);
+            Some(answer.map_or_else(Reply::Trap, |()| Reply::Done))
         }
     }
 
@@ -1114,20 +1053,6 @@ mod memories {
         Number(StoreOp, RawVal),
         Vector(V128),
         Lane(StoreLaneOp, V128),
-    }
-
-    /// The reply to a store.
-    ///
-    /// # Contract
-    ///
-    /// ```text
-    /// ensures: result ≡ reply_of (λ _. Reply.Done) Reply.Trap answer
-    /// ```
-    ///
-    /// Definitions: [`reply_of`](crate::specs::machine::Effects#reply_of).
-    #[inline(always)]
-    fn store_reply(answer: Result<(), TrapCode>) -> Reply {
-        answer.map_or_else(Reply::Trap, |()| Reply::Done)
     }
 
     /// A part of a list of bytes: its bounds are tested before the reply's buffer is allocated.
@@ -1702,19 +1627,6 @@ mod slots {
             self.slots[index].value_mut()
         }
 
-        /// Has room for one more slot, if memory isn't refused.
-        ///
-        /// # Contract
-        ///
-        /// ```text
-        /// ensures room: IsTrue result → length self.new.slots.items < vec_capacity self.new.slots
-        /// ensures same: self.new.slots.items ≡ self.old.slots.items
-        /// ```
-        #[inline]
-        pub(crate) fn reserve(&mut self) -> bool {
-            self.slots.try_reserve(1).is_ok()
-        }
-
         /// Puts a value into a new slot, and returns its index.
         ///
         /// # Contract
@@ -1818,23 +1730,7 @@ mod store {
     }
 
     impl<'r> MachineStore<'r> {
-        /// # Contract
-        ///
-        /// ```text
-        /// ensures: SetsFuel fuel self.old result self.new
-        /// ```
-        ///
-        /// Definitions: [`SetsFuel`](crate::specs::machine::ValueEffects#SetsFuel).
-        #[inline(always)]
-        fn set_fuel(&mut self, fuel: u64) -> Reply {
-            match self.fuel.set_fuel(fuel) {
-                Ok(()) => Reply::Done,
-                Err(error) => Reply::Fuel(error),
-            }
-        }
-
-        /// Grows a memory by so many pages. A function of the store, since the prover covers no call
-        /// that borrows two fields of a field.
+        /// Grows a memory by so many pages.
         ///
         /// # Contract
         ///
@@ -1853,7 +1749,9 @@ mod store {
             pages: u64,
             limiter: &mut ResourceLimiterRef<L>,
         ) -> Option<Reply> {
-            self.memories.grow(memory, pages, &mut self.fuel, limiter)
+            let memory = self.memories.live_mut(memory)?;
+            let grown = memory.grow_metered(pages, &mut self.fuel, limiter);
+            Some(grown.map_or_else(Reply::Memory, Reply::Number))
         }
 
         /// Executes one call.
@@ -1875,7 +1773,10 @@ mod store {
             limiter: &mut ResourceLimiterRef<L>,
         ) -> Reply {
             match call {
-                Call::SetFuel(fuel) => self.set_fuel(*fuel),
+                Call::SetFuel(fuel) => self
+                    .fuel
+                    .set_fuel(*fuel)
+                    .map_or_else(Reply::Fuel, |()| Reply::Done),
                 Call::GetFuel => self.fuel.get_fuel().map_or_else(Reply::Fuel, Reply::Number),
                 Call::NewMemory(_) => self.step_memory(call, limiter).unwrap_or(Reply::NoSuch),
                 Call::NewLentMemory(_) => self.step_memory(call, limiter).unwrap_or(Reply::NoSuch),
@@ -2173,7 +2074,7 @@ mod tables {
             init: TypedRawRef,
             limiter: &mut ResourceLimiterRef<L>,
         ) -> Reply {
-            if !self.reserve() {
+            if self.slots.try_reserve(1).is_err() {
                 return Reply::NoRoom;
             }
             match Table::new(ty, init, limiter) {

@@ -4,7 +4,7 @@ use Rattle.wasmi_meter.specs.Limiter.{lent_limiter}
 use Rattle.wasmi_core.proofs.store.MachineStore.step.Goals as goal
 
 pub returns-in-SetFuel-clause-step : goal.returns-in-SetFuel-clause-step
-returns-in-SetFuel-clause-step g c = rw c.in-SetFuel.is (changes c.set_fuel.ensures)
+returns-in-SetFuel-clause-step g c = rw (c.in-SetFuel.is, ← c.self.view_is) (changes (search rules))
 
 pub returns-in-GetFuel-clause-step : goal.returns-in-GetFuel-clause-step
 returns-in-GetFuel-clause-step g c = rw c.in-GetFuel.is (replies (search rules))
