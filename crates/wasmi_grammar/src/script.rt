@@ -1,10 +1,9 @@
 //! The script's lines: header lines, and then commands.
 ghost use Rattle.std.specs.Prelude.{◌≡◌, [], ℕ, ◌+◌, ◌-◌, ◌<◌, ◌≤◌, length, take, drop, vec_len, IfOk, IfErr, OnOk, OnErr};
 ghost use Rattle.wasmi_operands.specs.LineWords.{AcceptsWithMemory};
-ghost use Rattle.wasmi_grammar.specs.Commands.{NamesAfter};
 ghost use Rattle.wasmi_grammar.specs.Lines.{WritesScript, NamesLine, calls_of, IsParseError};
 
-use crate::command::{access, memory, table, values, vector};
+use crate::command::command;
 use crate::error::ParseError;
 use crate::header::{
     Header, LimiterLine, MeterLine, RegionLine, listed, meter_line, quota, region_line, tenants,
@@ -153,7 +152,7 @@ fn calls_at(calls: &[Call], start: usize, end: usize) -> &[Call]
 }
 
 impl Script {
-    ghost use Rattle.wasmi_grammar.specs.Lines.{AddsWords, AddsLine, AddsMeter, AddsLimiter, AddsRegion, AddsCall, AddsPart, IsNewScript};
+    ghost use Rattle.wasmi_grammar.specs.Lines.{AddsWords, AddsMeter, AddsLimiter, AddsRegion, AddsCall, AddsPart, IsNewScript};
 
     /// A script without lines.
     fn new(alloc: Global) -> Self
@@ -174,17 +173,7 @@ impl Script {
         let [name, operands @ ..] = words else {
             return Ok(());
         };
-        let line = line_of(alloc, name, operands)?;
-        self.take(line)
-    }
-
-    /// Takes in what a line says.
-    fn take(&mut self, line: Line) -> Result<(), LineError>
-        ensures ok { OnOk result (AddsLine self.old line self.new) }
-        ensures refused { IfErr result (λ error. error ≡ LineError.BadCommand
-            → (new : Script) → ¬ (AddsLine self.old line new)) }
-    {
-        match line {
+        match line_of(alloc, name, operands)? {
             Line::Meter(line) => self.take_meter(line),
             Line::Limiter(line) => self.take_limiter(line),
             Line::Region(line) => self.take_region(line),
@@ -261,15 +250,10 @@ impl Script {
 /// What a line with words says.
 #[derive(Drop)]
 enum Line {
-    /// A `meter` line.
     Meter(MeterLine),
-    /// A limiter line.
     Limiter(LimiterLine),
-    /// A `region` line.
     Region(RegionLine),
-    /// An `as` line, with its tenant.
     As(usize),
-    /// A command, with its call.
     Call(Call),
 }
 
@@ -285,37 +269,6 @@ fn line_of(alloc: Global, name: &str, operands: &[&str]) -> Result<Line, LineErr
         "region" => Ok(Line::Region(region_line(operands)?)),
         "as" => Ok(Line::As(operand::one(operands)?)),
         _ => Ok(Line::Call(command(alloc, name, operands)?)),
-    }
-}
-
-/// The call of a command with this name and these operands.
-#[tactic(auto, using(wasmi_operands::proofs::LineWordsLemmas::with_memory))]
-fn command(alloc: Global, name: &str, operands: &[&str]) -> Result<Call, LineError>
-    ensures { AcceptsWithMemory result (NamesAfter name.now operands.now) }
-{
-    match name {
-        "write" => memory::write(alloc, operands),
-        "segment" => table::new_segment(alloc, operands),
-        "fuel" | "left" | "global" | "gset" | "gget" | "set" | "show" => {
-            values::command(name, operands)
-        }
-        "memory" | "lent" | "grow" | "drop" | "read" => memory::command(name, operands),
-        "load" | "store" | "vload" | "vloadlane" | "vstore" | "vstorelane" => {
-            access::command(name, operands)
-        }
-        "table" | "tgrow" | "get" | "tset" | "init" | "copy" | "fill" | "empty" => {
-            table::command(name, operands)
-        }
-        "make"
-        | "unary"
-        | "binary"
-        | "ternary"
-        | "shift"
-        | "test"
-        | "extract"
-        | "replace"
-        | "shuffle" => vector::command(name, operands),
-        _ => Err(LineError::BadCommand),
     }
 }
 

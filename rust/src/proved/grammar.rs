@@ -1,6 +1,17 @@
 //! The text of a script: what its lines say, and the script that they write.
 mod command {
     //! The commands of a script, each of which is one call: what the words after its first say.
+
+    use crate::proved::machine::simd::ImmLaneIdx32;
+    use crate::proved::machine::{
+        Call, GlobalType, IndexType, MemoryType, RawVal, RefType, TableType, TypedRawRef,
+        TypedRawVal,
+    };
+    use crate::proved::operands::lane::{extract_op, load_lane_op, replace_op, store_lane_op};
+    use crate::proved::operands::operand::{self, Operand, list_of};
+    use crate::proved::operands::{LineError, number};
+    use crate::rattle::ArrayExt;
+
     /// The call of a kind, each part of which is what an operand writes.
     macro_rules! call {
     ($operands:ident, $count:ident => $kind:ident { $($part:ident),+ }) => {{
@@ -9,484 +20,473 @@ mod command {
     }};
 }
 
-    pub mod access {
-        //! Commands that load from a memory or store to it.
-
-        use crate::proved::machine::{Call, RawVal};
-        use crate::proved::operands::lane::{load_lane_op, store_lane_op};
-        use crate::proved::operands::{LineError, operand};
-
-        /// The call of a command that loads or stores.
-        ///
-        /// # Contract
-        ///
-        /// ```text
-        /// requires word: IsAccessWord name.now
-        /// ensures call: Accepts result (NamesAfter name.now operands.now)
-        /// ```
-        ///
-        /// Definitions: [`IsAccessWord`](crate::specs::grammar::Commands#IsAccessWord), [`Accepts`](crate::specs::operands::LineWords#Accepts), [`NamesAfter`](crate::specs::grammar::Commands#NamesAfter).
-        #[inline]
-        pub(crate) fn command(name: &str, operands: &[&str]) -> Result<Call, LineError> {
-            match name {
-                "load" => call!(operands, four => Load { op, memory, ptr, offset }),
-                "store" => {
-                    let (op, memory, ptr, offset, lo) = operand::five(operands)?;
-                    Ok(Call::Store {
-                        op,
-                        memory,
-                        ptr,
-                        offset,
-                        value: RawVal::from_bits64(lo),
-                    })
-                }
-                "vload" => call!(operands, five => VectorLoad { op, dst, memory, ptr, offset }),
-                "vloadlane" => load_lane(operands),
-                "vstore" => call!(operands, four => VectorStore { a, memory, ptr, offset }),
-                _ => store_lane(operands),
+    /// The call of a command with this name and these operands.
+    ///
+    /// # Contract
+    ///
+    /// ```text
+    /// ensures: AcceptsWithMemory result (NamesAfter name.now operands.now)
+    /// ```
+    ///
+    /// Definitions: [`AcceptsWithMemory`](crate::specs::operands::LineWords#AcceptsWithMemory), [`NamesAfter`](crate::specs::grammar::Commands#NamesAfter).
+    #[inline]
+    pub(crate) fn command(name: &str, operands: &[&str]) -> Result<Call, LineError> {
+        match name {
+            "write" => write(operands),
+            "segment" => new_segment(operands),
+            "fuel" | "left" | "global" | "gset" | "gget" | "set" | "show" => {
+                values_call(name, operands)
             }
-        }
-
-        /// `vloadlane NAME D A LANE K PTR OFFSET`.
-        ///
-        /// # Contract
-        ///
-        /// ```text
-        /// ensures: Accepts result (NamesAfter (codes "vloadlane") operands.now)
-        /// ```
-        ///
-        /// Definitions: [`Accepts`](crate::specs::operands::LineWords#Accepts), [`NamesAfter`](crate::specs::grammar::Commands#NamesAfter).
-        #[inline]
-        fn load_lane(operands: &[&str]) -> Result<Call, LineError> {
-            let &[name, dst, a, lane, memory, ptr, offset] = operands else {
-                return Err(LineError::BadCommand);
-            };
-            let op = load_lane_op(name, lane)?;
-            let (dst, a, memory, ptr, offset) = operand::five(&[dst, a, memory, ptr, offset])?;
-            Ok(Call::LoadLane {
-                op,
-                dst,
-                a,
-                memory,
-                ptr,
-                offset,
-            })
-        }
-
-        /// `vstorelane NAME A LANE K PTR OFFSET`.
-        ///
-        /// # Contract
-        ///
-        /// ```text
-        /// ensures: Accepts result (NamesAfter (codes "vstorelane") operands.now)
-        /// ```
-        ///
-        /// Definitions: [`Accepts`](crate::specs::operands::LineWords#Accepts), [`NamesAfter`](crate::specs::grammar::Commands#NamesAfter).
-        #[inline]
-        fn store_lane(operands: &[&str]) -> Result<Call, LineError> {
-            let &[name, a, lane, memory, ptr, offset] = operands else {
-                return Err(LineError::BadCommand);
-            };
-            let op = store_lane_op(name, lane)?;
-            let (a, memory, ptr, offset) = operand::four(&[a, memory, ptr, offset])?;
-            Ok(Call::StoreLane {
-                op,
-                a,
-                memory,
-                ptr,
-                offset,
-            })
+            "memory" | "lent" | "grow" | "drop" | "read" => memory_call(name, operands),
+            "load" | "store" | "vload" | "vloadlane" | "vstore" | "vstorelane" => {
+                access_call(name, operands)
+            }
+            "table" | "tgrow" | "get" | "tset" | "init" | "copy" | "fill" | "empty" => {
+                table_call(name, operands)
+            }
+            "make" | "unary" | "binary" | "ternary" | "shift" | "test" | "extract" | "replace"
+            | "shuffle" => vector_call(name, operands),
+            _ => Err(LineError::BadCommand),
         }
     }
-    pub mod memory {
-        //! Commands of memories, and those that drop a memory or a table.
 
-        use crate::proved::machine::{Call, IndexType, MemoryType};
-        use crate::proved::operands::operand::{self, list_of};
-        use crate::proved::operands::{LineError, number};
-
-        /// The call of a command of a memory, or of one that drops a memory or a table.
-        ///
-        /// # Contract
-        ///
-        /// ```text
-        /// requires word: IsMemoryWord name.now
-        /// ensures call: Accepts result (NamesAfter name.now operands.now)
-        /// ```
-        ///
-        /// Definitions: [`IsMemoryWord`](crate::specs::grammar::Commands#IsMemoryWord), [`Accepts`](crate::specs::operands::LineWords#Accepts), [`NamesAfter`](crate::specs::grammar::Commands#NamesAfter).
-        #[inline]
-        pub(crate) fn command(name: &str, operands: &[&str]) -> Result<Call, LineError> {
-            match name {
-                "memory" => Ok(Call::NewMemory(memory_type(operands)?)),
-                "lent" => Ok(Call::NewLentMemory(memory_type(operands)?)),
-                "grow" => call!(operands, two => GrowMemory { memory, pages }),
-                "read" => call!(operands, three => Read { memory, offset, len }),
-                _ => drop_live(operands),
+    /// The call of a command of the meter, of a global or of a register.
+    ///
+    /// # Contract
+    ///
+    /// ```text
+    /// requires word: IsValueWord name.now
+    /// ensures call: Accepts result (NamesAfter name.now operands.now)
+    /// ```
+    ///
+    /// Definitions: [`IsValueWord`](crate::specs::grammar::Commands#IsValueWord), [`Accepts`](crate::specs::operands::LineWords#Accepts), [`NamesAfter`](crate::specs::grammar::Commands#NamesAfter).
+    #[inline]
+    fn values_call(name: &str, operands: &[&str]) -> Result<Call, LineError> {
+        match name {
+            "fuel" => Ok(Call::SetFuel(operand::one(operands)?)),
+            "left" if operands.is_empty() => Ok(Call::GetFuel),
+            "left" => Err(LineError::BadCommand),
+            "global" => {
+                let (content, mutability, lo, hi) = operand::four(operands)?;
+                Ok(Call::NewGlobal {
+                    value: RawVal { lo, hi },
+                    ty: GlobalType::new(content, mutability),
+                })
             }
-        }
-
-        /// `write K OFFSET BYTE ...`, which may have no byte.
-        ///
-        /// # Contract
-        ///
-        /// ```text
-        /// ensures: AcceptsWithMemory result (NamesAfter (codes "write") operands.now)
-        /// ```
-        ///
-        /// Definitions: [`AcceptsWithMemory`](crate::specs::operands::LineWords#AcceptsWithMemory), [`NamesAfter`](crate::specs::grammar::Commands#NamesAfter).
-        #[inline]
-        pub fn write(operands: &[&str]) -> Result<Call, LineError> {
-            let [memory, offset, bytes @ ..] = operands else {
-                return Err(LineError::BadCommand);
-            };
-            Ok(Call::Write {
-                memory: number(memory)?,
-                offset: number(offset)?,
-                bytes: list_of(bytes)?,
-            })
-        }
-
-        /// `drop memory K` and `drop table K`.
-        ///
-        /// # Contract
-        ///
-        /// ```text
-        /// ensures: Accepts result (NamesAfter (codes "drop") operands.now)
-        /// ```
-        ///
-        /// Definitions: [`Accepts`](crate::specs::operands::LineWords#Accepts), [`NamesAfter`](crate::specs::grammar::Commands#NamesAfter).
-        #[inline]
-        fn drop_live(operands: &[&str]) -> Result<Call, LineError> {
-            let [kind, index] = operands else {
-                return Err(LineError::BadCommand);
-            };
-            let index = number(index)?;
-            match *kind {
-                "memory" => Ok(Call::DropMemory(index)),
-                "table" => Ok(Call::DropTable(index)),
-                _ => Err(LineError::BadCommand),
+            "gset" => {
+                let (global, ty, lo, hi) = operand::four(operands)?;
+                Ok(Call::SetGlobal {
+                    global,
+                    value: TypedRawVal::new(ty, RawVal { lo, hi }),
+                })
             }
-        }
-
-        /// The memory type of four words, if there is such a type.
-        ///
-        /// # Contract
-        ///
-        /// ```text
-        /// ensures: Accepts result (λ ty. (length words.now ≡ 4) × NamesType (word_at words.now 0)
-        ///     (word_at words.now 1) (word_at words.now 2) (word_at words.now 3) ty)
-        /// ```
-        ///
-        /// Definitions: [`Accepts`](crate::specs::operands::LineWords#Accepts), [`NamesType`](crate::specs::grammar::Commands#NamesType), [`word_at`](crate::specs::operands::LineWords#word_at).
-        #[inline]
-        fn memory_type(words: &[&str]) -> Result<MemoryType, LineError> {
-            let (minimum, maximum, page_size_log2, index) = operand::four(words)?;
-            let mut builder = MemoryType::builder();
-            builder
-                .min(minimum)
-                .max(maximum)
-                .page_size_log2(page_size_log2)
-                .memory64(matches!(index, IndexType::I64));
-            builder.build().map_err(|_| LineError::BadCommand)
+            "gget" => Ok(Call::GetGlobal(operand::one(operands)?)),
+            "set" => {
+                let (dst, lo, hi) = operand::three(operands)?;
+                Ok(Call::SetRegister {
+                    dst,
+                    value: RawVal { lo, hi },
+                })
+            }
+            _ => Ok(Call::GetRegister(operand::one(operands)?)),
         }
     }
-    pub mod table {
-        //! Commands of tables and element segments.
 
-        use crate::proved::machine::{Call, IndexType, RefType, TableType, TypedRawRef};
-        use crate::proved::operands::LineError;
-        use crate::proved::operands::operand::{self, Operand, list_of};
-
-        /// The call of a command of a table, or of one that empties a segment.
-        ///
-        /// # Contract
-        ///
-        /// ```text
-        /// requires word: IsTableWord name.now
-        /// ensures call: Accepts result (NamesAfter name.now operands.now)
-        /// ```
-        ///
-        /// Definitions: [`IsTableWord`](crate::specs::grammar::Commands#IsTableWord), [`Accepts`](crate::specs::operands::LineWords#Accepts), [`NamesAfter`](crate::specs::grammar::Commands#NamesAfter).
-        #[inline]
-        pub(crate) fn command(name: &str, operands: &[&str]) -> Result<Call, LineError> {
-            match name {
-                "table" => new_table(operands),
-                "tgrow" => {
-                    let (table, delta, ty, raw) = operand::four(operands)?;
-                    Ok(Call::GrowTable {
-                        table,
-                        delta,
-                        init: TypedRawRef::new(raw, ty),
-                    })
-                }
-                "get" => call!(operands, two => GetElement { table, index }),
-                "tset" => {
-                    let (table, index, ty, raw) = operand::four(operands)?;
-                    Ok(Call::SetElement {
-                        table,
-                        index,
-                        value: TypedRawRef::new(raw, ty),
-                    })
-                }
-                "init" => call!(operands, five => InitTable { table, segment, dst, src, len }),
-                "copy" => {
-                    call!(operands, five => CopyTable { dst_table, dst, src_table, src, len })
-                }
-                "fill" => {
-                    let (table, dst, ty, raw, len) = operand::five(operands)?;
-                    Ok(Call::FillTable {
-                        table,
-                        dst,
-                        value: TypedRawRef::new(raw, ty),
-                        len,
-                    })
-                }
-                _ => Ok(Call::DropItems(operand::one(operands)?)),
-            }
-        }
-
-        /// `table T MIN X WIDTH T N`.
-        ///
-        /// # Contract
-        ///
-        /// ```text
-        /// ensures: Accepts result (NamesAfter (codes "table") operands.now)
-        /// ```
-        ///
-        /// Definitions: [`Accepts`](crate::specs::operands::LineWords#Accepts), [`NamesAfter`](crate::specs::grammar::Commands#NamesAfter).
-        #[inline]
-        fn new_table(operands: &[&str]) -> Result<Call, LineError> {
-            let &[element, min, max, width, init_ty, raw] = operands else {
-                return Err(LineError::BadCommand);
-            };
-            let ty = table_type(&[element, min, max, width])?;
-            let (init_ty, raw) = operand::two(&[init_ty, raw])?;
-            Ok(Call::NewTable {
-                ty,
-                init: TypedRawRef::new(raw, init_ty),
-            })
-        }
-
-        /// `segment T N ...`, which may have no reference.
-        ///
-        /// # Contract
-        ///
-        /// ```text
-        /// ensures: AcceptsWithMemory result (NamesAfter (codes "segment") operands.now)
-        /// ```
-        ///
-        /// Definitions: [`AcceptsWithMemory`](crate::specs::operands::LineWords#AcceptsWithMemory), [`NamesAfter`](crate::specs::grammar::Commands#NamesAfter).
-        #[inline]
-        pub fn new_segment(operands: &[&str]) -> Result<Call, LineError> {
-            let [ty, items @ ..] = operands else {
-                return Err(LineError::BadCommand);
-            };
-            Ok(Call::NewSegment {
-                ty: RefType::from_word(ty)?,
-                items: list_of(items)?,
-            })
-        }
-
-        /// The table type of four words, if there is such a type.
-        ///
-        /// # Contract
-        ///
-        /// ```text
-        /// ensures: Accepts result (λ ty. (length words.now ≡ 4) × NamesTableType (word_at words.now 0)
-        ///     (word_at words.now 1) (word_at words.now 2) (word_at words.now 3) ty)
-        /// ```
-        ///
-        /// Definitions: [`Accepts`](crate::specs::operands::LineWords#Accepts), [`NamesTableType`](crate::specs::grammar::Commands#NamesTableType), [`word_at`](crate::specs::operands::LineWords#word_at).
-        #[inline]
-        fn table_type(words: &[&str]) -> Result<TableType, LineError> {
-            let (element, minimum, maximum, index) =
-                operand::four::<_, u64, Option<u64>, _>(words)?;
-            if maximum.is_some_and(|most| most < minimum) {
-                return Err(LineError::BadCommand);
-            }
-            match index {
-                IndexType::I32 => {
-                    let minimum = index32(minimum)?;
-                    let maximum = maximum.map(index32).transpose()?;
-                    Ok(TableType::new(element, minimum, maximum))
-                }
-                IndexType::I64 => Ok(TableType::new64(element, minimum, maximum)),
-            }
-        }
-
-        /// The limit of a table whose indices have 32 bits.
-        ///
-        /// # Contract
-        ///
-        /// ```text
-        /// ensures value: OkIff result (limit < 2 ^ 32) limit
-        /// ensures refused: IfErr result (λ error. error ≡ LineError.BadCommand)
-        /// ```
-        #[inline]
-        fn index32(limit: u64) -> Result<u32, LineError> {
-            u32::try_from(limit).map_err(|_| LineError::BadCommand)
+    /// The call of a command of a memory, or of one that drops a memory or a table.
+    ///
+    /// # Contract
+    ///
+    /// ```text
+    /// requires word: IsMemoryWord name.now
+    /// ensures call: Accepts result (NamesAfter name.now operands.now)
+    /// ```
+    ///
+    /// Definitions: [`IsMemoryWord`](crate::specs::grammar::Commands#IsMemoryWord), [`Accepts`](crate::specs::operands::LineWords#Accepts), [`NamesAfter`](crate::specs::grammar::Commands#NamesAfter).
+    #[inline]
+    fn memory_call(name: &str, operands: &[&str]) -> Result<Call, LineError> {
+        match name {
+            "memory" => Ok(Call::NewMemory(memory_type(operands)?)),
+            "lent" => Ok(Call::NewLentMemory(memory_type(operands)?)),
+            "grow" => call!(operands, two => GrowMemory { memory, pages }),
+            "read" => call!(operands, three => Read { memory, offset, len }),
+            _ => drop_live(operands),
         }
     }
-    pub mod values {
-        //! Commands of the meter, of globals and of registers.
 
-        use crate::proved::machine::{Call, GlobalType, RawVal, TypedRawVal};
-        use crate::proved::operands::{LineError, operand};
+    /// `write K OFFSET BYTE ...`, which may have no byte.
+    ///
+    /// # Contract
+    ///
+    /// ```text
+    /// ensures: AcceptsWithMemory result (NamesAfter (codes "write") operands.now)
+    /// ```
+    ///
+    /// Definitions: [`AcceptsWithMemory`](crate::specs::operands::LineWords#AcceptsWithMemory), [`NamesAfter`](crate::specs::grammar::Commands#NamesAfter).
+    #[inline]
+    fn write(operands: &[&str]) -> Result<Call, LineError> {
+        let [memory, offset, bytes @ ..] = operands else {
+            return Err(LineError::BadCommand);
+        };
+        Ok(Call::Write {
+            memory: number(memory)?,
+            offset: number(offset)?,
+            bytes: list_of(bytes)?,
+        })
+    }
 
-        /// The call of a command of the meter, of a global or of a register.
-        ///
-        /// # Contract
-        ///
-        /// ```text
-        /// requires word: IsValueWord name.now
-        /// ensures call: Accepts result (NamesAfter name.now operands.now)
-        /// ```
-        ///
-        /// Definitions: [`IsValueWord`](crate::specs::grammar::Commands#IsValueWord), [`Accepts`](crate::specs::operands::LineWords#Accepts), [`NamesAfter`](crate::specs::grammar::Commands#NamesAfter).
-        #[inline]
-        pub(crate) fn command(name: &str, operands: &[&str]) -> Result<Call, LineError> {
-            match name {
-                "fuel" => Ok(Call::SetFuel(operand::one(operands)?)),
-                "left" if operands.is_empty() => Ok(Call::GetFuel),
-                "left" => Err(LineError::BadCommand),
-                "global" => {
-                    let (content, mutability, lo, hi) = operand::four(operands)?;
-                    Ok(Call::NewGlobal {
-                        value: RawVal { lo, hi },
-                        ty: GlobalType::new(content, mutability),
-                    })
-                }
-                "gset" => {
-                    let (global, ty, lo, hi) = operand::four(operands)?;
-                    Ok(Call::SetGlobal {
-                        global,
-                        value: TypedRawVal::new(ty, RawVal { lo, hi }),
-                    })
-                }
-                "gget" => Ok(Call::GetGlobal(operand::one(operands)?)),
-                "set" => {
-                    let (dst, lo, hi) = operand::three(operands)?;
-                    Ok(Call::SetRegister {
-                        dst,
-                        value: RawVal { lo, hi },
-                    })
-                }
-                _ => Ok(Call::GetRegister(operand::one(operands)?)),
-            }
+    /// `drop memory K` and `drop table K`.
+    ///
+    /// # Contract
+    ///
+    /// ```text
+    /// ensures: Accepts result (NamesAfter (codes "drop") operands.now)
+    /// ```
+    ///
+    /// Definitions: [`Accepts`](crate::specs::operands::LineWords#Accepts), [`NamesAfter`](crate::specs::grammar::Commands#NamesAfter).
+    #[inline]
+    fn drop_live(operands: &[&str]) -> Result<Call, LineError> {
+        let [kind, index] = operands else {
+            return Err(LineError::BadCommand);
+        };
+        let index = number(index)?;
+        match *kind {
+            "memory" => Ok(Call::DropMemory(index)),
+            "table" => Ok(Call::DropTable(index)),
+            _ => Err(LineError::BadCommand),
         }
     }
-    pub mod vector {
-        //! Commands of vector instructions whose operands are registers and indices of lanes.
 
-        use crate::proved::machine::Call;
-        use crate::proved::machine::simd::ImmLaneIdx32;
-        use crate::proved::operands::lane::{extract_op, replace_op};
-        use crate::proved::operands::operand::{self, Operand};
-        use crate::proved::operands::{LineError, number};
-        use crate::rattle::ArrayExt;
+    /// The memory type of four words, if there is such a type.
+    ///
+    /// # Contract
+    ///
+    /// ```text
+    /// ensures: Accepts result (λ ty. (length words.now ≡ 4) × NamesType (word_at words.now 0)
+    ///     (word_at words.now 1) (word_at words.now 2) (word_at words.now 3) ty)
+    /// ```
+    ///
+    /// Definitions: [`Accepts`](crate::specs::operands::LineWords#Accepts), [`NamesType`](crate::specs::grammar::Commands#NamesType), [`word_at`](crate::specs::operands::LineWords#word_at).
+    #[inline]
+    fn memory_type(words: &[&str]) -> Result<MemoryType, LineError> {
+        let (minimum, maximum, page_size_log2, index) = operand::four(words)?;
+        let mut builder = MemoryType::builder();
+        builder
+            .min(minimum)
+            .max(maximum)
+            .page_size_log2(page_size_log2)
+            .memory64(matches!(index, IndexType::I64));
+        builder.build().map_err(|_| LineError::BadCommand)
+    }
 
-        /// The call of a command of a vector instruction.
-        ///
-        /// # Contract
-        ///
-        /// ```text
-        /// requires word: IsVectorWord name.now
-        /// ensures call: Accepts result (NamesAfter name.now operands.now)
-        /// ```
-        ///
-        /// Definitions: [`IsVectorWord`](crate::specs::grammar::Commands#IsVectorWord), [`Accepts`](crate::specs::operands::LineWords#Accepts), [`NamesAfter`](crate::specs::grammar::Commands#NamesAfter).
-        #[inline]
-        pub(crate) fn command(name: &str, operands: &[&str]) -> Result<Call, LineError> {
-            match name {
-                "make" => call!(operands, three => Make { op, dst, a }),
-                "unary" => call!(operands, three => Unary { op, dst, a }),
-                "binary" => call!(operands, four => Binary { op, dst, a, b }),
-                "ternary" => call!(operands, five => Ternary { op, dst, a, b, c }),
-                "shift" => call!(operands, four => Shift { op, dst, a, amount }),
-                "test" => call!(operands, two => Test { op, a }),
-                "extract" => extract(operands),
-                "replace" => replace(operands),
-                _ => shuffle(operands),
+    /// The call of a command that loads or stores.
+    ///
+    /// # Contract
+    ///
+    /// ```text
+    /// requires word: IsAccessWord name.now
+    /// ensures call: Accepts result (NamesAfter name.now operands.now)
+    /// ```
+    ///
+    /// Definitions: [`IsAccessWord`](crate::specs::grammar::Commands#IsAccessWord), [`Accepts`](crate::specs::operands::LineWords#Accepts), [`NamesAfter`](crate::specs::grammar::Commands#NamesAfter).
+    #[inline]
+    fn access_call(name: &str, operands: &[&str]) -> Result<Call, LineError> {
+        match name {
+            "load" => call!(operands, four => Load { op, memory, ptr, offset }),
+            "store" => {
+                let (op, memory, ptr, offset, lo) = operand::five(operands)?;
+                Ok(Call::Store {
+                    op,
+                    memory,
+                    ptr,
+                    offset,
+                    value: RawVal::from_bits64(lo),
+                })
             }
+            "vload" => call!(operands, five => VectorLoad { op, dst, memory, ptr, offset }),
+            "vloadlane" => load_lane(operands),
+            "vstore" => call!(operands, four => VectorStore { a, memory, ptr, offset }),
+            _ => store_lane(operands),
         }
+    }
 
-        /// `extract NAME A LANE`.
-        ///
-        /// # Contract
-        ///
-        /// ```text
-        /// ensures: Accepts result (NamesAfter (codes "extract") operands.now)
-        /// ```
-        ///
-        /// Definitions: [`Accepts`](crate::specs::operands::LineWords#Accepts), [`NamesAfter`](crate::specs::grammar::Commands#NamesAfter).
-        #[inline]
-        fn extract(operands: &[&str]) -> Result<Call, LineError> {
-            let &[name, a, lane] = operands else {
-                return Err(LineError::BadCommand);
-            };
-            match (extract_op(name, lane), number(a)) {
-                (Ok(op), Ok(a)) => Ok(Call::Extract { op, a }),
-                _ => Err(LineError::BadCommand),
+    /// `vloadlane NAME D A LANE K PTR OFFSET`.
+    ///
+    /// # Contract
+    ///
+    /// ```text
+    /// ensures: Accepts result (NamesAfter (codes "vloadlane") operands.now)
+    /// ```
+    ///
+    /// Definitions: [`Accepts`](crate::specs::operands::LineWords#Accepts), [`NamesAfter`](crate::specs::grammar::Commands#NamesAfter).
+    #[inline]
+    fn load_lane(operands: &[&str]) -> Result<Call, LineError> {
+        let &[name, dst, a, lane, memory, ptr, offset] = operands else {
+            return Err(LineError::BadCommand);
+        };
+        let op = load_lane_op(name, lane)?;
+        let (dst, a, memory, ptr, offset) = operand::five(&[dst, a, memory, ptr, offset])?;
+        Ok(Call::LoadLane {
+            op,
+            dst,
+            a,
+            memory,
+            ptr,
+            offset,
+        })
+    }
+
+    /// `vstorelane NAME A LANE K PTR OFFSET`.
+    ///
+    /// # Contract
+    ///
+    /// ```text
+    /// ensures: Accepts result (NamesAfter (codes "vstorelane") operands.now)
+    /// ```
+    ///
+    /// Definitions: [`Accepts`](crate::specs::operands::LineWords#Accepts), [`NamesAfter`](crate::specs::grammar::Commands#NamesAfter).
+    #[inline]
+    fn store_lane(operands: &[&str]) -> Result<Call, LineError> {
+        let &[name, a, lane, memory, ptr, offset] = operands else {
+            return Err(LineError::BadCommand);
+        };
+        let op = store_lane_op(name, lane)?;
+        let (a, memory, ptr, offset) = operand::four(&[a, memory, ptr, offset])?;
+        Ok(Call::StoreLane {
+            op,
+            a,
+            memory,
+            ptr,
+            offset,
+        })
+    }
+
+    /// The call of a command of a table, or of one that empties a segment.
+    ///
+    /// # Contract
+    ///
+    /// ```text
+    /// requires word: IsTableWord name.now
+    /// ensures call: Accepts result (NamesAfter name.now operands.now)
+    /// ```
+    ///
+    /// Definitions: [`IsTableWord`](crate::specs::grammar::Commands#IsTableWord), [`Accepts`](crate::specs::operands::LineWords#Accepts), [`NamesAfter`](crate::specs::grammar::Commands#NamesAfter).
+    #[inline]
+    fn table_call(name: &str, operands: &[&str]) -> Result<Call, LineError> {
+        match name {
+            "table" => new_table(operands),
+            "tgrow" => {
+                let (table, delta, ty, raw) = operand::four(operands)?;
+                Ok(Call::GrowTable {
+                    table,
+                    delta,
+                    init: TypedRawRef::new(raw, ty),
+                })
             }
-        }
-
-        /// `replace NAME D A LANE B`.
-        ///
-        /// # Contract
-        ///
-        /// ```text
-        /// ensures: Accepts result (NamesAfter (codes "replace") operands.now)
-        /// ```
-        ///
-        /// Definitions: [`Accepts`](crate::specs::operands::LineWords#Accepts), [`NamesAfter`](crate::specs::grammar::Commands#NamesAfter).
-        #[inline]
-        fn replace(operands: &[&str]) -> Result<Call, LineError> {
-            let &[name, dst, a, lane, item] = operands else {
-                return Err(LineError::BadCommand);
-            };
-            match (replace_op(name, lane), number(dst), number(a), number(item)) {
-                (Ok(op), Ok(dst), Ok(a), Ok(item)) => Ok(Call::Replace { op, dst, a, item }),
-                _ => Err(LineError::BadCommand),
+            "get" => call!(operands, two => GetElement { table, index }),
+            "tset" => {
+                let (table, index, ty, raw) = operand::four(operands)?;
+                Ok(Call::SetElement {
+                    table,
+                    index,
+                    value: TypedRawRef::new(raw, ty),
+                })
             }
-        }
-
-        /// `shuffle D A B LANE ...`, with sixteen lanes.
-        ///
-        /// # Contract
-        ///
-        /// ```text
-        /// ensures: Accepts result (NamesAfter (codes "shuffle") operands.now)
-        /// ```
-        ///
-        /// Definitions: [`Accepts`](crate::specs::operands::LineWords#Accepts), [`NamesAfter`](crate::specs::grammar::Commands#NamesAfter).
-        #[inline]
-        fn shuffle(operands: &[&str]) -> Result<Call, LineError> {
-            let [dst, a, b, lanes @ ..] = operands else {
-                return Err(LineError::BadCommand);
-            };
-            match (number(dst), number(a), number(b), lanes_of(lanes)) {
-                (Ok(dst), Ok(a), Ok(b), Ok(lanes)) => Ok(Call::Shuffle { dst, a, b, lanes }),
-                _ => Err(LineError::BadCommand),
+            "init" => call!(operands, five => InitTable { table, segment, dst, src, len }),
+            "copy" => call!(operands, five => CopyTable { dst_table, dst, src_table, src, len }),
+            "fill" => {
+                let (table, dst, ty, raw, len) = operand::five(operands)?;
+                Ok(Call::FillTable {
+                    table,
+                    dst,
+                    value: TypedRawRef::new(raw, ty),
+                    len,
+                })
             }
+            _ => Ok(Call::DropItems(operand::one(operands)?)),
         }
+    }
 
-        /// The indices of lanes that sixteen words write, one each.
-        ///
-        /// # Contract
-        ///
-        /// ```text
-        /// ensures: Accepts result (WritesLanes words.now)
-        /// ```
-        ///
-        /// Definitions: [`Accepts`](crate::specs::operands::LineWords#Accepts), [`WritesLanes`](crate::specs::operands::Names#WritesLanes).
-        #[inline]
-        fn lanes_of(words: &[&str]) -> Result<[ImmLaneIdx32; 16], LineError> {
-            let Ok(words) = <&[&str; 16]>::try_from(words) else {
-                return Err(LineError::BadCommand);
-            };
-            words.try_map_all(|word| ImmLaneIdx32::from_word(word))
+    /// `table T MIN X WIDTH T N`.
+    ///
+    /// # Contract
+    ///
+    /// ```text
+    /// ensures: Accepts result (NamesAfter (codes "table") operands.now)
+    /// ```
+    ///
+    /// Definitions: [`Accepts`](crate::specs::operands::LineWords#Accepts), [`NamesAfter`](crate::specs::grammar::Commands#NamesAfter).
+    #[inline]
+    fn new_table(operands: &[&str]) -> Result<Call, LineError> {
+        let &[element, min, max, width, init_ty, raw] = operands else {
+            return Err(LineError::BadCommand);
+        };
+        let ty = table_type(&[element, min, max, width])?;
+        let (init_ty, raw) = operand::two(&[init_ty, raw])?;
+        Ok(Call::NewTable {
+            ty,
+            init: TypedRawRef::new(raw, init_ty),
+        })
+    }
+
+    /// `segment T N ...`, which may have no reference.
+    ///
+    /// # Contract
+    ///
+    /// ```text
+    /// ensures: AcceptsWithMemory result (NamesAfter (codes "segment") operands.now)
+    /// ```
+    ///
+    /// Definitions: [`AcceptsWithMemory`](crate::specs::operands::LineWords#AcceptsWithMemory), [`NamesAfter`](crate::specs::grammar::Commands#NamesAfter).
+    #[inline]
+    fn new_segment(operands: &[&str]) -> Result<Call, LineError> {
+        let [ty, items @ ..] = operands else {
+            return Err(LineError::BadCommand);
+        };
+        Ok(Call::NewSegment {
+            ty: RefType::from_word(ty)?,
+            items: list_of(items)?,
+        })
+    }
+
+    /// The table type of four words, if there is such a type.
+    ///
+    /// # Contract
+    ///
+    /// ```text
+    /// ensures: Accepts result (λ ty. (length words.now ≡ 4) × NamesTableType (word_at words.now 0)
+    ///     (word_at words.now 1) (word_at words.now 2) (word_at words.now 3) ty)
+    /// ```
+    ///
+    /// Definitions: [`Accepts`](crate::specs::operands::LineWords#Accepts), [`NamesTableType`](crate::specs::grammar::Commands#NamesTableType), [`word_at`](crate::specs::operands::LineWords#word_at).
+    #[inline]
+    fn table_type(words: &[&str]) -> Result<TableType, LineError> {
+        let (element, minimum, maximum, index) = operand::four::<_, u64, Option<u64>, _>(words)?;
+        if maximum.is_some_and(|most| most < minimum) {
+            return Err(LineError::BadCommand);
         }
+        match index {
+            IndexType::I32 => {
+                let minimum = index32(minimum)?;
+                let maximum = maximum.map(index32).transpose()?;
+                Ok(TableType::new(element, minimum, maximum))
+            }
+            IndexType::I64 => Ok(TableType::new64(element, minimum, maximum)),
+        }
+    }
+
+    /// The limit of a table whose indices have 32 bits.
+    ///
+    /// # Contract
+    ///
+    /// ```text
+    /// ensures value: OkIff result (limit < 2 ^ 32) limit
+    /// ensures refused: IfErr result (λ error. error ≡ LineError.BadCommand)
+    /// ```
+    #[inline]
+    fn index32(limit: u64) -> Result<u32, LineError> {
+        u32::try_from(limit).map_err(|_| LineError::BadCommand)
+    }
+
+    /// The call of a command of a vector instruction.
+    ///
+    /// # Contract
+    ///
+    /// ```text
+    /// requires word: IsVectorWord name.now
+    /// ensures call: Accepts result (NamesAfter name.now operands.now)
+    /// ```
+    ///
+    /// Definitions: [`IsVectorWord`](crate::specs::grammar::Commands#IsVectorWord), [`Accepts`](crate::specs::operands::LineWords#Accepts), [`NamesAfter`](crate::specs::grammar::Commands#NamesAfter).
+    #[inline]
+    fn vector_call(name: &str, operands: &[&str]) -> Result<Call, LineError> {
+        match name {
+            "make" => call!(operands, three => Make { op, dst, a }),
+            "unary" => call!(operands, three => Unary { op, dst, a }),
+            "binary" => call!(operands, four => Binary { op, dst, a, b }),
+            "ternary" => call!(operands, five => Ternary { op, dst, a, b, c }),
+            "shift" => call!(operands, four => Shift { op, dst, a, amount }),
+            "test" => call!(operands, two => Test { op, a }),
+            "extract" => extract(operands),
+            "replace" => replace(operands),
+            _ => shuffle(operands),
+        }
+    }
+
+    /// `extract NAME A LANE`.
+    ///
+    /// # Contract
+    ///
+    /// ```text
+    /// ensures: Accepts result (NamesAfter (codes "extract") operands.now)
+    /// ```
+    ///
+    /// Definitions: [`Accepts`](crate::specs::operands::LineWords#Accepts), [`NamesAfter`](crate::specs::grammar::Commands#NamesAfter).
+    #[inline]
+    fn extract(operands: &[&str]) -> Result<Call, LineError> {
+        let &[name, a, lane] = operands else {
+            return Err(LineError::BadCommand);
+        };
+        match (extract_op(name, lane), number(a)) {
+            (Ok(op), Ok(a)) => Ok(Call::Extract { op, a }),
+            _ => Err(LineError::BadCommand),
+        }
+    }
+
+    /// `replace NAME D A LANE B`.
+    ///
+    /// # Contract
+    ///
+    /// ```text
+    /// ensures: Accepts result (NamesAfter (codes "replace") operands.now)
+    /// ```
+    ///
+    /// Definitions: [`Accepts`](crate::specs::operands::LineWords#Accepts), [`NamesAfter`](crate::specs::grammar::Commands#NamesAfter).
+    #[inline]
+    fn replace(operands: &[&str]) -> Result<Call, LineError> {
+        let &[name, dst, a, lane, item] = operands else {
+            return Err(LineError::BadCommand);
+        };
+        match (replace_op(name, lane), number(dst), number(a), number(item)) {
+            (Ok(op), Ok(dst), Ok(a), Ok(item)) => Ok(Call::Replace { op, dst, a, item }),
+            _ => Err(LineError::BadCommand),
+        }
+    }
+
+    /// `shuffle D A B LANE ...`, with sixteen lanes.
+    ///
+    /// # Contract
+    ///
+    /// ```text
+    /// ensures: Accepts result (NamesAfter (codes "shuffle") operands.now)
+    /// ```
+    ///
+    /// Definitions: [`Accepts`](crate::specs::operands::LineWords#Accepts), [`NamesAfter`](crate::specs::grammar::Commands#NamesAfter).
+    #[inline]
+    fn shuffle(operands: &[&str]) -> Result<Call, LineError> {
+        let [dst, a, b, lanes @ ..] = operands else {
+            return Err(LineError::BadCommand);
+        };
+        match (number(dst), number(a), number(b), lanes_of(lanes)) {
+            (Ok(dst), Ok(a), Ok(b), Ok(lanes)) => Ok(Call::Shuffle { dst, a, b, lanes }),
+            _ => Err(LineError::BadCommand),
+        }
+    }
+
+    /// The indices of lanes that sixteen words write, one each.
+    ///
+    /// # Contract
+    ///
+    /// ```text
+    /// ensures: Accepts result (WritesLanes words.now)
+    /// ```
+    ///
+    /// Definitions: [`Accepts`](crate::specs::operands::LineWords#Accepts), [`WritesLanes`](crate::specs::operands::Names#WritesLanes).
+    #[inline]
+    fn lanes_of(words: &[&str]) -> Result<[ImmLaneIdx32; 16], LineError> {
+        let Ok(words) = <&[&str; 16]>::try_from(words) else {
+            return Err(LineError::BadCommand);
+        };
+        words.try_map_all(|word| ImmLaneIdx32::from_word(word))
     }
 }
 mod error {
@@ -722,7 +722,7 @@ pub mod laws {
 mod script {
     //! The script's lines: header lines, and then commands.
 
-    use crate::proved::grammar::command::{access, memory, table, values, vector};
+    use crate::proved::grammar::command::command;
     use crate::proved::grammar::error::ParseError;
     use crate::proved::grammar::header::{
         Header, LimiterLine, MeterLine, RegionLine, listed, meter_line, quota, region_line, tenants,
@@ -945,24 +945,7 @@ mod script {
             let [name, operands @ ..] = words else {
                 return Ok(());
             };
-            let line = line_of(name, operands)?;
-            self.take(line)
-        }
-
-        /// Takes in what a line says.
-        ///
-        /// # Contract
-        ///
-        /// ```text
-        /// ensures ok: OnOk result (AddsLine self.old line self.new)
-        /// ensures refused: IfErr result (λ error. error ≡ LineError.BadCommand
-        ///     → (new : Script) → ¬ (AddsLine self.old line new))
-        /// ```
-        ///
-        /// Definitions: [`AddsLine`](crate::specs::grammar::Lines#AddsLine).
-        #[inline]
-        fn take(&mut self, line: Line) -> Result<(), LineError> {
-            match line {
+            match line_of(name, operands)? {
                 Line::Meter(line) => self.take_meter(line),
                 Line::Limiter(line) => self.take_limiter(line),
                 Line::Region(line) => self.take_region(line),
@@ -1073,15 +1056,10 @@ mod script {
 
     /// What a line with words says.
     enum Line {
-        /// A `meter` line.
         Meter(MeterLine),
-        /// A limiter line.
         Limiter(LimiterLine),
-        /// A `region` line.
         Region(RegionLine),
-        /// An `as` line, with its tenant.
         As(usize),
-        /// A command, with its call.
         Call(Call),
     }
 
@@ -1104,36 +1082,6 @@ mod script {
             "region" => Ok(Line::Region(region_line(operands)?)),
             "as" => Ok(Line::As(operand::one(operands)?)),
             _ => Ok(Line::Call(command(name, operands)?)),
-        }
-    }
-
-    /// The call of a command with this name and these operands.
-    ///
-    /// # Contract
-    ///
-    /// ```text
-    /// ensures: AcceptsWithMemory result (NamesAfter name.now operands.now)
-    /// ```
-    ///
-    /// Definitions: [`AcceptsWithMemory`](crate::specs::operands::LineWords#AcceptsWithMemory), [`NamesAfter`](crate::specs::grammar::Commands#NamesAfter).
-    #[inline]
-    fn command(name: &str, operands: &[&str]) -> Result<Call, LineError> {
-        match name {
-            "write" => memory::write(operands),
-            "segment" => table::new_segment(operands),
-            "fuel" | "left" | "global" | "gset" | "gget" | "set" | "show" => {
-                values::command(name, operands)
-            }
-            "memory" | "lent" | "grow" | "drop" | "read" => memory::command(name, operands),
-            "load" | "store" | "vload" | "vloadlane" | "vstore" | "vstorelane" => {
-                access::command(name, operands)
-            }
-            "table" | "tgrow" | "get" | "tset" | "init" | "copy" | "fill" | "empty" => {
-                table::command(name, operands)
-            }
-            "make" | "unary" | "binary" | "ternary" | "shift" | "test" | "extract" | "replace"
-            | "shuffle" => vector::command(name, operands),
-            _ => Err(LineError::BadCommand),
         }
     }
 

@@ -4,7 +4,7 @@ use Rattle.wasmi_grammar.specs.Commands.{HasSettings}
 use Rattle.wasmi_operands.proofs.LineWordsLemmas.{accepts_same, refused_through}
 use Rattle.wasmi_store.specs.Memory.{page_log2}
 use Rattle.wasmi_grammar.proofs.LimitWordsLemmas.{limits_written, WrittenSettings, names_of, settings_of}
-use Rattle.wasmi_grammar.proofs.command.memory.memory_type.Goals as goal
+use Rattle.wasmi_grammar.proofs.command.memory_type.Goals as goal
 
 pub returns-in_err-minimum : goal.returns-in_err-minimum
 returns-in_err-minimum c =

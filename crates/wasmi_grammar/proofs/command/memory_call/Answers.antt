@@ -1,6 +1,6 @@
 use Rattle.std.proofs.Common.{rules}
 use Rattle.wasmi_grammar.proofs.CommandsLemmas.{refused_named}
-use Rattle.wasmi_grammar.proofs.command.memory.command.Goals as goal
+use Rattle.wasmi_grammar.proofs.command.memory_call.Goals as goal
 
 pub returns-in_err-memory-in-grow : goal.returns-in_err-memory-in-grow
 returns-in_err-memory-in-grow c = record { call = refused_named _ (search rules) c.in-grow.is c.in_err-memory-in-grow.ensures }

@@ -9,7 +9,7 @@ use Rattle.wasmi_operands.specs.Names.{reference_word, width_word}
 use Rattle.wasmi_grammar.specs.Commands.{HasLimits, Limits, NamesTableType}
 use Rattle.wasmi_operands.proofs.LineWordsLemmas.{accepts_same, refused_through}
 use Rattle.wasmi_grammar.proofs.LimitWordsLemmas.{limits_written, WrittenTableType, names_table_of, table_settings_of}
-use Rattle.wasmi_grammar.proofs.command.table.table_type.Goals as goal
+use Rattle.wasmi_grammar.proofs.command.table_type.Goals as goal
 
 pub returns-in_err-element : goal.returns-in_err-element
 returns-in_err-element c =

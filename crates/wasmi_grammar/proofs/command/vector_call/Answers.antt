@@ -1,6 +1,6 @@
 use Rattle.std.proofs.Common.{rules}
 use Rattle.wasmi_grammar.proofs.CommandsLemmas.{refused_named}
-use Rattle.wasmi_grammar.proofs.command.vector.command.Goals as goal
+use Rattle.wasmi_grammar.proofs.command.vector_call.Goals as goal
 
 pub returns-in_err-op-in-make : goal.returns-in_err-op-in-make
 returns-in_err-op-in-make c = record { call = refused_named _ (search rules) c.in-make.is c.in_err-op-in-make.ensures }

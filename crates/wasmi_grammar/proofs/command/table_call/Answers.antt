@@ -1,6 +1,6 @@
 use Rattle.std.proofs.Common.{rules}
 use Rattle.wasmi_grammar.proofs.CommandsLemmas.{refused_named}
-use Rattle.wasmi_grammar.proofs.command.table.command.Goals as goal
+use Rattle.wasmi_grammar.proofs.command.table_call.Goals as goal
 
 pub returns-in_err-table-in-tgrow : goal.returns-in_err-table-in-tgrow
 returns-in_err-table-in-tgrow c = record { call = refused_named _ (search rules) c.in-tgrow.is c.in_err-table-in-tgrow.ensures }

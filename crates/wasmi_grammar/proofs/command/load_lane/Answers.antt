@@ -2,7 +2,7 @@ use Rattle.std.proofs.Common.{codes, refl, rules}
 use Rattle.wasmi_operands.specs.LineWords.{WritesNumber}
 use Rattle.wasmi_operands.proofs.LineWordsLemmas.{refused_with}
 use Rattle.wasmi_grammar.proofs.CommandsLemmas.{refused_form, written_at}
-use Rattle.wasmi_grammar.proofs.command.access.load_lane.Goals as goal
+use Rattle.wasmi_grammar.proofs.command.load_lane.Goals as goal
 
 pub returns-in_err-dst : goal.returns-in_err-dst
 returns-in_err-dst c =

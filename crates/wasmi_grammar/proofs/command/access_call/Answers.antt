@@ -1,7 +1,7 @@
 use Rattle.std.proofs.Common.{rules}
 use Rattle.wasmi_operands.proofs.LineWordsLemmas.{refused_with}
 use Rattle.wasmi_grammar.proofs.CommandsLemmas.{refused_named}
-use Rattle.wasmi_grammar.proofs.command.access.command.Goals as goal
+use Rattle.wasmi_grammar.proofs.command.access_call.Goals as goal
 
 pub returns-in_err-op-in-load : goal.returns-in_err-op-in-load
 returns-in_err-op-in-load c = record { call = refused_named _ (search rules) c.in-load.is c.in_err-op-in-load.ensures }

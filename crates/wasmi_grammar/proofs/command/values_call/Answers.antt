@@ -1,6 +1,6 @@
 use Rattle.std.proofs.Common.{rules}
 use Rattle.wasmi_grammar.proofs.CommandsLemmas.{refused_named}
-use Rattle.wasmi_grammar.proofs.command.values.command.Goals as goal
+use Rattle.wasmi_grammar.proofs.command.values_call.Goals as goal
 
 pub returns-in_err-content-in-global : goal.returns-in_err-content-in-global
 returns-in_err-content-in-global c = record { call = refused_named _ (search rules) c.in-global.is c.in_err-content-in-global.ensures }

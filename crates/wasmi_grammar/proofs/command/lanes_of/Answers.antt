@@ -6,7 +6,7 @@ use Rattle.wasmi_operands.specs.declared.error.LineError.TheVariants.{BadCommand
 use Rattle.wasmi_operands.specs.LineWords.{Accepts, WritesNumber, LineWords, WritesEach}
 use Rattle.wasmi_operands.specs.Names.{WritesLanes}
 use Rattle.wasmi_operands.proofs.LineWordsLemmas.{each_said, not_each}
-use Rattle.wasmi_grammar.proofs.command.vector.lanes_of.Goals as goal
+use Rattle.wasmi_grammar.proofs.command.lanes_of.Goals as goal
 
 -- no lanes are written
 abbrev WriteNoLanes : LineWords → Type 0
