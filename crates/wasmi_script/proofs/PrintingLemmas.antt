@@ -11,7 +11,7 @@ use Rattle.std.specs.declared.option.Option.{Option}
 use Rattle.std.specs.Io.KnownBytes.{Appends}
 use Rattle.std.proofs.KnownBytes.{Appends-nil, Appends-trans}
 use Rattle.wasmi_script.specs.declared.printing.Printer.{Printer}
-use Rattle.wasmi_script.specs.Printing.{AppendsFront, AddsText, Flushes, Prints, PrintsFront, PrintsOut, Sends, SendsFront, AddsToFront, FillsFront, HasFront}
+use Rattle.wasmi_script.specs.Printing.{AppendsFront, AddsText, Flushes, Prints, PrintsFront, PrintsText, PrintsOut, Sends, SendsFront, AddsToFront, FillsFront, HasFront}
 use Rattle.std.proofs.lemmas.Bool.{cases_lt}
 use Rattle.std.proofs.Math.Seq.{take-append-add}
 use borrow.Rule.Slice.PartMut.{put_mid}
@@ -74,11 +74,6 @@ Takes s bytes t = t.bytes ≡ s.bytes ++ bytes
 taken : (s t : ArrayString) (bytes : List ℕ) → WritesInCalls Takes s bytes t → t.bytes ≡ s.bytes ++ bytes
 taken s t bytes writes = contents_after_writes Takes (λ x. x.bytes) (λ w bs v h. h) s bytes t writes
 
--- what holds where a call fails, or where it doesn't
-pub always_err : {A E : Type 0} {P : Type 0} (r : Result A E) → P → OnErr r P
-always_err (Ok x) p = tt
-always_err (Err e) p = p
-
 -- what holds where a call doesn't fail holds in a weaker form
 pub ok_weaker : {A E : Type 0} {P Q : Type 0} (r : Result A E) → (P → Q) → OnOk r P → OnOk r Q
 ok_weaker (Ok x) weaker p = weaker p
@@ -137,15 +132,19 @@ module _ {W : Type 0} (contents : W → Option (List ℕ)) where
       → PrintsFront contents q r t → PrintsFront contents p r text
   prints_last p q r s t text is = prints_front p q r s t [] text (is ∙ ap (λ l. s ++ l) (sym (append-nil t)))
 
-  -- a text is printed where its last part is
-  pub ok_last : {E : Type 0} (result : Result (Unit {0}) E) (p q r : Printer W) (s t text : List ℕ) → text ≡ s ++ t
-      → Prints contents p q s → OnOk result (Prints contents q r t) → OnOk result (Prints contents p r text)
-  ok_last result p q r s t text is first = ok_weaker result (prints_then p q r s t text is first)
+  -- a text is printed in part where the writer has failed
+  pub in_part : {E : Type 0} {error : E} (result : Result (Unit {0}) E) (p q : Printer W) (text : List ℕ)
+      → result ≡ Err error → PrintsFront contents p q text → PrintsText contents text p result q
+  in_part result p q text is front =
+      subst (λ r. PrintsText contents text p r q) (sym is) (tt, front)
 
-  -- and in part where its last part is printed in part
-  pub err_last : {E : Type 0} (result : Result (Unit {0}) E) (p q r : Printer W) (s t text : List ℕ) → text ≡ s ++ t
-      → Prints contents p q s → OnErr result (PrintsFront contents q r t) → OnErr result (PrintsFront contents p r text)
-  err_last result p q r s t text is first = err_weaker result (prints_last p q r s t text is first)
+  -- a text is printed where its last part is, and in part where its last part is printed in part
+  pub last_part : {E : Type 0} (result : Result (Unit {0}) E) (p q r : Printer W) (s t text : List ℕ) → text ≡ s ++ t
+      → Prints contents p q s → PrintsText contents t q result r → PrintsText contents text p result r
+  last_part result p q r s t text is first prints = (
+    ok_weaker result (prints_then p q r s t text is first) prints.0,
+    err_weaker result (prints_last p q r s t text is first) prints.1,
+  )
 
   -- a text that is printed, and then what waits
   prints_out : (p q r : Printer W) (text : List ℕ) → Prints contents p q text → Sends contents q r
@@ -161,13 +160,12 @@ module _ {W : Type 0} (contents : W → Option (List ℕ)) where
 
   -- a text that is printed or not, and then what waits if it is
   pub flushed : {E : Type 0} (printed result : Result (Unit {0}) E) (p q r : Printer W) (text : List ℕ)
-      → OnOk printed (Prints contents p q text) → OnErr printed (PrintsFront contents p q text)
-      → Flushes contents printed q result r
+      → PrintsText contents text p printed q → Flushes contents printed q result r
       → OnOk result (PrintsOut contents p r text) × OnErr result (PrintsFront contents p r text)
-  flushed (Ok x) (Ok y) p q r text ok front sent = (prints_out p q r text ok sent, tt)
-  flushed (Ok x) (Err e) p q r text ok front sent = (tt, prints_out_front p q r text ok sent)
-  flushed (Err e) (Ok y) p q r text ok front sent = absurd sent
-  flushed (Err e) (Err e') p q r text ok front same = (tt, subst (λ r. PrintsFront contents p r text) (sym same) front)
+  flushed (Ok x) (Ok y) p q r text prints sent = (prints_out p q r text prints.0 sent, tt)
+  flushed (Ok x) (Err e) p q r text prints sent = (tt, prints_out_front p q r text prints.0 sent)
+  flushed (Err e) (Ok y) p q r text prints sent = absurd sent
+  flushed (Err e) (Err e') p q r text prints same = (tt, subst (λ r. PrintsFront contents p r text) (sym same) prints.1)
 
   -- a text waits beside what waited
   waits : (p q : Printer W) (text : List ℕ) → q.writer ≡ p.writer → q.chunk.bytes ≡ p.chunk.bytes ++ text

@@ -1,5 +1,5 @@
 -- What of a text reaches a writer, or the front of bytes.
-use Rattle.std.specs.Prelude.{◌≡◌, ◌<◌, ℕ, List, ◌++◌, codes, length, IfSome, Result, Ok, Err, Option, ◌-◌, ◌^◌, [], take, drop, min, None, Some}
+use Rattle.std.specs.Prelude.{◌≡◌, ◌<◌, ℕ, List, ◌++◌, codes, length, IfSome, OnOk, OnErr, Result, Ok, Err, Option, ◌-◌, ◌^◌, [], take, drop, min, None, Some}
 use Rattle.std.specs.Io.KnownBytes.{Appends}
 use Rattle.wasmi_script.specs.declared.printing.Printer.{Printer}
 use Rattle.wasmi_script.specs.declared.printing.TheConstants.{LONGEST}
@@ -33,6 +33,12 @@ pub record PrintsFront {W : Type 0} (contents : W → Option (List ℕ)) (old ne
     (text : List ℕ) : Type 0 where
   pub writer : new.writer.ghost_name ≡ old.writer.ghost_name
   pub sent : AppendsFront (contents old.writer.now) (contents new.writer.now) (old.chunk.bytes ++ text)
+
+-- a text is printed, or in part where the writer fails
+abbrev pub PrintsText : {W E : Type 0} → (W → Option (List ℕ)) → List ℕ → Printer W → Result (Unit {0}) E → Printer W
+    → Type 0
+PrintsText contents text old result new =
+    OnOk result (Prints contents old new text) × OnErr result (PrintsFront contents old new text)
 
 -- a text is out: the writer gets what waits and the text
 pub record PrintsOut {W : Type 0} (contents : W → Option (List ℕ)) (old new : Printer W) (text : List ℕ) : Type 0 where

@@ -15,14 +15,7 @@ pub fn write_lines(bytes: &mut [u8], calls: &[Call], replies: &[Reply]) -> usize
     ensures front { FillsFront (replies_text calls.now replies.now) bytes.old bytes.new }
     ensures length { result ≡ min (length (replies_text calls.now replies.now)) (2 ^ 64 - 1) }
 {
-    put_lines(bytes, 0, calls, replies)
-}
-
-/// A line for each call with its reply, as [`put`] does a text.
-fn put_lines(bytes: &mut [u8], written: usize, calls: &[Call], replies: &[Reply]) -> usize
-    ensures { AddsToFront (replies_text calls.now replies.now) bytes.old written bytes.new result }
-{
-    let mut end = written;
+    let mut end = 0;
     for (call, reply) in calls.iter().zip(replies) {
         end = put_line(bytes, end, call, reply);
     }

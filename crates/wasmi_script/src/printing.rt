@@ -1,7 +1,7 @@
 //! The lines that a replay prints, by its outcome, and the printer that they go through.
 ghost use Rattle.std.specs.Prelude.{◌≡◌, ◌+◌, ◌≤◌, [], length, Some, IsOk, OnOk, OnErr, IfSome};
 ghost use Rattle.std.specs.Io.KnownBytes.{Appends};
-ghost use Rattle.wasmi_script.specs.Printing.{AppendsFront, Flushes, IsShort, Prints, PrintsFront, Sends, SendsFront, line};
+ghost use Rattle.wasmi_script.specs.Printing.{AppendsFront, Flushes, IsShort, Prints, PrintsFront, PrintsText, Sends, SendsFront, line};
 ghost use Rattle.wasmi_script.specs.Texts.{reply_text, head_text, bytes_in};
 ghost use Rattle.wasmi_script.specs.Outcomes.{replies_text, tenants_text, held_text, outcome_text};
 
@@ -72,10 +72,7 @@ fn print_outcome<W: io::Write>(
     printer: &mut Printer<'_, W>,
     outcome: &Result<Replayed, ReplayError>,
 ) -> fmt::Result
-    ensures ok { OnOk result
-        (Prints W.contents printer.old printer.new (outcome_text outcome.now)) }
-    ensures front { OnErr result
-        (PrintsFront W.contents printer.old printer.new (outcome_text outcome.now)) }
+    ensures { PrintsText W.contents (outcome_text outcome.now) printer.old result printer.new }
 {
     match outcome {
         Ok(replayed) => {
@@ -93,10 +90,8 @@ fn print_replies<W: io::Write>(
     calls: &[Call],
     replies: &[Reply],
 ) -> fmt::Result
-    ensures ok { OnOk result
-        (Prints W.contents printer.old printer.new (replies_text calls.now replies.now)) }
-    ensures front { OnErr result
-        (PrintsFront W.contents printer.old printer.new (replies_text calls.now replies.now)) }
+    ensures { PrintsText W.contents (replies_text calls.now replies.now) printer.old result
+        printer.new }
 {
     for (call, reply) in calls.iter().zip(replies) {
         print_reply(printer, call, reply)?;
@@ -110,10 +105,8 @@ fn print_reply<W: io::Write>(
     call: &Call,
     reply: &Reply,
 ) -> fmt::Result
-    ensures ok { OnOk result
-        (Prints W.contents printer.old printer.new (line (reply_text call.now reply.now))) }
-    ensures front { OnErr result
-        (PrintsFront W.contents printer.old printer.new (line (reply_text call.now reply.now))) }
+    ensures { PrintsText W.contents (line (reply_text call.now reply.now)) printer.old result
+        printer.new }
 {
     printer.print(ReplyHead { call, reply })?;
     for byte in bytes_of(reply) {
@@ -135,9 +128,7 @@ pub fn bytes_of(reply: &Reply) -> &[u8]
 /// What a quota holds, or what each tenant of a pool holds.
 #[tactic(auto, using(crate::proofs::LengthLemmas::held_short))]
 fn print_held<W: io::Write>(printer: &mut Printer<'_, W>, held: &Held) -> fmt::Result
-    ensures ok { OnOk result (Prints W.contents printer.old printer.new (held_text held.now)) }
-    ensures front { OnErr result
-        (PrintsFront W.contents printer.old printer.new (held_text held.now)) }
+    ensures { PrintsText W.contents (held_text held.now) printer.old result printer.new }
 {
     match held {
         Held::Nothing => Ok(()),
@@ -150,10 +141,8 @@ fn print_held<W: io::Write>(printer: &mut Printer<'_, W>, held: &Held) -> fmt::R
 
 /// What each tenant of a pool holds.
 fn print_tenants<W: io::Write>(printer: &mut Printer<'_, W>, pool: &Pool) -> fmt::Result
-    ensures ok { OnOk result
-        (Prints W.contents printer.old printer.new (tenants_text pool.now.machines)) }
-    ensures front { OnErr result
-        (PrintsFront W.contents printer.old printer.new (tenants_text pool.now.machines)) }
+    ensures { PrintsText W.contents (tenants_text pool.now.machines) printer.old result
+        printer.new }
 {
     for index in 0..pool.len() {
         let bytes = pool.held_bytes(index).unwrap();

@@ -3,7 +3,6 @@ ghost use Rattle.std.specs.Prelude.{◌≡◌, None, Some, IfOk};
 ghost use Rattle.std.specs.Option.{option_map, option_copied_mut};
 ghost use Rattle.wasmi_grammar.specs.Headers.{meter_of, region_bytes, start_of};
 ghost use Rattle.wasmi_core.specs.State.{new_state};
-ghost use Rattle.wasmi_budget.specs.Pool.{RunsTenant};
 ghost use Rattle.wasmi_script.specs.ScriptRuns.{IsReplayOf, IsReplayOnOne, IsListedReplay, IsPoolReplay, new_pool};
 
 use std::alloc::{AllocError, Global};
@@ -148,7 +147,10 @@ fn run_pool(alloc: Global, script: &Script, line: TenantsLine) -> Result<Ran, Al
     let mut replies = Vec::with_capacity(alloc, parts.calls().len())?;
     for index in 0..parts.len() {
         let (tenant, calls) = parts.get(index).unwrap();
-        let mut answered = run_part(&mut pool, tenant, calls)?;
+        // No script names a tenant that its pool lacks, so memory is wanting after an error.
+        let Ok(mut answered) = pool.run(tenant, calls) else {
+            return Err(AllocError);
+        };
         replies.append(&mut answered)?;
     }
     let held = Held::Tenants(pool);
@@ -167,13 +169,4 @@ fn pool_of(alloc: Global, header: &Header, line: TenantsLine) -> Result<Pool<'st
         }
     }
     Ok(pool)
-}
-
-/// Runs the calls of one part.
-fn run_part(pool: &mut Pool, tenant: usize, calls: &[Call]) -> Result<Vec<Reply>, AllocError>
-    ensures { IfOk result (λ replies.
-        RunsTenant pool.old tenant calls.now replies.items pool.new) }
-{
-    // No script names a tenant that its pool lacks, so memory is wanting after an error.
-    pool.run(tenant, calls).map_err(|_| AllocError)
 }

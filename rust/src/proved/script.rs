@@ -125,21 +125,7 @@ mod lines {
     /// Definitions: [`FillsFront`](crate::specs::script::Printing#FillsFront), [`replies_text`](crate::specs::script::Outcomes#replies_text).
     #[inline]
     pub fn write_lines(bytes: &mut [u8], calls: &[Call], replies: &[Reply]) -> usize {
-        put_lines(bytes, 0, calls, replies)
-    }
-
-    /// A line for each call with its reply, as [`put`] does a text.
-    ///
-    /// # Contract
-    ///
-    /// ```text
-    /// ensures: AddsToFront (replies_text calls.now replies.now) bytes.old written bytes.new result
-    /// ```
-    ///
-    /// Definitions: [`AddsToFront`](crate::specs::script::Printing#AddsToFront), [`replies_text`](crate::specs::script::Outcomes#replies_text).
-    #[inline]
-    fn put_lines(bytes: &mut [u8], written: usize, calls: &[Call], replies: &[Reply]) -> usize {
-        let mut end = written;
+        let mut end = 0;
         for (call, reply) in calls.iter().zip(replies) {
             end = put_line(bytes, end, call, reply);
         }
@@ -334,13 +320,10 @@ mod printing {
     /// # Contract
     ///
     /// ```text
-    /// ensures ok: OnOk result
-    ///     (Prints W.contents printer.old printer.new (outcome_text outcome.now))
-    /// ensures front: OnErr result
-    ///     (PrintsFront W.contents printer.old printer.new (outcome_text outcome.now))
+    /// ensures: PrintsText W.contents (outcome_text outcome.now) printer.old result printer.new
     /// ```
     ///
-    /// Definitions: [`Prints`](crate::specs::script::Printing#Prints), [`outcome_text`](crate::specs::script::Outcomes#outcome_text), [`PrintsFront`](crate::specs::script::Printing#PrintsFront).
+    /// Definitions: [`PrintsText`](crate::specs::script::Printing#PrintsText), [`outcome_text`](crate::specs::script::Outcomes#outcome_text).
     #[inline]
     fn print_outcome<W: io::Write>(
         printer: &mut Printer<'_, W>,
@@ -361,13 +344,11 @@ mod printing {
     /// # Contract
     ///
     /// ```text
-    /// ensures ok: OnOk result
-    ///     (Prints W.contents printer.old printer.new (replies_text calls.now replies.now))
-    /// ensures front: OnErr result
-    ///     (PrintsFront W.contents printer.old printer.new (replies_text calls.now replies.now))
+    /// ensures: PrintsText W.contents (replies_text calls.now replies.now) printer.old result
+    ///     printer.new
     /// ```
     ///
-    /// Definitions: [`Prints`](crate::specs::script::Printing#Prints), [`replies_text`](crate::specs::script::Outcomes#replies_text), [`PrintsFront`](crate::specs::script::Printing#PrintsFront).
+    /// Definitions: [`PrintsText`](crate::specs::script::Printing#PrintsText), [`replies_text`](crate::specs::script::Outcomes#replies_text).
     #[inline]
     fn print_replies<W: io::Write>(
         printer: &mut Printer<'_, W>,
@@ -385,13 +366,11 @@ mod printing {
     /// # Contract
     ///
     /// ```text
-    /// ensures ok: OnOk result
-    ///     (Prints W.contents printer.old printer.new (line (reply_text call.now reply.now)))
-    /// ensures front: OnErr result
-    ///     (PrintsFront W.contents printer.old printer.new (line (reply_text call.now reply.now)))
+    /// ensures: PrintsText W.contents (line (reply_text call.now reply.now)) printer.old result
+    ///     printer.new
     /// ```
     ///
-    /// Definitions: [`Prints`](crate::specs::script::Printing#Prints), [`line`](crate::specs::script::Printing#line), [`reply_text`](crate::specs::script::Texts#reply_text), [`PrintsFront`](crate::specs::script::Printing#PrintsFront).
+    /// Definitions: [`PrintsText`](crate::specs::script::Printing#PrintsText), [`line`](crate::specs::script::Printing#line), [`reply_text`](crate::specs::script::Texts#reply_text).
     #[inline]
     fn print_reply<W: io::Write>(
         printer: &mut Printer<'_, W>,
@@ -427,12 +406,10 @@ mod printing {
     /// # Contract
     ///
     /// ```text
-    /// ensures ok: OnOk result (Prints W.contents printer.old printer.new (held_text held.now))
-    /// ensures front: OnErr result
-    ///     (PrintsFront W.contents printer.old printer.new (held_text held.now))
+    /// ensures: PrintsText W.contents (held_text held.now) printer.old result printer.new
     /// ```
     ///
-    /// Definitions: [`Prints`](crate::specs::script::Printing#Prints), [`held_text`](crate::specs::script::Outcomes#held_text), [`PrintsFront`](crate::specs::script::Printing#PrintsFront).
+    /// Definitions: [`PrintsText`](crate::specs::script::Printing#PrintsText), [`held_text`](crate::specs::script::Outcomes#held_text).
     #[inline]
     fn print_held<W: io::Write>(printer: &mut Printer<'_, W>, held: &Held) -> fmt::Result {
         match held {
@@ -449,13 +426,11 @@ mod printing {
     /// # Contract
     ///
     /// ```text
-    /// ensures ok: OnOk result
-    ///     (Prints W.contents printer.old printer.new (tenants_text pool.now.machines))
-    /// ensures front: OnErr result
-    ///     (PrintsFront W.contents printer.old printer.new (tenants_text pool.now.machines))
+    /// ensures: PrintsText W.contents (tenants_text pool.now.machines) printer.old result
+    ///     printer.new
     /// ```
     ///
-    /// Definitions: [`Prints`](crate::specs::script::Printing#Prints), [`tenants_text`](crate::specs::script::Outcomes#tenants_text), [`PrintsFront`](crate::specs::script::Printing#PrintsFront).
+    /// Definitions: [`PrintsText`](crate::specs::script::Printing#PrintsText), [`tenants_text`](crate::specs::script::Outcomes#tenants_text).
     #[inline]
     fn print_tenants<W: io::Write>(printer: &mut Printer<'_, W>, pool: &Pool) -> fmt::Result {
         for index in 0..pool.len() {
@@ -988,7 +963,10 @@ mod running {
         let mut replies = Vec::with_capacity(parts.calls().len())?;
         for index in 0..parts.len() {
             let (tenant, calls) = parts.get(index).unwrap();
-            let mut answered = run_part(&mut pool, tenant, calls)?;
+            // No script names a tenant that its pool lacks, so memory is wanting after an error.
+            let Ok(mut answered) = pool.run(tenant, calls) else {
+                return Err(AllocError);
+            };
             replies.append(&mut answered)?;
         }
         let held = Held::Tenants(pool);
@@ -1014,22 +992,6 @@ mod running {
             }
         }
         Ok(pool)
-    }
-
-    /// Runs the calls of one part.
-    ///
-    /// # Contract
-    ///
-    /// ```text
-    /// ensures: IfOk result (λ replies.
-    ///     RunsTenant pool.old tenant calls.now replies.items pool.new)
-    /// ```
-    ///
-    /// Definitions: [`RunsTenant`](crate::specs::budget::Pool#RunsTenant).
-    #[inline]
-    fn run_part(pool: &mut Pool, tenant: usize, calls: &[Call]) -> Result<Vec<Reply>, AllocError> {
-        // No script names a tenant that its pool lacks, so memory is wanting after an error.
-        pool.run(tenant, calls).map_err(|_| AllocError)
     }
 }
 mod wording {

@@ -6640,7 +6640,7 @@ pub record <b id="Replays">Replays</b> (given old new : Option (List ℕ)) (stat
     pub mod Outcomes {}
     #[doc = r####"What of a text reaches a writer, or the front of bytes.
 
-<pre><code>use Rattle.std.specs.Prelude.{◌≡◌, ◌&lt;◌, ℕ, List, ◌++◌, codes, length, IfSome, Result, Ok, Err, Option, ◌-◌, ◌^◌, [], take, drop, min, None, Some}
+<pre><code>use Rattle.std.specs.Prelude.{◌≡◌, ◌&lt;◌, ℕ, List, ◌++◌, codes, length, IfSome, OnOk, OnErr, Result, Ok, Err, Option, ◌-◌, ◌^◌, [], take, drop, min, None, Some}
 use Rattle.std.specs.Io.KnownBytes.{Appends}
 use Rattle.wasmi_script.specs.declared.printing.Printer.{Printer}
 use Rattle.wasmi_script.specs.declared.printing.TheConstants.{LONGEST}
@@ -6674,6 +6674,12 @@ pub record <b id="PrintsFront">PrintsFront</b> {W : Type 0} (contents : W → Op
     (text : List ℕ) : Type 0 where
   pub <b id="writer">writer</b> : new.writer.ghost_name ≡ old.writer.ghost_name
   pub <b id="sent">sent</b> : <a href="../../script/Printing/index.html#AppendsFront">AppendsFront</a> (contents old.writer.now) (contents new.writer.now) (old.chunk.bytes ++ text)
+
+-- a text is printed, or in part where the writer fails
+abbrev pub <b id="PrintsText">PrintsText</b> : {W E : Type 0} → (W → Option (List ℕ)) → List ℕ → Printer W → Result (Unit {0}) E → Printer W
+    → Type 0
+<a href="../../script/Printing/index.html#PrintsText">PrintsText</a> contents text old result new =
+    OnOk result (<a href="../../script/Printing/index.html#Prints">Prints</a> contents old new text) × OnErr result (<a href="../../script/Printing/index.html#PrintsFront">PrintsFront</a> contents old new text)
 
 -- a text is out: the writer gets what waits and the text
 pub record <b id="PrintsOut">PrintsOut</b> {W : Type 0} (contents : W → Option (List ℕ)) (old new : Printer W) (text : List ℕ) : Type 0 where

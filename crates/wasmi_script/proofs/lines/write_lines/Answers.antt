@@ -1,8 +1,33 @@
-use Rattle.wasmi_script.proofs.PrintingLemmas.{fills}
+use Rattle.std.proofs.Common.{Bor, ℕ, List, ap, flat_map, subst, sym, ◌∙◌}
+use Rattle.std.proofs.lemmas.Iterator.{YieldsList-from_slice, YieldsList-from_zip}
+use Rattle.std.proofs.lemmas.Iterator.Consumers.{YieldsList-end}
+use Rattle.std.proofs.lemmas.List.Folds.{flat_map-map}
+use Rattle.wasmi_core.specs.declared.calls.Call.{Call}
+use Rattle.wasmi_core.specs.declared.calls.Reply.{Reply}
+use Rattle.wasmi_script.specs.Printing.{HasFront, line}
+use Rattle.wasmi_script.specs.Texts.{reply_text}
+use Rattle.wasmi_script.proofs.PrintingLemmas.{adds_more, fills}
 use Rattle.wasmi_script.proofs.lines.write_lines.Goals as goal
 
-pub returns-clause-front : goal.returns-clause-front
-returns-clause-front c = (fills _ _ _ _ c.put_lines.ensures).front
+-- what is seen of a call and its reply
+abbrev turn_of : Bor Call × Bor Reply → Call × Reply
+turn_of turn = (turn.0.now, turn.1.now)
 
-pub returns-clause-length : goal.returns-clause-length
-returns-clause-length c = (fills _ _ _ _ c.put_lines.ensures).count
+abbrev turn_text : Call × Reply → List ℕ
+turn_text turn = line (reply_text turn.0 turn.1)
+
+pub loop-call-preserved : goal.loop-call-preserved
+loop-call-preserved c =
+    adds_more (λ turn. turn_text (turn_of turn)) c.loop-call.yielded (c.in-Some.call, c.in-Some.reply) _ _ _ _ _ _
+    c.loop-call.invariant c.put_line-end.ensures
+
+pub returns : goal.returns
+returns c =
+    let road = YieldsList-from_zip {s = c.into_iter-call-iterator.result} (YieldsList-from_slice c.args.calls.now cc)
+    (YieldsList-from_slice c.args.replies.now cc) in
+    let all = YieldsList-end road c.loop-call.yielded c.loop-call.call-iterator c.loop-call.yielded_by _ c.next.new.self
+    c.in-None.is c.next.ensures.steps in
+    let has = subst (λ text. HasFront text c.args.bytes.now c.loop-call.bytes c.loop-call.end)
+    (sym (flat_map-map turn_text turn_of c.loop-call.yielded) ∙ ap (flat_map turn_text) all.0)
+    (fills _ _ _ _ c.loop-call.invariant) in
+    record { front = has.front; length = has.count }

@@ -1,10 +1,10 @@
-use Rattle.std.proofs.Common.{◌≡◌, ◌++◌, List, sym}
+use Rattle.std.proofs.Common.{◌≡◌, ◌++◌, List, rules, sym}
 use Rattle.wasmi_core.specs.declared.calls.Call.{Call}
 use Rattle.wasmi_core.specs.declared.calls.Reply.{Reply}
 use Rattle.wasmi_script.specs.declared.running.Held.{Held}
 use Rattle.wasmi_script.specs.Outcomes.{held_text, replies_text}
 use Rattle.wasmi_script.proofs.LengthLemmas.{error_short}
-use Rattle.wasmi_script.proofs.PrintingLemmas.{always_err, ok_last, err_last, prints_first}
+use Rattle.wasmi_script.proofs.PrintingLemmas.{in_part, last_part, prints_first}
 use Rattle.wasmi_script.proofs.printing.print_outcome.Goals as goal
 
 pub print_line-requires : goal.print_line-requires
@@ -16,15 +16,13 @@ same_lines : (calls calls' : List Call) (replies replies' : List Reply) (held : 
     → replies_text calls replies ++ held_text held ≡ replies_text calls' replies' ++ held_text held
 same_lines calls calls' replies replies' held is are = λ i. replies_text (sym is i) (sym are i) ++ held_text held
 
-pub returns-in_err-print_replies-in-Ok-clause-front : goal.returns-in_err-print_replies-in-Ok-clause-front
-returns-in_err-print_replies-in-Ok-clause-front g c =
-    rw c.in-Ok.is (always_err c.from_residual.result (prints_first g.W.Write.contents _ _ _ _ _
-    (same_lines _ _ _ _ _ c.calls-calls.ensures c.deref.ensures.value) c.in_err-print_replies-in-Ok.ensures.front))
+pub returns-in_err-print_replies-in-Ok : goal.returns-in_err-print_replies-in-Ok
+returns-in_err-print_replies-in-Ok g c =
+    rw c.in-Ok.is (in_part g.W.Write.contents _ _ _ _ (search rules) (prints_first g.W.Write.contents _ _ _ _ _
+    (same_lines _ _ _ _ _ c.calls-calls.ensures c.deref.ensures.value) c.in_err-print_replies-in-Ok.ensures.1))
 
 pub returns-in_ok-print_replies-in-Ok : goal.returns-in_ok-print_replies-in-Ok
 returns-in_ok-print_replies-in-Ok g c =
     let same = same_lines _ _ _ _ c.in-Ok.replayed.ran.held c.calls-calls.ensures c.deref.ensures.value in
-    let printed = c.in_ok-print_replies-in-Ok.ensures.ok in rw c.in-Ok.is (record {
-      ok = ok_last g.W.Write.contents c.print_held.result _ _ _ _ _ _ same printed c.print_held.ensures.ok;
-      front = err_last g.W.Write.contents c.print_held.result _ _ _ _ _ _ same printed c.print_held.ensures.front;
-    })
+    rw c.in-Ok.is (last_part g.W.Write.contents c.print_held.result _ _ _ _ _ _ same
+    c.in_ok-print_replies-in-Ok.ensures.0 c.print_held.ensures)

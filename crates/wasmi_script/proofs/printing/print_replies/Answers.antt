@@ -1,4 +1,4 @@
-use Rattle.std.proofs.Common.{ℕ, List, Bor}
+use Rattle.std.proofs.Common.{ℕ, List, Bor, rules}
 use Rattle.std.specs.List.{zip}
 use Rattle.std.proofs.lemmas.Iterator.{YieldsList-from_slice, YieldsList-from_zip}
 use Rattle.std.proofs.lemmas.Iterator.Consumers.{YieldsList-so_far, YieldsList-turn, YieldsList-end}
@@ -6,7 +6,7 @@ use Rattle.wasmi_core.specs.declared.calls.Call.{Call}
 use Rattle.wasmi_core.specs.declared.calls.Reply.{Reply}
 use Rattle.wasmi_script.specs.Printing.{line}
 use Rattle.wasmi_script.specs.Texts.{reply_text}
-use Rattle.wasmi_script.proofs.PrintingLemmas.{always_err, yields_more, yields_front, yields_all}
+use Rattle.wasmi_script.proofs.PrintingLemmas.{in_part, yields_more, yields_front, yields_all}
 use Rattle.wasmi_script.proofs.printing.print_replies.Goals as goal
 
 -- what is seen of a call and its reply
@@ -19,25 +19,27 @@ turn_text turn = line (reply_text turn.0 turn.1)
 pub loop-call-preserved : goal.loop-call-preserved
 loop-call-preserved g c =
     yields_more g.W.Write.contents turn_text turn_of (zip c.args.calls.now c.args.replies.now) _ _ _
-    c.loop-call.yielded (c.in-Some.call, c.in-Some.reply) c.loop-call.invariant c.in_ok-print_reply.ensures.ok
+    c.loop-call.yielded (c.in-Some.call, c.in-Some.reply) c.loop-call.invariant c.in_ok-print_reply.ensures.0
 
-pub returns-in_err-print_reply-clause-front : goal.returns-in_err-print_reply-clause-front
-returns-in_err-print_reply-clause-front g c =
+pub returns-in_err-print_reply : goal.returns-in_err-print_reply
+returns-in_err-print_reply g c =
     let turn : Bor Call × Bor Reply = (c.in-Some.call, c.in-Some.reply) in
     let road = YieldsList-from_zip {s = c.into_iter-call-iterator.result} (YieldsList-from_slice c.args.calls.now cc)
     (YieldsList-from_slice c.args.replies.now cc) in
     let here = YieldsList-turn road c.loop-call.yielded c.loop-call.call-iterator c.loop-call.yielded_by _
     c.next.new.self turn c.in-Some.is c.next.ensures.steps in
     let before = YieldsList-so_far road c.loop-call.yielded c.loop-call.call-iterator c.loop-call.yielded_by in
-    always_err c.from_residual.result
+    in_part g.W.Write.contents _ _ _ _ (search rules)
     (yields_front g.W.Write.contents turn_text turn_of (zip c.args.calls.now c.args.replies.now) _ _ _
-    c.loop-call.yielded turn (before, here.0, here.1) c.loop-call.invariant c.in_err-print_reply.ensures.front)
+    c.loop-call.yielded turn (before, here.0, here.1) c.loop-call.invariant c.in_err-print_reply.ensures.1)
 
-pub returns-clause-ok : goal.returns-clause-ok
-returns-clause-ok g c =
+pub returns : goal.returns
+returns g c =
     let road = YieldsList-from_zip {s = c.into_iter-call-iterator.result} (YieldsList-from_slice c.args.calls.now cc)
     (YieldsList-from_slice c.args.replies.now cc) in
     let all = YieldsList-end road c.loop-call.yielded c.loop-call.call-iterator c.loop-call.yielded_by _ c.next.new.self
-    c.in-None.is c.next.ensures.steps in
-    yields_all g.W.Write.contents turn_text turn_of (zip c.args.calls.now c.args.replies.now) _ _ c.loop-call.yielded
-    all.0 c.loop-call.invariant
+    c.in-None.is c.next.ensures.steps in (
+      yields_all g.W.Write.contents turn_text turn_of (zip c.args.calls.now c.args.replies.now) _ _ c.loop-call.yielded
+          all.0 c.loop-call.invariant,
+      tt,
+    )

@@ -1,24 +1,24 @@
-use Rattle.std.proofs.Common.{◌++◌, codes, get_or, append_assoc}
+use Rattle.std.proofs.Common.{◌++◌, codes, get_or, append_assoc, rules}
 use Rattle.wasmi_script.specs.Texts.{bytes_in, bytes_text, head_text}
 use Rattle.wasmi_script.proofs.LengthLemmas.{byte_short, head_short}
 use Rattle.wasmi_script.proofs.OutcomesLemmas.{byte_text, reply_at, reply_more, reply_whole}
-use Rattle.wasmi_script.proofs.PrintingLemmas.{always_err, ok_last, err_last, prints_then, prints_first, prints_front}
+use Rattle.wasmi_script.proofs.PrintingLemmas.{in_part, last_part, prints_then, prints_first, prints_front}
 use Rattle.wasmi_script.proofs.printing.print_reply.Goals as goal
 
 pub print-requires : goal.print-requires
 print-requires g c = record { short = head_short c.args.call.now c.args.reply.now }
 
-pub returns-in_err-print-clause-front : goal.returns-in_err-print-clause-front
-returns-in_err-print-clause-front g c =
+pub returns-in_err-print : goal.returns-in_err-print
+returns-in_err-print g c =
     let head = head_text c.args.call.now c.args.reply.now in
     let numbers = bytes_text (bytes_in c.args.reply.now) in
-    always_err c.from_residual.result
+    in_part g.W.Write.contents _ _ _ _ (search rules)
     (prints_first g.W.Write.contents _ _ head (numbers ++ codes "\n") _ (append_assoc head numbers (codes "\n"))
     c.in_err-print.ensures.front)
 
-pub returns-in_err-print-2-clause-front : goal.returns-in_err-print-2-clause-front
-returns-in_err-print-2-clause-front g c =
-    always_err c.from_residual-in_err-print-2.result (prints_front g.W.Write.contents _ _ _ _ _ _ _
+pub returns-in_err-print-2 : goal.returns-in_err-print-2
+returns-in_err-print-2 g c =
+    in_part g.W.Write.contents _ _ _ _ (search rules) (prints_front g.W.Write.contents _ _ _ _ _ _ _
     (reply_at c.args.call.now c.args.reply.now c.bytes_of-byte-items.result.now c.loop-byte.byte-index
     c.bytes_of-byte-items.ensures c.loop-byte-test.true) c.loop-byte.invariant c.in_err-print-2.ensures.front)
 
@@ -32,10 +32,8 @@ loop-byte-preserved g c =
 pub returns : goal.returns
 returns g c =
     let whole = reply_whole c.args.call.now c.args.reply.now _ _ c.bytes_of-byte-items.ensures c.loop-byte-test.false in
-    let before = c.loop-byte.invariant in record {
-      ok = ok_last g.W.Write.contents c.print-2.result _ _ _ _ _ _ whole before c.print-2.ensures.ok;
-      front = err_last g.W.Write.contents c.print-2.result _ _ _ _ _ _ whole before c.print-2.ensures.front;
-    }
+    last_part g.W.Write.contents c.print-2.result _ _ _ _ _ _ whole c.loop-byte.invariant
+    (c.print-2.ensures.ok, c.print-2.ensures.front)
 
 pub print-requires-in-loop-byte : goal.print-requires-in-loop-byte
 print-requires-in-loop-byte g c = record { short = byte_short _ }

@@ -1,10 +1,10 @@
-use Rattle.std.proofs.Common.{ℕ, zero, suc, ◌≡◌, ◌∙◌, ◌<◌, List, [], ◌∷◌, Option, None, Some, arith, codes, length, lit≤, refl, sym}
+use Rattle.std.proofs.Common.{ℕ, zero, suc, ◌≡◌, ◌∙◌, ◌<◌, List, [], ◌∷◌, Option, None, Some, arith, codes, length, lit≤, refl, rules, sym}
 use Rattle.std.specs.Prelude.{IsSome, slice_get}
 use Rattle.std.specs.Option.{option_map}
 use Rattle.wasmi_core.specs.State.{State, total}
 use Rattle.wasmi_meter.specs.declared.limiter.Kind.TheVariants.{Bytes, Elements}
 use Rattle.wasmi_script.proofs.LengthLemmas.{three_numbers}
-use Rattle.wasmi_script.proofs.PrintingLemmas.{always_err, prints_then, prints_front}
+use Rattle.wasmi_script.proofs.PrintingLemmas.{in_part, prints_then, prints_front}
 use Rattle.wasmi_script.proofs.OutcomesLemmas.{IsHeldAt, one_tenant, tenants_whole}
 use Rattle.wasmi_script.proofs.printing.print_tenants.Goals as goal
 
@@ -16,11 +16,11 @@ held_at : (machines : List State) (index bytes elements : ℕ) (b e : Option ℕ
 held_at machines index bytes elements b e looked is looked' is' =
     record { bytes_held = sym looked ∙ is; elements_held = sym looked' ∙ is' }
 
-pub returns-in_err-print_line-clause-front : goal.returns-in_err-print_line-clause-front
-returns-in_err-print_line-clause-front g c =
+pub returns-in_err-print_line : goal.returns-in_err-print_line
+returns-in_err-print_line g c =
     let held = held_at c.args.pool.now.machines _ _ _ _ _ c.held_bytes.ensures c.unwrap-bytes.ensures
     c.held_elements.ensures c.unwrap-elements.ensures in
-    always_err c.from_residual.result
+    in_part g.W.Write.contents _ _ _ _ (search rules)
     (prints_front g.W.Write.contents _ _ _ _ _ _ _ (tenants_whole _ _ _ _ held) c.loop-index.invariant
     c.in_err-print_line.ensures.front)
 

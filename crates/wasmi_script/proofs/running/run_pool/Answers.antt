@@ -20,10 +20,10 @@ loop-index-preserved c =
     let i = c.loop-index.index in
     let start = new_pool c.args.line (new_state (meter_of c.args.script.now.header)) in
     let found = sym c.get.ensures ∙ ap (option_map run_at) c.unwrap-tenant.ensures in
-    subst (λ replies. AnswersParts start (take (i + 1) parts) replies c.run_part.new.pool)
+    subst (λ replies. AnswersParts start (take (i + 1) parts) replies c.run.new.self)
     (sym c.in_ok-append.ensures.items)
-    (next_part parts i c.loop-index.replies.items _ c.in_ok-answered.answered.items start c.loop-index.pool
-    c.run_part.new.pool found c.loop-index.invariant c.in_ok-answered.ensures)
+    (next_part parts i c.loop-index.replies.items _ c.in-Ok.answered.items start c.loop-index.pool
+    c.run.new.self found c.loop-index.invariant c.in-Ok.ensures.ran)
 
 pub returns : goal.returns
 returns c =
