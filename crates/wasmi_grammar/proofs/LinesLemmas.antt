@@ -1,14 +1,17 @@
 -- What lines add to a script, one after the other, and the parts of its calls.
-use Rattle.std.proofs.Common.{ℕ, ◌≡◌, ◌∙◌, List, [], ◌∷◌, Bor, get_or, length, take, drop, ◌-◌, codes, rules, tests, refl, sym, subst, ◌≤◌, ◌<◌, ◌+◌, ◌++◌, zero, suc, Some, None, map, arith, ap, append_assoc, append-nil, take-append-drop, length-append, length-drop, add-one, drop-cons, inl, inr}
+use Rattle.std.proofs.Common.{ℕ, ◌≡◌, ◌∙◌, Result, IfErr, OnErr, List, [], ◌∷◌, Bor, get_or, length, take, drop, ◌-◌, codes, rules, tests, refl, sym, subst, ◌≤◌, ◌<◌, ◌+◌, ◌++◌, zero, suc, Some, None, map, arith, ap, append_assoc, append-nil, take-append-drop, length-append, length-drop, add-one, drop-cons, inl, inr}
 use Rattle.std.proofs.lemmas.List.{take_rest, drop-drop, drop-append-le, take-append-le, length-map, take-map}
 use Rattle.wasmi_grammar.specs.declared.script.Line.{Line}
 use Rattle.wasmi_grammar.specs.declared.script.Line.TheVariants.{Meter, Limiter, Region, As, Call as Command}
 use Rattle.wasmi_grammar.specs.declared.header.RegionLine.{RegionLine}
 use Rattle.wasmi_grammar.specs.declared.script.Script.{Script}
+use Rattle.wasmi_operands.specs.declared.error.LineError.{LineError}
+use Rattle.wasmi_operands.specs.declared.error.LineError.TheVariants.{BadCommand}
 use Rattle.wasmi_operands.specs.LineWords.{LineWords, word_at}
 use Rattle.wasmi_grammar.specs.Headers.{WritesRegion}
 use Rattle.wasmi_grammar.specs.Lines.{NamesLine, AddsLine, AddsWords, AcceptsLine, AcceptsLines, AreTaken, calls_of, lines_in, IsBadLine, IsFirstBadLine}
 use Rattle.wasmi_grammar.specs.Parts.{TenantRun, PartsValue, parts_in, calls_in, part_at, Follow, AreCut}
+use Rattle.wasmi_operands.proofs.LineWordsLemmas.{on_refusal}
 use Rattle.std.specs.List.{slice_get, enumerate_from}
 use Rattle.std.specs.Option.{option_map}
 use Rattle.std.proofs.lemmas.Option.{slice_get-map, slice_get_past}
@@ -38,6 +41,13 @@ region_only name operands is (Meter line) w = absurd (search (rules, tests, sym 
 region_only name operands is (Limiter line) w = absurd (search (rules, tests, w.0 ∙ is))
 region_only name operands is (As tenant) w = absurd (search (rules, tests, sym w.0 ∙ is))
 region_only name operands is (Command call) w = absurd (search (rules, tests, w.0 ∙ is))
+
+-- a refused line of one kind adds nothing
+pub refused_as : {A : Type 0} (old : Script) (line kind : Line) (result : Result A LineError) → line ≡ kind
+    → OnErr result ((new : Script) → ¬ (AddsLine old kind new))
+    → IfErr result (λ error. error ≡ BadCommand → (new : Script) → ¬ (AddsLine old line new))
+refused_as old line kind result is =
+    on_refusal result (λ error refused bad new adds. refused new (subst (λ line. AddsLine old line new) is adds))
 
 -- the calls of parts with a last one
 pub with_last : (parts : List TenantRun) (last : TenantRun)

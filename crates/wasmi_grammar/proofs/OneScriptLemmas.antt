@@ -1,8 +1,7 @@
 -- A text writes one script, and has one first bad line at most.
-use Rattle.std.proofs.Common.{ℕ, ◌+◌, ◌-◌, ◌≡◌, ◌∙◌, ◌++◌, Bor, List, [], ◌∷◌, Option, Some, None, Result, IfErr, OnErr, get_or, length, map, ◌≤◌, take, drop, inl, inr, arith, refl, suc, sym, ap, subst}
+use Rattle.std.proofs.Common.{ℕ, ◌+◌, ◌≡◌, ◌∙◌, ◌++◌, List, [], ◌∷◌, Option, Some, None, length, map, ◌≤◌, drop, inl, inr, arith, refl, suc, sym, ap, subst}
 use Rattle.std.specs.Option.{option_map}
 use Rattle.std.proofs.lemmas.List.{map-append}
-use Rattle.std.proofs.lemmas.Result.{IfErr-weaker}
 use Rattle.wasmi_grammar.specs.declared.script.Line.{Line}
 use Rattle.wasmi_grammar.specs.declared.script.Line.TheVariants.{Meter, Limiter, Region, As, Call as Command}
 use Rattle.wasmi_grammar.specs.declared.script.Script.{Script}
@@ -10,16 +9,12 @@ use Rattle.wasmi_grammar.specs.declared.header.LimiterLine.{LimiterLine}
 use Rattle.wasmi_grammar.specs.declared.header.LimiterLine.TheVariants.{Quota, Answers, Tenants}
 use Rattle.wasmi_grammar.specs.declared.header.RegionLine.{RegionLine}
 use Rattle.wasmi_operands.specs.LineWords.{LineWords, word_at}
-use Rattle.wasmi_operands.specs.declared.error.LineError.{LineError}
-use Rattle.wasmi_operands.specs.declared.error.LineError.TheVariants.{BadCommand}
 use Rattle.wasmi_grammar.specs.Headers.{AreApart, tenants_of}
 use Rattle.wasmi_grammar.specs.Lines.{HasNoCommands, NamesLine, AddsLine, AddsWords, AcceptsLine, AcceptsLines, IsNewScript, lines_in, IsBadLine, IsFirstBadLine}
 use Rattle.wasmi_grammar.specs.Parts.{TenantRun, parts_in}
 use Rattle.wasmi_grammar.specs.Meanings.{call_meaning, limiter_meaning, LimiterMeaning, OtherLimiter, part_meaning, ScriptMeaning, script_meaning, TextsWriteOneScript, FirstBadLinesAreOne, WrittenTextsHaveNoBadLine}
 use Rattle.wasmi_grammar.proofs.MeaningLemmas.{line_meaning, line_is, LinesMeaning, meaning_of, lines_meaning, LinesHaveSameMeaning, meaning_after, added}
 use Rattle.wasmi_grammar.proofs.TextsLemmas.{retell}
-use Rattle.wasmi_grammar.proofs.LinesLemmas.{at_places}
-use Rattle.wasmi_operands.proofs.LineWordsLemmas.{on_refusal}
 
 -- a line leads from scripts that say the same to scripts that say the same
 line_unique : (line : List ℕ) (old old' new new' : Script) → LinesHaveSameMeaning old old' → AcceptsLine old line new
@@ -198,22 +193,6 @@ no_words old words line some names refused new (inr (other, names', adds)) =
     sym (line_is (drop 1 words) (word_at words 0) other names') ∙ line_is (drop 1 words) (word_at words 0) line names in
     let same : line_meaning other ≡ line_meaning line = cc in
     let after = takes_too old old refl other line same new adds in refused after.0 after.1
-
--- what is refused whatever the error is refused as a bad command
-pub always_refused : {A : Type 0} (old : Script) (kind : Line) (result : Result A LineError)
-    → OnErr result ((new : Script) → ¬ (AddsLine old kind new))
-    → IfErr result (λ error. error ≡ BadCommand → (new : Script) → ¬ (AddsLine old kind new))
-always_refused old kind result = on_refusal result (λ error refused bad. refused)
-
--- words are refused whose line, which is of one kind, adds nothing
-pub refused_words : {A : Type 0} (old : Script) (words : LineWords) (none : Bor (List ℕ)) {line kind : Line}
-    (result : Result A LineError) → none.now ≡ [] → 1 ≤ length words → line ≡ kind
-    → NamesLine (get_or words 0 none).now (take (length words - 1) (drop 1 words)) line
-    → IfErr result (λ error. error ≡ BadCommand → (new : Script) → ¬ (AddsLine old kind new))
-    → IfErr result (λ error. error ≡ BadCommand → (new : Script) → ¬ (AddsWords old words new))
-refused_words old words none {line} {kind} result empty some is names =
-    IfErr-weaker result _ _ (λ error refused bad. no_words old words kind some
-    (subst (NamesLine (word_at words 0) (drop 1 words)) is (at_places words none line empty names)) (refused bad))
 
 -- lines with a bad one aren't taken
 not_taken : (before after : List (List ℕ)) (bad : List ℕ) (old old' script new : Script) → LinesHaveSameMeaning old old'

@@ -152,7 +152,7 @@ fn calls_at(calls: &[Call], start: usize, end: usize) -> &[Call]
 }
 
 impl Script {
-    ghost use Rattle.wasmi_grammar.specs.Lines.{AddsWords, AddsMeter, AddsLimiter, AddsRegion, AddsCall, AddsPart, IsNewScript};
+    ghost use Rattle.wasmi_grammar.specs.Lines.{AddsWords, AddsLine, AddsMeter, AddsLimiter, AddsRegion, AddsCall, AddsPart, IsNewScript};
 
     /// A script without lines.
     fn new(alloc: Global) -> Self
@@ -173,7 +173,17 @@ impl Script {
         let [name, operands @ ..] = words else {
             return Ok(());
         };
-        match line_of(alloc, name, operands)? {
+        let line = line_of(alloc, name, operands)?;
+        self.take(line)
+    }
+
+    /// Takes in what a line says.
+    fn take(&mut self, line: Line) -> Result<(), LineError>
+        ensures ok { OnOk result (AddsLine self.old line self.new) }
+        ensures refused { IfErr result (λ error. error ≡ LineError.BadCommand
+            → (new : Script) → ¬ (AddsLine self.old line new)) }
+    {
+        match line {
             Line::Meter(line) => self.take_meter(line),
             Line::Limiter(line) => self.take_limiter(line),
             Line::Region(line) => self.take_region(line),

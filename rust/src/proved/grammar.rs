@@ -945,7 +945,24 @@ mod script {
             let [name, operands @ ..] = words else {
                 return Ok(());
             };
-            match line_of(name, operands)? {
+            let line = line_of(name, operands)?;
+            self.take(line)
+        }
+
+        /// Takes in what a line says.
+        ///
+        /// # Contract
+        ///
+        /// ```text
+        /// ensures ok: OnOk result (AddsLine self.old line self.new)
+        /// ensures refused: IfErr result (λ error. error ≡ LineError.BadCommand
+        ///     → (new : Script) → ¬ (AddsLine self.old line new))
+        /// ```
+        ///
+        /// Definitions: [`AddsLine`](crate::specs::grammar::Lines#AddsLine).
+        #[inline]
+        fn take(&mut self, line: Line) -> Result<(), LineError> {
+            match line {
                 Line::Meter(line) => self.take_meter(line),
                 Line::Limiter(line) => self.take_limiter(line),
                 Line::Region(line) => self.take_region(line),
