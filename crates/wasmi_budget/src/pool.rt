@@ -4,6 +4,7 @@ ghost use Rattle.std.specs.Option.{option_map, option_copied};
 ghost use Rattle.wasmi_meter.specs.declared.limiter.Kind.TheVariants.{Bytes, Elements};
 ghost use Rattle.wasmi_meter.specs.Capped.{amounts_of};
 ghost use Rattle.wasmi_core.specs.State.{total};
+ghost use Rattle.wasmi_budget.specs.Pool.{IsWithinCaps, tenant_at, total_of, AddsTenant, IsAddRefusal, RunsTenant};
 
 use crate::error::{AddError, PoolError};
 use crate::tenant::{CountedMachine, Tenant};
@@ -35,8 +36,6 @@ impl<'r> Model for Pool<'r> {
 }
 
 impl<'r> Pool<'r> {
-    ghost use Rattle.wasmi_budget.specs.Pool.{IsWithinCaps, tenant_at, total_of, AddsTenant, IsAddRefusal, RunsTenant};
-
     /// A pool with these caps and no tenant. It takes no memory.
     pub fn new(alloc: Allocator, bytes: u64, elements: u64) -> Pool<'r>
         ensures made { result
