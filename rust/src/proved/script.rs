@@ -998,10 +998,7 @@ mod wording {
     //! What a reply says, as words and numbers.
 
     use crate::proved::machine::{Call, RefType, Reply};
-    use crate::proved::meter::{FuelError, MemoryError, TableError};
     use crate::proved::script::lines::{put, put_optional};
-    use crate::proved::store::SegmentError;
-    use crate::proved::typed::GlobalError;
 
     /// Words in two parts, then a number, if there is one, and then a second one after a space.
     #[derive(Clone, Copy)]
@@ -1029,46 +1026,49 @@ mod wording {
         #[inline]
         pub fn of(call: &Call, reply: &Reply) -> Wording {
             match reply {
-                Reply::Done => Wording::of_words("done", ""),
-                Reply::Bytes(_) => Wording::of_words("bytes", ""),
-                Reply::Reference(None) => Wording::of_words("none", ""),
-                Reply::NoSuch => Wording::of_words("no such", ""),
-                Reply::NoRegion => Wording::of_words("no region", ""),
-                Reply::NoRoom => Wording::of_words("no room", ""),
-                Reply::Made(index) => Wording::with_number(made_word(call), " ", *index as u64),
+                Reply::Done => Wording::with("done", "", None),
+                Reply::Bytes(_) => Wording::with("bytes", "", None),
+                Reply::Reference(None) => Wording::with("none", "", None),
+                Reply::NoSuch => Wording::with("no such", "", None),
+                Reply::NoRegion => Wording::with("no region", "", None),
+                Reply::NoRoom => Wording::with("no room", "", None),
+                Reply::Made(index) => Wording::with(made_word(call), " ", Some(*index as u64)),
                 Reply::Value(value) => Wording {
                     start: "raw ",
                     words: "",
                     first: Some(value.lo),
                     second: Some(value.hi),
                 },
-                Reply::Number(number) => Wording::with_number("value ", "", *number),
+                Reply::Number(number) => Wording::with("value ", "", Some(*number)),
                 Reply::Reference(Some(reference)) => {
                     let raw = u64::from(u32::from(reference.raw));
-                    Wording::with_number(reference_word_of(reference.ty), " ", raw)
+                    match reference.ty {
+                        RefType::Func => Wording::with("func", " ", Some(raw)),
+                        RefType::Extern => Wording::with("extern", " ", Some(raw)),
+                    }
                 }
-                Reply::Memory(error) => Wording::of_memory(error),
-                Reply::Table(error) => Wording::of_table(error),
-                Reply::Fuel(error) => Wording::of_fuel(error),
-                Reply::Global(error) => Wording::of_global(error),
-                Reply::Segment(error) => Wording::of_segment(error),
-                Reply::Trap(code) => Wording::of_words("error ", code.trap_message()),
+                Reply::Memory(error) => Wording::of_error(error.words()),
+                Reply::Table(error) => Wording::of_error(error.words()),
+                Reply::Fuel(error) => Wording::of_error(error.words()),
+                Reply::Global(error) => Wording::with("error ", error.words(), None),
+                Reply::Segment(error) => Wording::with("error ", error.words(), None),
+                Reply::Trap(code) => Wording::with("error ", code.trap_message(), None),
             }
         }
 
         /// # Contract
         ///
         /// ```text
-        /// ensures: wording_text result ≡ start.now ++ words.now
+        /// ensures: wording_text result ≡ start.now ++ numbered words.now first
         /// ```
         ///
-        /// Definitions: [`wording_text`](crate::specs::script::Texts#wording_text).
+        /// Definitions: [`wording_text`](crate::specs::script::Texts#wording_text), [`numbered`](crate::specs::meter::Texts#numbered).
         #[inline]
-        fn of_words(start: &'static str, words: &'static str) -> Wording {
+        fn with(start: &'static str, words: &'static str, first: Option<u64>) -> Wording {
             Wording {
                 start,
                 words,
-                first: None,
+                first,
                 second: None,
             }
         }
@@ -1076,147 +1076,13 @@ mod wording {
         /// # Contract
         ///
         /// ```text
-        /// ensures: wording_text result ≡ start.now ++ (words.now ++ decimal number)
+        /// ensures: wording_text result ≡ codes "error " ++ numbered error.entry.0.now error.entry.1
         /// ```
         ///
-        /// Definitions: [`wording_text`](crate::specs::script::Texts#wording_text).
+        /// Definitions: [`wording_text`](crate::specs::script::Texts#wording_text), [`numbered`](crate::specs::meter::Texts#numbered).
         #[inline]
-        fn with_number(start: &'static str, words: &'static str, number: u64) -> Wording {
-            Wording {
-                start,
-                words,
-                first: Some(number),
-                second: None,
-            }
-        }
-
-        /// # Contract
-        ///
-        /// ```text
-        /// ensures: wording_text result ≡ codes "error " ++ memory_error_text error.now
-        /// ```
-        ///
-        /// Definitions: [`wording_text`](crate::specs::script::Texts#wording_text), [`memory_error_text`](crate::specs::meter::Texts#memory_error_text).
-        #[inline]
-        fn of_memory(error: &MemoryError) -> Wording {
-            let words = match error {
-                MemoryError::OutOfSystemMemory => {
-                    "tried to allocate more virtual memory than available on the system"
-                }
-                MemoryError::OutOfBoundsGrowth => "out of bounds memory growth",
-                MemoryError::OutOfBoundsAccess => "out of bounds memory access",
-                MemoryError::InvalidMemoryType => "tried to create an invalid linear memory type",
-                MemoryError::InvalidStaticBufferSize => "tried to use too small static buffer",
-                MemoryError::ResourceLimiterDeniedAllocation => {
-                    "a resource limiter denied to allocate or grow the linear memory"
-                }
-                MemoryError::MinimumSizeOverflow => {
-                    "the minimum size of the memory type overflows the system index type"
-                }
-                MemoryError::MaximumSizeOverflow => {
-                    "the maximum size of the memory type overflows the system index type"
-                }
-                MemoryError::OutOfFuel { required_fuel } => {
-                    return Wording::with_number(
-                        "error ",
-                        "not enough fuel. required=",
-                        *required_fuel,
-                    );
-                }
-            };
-            Wording::of_words("error ", words)
-        }
-
-        /// # Contract
-        ///
-        /// ```text
-        /// ensures: wording_text result ≡ codes "error " ++ table_error_text error.now
-        /// ```
-        ///
-        /// Definitions: [`wording_text`](crate::specs::script::Texts#wording_text), [`table_error_text`](crate::specs::meter::Texts#table_error_text).
-        #[inline]
-        fn of_table(error: &TableError) -> Wording {
-            let words = match error {
-                TableError::OutOfSystemMemory => {
-                    "tried to allocate more virtual memory than available on the system"
-                }
-                TableError::MinimumSizeOverflow => {
-                    "the minimum table size overflows the system bounds"
-                }
-                TableError::MaximumSizeOverflow => {
-                    "the maximum table size overflows the system bounds"
-                }
-                TableError::ResourceLimiterDeniedAllocation => {
-                    "a resource limiter denied to allocate or grow the table"
-                }
-                TableError::GrowOutOfBounds => "out of bounds table access: `table.growth`",
-                TableError::InitOutOfBounds => "out of bounds table access: `table.init`",
-                TableError::FillOutOfBounds => "out of bounds table access: `table.fill`",
-                TableError::SetOutOfBounds => "out of bounds table access: `table.set`",
-                TableError::CopyOutOfBounds => "out of bounds table access: `table.copy`",
-                TableError::ElementTypeMismatch => "encountered mismatching table element type",
-                TableError::OutOfFuel { required_fuel } => {
-                    return Wording::with_number(
-                        "error ",
-                        "not enough fuel: required=",
-                        *required_fuel,
-                    );
-                }
-            };
-            Wording::of_words("error ", words)
-        }
-
-        /// # Contract
-        ///
-        /// ```text
-        /// ensures: wording_text result ≡ codes "error " ++ fuel_error_text error.now
-        /// ```
-        ///
-        /// Definitions: [`wording_text`](crate::specs::script::Texts#wording_text), [`fuel_error_text`](crate::specs::meter::Texts#fuel_error_text).
-        #[inline]
-        fn of_fuel(error: &FuelError) -> Wording {
-            match error {
-                FuelError::FuelMeteringDisabled => {
-                    Wording::of_words("error ", "fuel metering is disabled")
-                }
-                FuelError::OutOfFuel { required_fuel } => {
-                    Wording::with_number("error ", "ouf of fuel. required=", *required_fuel)
-                }
-            }
-        }
-
-        /// # Contract
-        ///
-        /// ```text
-        /// ensures: wording_text result ≡ codes "error " ++ global_error_text error.now
-        /// ```
-        ///
-        /// Definitions: [`wording_text`](crate::specs::script::Texts#wording_text), [`global_error_text`](crate::specs::typed::Global#global_error_text).
-        #[inline]
-        fn of_global(error: &GlobalError) -> Wording {
-            let words = match error {
-                GlobalError::ImmutableWrite => "tried to write to immutable global variable",
-                GlobalError::TypeMismatch => {
-                    "tried to write value of non-matching type to global variable"
-                }
-            };
-            Wording::of_words("error ", words)
-        }
-
-        /// # Contract
-        ///
-        /// ```text
-        /// ensures: wording_text result ≡ codes "error " ++ segment_error_text error.now
-        /// ```
-        ///
-        /// Definitions: [`wording_text`](crate::specs::script::Texts#wording_text), [`segment_error_text`](crate::specs::store::Segment#segment_error_text).
-        #[inline]
-        fn of_segment(error: &SegmentError) -> Wording {
-            let words = match error {
-                SegmentError::TooManyItems => "too many items in an element segment",
-                SegmentError::OutOfSystemMemory => "out of memory",
-            };
-            Wording::of_words("error ", words)
+        fn of_error(error: (&'static str, Option<u64>)) -> Wording {
+            Wording::with("error ", error.0, error.1)
         }
 
         /// Writes it to the front of bytes, as [`put`] does a text.
@@ -1254,23 +1120,6 @@ mod wording {
             Call::NewSegment { .. } => "segment",
             Call::NewGlobal { .. } => "global",
             _ => "nothing",
-        }
-    }
-
-    /// The word of a reference type.
-    ///
-    /// # Contract
-    ///
-    /// ```text
-    /// ensures: result.now ≡ reference_word ty
-    /// ```
-    ///
-    /// Definitions: [`reference_word`](crate::specs::operands::Names#reference_word).
-    #[inline]
-    fn reference_word_of(ty: RefType) -> &'static str {
-        match ty {
-            RefType::Func => "func",
-            RefType::Extern => "extern",
         }
     }
 }
