@@ -1,5 +1,6 @@
 -- Growths of and writes to what lies with C: what they take of its meter, and under which limiter they are.
-use Rattle.std.proofs.Common.{◌≡◌, Bool, true, false, ℕ, ◌-◌, Option, Some, None, Result, refl, ap, inl, inr, Ok, List, take, ◌∙◌}
+use Rattle.std.proofs.Common.{◌≡◌, Bool, true, false, ℕ, ◌-◌, Option, Some, None, Result, refl, ap, inl, inr, Ok, List, take, drop, length, ◌++◌, ◌∙◌}
+use Rattle.std.proofs.lemmas.List.{take_at, drop_at}
 use Rattle.std.specs.Prelude.{OnErr, nat_eq, if◌then◌else◌}
 use Rattle.std.specs.Option.{option_map, unwrap_or}
 use Rattle.wasmi_meter.specs.Limiter.{Rules, Question, Answer, Failure, NoticeAnswer, optional_rules, AskedIf, NoticedIf}
@@ -56,21 +57,23 @@ kept h h' m' charge left taken =
     let off = λ (is_off : h.is_on ≡ 0). (let none : m'.left ≡ None = rw (after, is_off) refl in ap (with_left h) none) in
     rw left (same, record { others = refl; off = off })
 
--- a write over bytes at the front of a region is one of what lies with C
+-- a write over the front of a region is one of what lies with C
 pub written_with : (written : Range → List ℕ → Option (List ℕ)) (range : Range) (size : ℕ) (s s' : MeteredRegion)
-    (m' : Meter) (result : Result (Unit {0}) MemoryError) (status : ℕ) → s'.meter ≡ with_left s.meter m'.left
+    (after : List ℕ) (m' : Meter) (result : Result (Unit {0}) MemoryError) (status : ℕ)
+    → s'.meter ≡ with_left s.meter m'.left
     → BulkWrites (written range (take size s.region)) range.count
-    (metered (take size s.region) (Some (meter_of s.meter))) result (metered (take size s'.region) (Some m'))
-    → SameRest size s.region s'.region
+    (metered (take size s.region) (Some (meter_of s.meter))) result (metered after (Some m'))
+    → length after ≡ size → s'.region ≡ after ++ drop size s.region
     → (status ≡ status_of of_memory result) × (s'.number ≡ written_number of_memory result s.number)
     → WritesBytesAs written range size s status s'
-written_with written range size s s' m' result status left writes rest tells =
+written_with written range size s s' after m' result status left writes long placed tells =
+    let rest = drop size s.region in
     let charged = write_charged (written range (take size s.region)) range.count _ _ result writes in
     let keeps = kept s.meter s'.meter m' charged.0 left charged.1 in
     record {
       result = result;
-      writes = rw keeps.0 writes;
-      rest = rest;
+      writes = rw (ap (take size) placed ∙ take_at after rest size long, keeps.0) writes;
+      rest = ap (drop size) placed ∙ drop_at after rest size long;
       kept = keeps.1;
       status_is = tells.0;
       number_is = tells.1;
