@@ -138,7 +138,7 @@ impl Thrice {
         let (at, room) = (self.region.as_mut_ptr(), self.region.len());
         let there = unsafe { wasmi_memory_write(&self.plain, at, room, offset, bytes.as_ptr(), bytes.len()) };
         let here = self.memory.write(offset, bytes).map(|()| 0_u64);
-        let other = region::memory::write(&mut self.bytes, self.size, offset, bytes).map(|()| 0_u64);
+        let other = region::memory::write_bytes(&mut self.bytes[..self.size], offset, bytes).map(|()| 0_u64);
         [there; 2] == [status(here).0, status(other).0]
     }
 
