@@ -6,7 +6,8 @@
 //! `specs/WideningTable.antt`. Upstream: `wasmi_core::simd`.
 
 ghost use Rattle.std.specs.Prelude.{◌≡◌, ℕ, ◌-◌, ◌*◌, ◌^◌, ◌<◌, not, nat_eq, nat_le, replicate};
-ghost use Rattle.wasmi_types.specs.Numbers.{w8, w16, w32, w64, bits};
+ghost use Rattle.wasmi_types.specs.Numbers.{w8, w16, w32, w64, bits, clamp_unsigned};
+ghost use Rattle.std.specs.Int.{cast_unsigned};
 ghost use Rattle.wasmi_lanes.specs.Words.{in_each_lane, field, lanes_in_word};
 ghost use Rattle.wasmi_simd.specs.WideningTable.{first_bits, holds_below};
 ghost use Rattle.wasmi_simd.specs.WideningTable as vector;
@@ -207,7 +208,7 @@ pub fn i8x16_narrow_i16x8_s(low: V128, high: V128) -> V128
 pub fn i8x16_narrow_i16x8_u(low: V128, high: V128) -> V128
     ensures { result ≡ vector.narrow_u w16 w8 low high }
 {
-    from_low_high::<I16x8, I8x16, _>(low, high, |x| (x.clamp(0, 255) as u8).cast_signed())
+    from_low_high::<I16x8, I8x16, _>(low, high, clamped_u8)
 }
 
 /// The lanes of `low`, then of `high`, read signed, clamped to the signed range of 16 bits.
@@ -221,7 +222,21 @@ pub fn i16x8_narrow_i32x4_s(low: V128, high: V128) -> V128
 pub fn i16x8_narrow_i32x4_u(low: V128, high: V128) -> V128
     ensures { result ≡ vector.narrow_u w32 w16 low high }
 {
-    from_low_high::<I32x4, I16x8, _>(low, high, |x| (x.clamp(0, 65535) as u16).cast_signed())
+    from_low_high::<I32x4, I16x8, _>(low, high, clamped_u16)
+}
+
+// The item of a lane that holds the number, clamped to the unsigned range of 8 bits.
+fn clamped_u8(x: i16) -> i8
+    ensures { cast_unsigned w8 result ≡ clamp_unsigned w8 x }
+{
+    (x.clamp(0, 255) as u8).cast_signed()
+}
+
+// The item of a lane that holds the number, clamped to the unsigned range of 16 bits.
+fn clamped_u16(x: i32) -> i16
+    ensures { cast_unsigned w16 result ≡ clamp_unsigned w16 x }
+{
+    (x.clamp(0, 65535) as u16).cast_signed()
 }
 
 // Applies `f` to the lanes of `low`, then to those of `high`.

@@ -856,7 +856,7 @@ pub mod simd {
     /// Definitions: [`narrow_u`](crate::specs::widening::WideningTable#narrow_u).
     #[inline]
     pub fn i8x16_narrow_i16x8_u(low: V128, high: V128) -> V128 {
-        from_low_high::<I16x8, I8x16, _>(low, high, |x| (x.clamp(0, 255) as u8).cast_signed())
+        from_low_high::<I16x8, I8x16, _>(low, high, clamped_u8)
     }
 
     /// The lanes of `low`, then of `high`, read signed, clamped to the signed range of 16 bits.
@@ -884,7 +884,29 @@ pub mod simd {
     /// Definitions: [`narrow_u`](crate::specs::widening::WideningTable#narrow_u).
     #[inline]
     pub fn i16x8_narrow_i32x4_u(low: V128, high: V128) -> V128 {
-        from_low_high::<I32x4, I16x8, _>(low, high, |x| (x.clamp(0, 65535) as u16).cast_signed())
+        from_low_high::<I32x4, I16x8, _>(low, high, clamped_u16)
+    }
+
+    // The item of a lane that holds the number, clamped to the unsigned range of 8 bits.
+    /// # Contract
+    ///
+    /// ```text
+    /// ensures: cast_unsigned w8 result ≡ clamp_unsigned w8 x
+    /// ```
+    #[inline]
+    fn clamped_u8(x: i16) -> i8 {
+        (x.clamp(0, 255) as u8).cast_signed()
+    }
+
+    // The item of a lane that holds the number, clamped to the unsigned range of 16 bits.
+    /// # Contract
+    ///
+    /// ```text
+    /// ensures: cast_unsigned w16 result ≡ clamp_unsigned w16 x
+    /// ```
+    #[inline]
+    fn clamped_u16(x: i32) -> i16 {
+        (x.clamp(0, 65535) as u16).cast_signed()
     }
 
     // Applies `f` to the lanes of `low`, then to those of `high`.
