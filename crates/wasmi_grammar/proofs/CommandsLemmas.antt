@@ -1,5 +1,6 @@
 -- What the operands of a command write, by the word that it begins with.
 use Rattle.std.proofs.Common.{ℕ, zero, suc, ◌≡◌, List, [], ◌∷◌, Bor, Result, Err, bytes_eq, cond, codes, get_or, length, refl, sym, subst}
+use Rattle.std.specs.Bool.{⊤}
 use Rattle.wasmi_types.specs.declared.value.RefType.{RefType}
 use Rattle.wasmi_store.specs.Memory.{MemoryTypeValue}
 use Rattle.wasmi_store.specs.Table.{TableTypeValue}
@@ -27,7 +28,7 @@ use Rattle.wasmi_grammar.specs.Commands.{command_word, WritesOperands, NamesAfte
 use Rattle.wasmi_operands.proofs.LineWordsLemmas.{refused_through}
 
 -- what parsers make a call of: the values that the operands write
-abbrev Form : Type 1
+abbrev pub Form : Type 1
 Form = (A : Type 0) × (LineWords → A → Type 0)
 
 -- the values of which a call is made
@@ -60,6 +61,7 @@ elements_form = (
 abbrev forms : List (List ℕ × Form)
 forms =
     (codes "fuel", made ℕ (λ a. call.SetFuel a)) ∷
+    (codes "left", made ⊤ (λ a. call.GetFuel)) ∷
     (codes "empty", made ℕ (λ a. call.DropItems a)) ∷
     (codes "gget", made ℕ (λ a. call.GetGlobal a)) ∷
     (codes "show", made ℕ (λ a. call.GetRegister a)) ∷
@@ -101,6 +103,7 @@ forms =
 form : (words : LineWords) (call : Call) → WritesOperands words call
     → (a : (form_in forms (command_word call)).0) × (form_in forms (command_word call)).1 words a
 form words (call.SetFuel fuel) w = (fuel, w)
+form words call.GetFuel w = (tt, w)
 form words (call.DropItems segment) w = (segment, w)
 form words (call.GetGlobal global) w = (global, w)
 form words (call.GetRegister a) w = (a, w)
