@@ -1,5 +1,5 @@
 -- What lines add to a script, one after the other, and the parts of its calls.
-use Rattle.std.proofs.Common.{ℕ, ◌≡◌, ◌∙◌, Result, IfErr, OnErr, List, [], ◌∷◌, Bor, get_or, length, take, drop, ◌-◌, codes, rules, tests, refl, sym, subst, ◌≤◌, ◌<◌, ◌+◌, ◌++◌, zero, suc, Some, None, map, arith, ap, append_assoc, append-nil, take-append-drop, length-append, length-drop, add-one, drop-cons, inl, inr}
+use Rattle.std.proofs.Common.{ℕ, ◌≡◌, ◌∙◌, Result, Err, bytes_eq, cond, IfErr, OnErr, List, [], ◌∷◌, Bor, get_or, length, take, drop, ◌-◌, codes, refl, sym, subst, ◌≤◌, ◌<◌, ◌+◌, ◌++◌, zero, suc, Some, None, map, arith, ap, append_assoc, append-nil, take-append-drop, length-append, length-drop, add-one, drop-cons, inl, inr}
 use Rattle.std.proofs.lemmas.List.{take_rest, drop-drop, drop-append-le, take-append-le, length-map, take-map}
 use Rattle.wasmi_grammar.specs.declared.script.Line.{Line}
 use Rattle.wasmi_grammar.specs.declared.script.Line.TheVariants.{Meter, Limiter, Region, As, Call as Command}
@@ -7,16 +7,22 @@ use Rattle.wasmi_grammar.specs.declared.header.RegionLine.{RegionLine}
 use Rattle.wasmi_grammar.specs.declared.script.Script.{Script}
 use Rattle.wasmi_operands.specs.declared.error.LineError.{LineError}
 use Rattle.wasmi_operands.specs.declared.error.LineError.TheVariants.{BadCommand}
-use Rattle.wasmi_operands.specs.LineWords.{LineWords, word_at}
-use Rattle.wasmi_grammar.specs.Headers.{WritesRegion}
+use Rattle.wasmi_operands.specs.LineWords.{Accepts, AcceptsWithMemory, LineWords, word_at}
+use Rattle.wasmi_grammar.specs.declared.header.MeterLine.{MeterLine}
+use Rattle.wasmi_grammar.specs.declared.header.LimiterLine.{LimiterLine}
+use Rattle.wasmi_grammar.specs.declared.header.LimiterLine.TheVariants.{Quota, Answers, Tenants}
+use Rattle.wasmi_grammar.specs.Commands.{command_word, WritesOperands, NamesAfter}
+use Rattle.wasmi_grammar.specs.Headers.{WritesMeter, WritesRegion, WritesTenant, NamesLimiterAfter}
+use Rattle.wasmi_grammar.proofs.CommandsLemmas.{Form}
 use Rattle.wasmi_grammar.specs.Lines.{NamesLine, AddsLine, AddsWords, AcceptsLine, AcceptsLines, AreTaken, calls_of, lines_in, IsBadLine, IsFirstBadLine}
 use Rattle.wasmi_grammar.specs.Parts.{TenantRun, PartsValue, parts_in, calls_in, part_at, Follow, AreCut}
-use Rattle.wasmi_operands.proofs.LineWordsLemmas.{on_refusal}
+use Rattle.wasmi_operands.proofs.LineWordsLemmas.{on_refusal, refused_with_memory, with_memory}
 use Rattle.std.specs.List.{slice_get, enumerate_from}
 use Rattle.std.specs.Option.{option_map}
 use Rattle.std.proofs.lemmas.Option.{slice_get-map, slice_get_past}
 use Rattle.std.proofs.lemmas.List.Concat.{flat_map-append}
 use Rattle.wasmi_core.specs.declared.calls.Call.{Call}
+use Rattle.wasmi_core.specs.declared.calls.Call.TheVariants.{GetFuel}
 use Rattle.wasmi_grammar.specs.declared.script.Span.{Span}
 use Rattle.std.proofs.lemmas.List.FromFn.{length-enumerate_from, get_or-enumerate_from}
 
@@ -33,14 +39,64 @@ at_places words none line empty names =
     subst (λ name. NamesLine name (drop 1 words) line) (first_word words none empty)
     (subst (λ operands. NamesLine (get_or words 0 none).now operands line) (take_rest words 1) names)
 
--- the words after `region` write a region, if they say anything
-pub region_only : (name : List ℕ) (operands : LineWords) → name ≡ codes "region" → (line : Line)
-    → NamesLine name operands line → (region : RegionLine) × WritesRegion operands region
-region_only name operands is (Region line) w = (line, w.1)
-region_only name operands is (Meter line) w = absurd (search (rules, tests, sym w.0 ∙ is))
-region_only name operands is (Limiter line) w = absurd (search (rules, tests, w.0 ∙ is))
-region_only name operands is (As tenant) w = absurd (search (rules, tests, sym w.0 ∙ is))
-region_only name operands is (Command call) w = absurd (search (rules, tests, w.0 ∙ is))
+-- what the words after a first word write, by that word
+abbrev after_word : List ℕ → Form
+after_word word =
+    cond (bytes_eq word (codes "meter")) (MeterLine, λ words line. WritesMeter words line)
+    (cond (bytes_eq word (codes "quota")) (LimiterLine, λ words line. NamesLimiterAfter (codes "quota") words line)
+    (cond (bytes_eq word (codes "answers")) (LimiterLine, λ words line. NamesLimiterAfter (codes "answers") words line)
+    (cond (bytes_eq word (codes "tenants")) (LimiterLine, λ words line. NamesLimiterAfter (codes "tenants") words line)
+    (cond (bytes_eq word (codes "region")) (RegionLine, λ words line. WritesRegion words line)
+    (cond (bytes_eq word (codes "as")) (ℕ, λ words tenant. WritesTenant words tenant)
+    (Call, λ words call. WritesOperands words call))))))
+
+abbrev IsWritten : LineWords → List ℕ → Type 0
+IsWritten words word = (a : (after_word word).0) × (after_word word).1 words a
+
+-- the operands of a call are written after its word
+command_written : (words : LineWords) (call : Call) → WritesOperands words call → IsWritten words (command_word call)
+command_written words GetFuel w = (GetFuel, w)
+command_written words call w = (call, w)
+
+-- where the words after a first word say something, they write what that word says
+line_written : (name : List ℕ) (words : LineWords) (line : Line) → NamesLine name words line → IsWritten words name
+line_written name words (Meter line) w = subst (IsWritten words) (sym w.0) (line, w.1)
+line_written name words (Limiter (Quota caps)) w = subst (IsWritten words) w.0 (Quota caps, (refl, w.1))
+line_written name words (Limiter (Answers list)) w = subst (IsWritten words) w.0 (Answers list, (refl, w.1))
+line_written name words (Limiter (Tenants line)) w = subst (IsWritten words) w.0 (Tenants line, (refl, w.1))
+line_written name words (Region line) w = subst (IsWritten words) (sym w.0) (line, w.1)
+line_written name words (As tenant) w = subst (IsWritten words) (sym w.0) (tenant, w.1)
+line_written name words (Command call) w = subst (IsWritten words) w.0 (command_written words call w.1)
+
+-- a line is refused where what its first word says is refused
+pub refused_line : {name word : List ℕ} (words : LineWords) {error : LineError} {result : Result Line LineError}
+    → result ≡ Err error → name ≡ word
+    → AcceptsWithMemory {A = (after_word word).0} (Err error) ((after_word word).1 words)
+    → AcceptsWithMemory result (NamesLine name words)
+refused_line {name} {word} words {error} {result} is same refused =
+    subst (λ r. AcceptsWithMemory r (NamesLine name words)) (sym is)
+    (refused_with_memory error ((after_word word).1 words) (NamesLine name words)
+    (λ line names. subst (IsWritten words) same (line_written name words line names)) refused)
+
+-- the same, where what is refused takes no memory
+pub refused_header : {name word : List ℕ} (words : LineWords) {error : LineError} {result : Result Line LineError}
+    → result ≡ Err error → name ≡ word
+    → Accepts {A = (after_word word).0} (Err error) ((after_word word).1 words)
+    → AcceptsWithMemory result (NamesLine name words)
+refused_header {name} {word} words {error} is same refused =
+    refused_line words is same (with_memory (Err error) ((after_word word).1 words) refused)
+
+-- words after a word of no header line say a call, if they say anything
+pub command_only : (name : List ℕ) (words : LineWords) → ¬ (name ≡ codes "meter") → ¬ (name ≡ codes "quota")
+    → ¬ (name ≡ codes "answers") → ¬ (name ≡ codes "tenants") → ¬ (name ≡ codes "region") → ¬ (name ≡ codes "as")
+    → (line : Line) → NamesLine name words line → (call : Call) × NamesAfter name words call
+command_only name words meter quota answers tenants region as_line (Meter line) w = absurd (meter w.0)
+command_only name words meter quota answers tenants region as_line (Limiter (Quota caps)) w = absurd (quota (sym w.0))
+command_only name words meter quota answers tenants region as_line (Limiter (Answers list)) w = absurd (answers (sym w.0))
+command_only name words meter quota answers tenants region as_line (Limiter (Tenants line)) w = absurd (tenants (sym w.0))
+command_only name words meter quota answers tenants region as_line (Region line) w = absurd (region w.0)
+command_only name words meter quota answers tenants region as_line (As tenant) w = absurd (as_line w.0)
+command_only name words meter quota answers tenants region as_line (Command call) w = (call, w)
 
 -- a refused line of one kind adds nothing
 pub refused_as : {A : Type 0} (old : Script) (line kind : Line) (result : Result A LineError) → line ≡ kind
