@@ -23,7 +23,6 @@ macro_rules! call {
 }
 
 /// The call of a command with this name and these operands.
-#[tactic(auto, using(wasmi_operands::proofs::LineWordsLemmas::with_memory))]
 pub(crate) fn command(alloc: Global, name: &str, operands: &[&str]) -> Result<Call, LineError>
     ensures { AcceptsWithMemory result (NamesAfter name.now operands.now) }
 {
