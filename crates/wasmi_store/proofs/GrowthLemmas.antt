@@ -1,9 +1,12 @@
 -- The making and the growth of a memory or a table, by what was tested on the way.
 use Rattle.std.proofs.Common.{◌≡◌, ℕ, ◌<◌, ◌≤◌, Bool, true, false, Option, Some, None, Result, Ok, Err, inl, inr, refl, ap, ◌∙◌, arith}
 use Rattle.std.specs.Prelude.{if◌then◌else◌, MatchBool}
+use Rattle.std.specs.Borrow.{MutBor}
 use Rattle.std.proofs.lemmas.Bool.Decides.{nat_tests}
+use Rattle.std.proofs.lemmas.Grind.{common_steps}
 use Rattle.wasmi_meter.specs.declared.fuel.CustomFuelCosts.{CustomFuelCosts}
-use Rattle.wasmi_meter.specs.Limiter.{Question, Answer, NoticeAnswer, Rules}
+use Rattle.wasmi_meter.specs.declared.limiter_ref.LimiterRef.{LimiterRef}
+use Rattle.wasmi_meter.specs.Limiter.{Question, Answer, NoticeAnswer, Rules, KeepsLoan}
 use Rattle.wasmi_meter.specs.Meter.{Meter, amount_left, Charges}
 use Rattle.wasmi_meter.specs.Attempt.{MeteredValue, alone, Request, AttemptOutcome, Unasked, Denied, Met, Failed, Attempt, Permits, answer_of, error_of_failure, optional_due, covers}
 use Rattle.wasmi_meter.proofs.AttemptLemmas.{IsPermitted, ReachesCharge, attempt_unasked, attempt_denied, attempt_late, attempt_unpaid, attempt_refused, attempt_met}
@@ -29,6 +32,10 @@ on_test false Holds Fails h holds fails = fails h
 pub of_loan : {L : Type 0} (Holds : Option L → Option L → Type 0) (s s' : Option L) (l l' : L) → s ≡ Some l
     → s' ≡ Some l' → Holds s s' → Holds (Some l) (Some l')
 of_loan Holds s s' l l' before after holds = rw (← before, ← after) holds
+
+-- a loan that is kept, and kept again, is kept
+pub loan_kept : {L : Type 0} (r r' r'' : LimiterRef (MutBor L)) → KeepsLoan r r' → KeepsLoan r' r'' → KeepsLoan r r''
+loan_kept r r' r'' kept more = grind (arith, common_steps)
 
 -- what is left, or less, can be paid
 pub payable : (m : Meter) (n : ℕ) → n ≤ amount_left m → covers (Some m) n ≡ true

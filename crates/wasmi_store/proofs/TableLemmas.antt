@@ -1,6 +1,6 @@
 -- The making and the growth of a table, by what was tested on the way; an element segment in the midst of being read.
 use Rattle.std.proofs.Common.{◌≡◌, ℕ, ◌+◌, ◌-◌, Bool, true, false, Option, Some, None, Result, Ok, Err, List, ◌++◌, length, take, replicate, refl, ap, ◌∙◌, arith, ◌<◌, [], ◌∷◌, sym, subst, length-append}
-use Rattle.std.proofs.lemmas.List.{take_all}
+use Rattle.std.proofs.lemmas.List.{take_all, length-replicate}
 use Rattle.std.specs.Prelude.{MatchBool}
 use Rattle.wasmi_typed.specs.declared.typed_ref.TypedRawRef.{TypedRawRef}
 use Rattle.wasmi_meter.specs.declared.fuel.CustomFuelCosts.{CustomFuelCosts}
@@ -10,7 +10,7 @@ use Rattle.wasmi_meter.specs.declared.limiter.Kind.TheVariants.{Elements}
 use Rattle.wasmi_meter.specs.Limiter.{Question, Answer, Rules}
 use Rattle.wasmi_meter.specs.Meter.{Meter, due, Charges}
 use Rattle.wasmi_meter.specs.Attempt.{MeteredValue}
-use Rattle.wasmi_store.specs.Table.{TableTypeValue, is_indexable, is_within_maximum, same_type, TableValue, size_of, new_table, with_added, element_price, creation_of, growth_of, MakesTable, GrowsTableRawCharging, GrowsTableCharging}
+use Rattle.wasmi_store.specs.Table.{TableTypeValue, IsSized, is_indexable, is_within_maximum, same_type, TableValue, size_of, new_table, with_added, element_price, creation_of, growth_of, MakesTable, GrowsTableRawCharging, GrowsTableCharging}
 use Rattle.wasmi_meter.proofs.AttemptLemmas.{IsPermitted, ReachesCharge}
 use Rattle.wasmi_store.specs.Growth.{IsAsked}
 use Rattle.wasmi_store.proofs.GrowthLemmas.{no_cause, a_cause, permitted_by, TellsOf, GrowthAttempt, EndsIn}
@@ -24,6 +24,19 @@ pub resized : (xs : List ℕ) (size n desired reference : ℕ) → size ≡ leng
 resized xs size n desired reference e reaches =
     ap (λ (l : List ℕ). l ++ replicate (desired - size) reference) (take_all desired xs (omega arith))
     ∙ ap (λ k. xs ++ replicate k reference) (omega arith)
+
+-- a table that has grown has as many elements as its type allows
+pub sized_grown : (ty : TableTypeValue) (xs ys : List ℕ) (n desired reference : ℕ) → IsSized ty (length xs)
+    → (is_indexable ty (length xs + n) ≡ true) × (desired ≡ length xs + n) → is_within_maximum ty desired ≡ true
+    → ys ≡ xs ++ replicate n reference → IsSized ty (length ys)
+sized_grown ty xs ys n desired reference sized found within grown =
+    let size : length ys ≡ length xs + n =
+    rw (grown, length-append xs (replicate n reference), length-replicate {A = ℕ} n reference) refl in
+    rw size (record {
+      minimum = omega (arith, sized.minimum);
+      indexable = found.0;
+      within = rw found.1 at within;
+    })
 
 -- a table of another type than its elements is refused, and the limiter isn't asked
 pub makes_mismatched : {S : Type 0} (rules : Rules S) (ty : TableTypeValue) (init : TypedRawRef) (l : S)

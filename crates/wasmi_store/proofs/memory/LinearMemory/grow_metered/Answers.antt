@@ -2,6 +2,7 @@ use Rattle.std.proofs.Common.{ap, arith, refl, sym, ◌∙◌}
 use Rattle.std.proofs.lemmas.Result.{err_from_is_err_and}
 use Rattle.wasmi_meter.specs.Limiter.{optional_rules}
 use Rattle.wasmi_store.specs.Memory.{memory_of}
+use Rattle.wasmi_store.proofs.GrowthLemmas.{loan_kept}
 use Rattle.wasmi_store.proofs.MemoryLemmas.{grows_unasked, growth_asked, growth_permitted, grows_refused, grows_met, sized_buffer}
 use Rattle.wasmi_store.proofs.memory.LinearMemory.grow_metered.Goals as goal
 
@@ -19,6 +20,9 @@ returns-in_err-decide_growth-clause-grown g c =
     (growth_asked _ c.args.additional (rw c.len-old_size.ensures at c.in-Some.ensures.size) c.len-old_size.ensures
     c.maximum_size-maximum.ensures) fits
     )
+
+pub returns-in-Err-clause-loan : goal.returns-in-Err-clause-loan
+returns-in-Err-clause-loan g c = loan_kept _ _ _ c.in_ok-decide_growth.ensures.loan c.tell.ensures.loan
 
 pub returns-in-Err-clause-grown : goal.returns-in-Err-clause-grown
 returns-in-Err-clause-grown g c =
@@ -43,3 +47,6 @@ returns-clause-grown g c =
 pub invariant_of-self-2 : goal.invariant_of-self-2
 invariant_of-self-2 g c = sized_buffer _ _ _ c.args.additional _ c.self.invariant
     (rw c.len-old_size.ensures at c.in-Some.ensures.size) c.in_default-grow.ensures.ok
+
+pub invariant_of-self : goal.invariant_of-self
+invariant_of-self g c = rw c.in-Err.ensures.err c.self.invariant

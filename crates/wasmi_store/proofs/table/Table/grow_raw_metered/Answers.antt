@@ -2,14 +2,20 @@ use Rattle.std.proofs.Common.{sym, ap, ◌∙◌}
 use Rattle.std.proofs.lemmas.Result.{err_from_is_err_and}
 use Rattle.wasmi_meter.specs.Limiter.{optional_rules}
 use Rattle.wasmi_store.specs.Table.{table_of}
-use Rattle.wasmi_store.proofs.GrowthLemmas.{grows_denied}
-use Rattle.wasmi_store.proofs.TableLemmas.{resized, growing, grows_unasked, growth_asked, growth_permitted, grows_above, grows_unpaid, grows_refused, grows_met}
+use Rattle.wasmi_store.proofs.GrowthLemmas.{grows_denied, loan_kept}
+use Rattle.wasmi_store.proofs.TableLemmas.{resized, sized_grown, growing, grows_unasked, growth_asked, growth_permitted, grows_above, grows_unpaid, grows_refused, grows_met}
 use Rattle.wasmi_store.proofs.table.Table.grow_raw_metered.Goals as goal
+
+pub returns-then-not-allows_size-clause-loan : goal.returns-then-not-allows_size-clause-loan
+returns-then-not-allows_size-clause-loan g c = loan_kept _ _ _ c.table_growing-answer.ensures.loan c.tell.ensures.loan
 
 pub returns-in_default-clause-grown : goal.returns-in_default-clause-grown
 returns-in_default-clause-grown g c = rw (← c.self.view_is) (grows_unasked
     (optional_rules g.L.ResourceLimiter.rules) _ c.args.fuel.now _ c.args.delta c.args.init c.if-delta-eq0.false
     (rw (rw (← c.self.view_is) at c.size-size.ensures.value) at c.in_default.ensures))
+
+pub returns-in-Err-clause-loan : goal.returns-in-Err-clause-loan
+returns-in-Err-clause-loan g c = loan_kept _ _ _ c.table_growing-answer.ensures.loan c.tell-in-Err.ensures.loan
 
 pub returns-in_err-permission-clause-grown : goal.returns-in_err-permission-clause-grown
 returns-in_err-permission-clause-grown g c =
@@ -58,3 +64,16 @@ returns-clause-grown g c =
     rw (← c.self.view_is)
     (grows_met permits (sym c.if-not-allows_size.ensures) c.charge.new.fuel c.in_default-charge.ensures _
     (ap (table_of c.self.inside.ty) grown) _ sized)
+
+pub returns-then-is_err-clause-loan : goal.returns-then-is_err-clause-loan
+returns-then-is_err-clause-loan g c = loan_kept _ _ _ c.table_growing-answer.ensures.loan c.tell-then-is_err.ensures.loan
+
+pub invariant_of-self : goal.invariant_of-self
+invariant_of-self g c = rw (rw c.if-is_err.ensures.negation at c.resize.ensures.items) c.self.invariant
+
+pub invariant_of-self-2 : goal.invariant_of-self-2
+invariant_of-self-2 g c =
+    let found = rw (rw (← c.self.view_is) at c.size-size.ensures.value) at c.in-Some.ensures in
+    sized_grown c.self.inside.ty _ _ c.args.delta _ c.args.init c.self.invariant found (sym c.if-not-allows_size.ensures)
+    ((rw c.if-is_err.ensures.negation at c.resize.ensures.items)
+    ∙ resized _ _ c.args.delta _ c.args.init c.self.inside.elements.ok.0 found.1)
