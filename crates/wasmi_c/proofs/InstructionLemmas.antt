@@ -4,6 +4,7 @@ use Rattle.std.specs.Prelude.{◌==◌, Ok, Err, if◌then◌else◌, nat_lt}
 use Rattle.std.specs.Simd.Lanes.{zip2}
 use Rattle.std.proofs.lemmas.Grind.{same_number_lists}
 use Rattle.std.proofs.lemmas.List.{take_all}
+use Rattle.std.proofs.lemmas.List.Folds.{list_all_at}
 use Rattle.std.specs.List.{list_all}
 use Rattle.wasmi_c.specs.Instruction.{Leaves, each_of, each_of_two, each_of_three, zip3, lanes_of}
 use Rattle.wasmi_c.specs.declared.instruction.result.Refusal.TheVariants.{LengthsDiffer}
@@ -107,3 +108,9 @@ lanes_there indices lanes count long all are =
     let fit : list_all has_lane indices ≡ true = rw (take_all count indices (omega arith)) at are.all in
     ap Some (same_number_lists lanes indices (omega arith) (λ k inside. are.same k (omega arith)))
     ∙ sym (ap (λ fit. if fit then Some indices else None) fit)
+
+-- where one of the indices has no lane, there are no such lanes
+pub no_lanes : (indices : List ℕ) (i : ℕ) → i < length indices → 32 ≤ get_or indices i 0 → None ≡ lanes_of indices
+no_lanes indices i inside past =
+    let none : has_lane (get_or indices i 0) ≡ false = search (rules, tests) in
+    sym (ap (λ fit. if fit then Some indices else None) (list_all_at has_lane indices i 0 inside none))

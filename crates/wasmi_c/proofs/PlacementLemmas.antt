@@ -5,16 +5,19 @@ use Rattle.std.specs.Prelude.{OnErr, nat_eq, if◌then◌else◌}
 use Rattle.std.specs.Option.{option_map, unwrap_or}
 use Rattle.wasmi_meter.specs.Limiter.{Rules, Question, Answer, Failure, NoticeAnswer, optional_rules, AskedIf, NoticedIf}
 use Rattle.wasmi_meter.specs.Meter.{Meter, meter_after}
-use Rattle.wasmi_store.specs.Growth.{Growth, Grows, MeteredBytes, metered_value, metered, BulkWrites, bytes_due}
+use Rattle.wasmi_store.specs.Growth.{Growth, Grows, Makes, MeteredBytes, metered_value, metered, BulkWrites, bytes_due}
 use Rattle.wasmi_store.proofs.GrowthLemmas.{on_test}
 use Rattle.wasmi_c.specs.Numbers.{meter_of, with_left, KeepsMeter, MeteredRegion, SameRest, limiter_of, quota_numbers_rules, Embedded, embedded}
 use Rattle.wasmi_c.specs.declared.numbers.MeterNumbers.{MeterNumbers}
 use Rattle.wasmi_c.specs.declared.numbers.Range.{Range}
 use Rattle.wasmi_meter.specs.declared.error.MemoryError.{MemoryError}
 use Rattle.wasmi_meter.proofs.AttemptLemmas.{meter_after_nothing}
-use Rattle.wasmi_meter.specs.Attempt.{MeteredValue, Attempt, covers, Request, AttemptOutcome, Unasked, Denied, Met, Failed, Follows}
+use Rattle.wasmi_meter.specs.Attempt.{MeteredValue, Attempt, covers, Request, AttemptOutcome, Unasked, Denied, Met, Failed, Follows, answer_of}
 use Rattle.wasmi_c.specs.MemoryCalls.{WritesBytesAs, of_memory}
-use Rattle.wasmi_c.specs.Placement.{status_of, grown_number, written_number, Placement, GrowsAs, Limited, limiter_after, Allows, SettlesGrowth, SettlesCreation}
+use Rattle.wasmi_c.specs.TableCalls.{WritesTableAs, of_table}
+use Rattle.wasmi_store.specs.Table.{TableTypeValue, TableValue, TableWrite, WritesTable, table_of}
+use Rattle.wasmi_meter.specs.declared.error.TableError.{TableError}
+use Rattle.wasmi_c.specs.Placement.{status_of, grown_number, written_number, Placement, GrowsAs, WritesAs, Limited, limiter_after, Allows, SettlesGrowth, SettlesCreation}
 use Rattle.wasmi_meter.specs.declared.quota.Quota.{Quota}
 use Rattle.wasmi_meter.specs.Capped.{quota_rules}
 use Rattle.wasmi_c.specs.declared.numbers.QuotaNumbers.{QuotaNumbers}
@@ -57,18 +60,18 @@ kept h h' m' charge left taken =
     let off = λ (is_off : h.is_on ≡ 0). (let none : m'.left ≡ None = rw (after, is_off) refl in ap (with_left h) none) in
     rw left (same, record { others = refl; off = off })
 
--- a write over the front of a region is one of what lies with C
-pub written_with : (written : Range → List ℕ → Option (List ℕ)) (range : Range) (size : ℕ) (s s' : MeteredRegion)
-    (after : List ℕ) (m' : Meter) (result : Result (Unit {0}) MemoryError) (status : ℕ)
+-- a write over the front of a region that takes an amount from the meter is one of what lies with C
+written_by : {H T V E : Type 0} (p : Placement H T V E)
+    (Writes : List ℕ → Meter → Result (Unit {0}) E → List ℕ → Meter → Type 0) (size : ℕ) (s s' : MeteredRegion)
+    (after : List ℕ) (m' : Meter) (result : Result (Unit {0}) E) (status : ℕ)
+    → (charge : ℕ) × (Some m' ≡ Some (meter_after (meter_of s.meter) charge))
     → s'.meter ≡ with_left s.meter m'.left
-    → BulkWrites (written range (take size s.region)) range.count
-    (metered (take size s.region) (Some (meter_of s.meter))) result (metered after (Some m'))
+    → Writes (take size s.region) (meter_of s.meter) result after m'
     → length after ≡ size → s'.region ≡ after ++ drop size s.region
-    → (status ≡ status_of of_memory result) × (s'.number ≡ written_number of_memory result s.number)
-    → WritesBytesAs written range size s status s'
-written_with written range size s s' after m' result status left writes long placed tells =
+    → (status ≡ status_of p result) × (s'.number ≡ written_number p result s.number)
+    → WritesAs p Writes size s status s'
+written_by p Writes size s s' after m' result status charged left writes long placed tells =
     let rest = drop size s.region in
-    let charged = write_charged (written range (take size s.region)) range.count _ _ result writes in
     let keeps = kept s.meter s'.meter m' charged.0 left charged.1 in
     record {
       result = result;
@@ -78,6 +81,31 @@ written_with written range size s s' after m' result status left writes long pla
       status_is = tells.0;
       number_is = tells.1;
     }
+
+-- a write of bytes over the front of a region is one of what lies with C
+pub written_with : (written : Range → List ℕ → Option (List ℕ)) (range : Range) (size : ℕ) (s s' : MeteredRegion)
+    (after : List ℕ) (m' : Meter) (result : Result (Unit {0}) MemoryError) (status : ℕ)
+    → s'.meter ≡ with_left s.meter m'.left
+    → BulkWrites (written range (take size s.region)) range.count
+    (metered (take size s.region) (Some (meter_of s.meter))) result (metered after (Some m'))
+    → length after ≡ size → s'.region ≡ after ++ drop size s.region
+    → (status ≡ status_of of_memory result) × (s'.number ≡ written_number of_memory result s.number)
+    → WritesBytesAs written range size s status s'
+written_with written range size s s' after m' result status left writes =
+    let charged = write_charged (written range (take size s.region)) range.count _ _ result writes in
+    written_by of_memory _ size s s' after m' result status charged left writes
+
+-- a write of elements over the front of a region is one of what lies with C
+pub table_written_with : (write : TableValue → TableWrite) (ty : TableTypeValue) (size : ℕ) (s s' : MeteredRegion)
+    (after : List ℕ) (m' : Meter) (result : Result (Unit {0}) TableError) (status : ℕ)
+    → s'.meter ≡ with_left s.meter m'.left
+    → WritesTable write (metered (table_of ty (take size s.region)) (Some (meter_of s.meter))) result
+    (metered (table_of ty after) (Some m'))
+    → length after ≡ size → s'.region ≡ after ++ drop size s.region
+    → (status ≡ status_of of_table result) × (s'.number ≡ written_number of_table result s.number)
+    → WritesTableAs write ty size s status s'
+table_written_with write ty size s s' after m' result status left writes =
+    written_by of_table _ size s s' after m' result status (writes.0, writes.1.meter) left writes
 
 -- the rules of these numbers, where they are lent
 abbrev lent_rules : Rules (Option QuotaNumbers)
@@ -141,6 +169,22 @@ growth_by g r r' stays follows (inr some) = inr (record {
   attempt = attempt_by r r' some.attempt (follows some.outcome some.attempt.follows);
   answered = some.answered;
 })
+
+-- a creation under the numbers of a quota, which may be off, is one under the quota
+pub made_by_quota : {T E : Type 0} (e : Request (Unit {0}) E) (made : T) {result : Result T E} (q q' : QuotaNumbers)
+    → Makes (optional_rules quota_numbers_rules) e made (Some q) result (Some q')
+    → Makes (optional_rules quota_rules) e made (limiter_of q) result (limiter_of q')
+made_by_quota e made q q' makes =
+    let seen_so = follows e (Some q) (Some q') makes.0 makes.1.follows in
+    (makes.0, attempt_by (limiter_of q) (limiter_of q') makes.1 seen_so, makes.2)
+
+-- what is made is what was to be made
+pub made_is : {T E : Type 0} (e : Request (Unit {0}) E) (made x : T) (outcome : AttemptOutcome E)
+    → Ok x ≡ answer_of e made outcome → x ≡ made
+made_is e made x (Unasked cause) is = cc
+made_is e made x (Denied answer) is = cc
+made_is e made x Met is = cc
+made_is e made x (Failed cause answer) is = cc
 
 -- what holds of two values holds of what equals them
 pub of_equals : {T : Type 0} (Holds : T → T → Type 0) {s s' t t' : T} → s ≡ t → s' ≡ t' → Holds t t' → Holds s s'

@@ -1,0 +1,15 @@
+use Rattle.std.proofs.Common.{arith}
+use Rattle.std.proofs.lemmas.Grind.{get_or-set_at}
+use Rattle.std.proofs.lemmas.List.{get_or-set_other, get_or_default}
+use Rattle.wasmi_c.proofs.InstructionLemmas.{each_three_written}
+use Rattle.wasmi_c.specs.Instruction.{ternary_value}
+use Rattle.wasmi_c.proofs.instruction.ternary.each.Goals as goal
+
+pub loop-i-preserved : goal.loop-i-preserved
+loop-i-preserved c k x y z u below = grind (arith, get_or-set_at, get_or-set_other, get_or_default)
+
+pub returns : goal.returns
+returns c =
+    each_three_written (ternary_value c.args.op) c.args.a.now c.args.b.now c.args.c.now c.args.values.now c.loop-i.values
+    c.if-b-a.false c.if-c-a.false c.if-values-a.false c.loop-i.auto.values
+    (λ k x y z u below. c.loop-i.invariant k x y z u (omega arith))
