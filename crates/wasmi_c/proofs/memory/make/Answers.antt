@@ -2,6 +2,7 @@ use Rattle.std.proofs.Common.{◌≡◌, ◌∙◌, ℕ, List, inr, refl, arith,
 use Rattle.std.proofs.lemmas.List.{length-take, length-replicate}
 use Rattle.wasmi_store.specs.Buffer.{Lent}
 use Rattle.wasmi_store.specs.Memory.{MemoryValue, creation_of, minimum_bytes, new_memory}
+use Rattle.wasmi_c.specs.Numbers.{IsState}
 use Rattle.wasmi_c.proofs.PlacementLemmas.{made_by_quota, made_is}
 use Rattle.wasmi_c.proofs.memory.make.Goals as goal
 
@@ -21,19 +22,30 @@ returns-in-Ok-clause-made c =
     let size : c.in-Ok.size ≡ minimum_bytes ty = omega (arith, long, sized.1) in
     let rest : drop c.in-Ok.size c.make_under.new.region ≡ drop c.in-Ok.size c.args.region.now =
     same_list _ _ (ap (λ (x : MemoryValue). x.room) is) ∙ ap (λ n. drop n c.args.region.now) (sym size) in
-    inr (ty, c.in-Some.ensures.0, record {
-      result = Ok c.in-Ok.size;
-      makes = made_by_quota e (new_memory room ty) _ _ made;
-      status_is = refl;
-      left = (refl, record { type = c.in-Some.ensures.0; valid = c.in-Some.ensures.1; sized = sized.0; within = sized.1 }, rest);
-    })
+    let named = c.in-Some.ensures in
+    let state : IsState (record c.args.memory.now { size = c.in-Ok.size }) c.make_under.new.region ty =
+    record { type = named.0; valid = named.1; sized = sized.0; within = sized.1 } in
+    inr (
+      ty,
+      named.0,
+      record {
+        result = Ok c.in-Ok.size;
+        makes = made_by_quota e (new_memory room ty) _ _ made;
+        status_is = refl;
+        left = (refl, state, rest);
+      },
+    )
 
 pub returns-in-Err-clause-made : goal.returns-in-Err-clause-made
 returns-in-Err-clause-made c =
     let room = Lent c.args.region.now in
-    inr (c.in-Some.ty, c.in-Some.ensures.0, record {
-      result = Err c.in-Err.error;
-      makes = made_by_quota (creation_of room c.in-Some.ty) (new_memory room c.in-Some.ty) _ _ c.in-Err.ensures.made;
-      status_is = c.memory_status.ensures;
-      left = rw c.in-Err.ensures.refused refl;
-    })
+    inr (
+      c.in-Some.ty,
+      c.in-Some.ensures.0,
+      record {
+        result = Err c.in-Err.error;
+        makes = made_by_quota (creation_of room c.in-Some.ty) (new_memory room c.in-Some.ty) _ _ c.in-Err.ensures.made;
+        status_is = c.memory_status.ensures;
+        left = rw c.in-Err.ensures.refused refl;
+      },
+    )
