@@ -59,6 +59,7 @@ UNTESTED = {
     "dst: dst + len ≤ length elements.old": NOT_EXPORTED,
     "src: src + len ≤ length elements.old": NOT_EXPORTED,
     "few: len ≤ 4096": NOT_EXPORTED,
+    "dropped: dropped < bits Self.width": NOT_EXPORTED,
     "inside: index + length items.now ≤ length elements.old": NOT_EXPORTED,
     "start: start ≤ end": NOT_EXPORTED,
     "end: end ≤ length elements.old": NOT_EXPORTED,

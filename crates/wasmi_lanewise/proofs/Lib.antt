@@ -3,4 +3,5 @@ pub mod CountLemmas
 pub mod MarkLemmas
 pub mod OrderLemmas
 pub mod SaturationLemmas
+pub mod ShiftLemmas
 pub mod WordLemmas

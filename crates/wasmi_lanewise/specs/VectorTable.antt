@@ -138,6 +138,20 @@ abs w = unary_of_lanes w (signed w) (λ x. unsigned_abs x % 2 ^ bits w)
 abbrev pub popcnt : Width → ℕ → ℕ
 popcnt w = unary_of_lanes w unsigned count_ones
 
+-- ---- shifts, by an amount modulo the width
+
+-- each lane shifted to the left by the amount modulo the width
+abbrev pub shl : Width → ℕ → ℕ → ℕ
+shl w v amount = unary_of_lanes w unsigned (λ x. (x * 2 ^ (amount % bits w)) % 2 ^ bits w) v
+
+-- each lane shifted to the right by the amount modulo the width, with its sign from above
+abbrev pub shr_s : Width → ℕ → ℕ → ℕ
+shr_s w v amount = unary_of_lanes w (signed w) (λ x. wrap w (int_shr x (amount % bits w))) v
+
+-- each lane shifted to the right by the amount modulo the width, with zeros from above
+abbrev pub shr_u : Width → ℕ → ℕ → ℕ
+shr_u w v amount = unary_of_lanes w unsigned (λ x. x / 2 ^ (amount % bits w)) v
+
 -- ---- comparisons: all ones in the lanes where they hold, else all zeros
 
 -- all ones in the lanes that are equal, else all zeros

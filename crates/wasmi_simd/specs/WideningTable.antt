@@ -1,8 +1,7 @@
--- The vector instructions (core specification, "Numerics") that widen, narrow, shift or test lanes, by their lanes.
-use Rattle.std.specs.Prelude.{ℕ, zero, suc, ◌+◌, ◌-◌, ◌*◌, ◌/◌, Bool, true, ◌&&◌, nat_lt, if◌then◌else◌, ◌%◌, ◌^◌, not, nat_eq, nat_le, ◌+ℤ◌, ◌*ℤ◌}
+-- The vector instructions (core specification, "Numerics") that widen, narrow or test lanes, by their lanes.
+use Rattle.std.specs.Prelude.{ℕ, zero, suc, ◌+◌, ◌-◌, ◌*◌, Bool, true, ◌&&◌, nat_lt, if◌then◌else◌, ◌^◌, not, nat_eq, nat_le, ◌+ℤ◌, ◌*ℤ◌}
 use Rattle.wasmi_types.specs.Numbers.{Width, bits, w8, w16, w32, signed, wrap, clamp_signed, clamp_unsigned}
-use Rattle.wasmi_lanes.specs.Vector.{lane, lane_count, from_lanes, unsigned, unary_of_lanes, with_lane}
-use Rattle.std.specs.Int.{int_shr}
+use Rattle.wasmi_lanes.specs.Vector.{lane, lane_count, from_lanes, unsigned, with_lane}
 use Rattle.wasmi_lanewise.specs.VectorTable.{add, swizzle, v128_bitselect, q15mulr_sat_s}
 
 -- the wide vector whose lane i is the row of the narrow lane first + i: first is 0 for the lower half, and `lane_count
@@ -118,20 +117,6 @@ narrow_s wide narrow = from_low_high wide narrow (signed wide) (λ x. wrap narro
 -- the lanes of two vectors read signed, clamped to the unsigned range of half their width
 abbrev pub narrow_u : Width → Width → ℕ → ℕ → ℕ
 narrow_u wide narrow = from_low_high wide narrow (signed wide) (clamp_unsigned narrow)
-
--- ---- shifts, by an amount modulo the width
-
--- each lane shifted to the left by the amount modulo the width
-abbrev pub shl : Width → ℕ → ℕ → ℕ
-shl w v amount = unary_of_lanes w unsigned (λ x. (x * 2 ^ (amount % bits w)) % 2 ^ bits w) v
-
--- each lane shifted to the right by the amount modulo the width, with its sign from above
-abbrev pub shr_s : Width → ℕ → ℕ → ℕ
-shr_s w v amount = unary_of_lanes w (signed w) (λ x. wrap w (int_shr x (amount % bits w))) v
-
--- each lane shifted to the right by the amount modulo the width, with zeros from above
-abbrev pub shr_u : Width → ℕ → ℕ → ℕ
-shr_u w v amount = unary_of_lanes w unsigned (λ x. x / 2 ^ (amount % bits w)) v
 
 -- ---- tests
 

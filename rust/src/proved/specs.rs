@@ -1197,6 +1197,20 @@ abbrev pub <b id="abs">abs</b> : Width → ℕ → ℕ
 abbrev pub <b id="popcnt">popcnt</b> : Width → ℕ → ℕ
 <a href="../../lanewise/VectorTable/index.html#popcnt">popcnt</a> w = <a href="../../lanes/Vector/index.html#unary_of_lanes">unary_of_lanes</a> w <a href="../../lanes/Vector/index.html#unsigned">unsigned</a> count_ones
 
+-- ---- shifts, by an amount modulo the width
+
+-- each lane shifted to the left by the amount modulo the width
+abbrev pub <b id="shl">shl</b> : Width → ℕ → ℕ → ℕ
+<a href="../../lanewise/VectorTable/index.html#shl">shl</a> w v amount = <a href="../../lanes/Vector/index.html#unary_of_lanes">unary_of_lanes</a> w <a href="../../lanes/Vector/index.html#unsigned">unsigned</a> (λ x. (x * 2 ^ (amount % bits w)) % 2 ^ bits w) v
+
+-- each lane shifted to the right by the amount modulo the width, with its sign from above
+abbrev pub <b id="shr_s">shr_s</b> : Width → ℕ → ℕ → ℕ
+<a href="../../lanewise/VectorTable/index.html#shr_s">shr_s</a> w v amount = <a href="../../lanes/Vector/index.html#unary_of_lanes">unary_of_lanes</a> w (signed w) (λ x. <a href="../../types/Numbers/index.html#wrap">wrap</a> w (int_shr x (amount % bits w))) v
+
+-- each lane shifted to the right by the amount modulo the width, with zeros from above
+abbrev pub <b id="shr_u">shr_u</b> : Width → ℕ → ℕ → ℕ
+<a href="../../lanewise/VectorTable/index.html#shr_u">shr_u</a> w v amount = <a href="../../lanes/Vector/index.html#unary_of_lanes">unary_of_lanes</a> w <a href="../../lanes/Vector/index.html#unsigned">unsigned</a> (λ x. x / 2 ^ (amount % bits w)) v
+
 -- ---- comparisons: all ones in the lanes where they hold, else all zeros
 
 -- all ones in the lanes that are equal, else all zeros
@@ -1273,12 +1287,11 @@ pub <b id="u32x4_widened">u32x4_widened</b> : <a href="../../widening/WideningPr
 </code></pre>
 "####]
     pub mod WideningProofs {}
-    #[doc = r####"The vector instructions (core specification, "Numerics") that widen, narrow, shift or test lanes, by their lanes.
+    #[doc = r####"The vector instructions (core specification, "Numerics") that widen, narrow or test lanes, by their lanes.
 
-<pre><code>use Rattle.std.specs.Prelude.{ℕ, zero, suc, ◌+◌, ◌-◌, ◌*◌, ◌/◌, Bool, true, ◌&amp;&amp;◌, nat_lt, if◌then◌else◌, ◌%◌, ◌^◌, not, nat_eq, nat_le, ◌+ℤ◌, ◌*ℤ◌}
+<pre><code>use Rattle.std.specs.Prelude.{ℕ, zero, suc, ◌+◌, ◌-◌, ◌*◌, Bool, true, ◌&amp;&amp;◌, nat_lt, if◌then◌else◌, ◌^◌, not, nat_eq, nat_le, ◌+ℤ◌, ◌*ℤ◌}
 use Rattle.wasmi_types.specs.Numbers.{Width, bits, w8, w16, w32, signed, <a href="../../types/Numbers/index.html#wrap">wrap</a>, clamp_signed, clamp_unsigned}
-use Rattle.wasmi_lanes.specs.Vector.{<a href="../../lanes/Vector/index.html#lane">lane</a>, <a href="../../lanes/Vector/index.html#lane_count">lane_count</a>, <a href="../../lanes/Vector/index.html#from_lanes">from_lanes</a>, <a href="../../lanes/Vector/index.html#unsigned">unsigned</a>, <a href="../../lanes/Vector/index.html#unary_of_lanes">unary_of_lanes</a>, <a href="../../lanes/Vector/index.html#with_lane">with_lane</a>}
-use Rattle.std.specs.Int.{int_shr}
+use Rattle.wasmi_lanes.specs.Vector.{<a href="../../lanes/Vector/index.html#lane">lane</a>, <a href="../../lanes/Vector/index.html#lane_count">lane_count</a>, <a href="../../lanes/Vector/index.html#from_lanes">from_lanes</a>, <a href="../../lanes/Vector/index.html#unsigned">unsigned</a>, <a href="../../lanes/Vector/index.html#with_lane">with_lane</a>}
 use Rattle.wasmi_lanewise.specs.VectorTable.{<a href="../../lanewise/VectorTable/index.html#add">add</a>, <a href="../../lanewise/VectorTable/index.html#swizzle">swizzle</a>, <a href="../../lanewise/VectorTable/index.html#v128_bitselect">v128_bitselect</a>, <a href="../../lanewise/VectorTable/index.html#q15mulr_sat_s">q15mulr_sat_s</a>}
 
 -- the wide vector whose lane i is the row of the narrow lane first + i: first is 0 for the lower half, and `lane_count
@@ -1394,20 +1407,6 @@ abbrev pub <b id="narrow_s">narrow_s</b> : Width → Width → ℕ → ℕ → �
 -- the lanes of two vectors read signed, clamped to the unsigned range of half their width
 abbrev pub <b id="narrow_u">narrow_u</b> : Width → Width → ℕ → ℕ → ℕ
 <a href="../../widening/WideningTable/index.html#narrow_u">narrow_u</a> wide narrow = <a href="../../widening/WideningTable/index.html#from_low_high">from_low_high</a> wide narrow (signed wide) (clamp_unsigned narrow)
-
--- ---- shifts, by an amount modulo the width
-
--- each lane shifted to the left by the amount modulo the width
-abbrev pub <b id="shl">shl</b> : Width → ℕ → ℕ → ℕ
-<a href="../../widening/WideningTable/index.html#shl">shl</a> w v amount = <a href="../../lanes/Vector/index.html#unary_of_lanes">unary_of_lanes</a> w <a href="../../lanes/Vector/index.html#unsigned">unsigned</a> (λ x. (x * 2 ^ (amount % bits w)) % 2 ^ bits w) v
-
--- each lane shifted to the right by the amount modulo the width, with its sign from above
-abbrev pub <b id="shr_s">shr_s</b> : Width → ℕ → ℕ → ℕ
-<a href="../../widening/WideningTable/index.html#shr_s">shr_s</a> w v amount = <a href="../../lanes/Vector/index.html#unary_of_lanes">unary_of_lanes</a> w (signed w) (λ x. <a href="../../types/Numbers/index.html#wrap">wrap</a> w (int_shr x (amount % bits w))) v
-
--- each lane shifted to the right by the amount modulo the width, with zeros from above
-abbrev pub <b id="shr_u">shr_u</b> : Width → ℕ → ℕ → ℕ
-<a href="../../widening/WideningTable/index.html#shr_u">shr_u</a> w v amount = <a href="../../lanes/Vector/index.html#unary_of_lanes">unary_of_lanes</a> w <a href="../../lanes/Vector/index.html#unsigned">unsigned</a> (λ x. x / 2 ^ (amount % bits w)) v
 
 -- ---- tests
 
@@ -1972,18 +1971,18 @@ abbrev pub <b id="ternary_name">ternary_name</b> : TernaryOp → List ℕ
 
 -- each shift: its name, and what it gives for a vector and an amount
 abbrev pub <b id="shift_row">shift_row</b> : ShiftOp → List ℕ × (ℕ → ℕ → ℕ)
-<a href="../../ops/VectorOps/index.html#shift_row">shift_row</a> shift.I8x16Shl = (codes "i8x16_shl", <a href="../../widening/WideningTable/index.html#shl">widening.shl</a> w8)
-<a href="../../ops/VectorOps/index.html#shift_row">shift_row</a> shift.I8x16ShrS = (codes "i8x16_shr_s", <a href="../../widening/WideningTable/index.html#shr_s">widening.shr_s</a> w8)
-<a href="../../ops/VectorOps/index.html#shift_row">shift_row</a> shift.I8x16ShrU = (codes "i8x16_shr_u", <a href="../../widening/WideningTable/index.html#shr_u">widening.shr_u</a> w8)
-<a href="../../ops/VectorOps/index.html#shift_row">shift_row</a> shift.I16x8Shl = (codes "i16x8_shl", <a href="../../widening/WideningTable/index.html#shl">widening.shl</a> w16)
-<a href="../../ops/VectorOps/index.html#shift_row">shift_row</a> shift.I16x8ShrS = (codes "i16x8_shr_s", <a href="../../widening/WideningTable/index.html#shr_s">widening.shr_s</a> w16)
-<a href="../../ops/VectorOps/index.html#shift_row">shift_row</a> shift.I16x8ShrU = (codes "i16x8_shr_u", <a href="../../widening/WideningTable/index.html#shr_u">widening.shr_u</a> w16)
-<a href="../../ops/VectorOps/index.html#shift_row">shift_row</a> shift.I32x4Shl = (codes "i32x4_shl", <a href="../../widening/WideningTable/index.html#shl">widening.shl</a> w32)
-<a href="../../ops/VectorOps/index.html#shift_row">shift_row</a> shift.I32x4ShrS = (codes "i32x4_shr_s", <a href="../../widening/WideningTable/index.html#shr_s">widening.shr_s</a> w32)
-<a href="../../ops/VectorOps/index.html#shift_row">shift_row</a> shift.I32x4ShrU = (codes "i32x4_shr_u", <a href="../../widening/WideningTable/index.html#shr_u">widening.shr_u</a> w32)
-<a href="../../ops/VectorOps/index.html#shift_row">shift_row</a> shift.I64x2Shl = (codes "i64x2_shl", <a href="../../widening/WideningTable/index.html#shl">widening.shl</a> w64)
-<a href="../../ops/VectorOps/index.html#shift_row">shift_row</a> shift.I64x2ShrS = (codes "i64x2_shr_s", <a href="../../widening/WideningTable/index.html#shr_s">widening.shr_s</a> w64)
-<a href="../../ops/VectorOps/index.html#shift_row">shift_row</a> shift.I64x2ShrU = (codes "i64x2_shr_u", <a href="../../widening/WideningTable/index.html#shr_u">widening.shr_u</a> w64)
+<a href="../../ops/VectorOps/index.html#shift_row">shift_row</a> shift.I8x16Shl = (codes "i8x16_shl", <a href="../../lanewise/VectorTable/index.html#shl">vector.shl</a> w8)
+<a href="../../ops/VectorOps/index.html#shift_row">shift_row</a> shift.I8x16ShrS = (codes "i8x16_shr_s", <a href="../../lanewise/VectorTable/index.html#shr_s">vector.shr_s</a> w8)
+<a href="../../ops/VectorOps/index.html#shift_row">shift_row</a> shift.I8x16ShrU = (codes "i8x16_shr_u", <a href="../../lanewise/VectorTable/index.html#shr_u">vector.shr_u</a> w8)
+<a href="../../ops/VectorOps/index.html#shift_row">shift_row</a> shift.I16x8Shl = (codes "i16x8_shl", <a href="../../lanewise/VectorTable/index.html#shl">vector.shl</a> w16)
+<a href="../../ops/VectorOps/index.html#shift_row">shift_row</a> shift.I16x8ShrS = (codes "i16x8_shr_s", <a href="../../lanewise/VectorTable/index.html#shr_s">vector.shr_s</a> w16)
+<a href="../../ops/VectorOps/index.html#shift_row">shift_row</a> shift.I16x8ShrU = (codes "i16x8_shr_u", <a href="../../lanewise/VectorTable/index.html#shr_u">vector.shr_u</a> w16)
+<a href="../../ops/VectorOps/index.html#shift_row">shift_row</a> shift.I32x4Shl = (codes "i32x4_shl", <a href="../../lanewise/VectorTable/index.html#shl">vector.shl</a> w32)
+<a href="../../ops/VectorOps/index.html#shift_row">shift_row</a> shift.I32x4ShrS = (codes "i32x4_shr_s", <a href="../../lanewise/VectorTable/index.html#shr_s">vector.shr_s</a> w32)
+<a href="../../ops/VectorOps/index.html#shift_row">shift_row</a> shift.I32x4ShrU = (codes "i32x4_shr_u", <a href="../../lanewise/VectorTable/index.html#shr_u">vector.shr_u</a> w32)
+<a href="../../ops/VectorOps/index.html#shift_row">shift_row</a> shift.I64x2Shl = (codes "i64x2_shl", <a href="../../lanewise/VectorTable/index.html#shl">vector.shl</a> w64)
+<a href="../../ops/VectorOps/index.html#shift_row">shift_row</a> shift.I64x2ShrS = (codes "i64x2_shr_s", <a href="../../lanewise/VectorTable/index.html#shr_s">vector.shr_s</a> w64)
+<a href="../../ops/VectorOps/index.html#shift_row">shift_row</a> shift.I64x2ShrU = (codes "i64x2_shr_u", <a href="../../lanewise/VectorTable/index.html#shr_u">vector.shr_u</a> w64)
 
 -- what a shift of a vector by an amount gives
 abbrev pub <b id="shifted_vector">shifted_vector</b> : ShiftOp → ℕ → ℕ → ℕ

@@ -147,7 +147,8 @@ pub mod simd {
     //! Each function is the instruction of its name: `i16x8_extend_low_i8x16_s` is
     //! `i16x8.extend_low_i8x16_s`, which makes 8 lanes of 16 bits of 16 lanes of 8 bits; lane 0 is the
     //! lowest. Core specification: vector instructions; what each gives stands in
-    //! `specs/WideningTable.antt`. Upstream: `wasmi_core::simd`.
+    //! `specs/WideningTable.antt`, and for the shifts in `VectorTable` of `wasmi_lanewise`. Upstream:
+    //! `wasmi_core::simd`.
 
     mod wide {
         //! Lanes at twice their width, as `core::simd` vectors: those of half a vector, and every second one
@@ -492,6 +493,8 @@ pub mod simd {
         FromWide, I8x16, I16x8, I32x4, I64x2, Lanes, SimdLane, WordLane, bytes_of, clamped_i8,
         clamped_i16, from_bytes, from_u64x2, on_vectors, u64x2_of,
     };
+    use crate::proved::lanewise::clamp::{clamped_u8, clamped_u16};
+    use crate::proved::lanewise::shift::{shifted_left, shifted_right};
     use crate::proved::lanewise::simd::{i8x16_swizzle, i16x8_q15mulr_sat_s, v128_bitselect};
     use crate::proved::raw::V128;
     use crate::proved::widening::simd::wide::{ExtendedLane, PairedLane};
@@ -887,28 +890,6 @@ pub mod simd {
         from_low_high::<I32x4, I16x8, _>(low, high, clamped_u16)
     }
 
-    // The item of a lane that holds the number, clamped to the unsigned range of 8 bits.
-    /// # Contract
-    ///
-    /// ```text
-    /// ensures: cast_unsigned w8 result ≡ clamp_unsigned w8 x
-    /// ```
-    #[inline]
-    fn clamped_u8(x: i16) -> i8 {
-        (x.clamp(0, 255) as u8).cast_signed()
-    }
-
-    // The item of a lane that holds the number, clamped to the unsigned range of 16 bits.
-    /// # Contract
-    ///
-    /// ```text
-    /// ensures: cast_unsigned w16 result ≡ clamp_unsigned w16 x
-    /// ```
-    #[inline]
-    fn clamped_u16(x: i32) -> i16 {
-        (x.clamp(0, 65535) as u16).cast_signed()
-    }
-
     // Applies `f` to the lanes of `low`, then to those of `high`.
     /// # Contract
     ///
@@ -1272,19 +1253,18 @@ pub mod simd {
 
     // Shifts of lanes, by an amount modulo their width.
     //
-    // The two words of the vector are shifted together, and the bits are masked that would leave their
-    // lane; with the sign it is done lane by lane, or for lanes of 8 bits by a shift without sign of
-    // lanes moved by half of their range.
+    // Without the sign the two words of the vector are shifted together; with the sign it is done lane
+    // by lane, or for lanes of 8 bits by a shift without sign of lanes moved by half of their range.
 
     /// The lanes shifted to the left, the bits above each lane dropped. `amount` is taken modulo 8.
     ///
     /// # Contract
     ///
     /// ```text
-    /// ensures: result ≡ vector.shl w8 v amount
+    /// ensures: result ≡ lanewise.shl w8 v amount
     /// ```
     ///
-    /// Definitions: [`shl`](crate::specs::widening::WideningTable#shl).
+    /// Definitions: [`shl`](crate::specs::lanewise::VectorTable#shl).
     #[inline]
     pub fn i8x16_shl(v: V128, amount: u32) -> V128 {
         shifted_left::<u8>(v, amount)
@@ -1295,10 +1275,10 @@ pub mod simd {
     /// # Contract
     ///
     /// ```text
-    /// ensures: result ≡ vector.shr_s w8 v amount
+    /// ensures: result ≡ lanewise.shr_s w8 v amount
     /// ```
     ///
-    /// Definitions: [`shr_s`](crate::specs::widening::WideningTable#shr_s).
+    /// Definitions: [`shr_s`](crate::specs::lanewise::VectorTable#shr_s).
     #[inline]
     pub fn i8x16_shr_s(v: V128, amount: u32) -> V128 {
         // What the lanes were moved by is a multiple of what they are divided by.
@@ -1313,10 +1293,10 @@ pub mod simd {
     /// # Contract
     ///
     /// ```text
-    /// ensures: result ≡ vector.shr_u w8 v amount
+    /// ensures: result ≡ lanewise.shr_u w8 v amount
     /// ```
     ///
-    /// Definitions: [`shr_u`](crate::specs::widening::WideningTable#shr_u).
+    /// Definitions: [`shr_u`](crate::specs::lanewise::VectorTable#shr_u).
     #[inline]
     pub fn i8x16_shr_u(v: V128, amount: u32) -> V128 {
         shifted_right::<u8>(v, amount)
@@ -1327,10 +1307,10 @@ pub mod simd {
     /// # Contract
     ///
     /// ```text
-    /// ensures: result ≡ vector.shl w16 v amount
+    /// ensures: result ≡ lanewise.shl w16 v amount
     /// ```
     ///
-    /// Definitions: [`shl`](crate::specs::widening::WideningTable#shl).
+    /// Definitions: [`shl`](crate::specs::lanewise::VectorTable#shl).
     #[inline]
     pub fn i16x8_shl(v: V128, amount: u32) -> V128 {
         shifted_left::<u16>(v, amount)
@@ -1341,10 +1321,10 @@ pub mod simd {
     /// # Contract
     ///
     /// ```text
-    /// ensures: result ≡ vector.shr_s w16 v amount
+    /// ensures: result ≡ lanewise.shr_s w16 v amount
     /// ```
     ///
-    /// Definitions: [`shr_s`](crate::specs::widening::WideningTable#shr_s).
+    /// Definitions: [`shr_s`](crate::specs::lanewise::VectorTable#shr_s).
     #[inline]
     pub fn i16x8_shr_s(v: V128, amount: u32) -> V128 {
         on_vectors::unary::<I16x8, _>(v, |x| x.wrapping_shr(amount))
@@ -1355,10 +1335,10 @@ pub mod simd {
     /// # Contract
     ///
     /// ```text
-    /// ensures: result ≡ vector.shr_u w16 v amount
+    /// ensures: result ≡ lanewise.shr_u w16 v amount
     /// ```
     ///
-    /// Definitions: [`shr_u`](crate::specs::widening::WideningTable#shr_u).
+    /// Definitions: [`shr_u`](crate::specs::lanewise::VectorTable#shr_u).
     #[inline]
     pub fn i16x8_shr_u(v: V128, amount: u32) -> V128 {
         shifted_right::<u16>(v, amount)
@@ -1369,10 +1349,10 @@ pub mod simd {
     /// # Contract
     ///
     /// ```text
-    /// ensures: result ≡ vector.shl w32 v amount
+    /// ensures: result ≡ lanewise.shl w32 v amount
     /// ```
     ///
-    /// Definitions: [`shl`](crate::specs::widening::WideningTable#shl).
+    /// Definitions: [`shl`](crate::specs::lanewise::VectorTable#shl).
     #[inline]
     pub fn i32x4_shl(v: V128, amount: u32) -> V128 {
         shifted_left::<u32>(v, amount)
@@ -1383,10 +1363,10 @@ pub mod simd {
     /// # Contract
     ///
     /// ```text
-    /// ensures: result ≡ vector.shr_s w32 v amount
+    /// ensures: result ≡ lanewise.shr_s w32 v amount
     /// ```
     ///
-    /// Definitions: [`shr_s`](crate::specs::widening::WideningTable#shr_s).
+    /// Definitions: [`shr_s`](crate::specs::lanewise::VectorTable#shr_s).
     #[inline]
     pub fn i32x4_shr_s(v: V128, amount: u32) -> V128 {
         on_vectors::unary::<I32x4, _>(v, |x| x.wrapping_shr(amount))
@@ -1397,10 +1377,10 @@ pub mod simd {
     /// # Contract
     ///
     /// ```text
-    /// ensures: result ≡ vector.shr_u w32 v amount
+    /// ensures: result ≡ lanewise.shr_u w32 v amount
     /// ```
     ///
-    /// Definitions: [`shr_u`](crate::specs::widening::WideningTable#shr_u).
+    /// Definitions: [`shr_u`](crate::specs::lanewise::VectorTable#shr_u).
     #[inline]
     pub fn i32x4_shr_u(v: V128, amount: u32) -> V128 {
         shifted_right::<u32>(v, amount)
@@ -1411,10 +1391,10 @@ pub mod simd {
     /// # Contract
     ///
     /// ```text
-    /// ensures: result ≡ vector.shl w64 v amount
+    /// ensures: result ≡ lanewise.shl w64 v amount
     /// ```
     ///
-    /// Definitions: [`shl`](crate::specs::widening::WideningTable#shl).
+    /// Definitions: [`shl`](crate::specs::lanewise::VectorTable#shl).
     #[inline]
     pub fn i64x2_shl(v: V128, amount: u32) -> V128 {
         from_u64x2(u64x2_of(v) << u64x2::splat(u64::from(amount % 64)))
@@ -1425,10 +1405,10 @@ pub mod simd {
     /// # Contract
     ///
     /// ```text
-    /// ensures: result ≡ vector.shr_s w64 v amount
+    /// ensures: result ≡ lanewise.shr_s w64 v amount
     /// ```
     ///
-    /// Definitions: [`shr_s`](crate::specs::widening::WideningTable#shr_s).
+    /// Definitions: [`shr_s`](crate::specs::lanewise::VectorTable#shr_s).
     #[inline]
     pub fn i64x2_shr_s(v: V128, amount: u32) -> V128 {
         on_vectors::unary::<I64x2, _>(v, |x| x.wrapping_shr(amount))
@@ -1439,105 +1419,26 @@ pub mod simd {
     /// # Contract
     ///
     /// ```text
-    /// ensures: result ≡ vector.shr_u w64 v amount
+    /// ensures: result ≡ lanewise.shr_u w64 v amount
     /// ```
     ///
-    /// Definitions: [`shr_u`](crate::specs::widening::WideningTable#shr_u).
+    /// Definitions: [`shr_u`](crate::specs::lanewise::VectorTable#shr_u).
     #[inline]
     pub fn i64x2_shr_u(v: V128, amount: u32) -> V128 {
         from_u64x2(u64x2_of(v) >> u64x2::splat(u64::from(amount % 64)))
     }
 
-    /// # Contract
-    ///
-    /// ```text
-    /// ensures: result ≡ vector.shl T.width v amount
-    /// ```
-    ///
-    /// Definitions: [`shl`](crate::specs::widening::WideningTable#shl).
-    #[inline(always)]
-    fn shifted_left<T: NarrowLane>(v: V128, amount: u32) -> V128 {
-        let amount = u64::from(amount % T::BITS);
-        let kept = T::shift_masks(amount);
-        from_u64x2((u64x2_of(v) & kept) << u64x2::splat(amount))
-    }
-
-    /// # Contract
-    ///
-    /// ```text
-    /// ensures: result ≡ vector.shr_u T.width v amount
-    /// ```
-    ///
-    /// Definitions: [`shr_u`](crate::specs::widening::WideningTable#shr_u).
-    #[inline(always)]
-    fn shifted_right<T: NarrowLane>(v: V128, amount: u32) -> V128 {
-        let amount = u64::from(amount % T::BITS);
-        let kept = T::shift_masks(amount);
-        from_u64x2((u64x2_of(v) >> u64x2::splat(amount)) & kept)
-    }
-
-    /// In each lane, what is left of a number once so many bits are dropped. The first factor has the
-    /// lowest bit of each lane.
-    macro_rules! each_shifted {
-    ($ones:literal * $all:literal >> [$($dropped:literal)*]) => {
-        [$($ones * ($all >> $dropped)),*]
-    };
-}
-
-    /// Half of the range of 8 bits in each lane, shifted to the right.
-    const HALVES_OF_8: [u128; 8] =
-        each_shifted!(0x0101_0101_0101_0101_0101_0101_0101_0101 * 0x80 >> [0 1 2 3 4 5 6 7]);
-
-    /// A lane of which a word has more than one, so that a shifted word needs a mask.
-    trait NarrowLane: WordLane {
-        /// The low bits of each lane of two words, all but its highest ones, of which there are
-        /// `dropped`. They come from a table: a shift of the highest bits would be made in a general
-        /// register, and go from there to a vector register.
-        ///
-        /// # Contract
-        ///
-        /// ```text
-        /// requires dropped: dropped < bits Self.width
-        /// ensures masks: result
-        ///     ≡ replicate 2 (in_each_lane Self.width (2 ^ (bits Self.width - dropped) - 1))
-        /// ```
-        ///
-        /// Definitions: [`in_each_lane`](crate::specs::lanes::Words#in_each_lane).
-        fn shift_masks(dropped: u64) -> u64x2;
-    }
-
-    impl NarrowLane for u8 {
-        #[inline(always)]
-        fn shift_masks(dropped: u64) -> u64x2 {
-            u64x2_of(V128::from(LOW_BITS_OF_8[dropped as usize]))
-        }
-    }
-
-    impl NarrowLane for u16 {
-        #[inline(always)]
-        fn shift_masks(dropped: u64) -> u64x2 {
-            u64x2_of(V128::from(LOW_BITS_OF_16[dropped as usize]))
-        }
-    }
-
-    impl NarrowLane for u32 {
-        #[inline(always)]
-        fn shift_masks(dropped: u64) -> u64x2 {
-            u64x2_of(V128::from(LOW_BITS_OF_32[dropped as usize]))
-        }
-    }
-
-    const LOW_BITS_OF_8: [u128; 8] =
-        each_shifted!(0x0101_0101_0101_0101_0101_0101_0101_0101 * 0xff >> [0 1 2 3 4 5 6 7]);
-
-    const LOW_BITS_OF_16: [u128; 16] = each_shifted!(
-        0x0001_0001_0001_0001_0001_0001_0001_0001 * 0xffff >> [0 1 2 3 4 5 6 7 8 9 10 11 12 13 14 15]
-    );
-
-    const LOW_BITS_OF_32: [u128; 32] = each_shifted!(
-        0x0000_0001_0000_0001_0000_0001_0000_0001 * 0xffff_ffff >>
-        [0 1 2 3 4 5 6 7 8 9 10 11 12 13 14 15 16 17 18 19 20 21 22 23 24 25 26 27 28 29 30 31]
-    );
+    /// Half of the range of 8 bits in each lane, shifted to the right by 0 to 7.
+    const HALVES_OF_8: [u128; 8] = [
+        0x8080_8080_8080_8080_8080_8080_8080_8080,
+        0x4040_4040_4040_4040_4040_4040_4040_4040,
+        0x2020_2020_2020_2020_2020_2020_2020_2020,
+        0x1010_1010_1010_1010_1010_1010_1010_1010,
+        0x0808_0808_0808_0808_0808_0808_0808_0808,
+        0x0404_0404_0404_0404_0404_0404_0404_0404,
+        0x0202_0202_0202_0202_0202_0202_0202_0202,
+        0x0101_0101_0101_0101_0101_0101_0101_0101,
+    ];
 
     // Tests of lanes, on the two words of a vector.
 

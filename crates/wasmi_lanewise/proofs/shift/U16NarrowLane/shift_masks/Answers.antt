@@ -1,7 +1,7 @@
 use Rattle.std.proofs.Common.{◌∙◌, refl}
 use Rattle.wasmi_types.specs.Numbers.{w16}
-use Rattle.wasmi_simd.proofs.ShiftLemmas.{mask_at}
-use Rattle.wasmi_simd.proofs.simd.U16NarrowLane.shift_masks.Goals as goal
+use Rattle.wasmi_lanewise.proofs.ShiftLemmas.{mask_at}
+use Rattle.wasmi_lanewise.proofs.shift.U16NarrowLane.shift_masks.Goals as goal
 
 pub returns : goal.returns
 returns c = record
