@@ -54,11 +54,11 @@ pub use crate::proved::lanes::{
 pub use crate::proved::machine::{ByteList, Call, Machine, Reply, run, run_lending, run_reserving};
 pub use crate::proved::meter::{
     Amounts, CappedLimiter, Holdings, Kind, Lender, LimiterByKind, LimiterRef, NoLimits, Quota,
-    Reserving, ResourceLimiter, ResourceLimiterRef, ValueSize, growth,
+    Reserving, ResourceLimiter, ResourceLimiterRef, ValueSize,
 };
 pub use crate::proved::raw::{Number, ReadAs, ReadBack, WriteAs};
 pub use crate::proved::store::{
-    Buffer, ByteBuffer, ElementSegment, LinearMemory, Memory, Region, SegmentError, Table,
+    Buffer, ByteBuffer, ElementSegment, LinearMemory, Memory, Region, SegmentError, Table, growth,
 };
 #[cfg(feature = "simd")]
 #[doc(no_inline)]

@@ -2,7 +2,7 @@
 #![cfg(feature = "memory64")]
 use wasmi_core_proved::machine::{
     ByteBuffer, Call, Kind, LimiterByKind, Machine, NoLimits, Quota, ResourceLimiter,
-    ResourceLimiterRef, run_reserving,
+    ResourceLimiterRef, growth, run_reserving,
 };
 use wasmi_core_proved::{
     Fuel, FuelCostsProvider, Global, GlobalType, MemoryType, Mutability, RawVal, RefType,
@@ -48,6 +48,9 @@ panics! {
 
     "the new size is below the present one":
     a_buffer_that_shrinks => ByteBuffer::new(5).unwrap().grow(4),
+
+    "the size isn't above the old one":
+    a_growth_by_no_byte => growth::decide_growth(4, 4, None, true, &mut unmetered(), &mut nobody()),
 
     "the desired size is below the current one":
     a_question_about_a_memory_that_shrinks => nobody().memory_growing(5, 4, None),

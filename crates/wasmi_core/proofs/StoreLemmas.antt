@@ -1,5 +1,5 @@
 -- A turn by what its call leaves, and turns one after another.
-use Rattle.std.proofs.Common.{Option, Some, None, refl, ℕ, ◌∙◌, ◌≡◌, ◌+◌, ◌<◌, List, [], ◌∷◌, ◌++◌, length, take, get_or, map, sym, ap, subst}
+use Rattle.std.proofs.Common.{Some, refl, ℕ, ◌∙◌, ◌≡◌, ◌+◌, ◌<◌, List, [], ◌∷◌, ◌++◌, length, take, get_or, map, sym, ap, subst}
 use Rattle.wasmi_core.specs.Effects.{ActsMetered, ActsMeteredUnasked, Asks, Changes, ChangesPart, OnlyReplies}
 use Rattle.wasmi_core.specs.State.{State, Turn, World, world}
 use Rattle.wasmi_store.specs.Growth.{metered, metered_value, WithCharge}
@@ -8,8 +8,7 @@ use Rattle.wasmi_core.specs.declared.calls.Reply.{Reply}
 use Rattle.wasmi_meter.specs.Attempt.{MeteredValue}
 use Rattle.wasmi_meter.specs.Meter.{Meter}
 use Rattle.std.proofs.lemmas.List.{take_more, map_push, map-append}
-use Rattle.wasmi_meter.specs.Limiter.{Rules, SameLoan}
-use Rattle.std.specs.Borrow.{MutBor}
+use Rattle.wasmi_meter.specs.Limiter.{Rules}
 use Rattle.wasmi_core.specs.Steps.{Step, RepliesWith, Sequence, Run, IsRunOf}
 
 -- a free turn by this call with this reply
@@ -115,14 +114,6 @@ pub calls_more : (turns : List Turn) (calls : List Call) (i : ℕ) (turn : Turn)
 calls_more turns calls i turn so_far within here =
     map_push Turn.call turns turn ∙ ap (λ cs. cs ++ turn.call ∷ []) so_far
     ∙ ap (λ c. take i calls ++ c ∷ []) here ∙ sym (take_more calls i turn.call within)
-
--- a loan that is kept, and kept again, is kept
-pub same_loans : {L : Type 0} (r r' r'' : Option (MutBor L)) → SameLoan r r' → SameLoan r' r'' → SameLoan r r''
-same_loans None None r'' kept more = more
-same_loans None (Some r') r'' kept more = absurd kept
-same_loans (Some r) None r'' kept more = absurd kept
-same_loans (Some r) (Some r') None kept more = absurd more
-same_loans (Some r) (Some r') (Some r'') kept more = more ∙ kept
 
 module _ {S : Type 0} (rules : Rules S) where
   -- a run and one more turn

@@ -24,7 +24,7 @@ pub use wasmi_meter::{
     Amounts, AnswerList, AnyLimiter, CustomFuelCosts, Fuel, FuelCosts, FuelCostsProvider,
     FuelError, Holdings, Kind, Lender, LimiterAnswer, LimiterByKind, LimiterError, LimiterRef,
     MemoryError, NoLimits, Quota, Reserving, ResourceLimiter, ResourceLimiterRef, TableError,
-    ValueSize, growth,
+    ValueSize,
 };
 pub use wasmi_ops::{
     BinaryOp, ExtractOp, LoadLaneOp, LoadOp, MakeOp, ReplaceOp, ScalarBinaryOp, ScalarUnaryOp,
@@ -37,7 +37,7 @@ pub use wasmi_scalar::value::{Integer, SignExtendFrom, Unsigned};
 pub use wasmi_simd::laws as widening_laws;
 pub use wasmi_store::{
     Buffer, ByteBuffer, ElementSegment, ElementSegmentRef, LinearMemory, Memory, MemoryType,
-    MemoryTypeBuilder, Region, SegmentError, Table, TableType, laws as store_laws,
+    MemoryTypeBuilder, Region, SegmentError, Table, TableType, growth, laws as store_laws,
 };
 pub use wasmi_typed::{
     Global, GlobalError, GlobalType, IntoShiftAmount, Mutability, NotAReference, ShiftAmount,

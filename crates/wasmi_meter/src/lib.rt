@@ -7,7 +7,6 @@ mod any_limiter;
 mod capped;
 mod error;
 mod fuel;
-pub mod growth;
 mod holdings;
 mod limiter;
 mod limiter_ref;

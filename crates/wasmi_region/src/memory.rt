@@ -10,11 +10,10 @@ ghost use Rattle.wasmi_store.specs.Growth.{filled, copied, BulkWrites, metered_v
 ghost use Rattle.wasmi_store.specs.Memory.{IsSized, MakesMemory, GrowsMemory, page_bytes, in_bounds, maximum_bytes};
 ghost use Rattle.wasmi_region.specs.Memory.{memory_in, made_in};
 
-use wasmi_meter::growth::tell;
 use wasmi_meter::{Fuel, MemoryError, ResourceLimiter, ResourceLimiterRef};
 use wasmi_store::MemoryType;
 use wasmi_store::bulk::{MEMORY_OUTSIDE as OUTSIDE, copy_items, copy_items_within, fill_items};
-use wasmi_store::growth::{MEMORY_DENIED as DENIED, decide_growth, permitted_minimum};
+use wasmi_store::growth::{MEMORY_DENIED as DENIED, decide_growth, permitted_minimum, tell};
 use wasmi_store::range::fill_range;
 pub use wasmi_store::range::{read_bytes, write_bytes};
 

@@ -9,12 +9,11 @@ ghost use Rattle.wasmi_store.specs.Growth.{metered_value, metered};
 ghost use Rattle.wasmi_store.specs.Table.{table_of, IsSized, SetsTableRaw, WritesTable, raw_filling_of, copy_of, initialization_of, is_indexable};
 ghost use Rattle.wasmi_region.specs.Table.{table_in, made_in, items_of, MakesTableIn, GrowsTableIn};
 
-use wasmi_meter::growth::{charge, permission, tell};
 use wasmi_meter::{Fuel, ResourceLimiter, ResourceLimiterRef, TableError};
 use wasmi_raw::RawRef;
 use wasmi_store::TableType;
 use wasmi_store::bulk::{copy_items, copy_items_within, fill_items, init_elements};
-use wasmi_store::growth::TABLE_DENIED as DENIED;
+use wasmi_store::growth::{TABLE_DENIED as DENIED, charge, permission, tell};
 use wasmi_store::range::{fill_range, write_range};
 
 /// Whether a table of a type may have `size` elements.

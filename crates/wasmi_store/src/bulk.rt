@@ -8,8 +8,8 @@ ghost use Rattle.std.specs.Prelude.{◌≡◌, length, nat_eq, if◌then◌else�
 ghost use Rattle.std.specs.Option.{option_map};
 ghost use Rattle.wasmi_store.specs.Growth.{filled, copied, item_price, WritesItems, metered};
 
+use crate::growth::{GrowthError, charge};
 use crate::range::{Chunk, copy_overlapping, fill_range, lies_within, write_range};
-use wasmi_meter::growth::{GrowthError, charge};
 use wasmi_meter::{Fuel, MemoryError, TableError, ValueSize};
 
 /// The error of a memory if a range ends past its list.

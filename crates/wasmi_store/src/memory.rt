@@ -13,7 +13,7 @@ mod buffer;
 mod ty;
 
 use crate::bulk::{MEMORY_OUTSIDE as OUTSIDE, copy_items, copy_items_within, fill_items};
-use crate::growth::{MEMORY_DENIED as DENIED, decide_growth, permitted_minimum};
+use crate::growth::{MEMORY_DENIED as DENIED, decide_growth, permitted_minimum, tell};
 use crate::range::{read_bytes, write_bytes};
 use crate::with_meter;
 pub use buffer::{Buffer, ByteBuffer, Region};
@@ -21,7 +21,6 @@ use std::alloc::Global;
 use std::marker::Model;
 pub(crate) use ty::is_no_looser;
 pub use ty::{MemoryType, MemoryTypeBuilder};
-use wasmi_meter::growth::tell;
 use wasmi_meter::{Fuel, MemoryError, ResourceLimiter, ResourceLimiterRef};
 
 /// A linear memory. Its name in signatures is [`Memory`].

@@ -11,14 +11,13 @@ mod element;
 mod ty;
 
 use crate::bulk::{copy_items, copy_items_within, fill_items, init_elements};
-use crate::growth::TABLE_DENIED as DENIED;
+use crate::growth::{TABLE_DENIED as DENIED, charge, permission, tell};
 use crate::range::write_range;
 use crate::with_meter;
 pub use element::{ElementSegment, ElementSegmentRef, SegmentError};
 use std::alloc::Global;
 use std::marker::Model;
 pub use ty::TableType;
-use wasmi_meter::growth::{charge, permission, tell};
 use wasmi_meter::{Fuel, ResourceLimiter, ResourceLimiterRef, TableError};
 use wasmi_raw::RawRef;
 use wasmi_typed::TypedRawRef;

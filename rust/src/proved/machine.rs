@@ -2474,7 +2474,7 @@ pub use crate::proved::meter::{
     Amounts, AnswerList, AnyLimiter, CustomFuelCosts, Fuel, FuelCosts, FuelCostsProvider,
     FuelError, Holdings, Kind, Lender, LimiterAnswer, LimiterByKind, LimiterError, LimiterRef,
     MemoryError, NoLimits, Quota, Reserving, ResourceLimiter, ResourceLimiterRef, TableError,
-    ValueSize, growth,
+    ValueSize,
 };
 pub use crate::proved::ops::{
     BinaryOp, ExtractOp, LoadLaneOp, LoadOp, MakeOp, ReplaceOp, ScalarBinaryOp, ScalarUnaryOp,
@@ -2484,7 +2484,7 @@ pub use crate::proved::raw::{F32, F64, Number, RawRef, RawVal, ReadAs, ReadBack,
 pub use crate::proved::scalar::value::{Integer, SignExtendFrom, Unsigned};
 pub use crate::proved::store::{
     Buffer, ByteBuffer, ElementSegment, ElementSegmentRef, LinearMemory, Memory, MemoryType,
-    MemoryTypeBuilder, Region, SegmentError, Table, TableType,
+    MemoryTypeBuilder, Region, SegmentError, Table, TableType, growth,
 };
 pub use crate::proved::typed::{
     Global, GlobalError, GlobalType, IntoShiftAmount, Mutability, NotAReference, ShiftAmount,

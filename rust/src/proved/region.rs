@@ -52,13 +52,14 @@ pub mod memory {
     //!
     //! Own: upstream's memory borrows its static buffer for as long as it lives.
 
-    use crate::proved::meter::growth::tell;
     use crate::proved::meter::{Fuel, MemoryError, ResourceLimiter, ResourceLimiterRef};
     use crate::proved::store::MemoryType;
     use crate::proved::store::bulk::{
         MEMORY_OUTSIDE as OUTSIDE, copy_items, copy_items_within, fill_items,
     };
-    use crate::proved::store::growth::{MEMORY_DENIED as DENIED, decide_growth, permitted_minimum};
+    use crate::proved::store::growth::{
+        MEMORY_DENIED as DENIED, decide_growth, permitted_minimum, tell,
+    };
     use crate::proved::store::range::fill_range;
     pub use crate::proved::store::range::{read_bytes, write_bytes};
 
@@ -317,12 +318,11 @@ pub mod table {
     //!
     //! Own: upstream's table owns its elements.
 
-    use crate::proved::meter::growth::{charge, permission, tell};
     use crate::proved::meter::{Fuel, ResourceLimiter, ResourceLimiterRef, TableError};
     use crate::proved::raw::RawRef;
     use crate::proved::store::TableType;
     use crate::proved::store::bulk::{copy_items, copy_items_within, fill_items, init_elements};
-    use crate::proved::store::growth::TABLE_DENIED as DENIED;
+    use crate::proved::store::growth::{TABLE_DENIED as DENIED, charge, permission, tell};
     use crate::proved::store::range::{fill_range, write_range};
 
     /// Whether a table of a type may have `size` elements.

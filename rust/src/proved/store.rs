@@ -7,8 +7,8 @@ pub mod bulk {
     //! Own: upstream's crate has no bulk instructions for memories. They are tested and charged as its
     //! calls on tables.
 
-    use crate::proved::meter::growth::{GrowthError, charge};
     use crate::proved::meter::{Fuel, MemoryError, TableError, ValueSize};
+    use crate::proved::store::growth::{GrowthError, charge};
     use crate::proved::store::range::{
         Chunk, copy_overlapping, fill_range, lies_within, write_range,
     };
@@ -150,11 +150,14 @@ pub mod bulk {
     }
 }
 pub mod growth {
-    //! What making and growing a memory or a table decides, wherever its bytes or elements lie.
+    //! What every creation and growth does with its limiter's answers and its meter, whatever it is
+    //! that grows; and what making and growing a memory decides, wherever its bytes lie.
+    //!
+    //! Own: upstream writes these steps in each function that grows something.
 
-    use crate::proved::meter::growth::{charge, permission, tell};
     use crate::proved::meter::{
-        Fuel, MemoryError, ResourceLimiter, ResourceLimiterRef, TableError,
+        Fuel, FuelError, LimiterError, MemoryError, ResourceLimiter, ResourceLimiterRef,
+        TableError, ValueSize,
     };
     use crate::proved::store::memory::MemoryType;
 
@@ -163,6 +166,162 @@ pub mod growth {
 
     /// The error of a table if the limiter returns an error.
     pub const TABLE_DENIED: TableError = TableError::ResourceLimiterDeniedAllocation;
+
+    /// Returns `Ok` if the limiter permits, `denial` if it says no, and `refusal` if it returns an
+    /// error.
+    ///
+    /// # Contract
+    ///
+    /// ```text
+    /// ensures: Permits denial refusal answer result
+    /// ```
+    ///
+    /// Definitions: [`Permits`](crate::specs::meter::Attempt#Permits).
+    #[inline]
+    pub fn permission<E>(
+        answer: Result<bool, LimiterError>,
+        denial: E,
+        refusal: E,
+    ) -> Result<(), E> {
+        match answer {
+            Ok(true) => Ok(()),
+            Ok(false) => Err(denial),
+            Err(_) => Err(refusal),
+        }
+    }
+
+    /// An error of a growth, of which a limiter can be notified, or of a bulk instruction.
+    ///
+    /// # Contract
+    ///
+    /// ```text
+    /// -- The notice that a limiter gets of it.
+    /// notice: Self → Failure
+    /// -- The error if less fuel is left than is needed, in contracts.
+    /// unpaid: ℕ → Self
+    /// ```
+    ///
+    /// Definitions: [`Failure`](crate::specs::meter::Limiter#Failure).
+    pub trait GrowthError {
+        /// The error if less fuel is left than is needed.
+        ///
+        /// # Contract
+        ///
+        /// ```text
+        /// ensures: result ≡ unpaid required_fuel
+        /// ```
+        fn out_of_fuel(required_fuel: u64) -> Self;
+
+        /// Notifies the limiter, if there is one, that a growth which it permitted failed with this
+        /// error.
+        ///
+        /// # Contract
+        ///
+        /// ```text
+        /// ensures loan: KeepsLoan limiter.old limiter.new
+        /// ensures noticed: (optional_rules L.rules).noticed (lent_limiter limiter.old)
+        ///     (notice self.now) result
+        ///     (lent_limiter limiter.new)
+        /// ```
+        ///
+        /// Definitions: [`KeepsLoan`](crate::specs::meter::Limiter#KeepsLoan), [`optional_rules`](crate::specs::meter::Limiter#optional_rules), [`lent_limiter`](crate::specs::meter::Limiter#lent_limiter).
+        fn notify<L: ResourceLimiter>(
+            &self,
+            limiter: &mut ResourceLimiterRef<L>,
+        ) -> Result<(), LimiterError>;
+    }
+
+    /// # Contract
+    ///
+    /// ```text
+    /// notice = MemoryFailure
+    /// unpaid = MemoryError.OutOfFuel
+    /// ```
+    ///
+    /// Definitions: [`MemoryFailure`](crate::specs::meter::Limiter#MemoryFailure).
+    impl GrowthError for MemoryError {
+        #[inline]
+        fn out_of_fuel(required_fuel: u64) -> Self {
+            MemoryError::OutOfFuel { required_fuel }
+        }
+
+        #[inline]
+        fn notify<L: ResourceLimiter>(
+            &self,
+            limiter: &mut ResourceLimiterRef<L>,
+        ) -> Result<(), LimiterError> {
+            limiter.memory_grow_failed(self)
+        }
+    }
+
+    /// # Contract
+    ///
+    /// ```text
+    /// notice = TableFailure
+    /// unpaid = TableError.OutOfFuel
+    /// ```
+    ///
+    /// Definitions: [`TableFailure`](crate::specs::meter::Limiter#TableFailure).
+    impl GrowthError for TableError {
+        #[inline]
+        fn out_of_fuel(required_fuel: u64) -> Self {
+            TableError::OutOfFuel { required_fuel }
+        }
+
+        #[inline]
+        fn notify<L: ResourceLimiter>(
+            &self,
+            limiter: &mut ResourceLimiterRef<L>,
+        ) -> Result<(), LimiterError> {
+            limiter.table_grow_failed(self)
+        }
+    }
+
+    /// Notifies the limiter why a growth that it permitted failed. Returns the cause, or `refusal` if
+    /// the limiter answers the notice with an error.
+    ///
+    /// # Contract
+    ///
+    /// ```text
+    /// ensures loan: KeepsLoan limiter.old limiter.new
+    /// ensures told: (notice_answer : NoticeAnswer)
+    ///     × (optional_rules L.rules).noticed (lent_limiter limiter.old) (E.notice cause) notice_answer
+    ///     (lent_limiter limiter.new)
+    ///     × (result ≡ error_of_failure refusal cause notice_answer)
+    /// ```
+    ///
+    /// Definitions: [`KeepsLoan`](crate::specs::meter::Limiter#KeepsLoan), [`NoticeAnswer`](crate::specs::meter::Limiter#NoticeAnswer), [`optional_rules`](crate::specs::meter::Limiter#optional_rules), [`lent_limiter`](crate::specs::meter::Limiter#lent_limiter), [`error_of_failure`](crate::specs::meter::Attempt#error_of_failure).
+    #[inline]
+    pub fn tell<L: ResourceLimiter, E: GrowthError>(
+        limiter: &mut ResourceLimiterRef<L>,
+        cause: E,
+        refusal: E,
+    ) -> E {
+        let notice_answer = cause.notify(limiter);
+        match notice_answer {
+            Ok(()) => cause,
+            Err(_) => refusal,
+        }
+    }
+
+    /// Takes the fuel for copying `values` values of a type. If less is left, nothing is taken, and the
+    /// error is the amount that is needed. A meter that is off takes nothing.
+    ///
+    /// # Contract
+    ///
+    /// ```text
+    /// ensures: Charges fuel.old
+    ///     (due fuel.old (λ costs. copy_cost costs values T.SIZE)) result fuel.new
+    /// ```
+    ///
+    /// Definitions: [`Charges`](crate::specs::meter::Meter#Charges), [`due`](crate::specs::meter::Meter#due), [`copy_cost`](crate::specs::meter::Meter#copy_cost).
+    #[inline]
+    pub fn charge<T: ValueSize>(fuel: &mut Fuel, values: u64) -> Result<(), u64> {
+        match fuel.consume_fuel_if(|costs| costs.fuel_for_copying_values::<T>(values)) {
+            Err(FuelError::OutOfFuel { required_fuel }) => Err(required_fuel),
+            Ok(()) | Err(FuelError::FuelMeteringDisabled) => Ok(()),
+        }
+    }
 
     /// Asks whether a memory of a type may be made, and returns its minimum in bytes.
     ///
@@ -1095,12 +1254,13 @@ mod memory {
         }
     }
 
-    use crate::proved::meter::growth::tell;
     use crate::proved::meter::{Fuel, MemoryError, ResourceLimiter, ResourceLimiterRef};
     use crate::proved::store::bulk::{
         MEMORY_OUTSIDE as OUTSIDE, copy_items, copy_items_within, fill_items,
     };
-    use crate::proved::store::growth::{MEMORY_DENIED as DENIED, decide_growth, permitted_minimum};
+    use crate::proved::store::growth::{
+        MEMORY_DENIED as DENIED, decide_growth, permitted_minimum, tell,
+    };
     use crate::proved::store::range::{read_bytes, write_bytes};
     use crate::proved::store::with_meter;
     pub use buffer::{Buffer, ByteBuffer, Region};
@@ -2291,11 +2451,10 @@ mod table {
         }
     }
 
-    use crate::proved::meter::growth::{charge, permission, tell};
     use crate::proved::meter::{Fuel, ResourceLimiter, ResourceLimiterRef, TableError};
     use crate::proved::raw::RawRef;
     use crate::proved::store::bulk::{copy_items, copy_items_within, fill_items, init_elements};
-    use crate::proved::store::growth::TABLE_DENIED as DENIED;
+    use crate::proved::store::growth::{TABLE_DENIED as DENIED, charge, permission, tell};
     use crate::proved::store::range::write_range;
     use crate::proved::store::with_meter;
     use crate::proved::typed::TypedRawRef;

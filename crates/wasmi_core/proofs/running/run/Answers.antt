@@ -2,8 +2,9 @@ use Rattle.std.proofs.lemmas.Grind.{common_steps}
 use Rattle.std.proofs.Common.{◌+◌, [], ◌∷◌, ◌++◌, ◌∙◌, refl, ap, arith}
 use Rattle.std.proofs.lemmas.List.{map_push}
 use Rattle.wasmi_meter.specs.Limiter.{optional_rules}
+use Rattle.wasmi_store.proofs.GrowthLemmas.{loan_kept}
 use Rattle.wasmi_core.specs.State.{Turn}
-use Rattle.wasmi_core.proofs.StoreLemmas.{Run-push, calls_more, same_loans}
+use Rattle.wasmi_core.proofs.StoreLemmas.{Run-push, calls_more}
 use Rattle.wasmi_core.proofs.running.run.Goals as goal
 
 -- the turn of this call stands after the turns so far
@@ -24,8 +25,8 @@ loop-call-preserved g c =
         ) refl,
         Run-push (optional_rules g.L.ResourceLimiter.rules) _ _ _ ran.3 turn _ step.2,
       );
-      loan = same_loans c.args.limiter.now.limiter c.loop-call.limiter.limiter c.step-reply.new.limiter.limiter
-          c.loop-call.invariant.loan c.step-reply.ensures.loan;
+      loan = loan_kept c.args.limiter.now c.loop-call.limiter c.step-reply.new.limiter c.loop-call.invariant.loan
+          c.step-reply.ensures.loan;
       valid = c.step-reply.ensures.valid;
       count = c.push_reserved.ensures.len ∙ ap (λ n. n + 1) c.loop-call.invariant.count;
       room = omega (arith, c.push_reserved.ensures.capacity);
