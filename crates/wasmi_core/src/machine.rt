@@ -8,6 +8,8 @@ use crate::registers::Registers;
 use crate::slots::Slots;
 use crate::store::MachineStore;
 use std::alloc::Global as Allocator;
+use std::fmt;
+use std::fmt::{Debug, Formatter, Write};
 use std::marker::Model;
 use wasmi_meter::{Fuel, FuelError};
 use wasmi_ops::StoreOp;
@@ -20,9 +22,16 @@ use wasmi_typed::Global;
 /// is its lifetime.
 ///
 /// Its state is valid at any time: see [`crate::laws::states_are_valid`].
-#[derive(Debug, Drop)]
+#[derive(Drop)]
 pub struct Machine<'r> {
     pub(crate) store: MachineStore<'r>,
+}
+
+/// Shows the name alone.
+impl<'r> Debug for Machine<'r> {
+    fn fmt<W: Write>(&self, f: &mut Formatter<W>) -> fmt::Result {
+        f.write_str("Machine { .. }")
+    }
 }
 
 impl<'r> Model for Machine<'r> {

@@ -13,7 +13,7 @@ use wasmi_raw::{RawVal, ReadAs, V128};
 use wasmi_types::TrapCode;
 
 /// The 16 registers of raw values, by their numbers from 0. At first they are zeros.
-#[derive(Debug, Default, Drop)]
+#[derive(Default, Drop)]
 pub(crate) struct Registers {
     pub(crate) values: [RawVal; 16],
 }

@@ -40,7 +40,7 @@ impl Counted for Table {
 }
 
 /// A live value, or the size of one when it was dropped.
-#[derive(Debug, Drop)]
+#[derive(Drop)]
 pub(crate) enum Slot<T> {
     Live(T),
     Gone(usize),
@@ -74,7 +74,7 @@ impl<T> Slot<T> {
 }
 
 /// Slots by their indices, which count from 0.
-#[derive(Debug, Drop)]
+#[derive(Drop)]
 pub(crate) struct Slots<T> {
     pub(crate) slots: Vec<Slot<T>>,
 }

@@ -19,7 +19,7 @@ use wasmi_typed::Global;
 /// spare region, if there is one.
 ///
 /// Core specification, the store.
-#[derive(Debug, Drop)]
+#[derive(Drop)]
 pub(crate) struct MachineStore<'r> {
     pub(crate) alloc: Allocator,
     pub(crate) memories: Slots<Memory<'r>>,

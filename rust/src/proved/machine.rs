@@ -674,6 +674,8 @@ mod machine {
     use crate::proved::store::{ElementSegment, Memory, Table};
     use crate::proved::typed::Global;
     use crate::rattle::Vec;
+    use core::fmt;
+    use core::fmt::{Debug, Formatter, Write};
 
     /// Memories, tables, element segments and globals by their indices, 16 registers of raw values, one
     /// fuel meter, and at most one spare region: a borrowed buffer in which a memory can be made; `'r`
@@ -691,9 +693,16 @@ mod machine {
     ///
     /// Definitions: [`State`](crate::specs::machine::State#State), [`IsValid`](crate::specs::machine::State#IsValid).
     #[doc = examples!(machine Machine)]
-    #[derive(Debug)]
     pub struct Machine<'r> {
         pub(crate) store: MachineStore<'r>,
+    }
+
+    /// Shows the name alone.
+    impl<'r> Debug for Machine<'r> {
+        #[inline]
+        fn fmt(&self, f: &mut Formatter<'_>) -> fmt::Result {
+            f.write_str("Machine { .. }")
+        }
     }
 
     impl<'r> Machine<'r> {
@@ -1103,7 +1112,7 @@ mod registers {
     use crate::proved::types::TrapCode;
 
     /// The 16 registers of raw values, by their numbers from 0. At first they are zeros.
-    #[derive(Debug, Default)]
+    #[derive(Default)]
     pub(crate) struct Registers {
         pub(crate) values: [RawVal; 16],
     }
@@ -1511,7 +1520,6 @@ mod slots {
     }
 
     /// A live value, or the size of one when it was dropped.
-    #[derive(Debug)]
     pub(crate) enum Slot<T> {
         Live(T),
         Gone(usize),
@@ -1557,7 +1565,6 @@ mod slots {
     }
 
     /// Slots by their indices, which count from 0.
-    #[derive(Debug)]
     pub(crate) struct Slots<T> {
         pub(crate) slots: Vec<Slot<T>>,
     }
@@ -1718,7 +1725,6 @@ mod store {
     /// ```
     ///
     /// Definitions: [`State`](crate::specs::machine::State#State).
-    #[derive(Debug)]
     pub(crate) struct MachineStore<'r> {
         pub(crate) memories: Slots<Memory<'r>>,
         pub(crate) tables: Slots<Table>,
