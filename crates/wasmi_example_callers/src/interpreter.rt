@@ -13,7 +13,7 @@ use wasmi_core::{
 
 /// One instruction. Locals are the registers of the machine, 0 to 15, and the memory is its memory
 /// 0. An address is a local and an offset; `dst` is the local that takes the result.
-#[derive(Clone, Copy, Debug)]
+#[derive(Clone, Copy)]
 pub enum Instruction {
     /// `i64.const`
     Constant { dst: u8, number: u64 },
@@ -44,7 +44,7 @@ pub enum Instruction {
 }
 
 /// What an instruction does, once its locals are read.
-#[derive(Debug, Drop)]
+#[derive(Drop)]
 pub enum Action {
     /// The machine executes a call, and the next instruction follows.
     Calls(Call),

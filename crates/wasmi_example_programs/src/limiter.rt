@@ -31,12 +31,19 @@ impl LimiterByKind for AtMost {
 pub fn main(rt: HostRuntime) -> anyhow::Result<()> {
     let fuel = Fuel::new(false, FuelCostsProvider::default());
     let mut machine = Machine::new(rt.alloc(), fuel);
-    let mut limiter = AtMost { most: 65_536 };
     for pages in 1..3 {
-        let mut builder = MemoryType::builder();
-        builder.min(pages);
-        let calls = [Call::NewMemory(builder.build()?)];
-        println!(rt; "{:?}", run_lending(&mut machine, &calls, &mut limiter)?)?;
+        make(&rt, &mut machine, pages)?;
     }
+    Ok(())
+}
+
+/// Makes a memory of at most one page of 64 KiB, and prints the replies.
+fn make(rt: &impl Print, machine: &mut Machine, pages: u64) -> anyhow::Result<()> {
+    let mut builder = MemoryType::builder();
+    builder.min(pages);
+    let calls = [Call::NewMemory(builder.build()?)];
+    let mut limiter = AtMost { most: 65_536 };
+    let replies = run_lending(machine, &calls, &mut limiter)?;
+    println!(rt; "{replies:?}")?;
     Ok(())
 }

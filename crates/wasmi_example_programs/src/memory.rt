@@ -1,22 +1,29 @@
 //! Instructions on a memory of one's own: stores, loads, a sum, a vector sum, and a trap.
 
+use std::fmt::Display;
 use std::io;
 use wasmi_core::{TrapCode, simd, wasm};
 
 /// Adds two numbers of a memory, and loads past its end.
 pub fn main(rt: HostRuntime) -> io::Result<()> {
     let mut memory = [0u8; 64];
-    match sum(&mut memory) {
-        Ok(number) => println!(rt; "sum: {number}")?,
-        Err(trap) => println!(rt; "sum: {trap}")?,
-    }
+    print(&rt, "sum", sum(&mut memory))?;
     match lanes(&memory) {
         Ok(bits) => println!(rt; "each byte plus one: {bits:032x}")?,
         Err(trap) => println!(rt; "each byte plus one: {trap}")?,
     }
-    match wasm::load_u32(&memory, 60, 1) {
-        Ok(number) => println!(rt; "past the end: {number}"),
-        Err(trap) => println!(rt; "past the end: {trap}"),
+    print(&rt, "past the end", wasm::load_u32(&memory, 60, 1))
+}
+
+/// Prints a number, or why there is none.
+fn print<T: Display + Drop>(
+    rt: &impl Print,
+    what: &str,
+    number: Result<T, TrapCode>,
+) -> io::Result<()> {
+    match number {
+        Ok(number) => println!(rt; "{what}: {number}"),
+        Err(trap) => println!(rt; "{what}: {trap}"),
     }
 }
 

@@ -1,7 +1,7 @@
 //! A machine under a quota: a list of calls, their replies, and what the quota holds afterwards.
 
 use std::io;
-use wasmi_core::{Call, Fuel, FuelCostsProvider, Machine, MemoryType, Quota, run_reserving};
+use wasmi_core::{Call, Fuel, FuelCostsProvider, Machine, MemoryType, Quota, Reply, run_reserving};
 
 /// Makes a memory and lets it grow past the cap.
 pub fn main(rt: HostRuntime) -> anyhow::Result<()> {
@@ -12,20 +12,27 @@ pub fn main(rt: HostRuntime) -> anyhow::Result<()> {
         memory: 0,
         pages: 2,
     };
-    run(&rt, &[Call::NewMemory(builder.build()?), grow])?;
+    let calls = [Call::NewMemory(builder.build()?), grow];
+    let (replies, held) = run(&rt, &calls)?;
+    print(&rt, &calls, &replies, held)?;
     Ok(())
 }
 
-/// Runs calls on a new machine, and prints their replies and what the quota holds.
-fn run(rt: &HostRuntime, calls: &[Call]) -> io::Result<()> {
+/// Runs calls on a new machine. Returns their replies, and the bytes that the quota holds.
+fn run(rt: &HostRuntime, calls: &[Call]) -> io::Result<(Vec<Reply>, u64)> {
     // A meter that is off, and a cap of two pages on all memories; no tables.
     let fuel = Fuel::new(false, FuelCostsProvider::default());
     let mut machine = Machine::new(rt.alloc(), fuel);
     let mut quota = Quota::new(131_072, 0);
 
     let replies = run_reserving(&mut machine, calls, &mut quota)?;
-    for (call, reply) in calls.iter().zip(&replies) {
+    Ok((replies, quota.held_bytes()))
+}
+
+/// Prints each call with its reply, and then what is held.
+fn print(rt: &impl Print, calls: &[Call], replies: &[Reply], held: u64) -> io::Result<()> {
+    for (call, reply) in calls.iter().zip(replies) {
         println!(rt; "{call:?}: {reply:?}")?;
     }
-    println!(rt; "held: {} bytes", quota.held_bytes())
+    println!(rt; "held: {held} bytes")
 }

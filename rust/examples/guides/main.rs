@@ -125,23 +125,27 @@ mod limiter {
     pub fn main() -> Result<(), Box<dyn std::error::Error>> {
         let fuel = Fuel::new(false, FuelCostsProvider::default());
         let mut machine = Machine::new(fuel);
-        let mut limiter = AtMost { most: 65_536 };
         for pages in 1..3 {
-            let mut builder = MemoryType::builder();
-            builder.min(pages);
-            let calls = [Call::NewMemory(builder.build()?)];
-            writeln!(
-                std::io::stdout(),
-                "{:?}",
-                run_lending(&mut machine, &calls, &mut limiter)?
-            )?;
+            make(&mut machine, pages)?;
         }
+        Ok(())
+    }
+
+    /// Makes a memory of at most one page of 64 KiB, and prints the replies.
+    fn make(machine: &mut Machine, pages: u64) -> Result<(), Box<dyn std::error::Error>> {
+        let mut builder = MemoryType::builder();
+        builder.min(pages);
+        let calls = [Call::NewMemory(builder.build()?)];
+        let mut limiter = AtMost { most: 65_536 };
+        let replies = run_lending(machine, &calls, &mut limiter)?;
+        writeln!(std::io::stdout(), "{replies:?}")?;
         Ok(())
     }
 }
 mod memory {
     //! Instructions on a memory of one's own: stores, loads, a sum, a vector sum, and a trap.
 
+    use std::fmt::Display;
     use std::io;
     use std::io::Write as _;
     use wasmi_core_proved::machine::{TrapCode, simd, wasm};
@@ -149,17 +153,19 @@ mod memory {
     /// Adds two numbers of a memory, and loads past its end.
     pub fn main() -> io::Result<()> {
         let mut memory = [0u8; 64];
-        match sum(&mut memory) {
-            Ok(number) => writeln!(std::io::stdout(), "sum: {number}")?,
-            Err(trap) => writeln!(std::io::stdout(), "sum: {trap}")?,
-        }
+        print("sum", sum(&mut memory))?;
         match lanes(&memory) {
             Ok(bits) => writeln!(std::io::stdout(), "each byte plus one: {bits:032x}")?,
             Err(trap) => writeln!(std::io::stdout(), "each byte plus one: {trap}")?,
         }
-        match wasm::load_u32(&memory, 60, 1) {
-            Ok(number) => writeln!(std::io::stdout(), "past the end: {number}"),
-            Err(trap) => writeln!(std::io::stdout(), "past the end: {trap}"),
+        print("past the end", wasm::load_u32(&memory, 60, 1))
+    }
+
+    /// Prints a number, or why there is none.
+    fn print<T: Display>(what: &str, number: Result<T, TrapCode>) -> io::Result<()> {
+        match number {
+            Ok(number) => writeln!(std::io::stdout(), "{what}: {number}"),
+            Err(trap) => writeln!(std::io::stdout(), "{what}: {trap}"),
         }
     }
 
@@ -188,27 +194,43 @@ mod pool {
 
     /// Runs one list of calls on each tenant.
     pub fn main() -> Result<(), Box<dyn std::error::Error>> {
-        // One page of 64 KiB for both tenants together, and no tables.
-        let mut pool = Pool::new(65_536, 0);
-        for _tenant in 0..2 {
-            let fuel = Fuel::new(false, FuelCostsProvider::default());
-            if let Err((error, _machine)) = pool.add(Machine::new(fuel)) {
-                return Err(error.into());
-            }
-        }
-
-        // Each asks for a page: the second one is denied.
         let mut builder = MemoryType::builder();
         builder.min(1);
         let calls = [Call::NewMemory(builder.build()?)];
+
+        // One page of 64 KiB for both tenants together, and no tables. Each asks for a page: the second
+        // one is denied.
+        let mut pool = Pool::new(65_536, 0);
+        for _tenant in 0..2 {
+            add(&mut pool)?;
+        }
         for tenant in 0..pool.len() {
-            let replies = pool.run(tenant, &calls)?;
-            writeln!(std::io::stdout(), "tenant {tenant}: {replies:?}")?;
+            run(&mut pool, tenant, &calls)?;
         }
         for tenant in 0..pool.len() {
             let bytes = pool.held_bytes(tenant).unwrap_or(0);
             writeln!(std::io::stdout(), "tenant {tenant} holds {bytes} bytes")?;
         }
+        Ok(())
+    }
+
+    /// Adds a tenant whose meter is off.
+    fn add(pool: &mut Pool) -> Result<(), Box<dyn std::error::Error>> {
+        let fuel = Fuel::new(false, FuelCostsProvider::default());
+        match pool.add(Machine::new(fuel)) {
+            Ok(_tenant) => Ok(()),
+            Err((error, _machine)) => Err(error.into()),
+        }
+    }
+
+    /// Runs calls on a tenant and prints their replies.
+    fn run(
+        pool: &mut Pool,
+        tenant: usize,
+        calls: &[Call],
+    ) -> Result<(), Box<dyn std::error::Error>> {
+        let replies = pool.run(tenant, calls)?;
+        writeln!(std::io::stdout(), "tenant {tenant}: {replies:?}")?;
         Ok(())
     }
 }
@@ -218,8 +240,9 @@ mod quota {
     use std::io;
     use std::io::Write as _;
     use wasmi_core_proved::machine::{
-        Call, Fuel, FuelCostsProvider, Machine, MemoryType, Quota, run_reserving,
+        Call, Fuel, FuelCostsProvider, Machine, MemoryType, Quota, Reply, run_reserving,
     };
+    use wasmi_core_proved::rattle::Vec;
 
     /// Makes a memory and lets it grow past the cap.
     pub fn main() -> Result<(), Box<dyn std::error::Error>> {
@@ -230,22 +253,29 @@ mod quota {
             memory: 0,
             pages: 2,
         };
-        run(&[Call::NewMemory(builder.build()?), grow])?;
+        let calls = [Call::NewMemory(builder.build()?), grow];
+        let (replies, held) = run(&calls)?;
+        print(&calls, &replies, held)?;
         Ok(())
     }
 
-    /// Runs calls on a new machine, and prints their replies and what the quota holds.
-    fn run(calls: &[Call]) -> io::Result<()> {
+    /// Runs calls on a new machine. Returns their replies, and the bytes that the quota holds.
+    fn run(calls: &[Call]) -> io::Result<(Vec<Reply>, u64)> {
         // A meter that is off, and a cap of two pages on all memories; no tables.
         let fuel = Fuel::new(false, FuelCostsProvider::default());
         let mut machine = Machine::new(fuel);
         let mut quota = Quota::new(131_072, 0);
 
         let replies = run_reserving(&mut machine, calls, &mut quota)?;
-        for (call, reply) in calls.iter().zip(&replies) {
+        Ok((replies, quota.held_bytes()))
+    }
+
+    /// Prints each call with its reply, and then what is held.
+    fn print(calls: &[Call], replies: &[Reply], held: u64) -> io::Result<()> {
+        for (call, reply) in calls.iter().zip(replies) {
             writeln!(std::io::stdout(), "{call:?}: {reply:?}")?;
         }
-        writeln!(std::io::stdout(), "held: {} bytes", quota.held_bytes())
+        writeln!(std::io::stdout(), "held: {held} bytes")
     }
 }
 
