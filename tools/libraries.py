@@ -1,15 +1,18 @@
 """The crates of crates.txt, and the words by which the kit's rattle takes the libraries that `rt ci` or `rt all check` built of them."""
+import hashlib
 import pathlib
 import shutil
+import subprocess
+import time
 
 TOP = pathlib.Path(__file__).resolve().parent.parent
 KIT = pathlib.Path(shutil.which("rt") or "").resolve().parent.parent
 RATTLE = f"{KIT}/bin/rattle"
 
 
-def crates():
+def crates(top=TOP):
     """Returns what each crate's line of crates.txt names, by its name."""
-    lines = ((TOP / "crates.txt").read_text()).split("\n")
+    lines = ((top / "crates.txt").read_text()).split("\n")
     split = [line.partition("#")[0].partition(":") for line in lines]
     return {crate.split()[0]: below.split() for crate, _, below in split if crate.strip()}
 
@@ -32,3 +35,51 @@ def words_for(crate):
     for folder in library.values():
         words += ["-L", f"dependency={folder}"]
     return words + ["--antt-project", f"{KIT}/rattle/logic/antt-project.json", "--logic-built", f"{KIT}/logic_built"]
+
+
+def text_of(crate, top=TOP):
+    """Returns a hash of what a crate of a tree is built from: its text, that of the crates below it, their lines of crates.txt, and the kit."""
+    named = crates(top)
+    found = hashlib.sha256((KIT / "KIT-ID").read_bytes() if (KIT / "KIT-ID").exists() else b"no kit")
+    for it in [*all_below(crate, named), crate]:
+        found.update(f"{it}: {named[it]}\n".encode())
+        for path in sorted(path for part in ("src", "specs", "proofs") for path in (top / "crates" / it / part).rglob("*") if path.is_file()):
+            found.update(f"{path.relative_to(top)} {hashlib.sha256(path.read_bytes()).hexdigest()}\n".encode())
+    return found.hexdigest()
+
+
+def products(crate, top=TOP):
+    """Returns what a build has left of a crate: the library's folder, the program, the archives."""
+    out = top / "crates" / crate / "out"
+    return [it for it in [out / f"rlib/{crate}.rlib", out / crate, *sorted(out.glob("*.a"))] if it.exists()]
+
+
+def sums_of(crate, top=TOP):
+    """Returns a line for each product, with its hash if it's a file."""
+    return "".join(f"{it.name} {hashlib.sha256(it.read_bytes()).hexdigest() if it.is_file() else ''}\n" for it in products(crate, top))
+
+
+def leave_text(crate, text, top=TOP):
+    """Says beside the products of a crate from what text they were built."""
+    (top / "crates" / crate / "out/built").write_text(f"{text}\n{sums_of(crate, top)}")
+
+
+def other_text(crate, top=TOP):
+    """Returns why what stands in the folder out/ of a crate isn't built from its text, or nothing if it is."""
+    said = top / "crates" / crate / "out/built"
+    if not products(crate, top):
+        return f"nothing is built of {crate}: .ci/run does it"
+    if not said.exists() or said.read_text() != f"{text_of(crate, top)}\n{sums_of(crate, top)}":
+        return f"what is built of {crate} isn't of its sources as they are: .ci/run builds it anew"
+    return None
+
+
+def build(command, folder=None):
+    """Runs a command, and says of what it builds from what text it is; of a crate whose text has changed since, nothing is said. The status of the command."""
+    texts, start = {it: text_of(it) for it in crates()}, time.time()
+    status = subprocess.run(command, cwd=folder).returncode
+    for crate in crates() if status == 0 else ():
+        is_new = any(it.stat().st_mtime >= start for it in products(crate))
+        if is_new and text_of(crate) == texts[crate]:
+            leave_text(crate, texts[crate])
+    return status
