@@ -1,4 +1,5 @@
-"""What the generated text has otherwise than the sources, so that the Rust crate's API can stand on it. No edit changes what a function does."""
+"""What the generated text has otherwise than the sources, so that the Rust crate's API can stand on it. The edit under "Upstream's feature" alone
+changes what a function returns; tools/erased.toml has the reason of each."""
 
 # (module, text, its replacement, how often it stands there)
 EDITS = [
