@@ -32,7 +32,7 @@ is_left_out() {
 # lacking PART WHAT: a part that can't be run has failed, unless it is left out
 lacking() {
     is_left_out "$1" && return
-    echo "${program##*/} $1: FAILED, since there is no $2; --without $1 leaves it out"
+    echo "${program%/run} $1: FAILED, since there is no $2; --without $1 leaves it out"
     failed=$((failed + 1))
 }
 
@@ -53,7 +53,7 @@ watched() {
     logs=${logs:-$(mktemp -d)}
     log=$logs/${name//[ \/]/-}
     while sleep 10 > /dev/null 2>&1; do
-        echo ".. ${program##*/} $name, $((SECONDS - start)) s: $(tail -n 1 "$log" | cut -c 1-100) (log: $log)" >&2
+        echo ".. ${program%/run} $name, $((SECONDS - start)) s: $(tail -n 1 "$log" | cut -c 1-100) (log: $log)" >&2
     done &
     local beat=$! status=0
     "$@" > "$log" 2>&1 || status=$?
@@ -67,10 +67,10 @@ tried() {
     local name=$1 start=$SECONDS
     shift
     if watched "$name" "$@"; then
-        echo "${program##*/} $name: $(tail -n 1 "$log"), $((SECONDS - start)) s"
+        echo "${program%/run} $name: $(tail -n 1 "$log"), $((SECONDS - start)) s"
         passed=$((passed + 1))
     else
-        echo "${program##*/} $name: FAILED"
+        echo "${program%/run} $name: FAILED"
         cat "$log"
         failed=$((failed + 1))
         return 1
