@@ -1,5 +1,6 @@
 """The instructions of crates/wasmi_ops and their numbers. A shape of several lists there has its numbers in rows, which tools/header writes
-to crates/wasmi_c/src/instruction/numbers.rt; in a shape of one list the number is the place."""
+to crates/wasmi_c/src/instruction/numbers.rt; in a shape of one list the number is the place. What the proofs compare with both is the names
+and the statuses in crates/wasmi_c/specs/ReleasedNumbers.antt."""
 import functools
 import itertools
 import pathlib
@@ -9,6 +10,7 @@ import textwrap
 
 CRATES = pathlib.Path(__file__).resolve().parent.parent / "crates"
 SOURCE = CRATES / "wasmi_c/src/instruction/numbers.rt"
+SPECIFICATION = CRATES / "wasmi_c/specs/ReleasedNumbers.antt"
 ROWS = re.compile(r"^macro_rules! (\w+) \{\n    \(\$make:ident!(.*?)\n\}", re.M | re.S)
 ROW = re.compile(r"\b([A-Z]\w*) (\w+),")
 LIST = re.compile(r"pub const (\w+): \[\(&str, (\w+)\); (\d+)\] =\s+(\w+)!\(names! \w+\);")
@@ -28,6 +30,14 @@ HEAD = """\
 //! the rows. `tools/header` writes this file: first the numbers of `include/numbers.tsv`, then what
 //! the lists have besides.
 
+"""
+SPECIFICATION_HEAD = """\
+-- The names of the instructions of each shape in the order of their numbers, and each status with its number, as
+-- `include/numbers.tsv` has them. `tools/header` writes this file; `numbers_are_released` says that the code agrees.
+use Rattle.std.specs.Prelude.{ℕ, List, [], ◌∷◌, codes, map}
+use Rattle.wasmi_types.specs.Trap.{code_number}
+use Rattle.wasmi_types.specs.declared.trap.TrapCode.TheVariants as trap
+use Rattle.wasmi_c.specs.declared.status.TheConstants as status
 """
 
 
@@ -101,3 +111,20 @@ def source(named):
         text += f"\n/// The instructions that `{enum}` has, by number.\npub const {name}: [{enum}; {len(rows)}] = {value};\n"
     macros = "".join(sorted(macros.splitlines(True)))
     return f"{HEAD}{''.join(sorted(uses))}use wasmi_ops::{{\n{wrapped(sorted(kinds), 4)}}};\n{text}\n{macros}"
+
+
+def antt_list(entries):
+    """A list in antt, in lines that end after an entry."""
+    words = [f"{entry} ∷".replace(" ", "\N{NO-BREAK SPACE}") for entry in entries] + ["[]"]
+    made = textwrap.fill(" ".join(words), 118, initial_indent="    ", subsequent_indent="    ", break_on_hyphens=False)
+    return made.replace("\N{NO-BREAK SPACE}", " ")
+
+
+def specification(named, statuses):
+    """The text of ReleasedNumbers.antt. A status is what the code returns, and its number."""
+    text = SPECIFICATION_HEAD
+    for shape, what in TEXTS.items():
+        names = antt_list(f'"{name}"' for name in named[shape])
+        text += f"\n-- {what}\nabbrev pub {shape}_names : List (List ℕ)\n{shape}_names = map codes (\n{names})\n"
+    rows = antt_list(f"({term}, {number})" for term, number in statuses)
+    return f"{text}\n-- each status as the code has it, and its number\nabbrev pub statuses : List (ℕ × ℕ)\nstatuses =\n{rows}\n"

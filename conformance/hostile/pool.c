@@ -44,12 +44,13 @@ static wasmi_reply run(wasmi_pool *on, size_t tenant, const char *part, size_t l
     return reply;
 }
 
-/* No part is run on a tenant that there isn't, nor without a pool. */
+/* No part is run on a tenant that there isn't, nor without a pool; that it has header lines is told before. */
 static void refused_parts(const char *part, size_t len) {
     static char text[TEXT];
     wasmi_totals before = wasmi_pool_totals(&pool);
     size_t index = tenants + (size_t)below(3);
     if (run(&pool, index, part, len, text).status != WASMI_NO_TENANT
+        || run(&pool, index, "meter off\n", 10, text).status != WASMI_HEADER_LINE
         || wasmi_pool_tenant_totals(&pool, index).status != WASMI_NO_TENANT
         || run(&none, 0, part, len, text).status != WASMI_NO_POOL || none.is_made) {
         differs("no such tenant, or no pool", part);
@@ -59,7 +60,8 @@ static void refused_parts(const char *part, size_t len) {
     }
 }
 
-/* Lines for a tenant, which are refused where one is bad, and where the first request for memory is refused. */
+/* Lines for a tenant, which are refused where one is bad, also if there is no such tenant, and where the first request
+   for memory is refused. */
 static char *lines_of(char *at, size_t tenant) {
     static char text[TEXT];
     char *from = at;
@@ -68,7 +70,8 @@ static char *lines_of(char *at, size_t tenant) {
     }
     size_t len = (size_t)(at - from), needed = 0;
     if (wasmi_script_run((uint8_t *)from, len, (uint8_t *)whole, TEXT, &needed) != 0) {
-        if (run(&pool, tenant, from, len, text).status != WASMI_BAD_LINE) {
+        if (run(&pool, tenant, from, len, text).status != WASMI_BAD_LINE
+            || run(&pool, tenants, from, len, text).status != WASMI_BAD_LINE) {
             *at = 0;
             differs("bad lines are run", from);
         }

@@ -305,12 +305,12 @@ module _ (u u' : UnderQuota) (holds : HoldsSums u) (keeps : KeepsQuota u.quota u
       elim c.makes [
         | inl refused ↦ summed_same Bytes refused.3 (rw (c.bytes, refused.1) refl) c.elements
         | inr made ↦
-            let makes = rw (limiter_on u.quota holds.on, limiter_on u'.quota on) at made.2.makes in
+            let makes = rw (limiter_on u.quota holds.on, limiter_on u'.quota on) at made.3.makes in
             let counts = creation_counts (creation_of (Lent c.before.region) made.0)
             (new_memory (Lent c.before.region) made.0) bytes_made (length_made (minimum_bytes made.0) 0) (λ cause. refl)
             (λ cause. refl) q q' _ makes in
             let sized = ap sum c.bytes
-            ∙ memory_summed made.0 c.before c.after made.2.result c.status u.bytes made.2.status_is made.2.left in
+            ∙ memory_summed made.0 c.before c.after made.3.result c.status u.bytes made.3.status_is made.3.left in
             summed Bytes 0 _ counts (omega (arith, sized)) c.elements
       ]
 

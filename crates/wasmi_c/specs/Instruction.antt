@@ -1,5 +1,5 @@
 -- What an instruction's call gives, step by step, and what it leaves where C reads it.
-use Rattle.std.specs.Prelude.{◌≡◌, ℕ, ◌==◌, ◌&&◌, if◌then◌else◌, List, [], ◌∷◌, map, length, slice_get, Option, Result, Ok, Err, MatchResult, ◌+◌, nat_lt}
+use Rattle.std.specs.Prelude.{◌≡◌, ℕ, ◌==◌, ◌&&◌, if◌then◌else◌, List, [], ◌∷◌, map, length, slice_get, codes, Option, Result, Ok, Err, MatchResult, ◌+◌, nat_lt}
 use Rattle.std.specs.Option.{ok_or}
 use Rattle.std.specs.Simd.Lanes.{zip2}
 use Rattle.std.specs.Int.{w32}
@@ -16,8 +16,8 @@ use Rattle.wasmi_types.specs.Access.{overwrite}
 use Rattle.wasmi_types.specs.Numbers.{le_bytes}
 use Rattle.wasmi_types.specs.declared.trap.TrapCode.TheVariants.{MemoryOutOfBounds}
 use Rattle.wasmi_access.specs.LoadStore.{accessed}
-use Rattle.wasmi_ops.specs.ScalarOps.{as_raw, loaded_raw, stored_bytes, unary_raw, binary_raw}
-use Rattle.wasmi_ops.specs.VectorOps.{loaded_vector, loaded_lane, stored_lane, made_vector, unary_vector, tested_raw, binary_vector, shifted_vector, ternary_vector}
+use Rattle.wasmi_ops.specs.ScalarOps.{as_raw, loaded_raw, stored_bytes, unary_raw, binary_raw, load_name, store_name, scalar_unary_name, scalar_binary_name}
+use Rattle.wasmi_ops.specs.VectorOps.{loaded_vector, loaded_lane, stored_lane, made_vector, unary_vector, tested_raw, binary_vector, shifted_vector, ternary_vector, vector_load_name, make_name, unary_name, test_name, binary_name, shift_name}
 use Rattle.wasmi_c.specs.declared.instruction.numbers.TheConstants.{LOAD_INSTRUCTIONS, STORE_INSTRUCTIONS, UNARY_INSTRUCTIONS, BINARY_INSTRUCTIONS}
 use Rattle.wasmi_c.specs.declared.instruction.load.Load.{Load}
 use Rattle.wasmi_c.specs.declared.instruction.load.Load.TheVariants as load
@@ -59,6 +59,10 @@ Err refusal >>= next = Err refusal
 -- the instruction that has a number in a list of names with their instructions: its place
 unfoldable pub op_numbered : {Name Op : Type 0} → List (Name × Op) → ℕ → Option Op
 op_numbered list number = slice_get (map (λ entry. entry.1) list) number
+
+-- the names of the instructions of such a list, by what names an instruction
+abbrev pub names_in : {Name Op : Type 0} → (Op → List ℕ) → List (Name × Op) → List (List ℕ)
+names_in name_of list = map (λ entry. name_of entry.1) list
 
 -- the instruction that was found by its number
 abbrev pub known : {Op : Type 0} → Option Op → Result Op Refusal
@@ -111,6 +115,16 @@ abbrev pub stored_value : Store → RawVal → List ℕ
 stored_value (store.Scalar op) value = stored_bytes op value
 stored_value store.V128Store value = le_bytes 16 (vector_in value)
 
+-- the name of a load
+abbrev pub name_of_load : Load → List ℕ
+name_of_load (load.Scalar op) = load_name op
+name_of_load (load.Vector op) = vector_load_name op
+
+-- the name of a store
+abbrev pub name_of_store : Store → List ℕ
+name_of_store (store.Scalar op) = store_name op
+name_of_store store.V128Store = codes "v128_store"
+
 -- the load that has a number
 unfoldable pub load_numbered : ℕ → Option Load
 load_numbered number = slice_get LOAD_INSTRUCTIONS number
@@ -156,6 +170,13 @@ unary_value (one.Make op) a = raw_of_vector (made_vector op a)
 unary_value (one.Vector op) a = raw_of_vector (unary_vector op (vector_in a))
 unary_value (one.Test op) a = tested_raw op (vector_in a)
 
+-- the name of an instruction of one operand
+abbrev pub name_of_unary : Unary → List ℕ
+name_of_unary (one.Scalar op) = scalar_unary_name op
+name_of_unary (one.Make op) = make_name op
+name_of_unary (one.Vector op) = unary_name op
+name_of_unary (one.Test op) = test_name op
+
 -- the instruction of one operand that has a number
 unfoldable pub unary_numbered : ℕ → Option Unary
 unary_numbered number = slice_get UNARY_INSTRUCTIONS number
@@ -177,6 +198,12 @@ abbrev pub binary_value : Binary → RawVal → RawVal → Result RawVal TrapCod
 binary_value (two.Scalar op) a b = binary_raw op a b
 binary_value (two.Vector op) a b = Ok (raw_of_vector (binary_vector op (vector_in a) (vector_in b)))
 binary_value (two.Shift op) a b = Ok (raw_of_vector (shifted_vector op (vector_in a) (unsigned_in w32 b)))
+
+-- the name of an instruction of two operands
+abbrev pub name_of_binary : Binary → List ℕ
+name_of_binary (two.Scalar op) = scalar_binary_name op
+name_of_binary (two.Vector op) = binary_name op
+name_of_binary (two.Shift op) = shift_name op
 
 -- the instruction of two operands that has a number
 unfoldable pub binary_numbered : ℕ → Option Binary

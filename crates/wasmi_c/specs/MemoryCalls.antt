@@ -54,7 +54,7 @@ AsksEmbedded h region pages status q q' = ByType of_memory h region status (q' �
 abbrev pub MakesEmbedded : Placed MemoryNumbers → Option Quota → ℕ → Placed MemoryNumbers → Option Quota → Type 0
 MakesEmbedded a l status a' l' =
     (IsNoType a.numbers × (status ≡ INVALID_STATE) × (a' ≡ a) × (l' ≡ l))
-    ⊎ ((ty : MemoryTypeValue) × (named_type (settings_of a.numbers) ≡ Some ty)
+    ⊎ ((ty : MemoryTypeValue) × (named_type (settings_of a.numbers) ≡ Some ty) × IsValid ty
     × MakesAs of_memory (λ made. MakesMemory (optional_rules quota_rules) (Lent a.region) ty l made l') ty a status a')
 
 -- the size of a memory in pages, by a call

@@ -1,5 +1,5 @@
 -- The numbers that lie with C, as the memories, tables, meters and quotas that they stand for.
-use Rattle.std.specs.Prelude.{◌≡◌, ◌≤◌, ℕ, List, length, drop, Option, Some, None, nat_eq, if◌then◌else◌}
+use Rattle.std.specs.Prelude.{◌≡◌, ◌≤◌, ◌⊎◌, ℕ, List, length, drop, Option, Some, None, nat_eq, if◌then◌else◌}
 use Rattle.std.specs.Option.{unwrap_or}
 use Rattle.wasmi_meter.specs.declared.limiter.Kind.{Kind}
 use Rattle.wasmi_meter.specs.declared.limiter.Kind.TheVariants.{Bytes, Elements}
@@ -90,10 +90,16 @@ quota_of h = record {
 abbrev pub limiter_of : QuotaNumbers → Option Quota
 limiter_of h = if_flag h.is_on (quota_of h)
 
--- what a call keeps of a quota: its flag, and all of it if the quota is off
+-- the numbers of a last difference where there is none
+abbrev pub HasNoLast : QuotaNumbers → Type 0
+HasNoLast h = (h.last_kind ≡ 0) × (h.last ≡ 0)
+
+-- what a call keeps of a quota: its flag, and all of it if the quota is off; a quota that isn't the same and has no last
+-- difference has zeros for it
 pub record KeepsQuota (h h' : QuotaNumbers) : Type 0 where
   pub flag : h'.is_on ≡ h.is_on
   pub off : h.is_on ≡ 0 → h' ≡ h
+  pub last : (h' ≡ h) ⊎ (last_of h'.last_kind h'.last ≡ None → HasNoLast h')
 
 -- the quota of some numbers becomes that of others, by what becomes of a limiter that may be absent
 abbrev pub Becomes : (Option Quota → Option Quota → Type 0) → QuotaNumbers → QuotaNumbers → Type 0

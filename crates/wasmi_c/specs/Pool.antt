@@ -8,7 +8,7 @@ use Rattle.wasmi_core.specs.declared.calls.Reply.{Reply}
 use Rattle.wasmi_budget.specs.Pool.{PoolValue, AddsTenant, IsWithinCaps, RunsTenant, total_of}
 use Rattle.wasmi_grammar.specs.Lines.{WritesScript}
 use Rattle.wasmi_grammar.specs.declared.script.Script.{Script}
-use Rattle.wasmi_c.specs.Machine.Calls.{ReadsOut, totals_in, RefusesLines, RunsScriptBy}
+use Rattle.wasmi_c.specs.Machine.Calls.{ReadsOut, totals_in, RefusesLines, RunsScriptBy, no_header}
 use Rattle.wasmi_c.specs.Machine.CallStructs.{call_of}
 use Rattle.wasmi_c.specs.Machine.NewMachines.{meter_with}
 use Rattle.wasmi_c.specs.Machine.Replies.{only, with_number, reply_struct}
@@ -70,10 +70,15 @@ TenantReadsOut tenant memory offset old reply new pool pool' = (pool' ≡ pool)
     ((reply ≡ only NO_TENANT) × (new ≡ old))
     (λ machine. ReadsOut memory offset machine old reply new)
 
--- lines are run on a tenant's machine as the script that they write, or they are refused, and nothing has changed
+-- lines for a tenant that aren't run are refused, or they write a script without header lines, and the tenant is refused
+abbrev pub RefusesTenantLines : ℕ → List ℕ → PoolValue → ReplyStruct → Type 0
+RefusesTenantLines tenant lines pool reply = RefusesLines lines reply
+    ⊎ ((script : Script) × WritesScript lines script × (script.header ≡ no_header) × RefusesTenant tenant pool reply)
+
+-- lines are run on a tenant's machine as the script that they write, or they aren't, and nothing has changed
 unfoldable pub RunsTenantLines : ℕ → List ℕ → List ℕ → ReplyStruct → List ℕ → PoolValue → PoolValue → Type 0
 RunsTenantLines tenant lines old reply new pool pool' =
-    ((RefusesLines lines reply ⊎ RefusesTenant tenant pool reply) × (new ≡ old) × (pool' ≡ pool))
+    (RefusesTenantLines tenant lines pool reply × (new ≡ old) × (pool' ≡ pool))
     ⊎ ((script : Script) × WritesScript lines script
     × RunsScriptBy (λ calls replies. RunsTenant pool tenant calls replies pool') script old reply new)
 

@@ -1,6 +1,14 @@
 //! What holds of all calls and lines by a handle, of all growths and creations by the host's
-//! answers, and of all that is under one quota. Each function does nothing, and states a law.
+//! answers, of all that is under one quota, and of all numbers that were released. Each function
+//! does nothing, and states a law.
+ghost use Rattle.std.specs.Prelude.{◌≡◌, map};
 ghost use Rattle.wasmi_meter.specs.Limiter.{optional_rules};
+ghost use Rattle.wasmi_ops.specs.LaneOps.{extract_name, load_lane_name, replace_name, store_lane_name};
+ghost use Rattle.wasmi_ops.specs.VectorOps.{ternary_name};
+ghost use Rattle.wasmi_ops.specs.declared.vector.TheConstants.{EXTRACTIONS, LANE_LOADS, LANE_STORES, REPLACEMENTS, TERNARIES};
+ghost use Rattle.wasmi_c.specs.declared.instruction.numbers.TheConstants.{BINARY_INSTRUCTIONS, LOAD_INSTRUCTIONS, STORE_INSTRUCTIONS, UNARY_INSTRUCTIONS};
+ghost use Rattle.wasmi_c.specs.Instruction.{name_of_binary, name_of_load, name_of_store, name_of_unary, names_in};
+ghost use Rattle.wasmi_c.specs.ReleasedNumbers.{binary_names, extract_lane_names, load_lane_names, load_names, replace_lane_names, statuses, store_lane_names, store_names, ternary_names, unary_names};
 ghost use Rattle.wasmi_c.specs.Machine.Calls.{CallsAreRuns, MachineRunsJoin, QuotasAreKept};
 ghost use Rattle.wasmi_c.specs.SharedQuota.{OneQuotaHoldsAll};
 ghost use Rattle.wasmi_c.specs.Placement.{SettlementsAreGrowths, TableSettlementsAreGrowths, SettlementsAreCreations, TableSettlementsAreCreations};
@@ -50,4 +58,18 @@ pub fn settlements_are_creations<L: ResourceLimiter>()
 #[tactic(auto, using(crate::proofs::SharedQuotaLemmas::one_quota_holds_all))]
 pub fn one_quota_holds_all()
     ensures { OneQuotaHoldsAll }
+{}
+
+/// Each instruction has the number that was released with its name, and each status its own.
+pub fn numbers_are_released()
+    ensures unary { map name_of_unary UNARY_INSTRUCTIONS ≡ unary_names }
+    ensures binary { map name_of_binary BINARY_INSTRUCTIONS ≡ binary_names }
+    ensures ternary { names_in ternary_name TERNARIES ≡ ternary_names }
+    ensures extract_lane { names_in extract_name EXTRACTIONS ≡ extract_lane_names }
+    ensures replace_lane { names_in replace_name REPLACEMENTS ≡ replace_lane_names }
+    ensures load { map name_of_load LOAD_INSTRUCTIONS ≡ load_names }
+    ensures store { map name_of_store STORE_INSTRUCTIONS ≡ store_names }
+    ensures load_lane { names_in load_lane_name LANE_LOADS ≡ load_lane_names }
+    ensures store_lane { names_in store_lane_name LANE_STORES ≡ store_lane_names }
+    ensures statuses { map (λ row. row.0) statuses ≡ map (λ row. row.1) statuses }
 {}

@@ -1,15 +1,15 @@
 //! Memories whose bytes are the first of a region that lies with C. `number` is set to the fuel that
 //! is needed where less is left.
-ghost use Rattle.std.specs.Prelude.{◌≡◌, ◌≤◌, ◌+◌, ◌/◌, false, Some, OnErr, IfOk, length};
+ghost use Rattle.std.specs.Prelude.{◌≡◌, ◌≤◌, ◌+◌, ◌/◌, ◌^◌, ◌⊎◌, false, Some, OnErr, IfOk, length};
 ghost use Rattle.wasmi_meter.specs.Capped.{quota_rules};
 ghost use Rattle.wasmi_meter.specs.Limiter.{optional_rules};
 ghost use Rattle.wasmi_store.specs.Buffer.{Lent};
-ghost use Rattle.wasmi_store.specs.Memory.{IsSized, MakesMemory, MemoryTypeValue, in_bounds, page_bytes};
+ghost use Rattle.wasmi_store.specs.Memory.{IsSized, MakesMemory, MemoryTypeValue, in_bounds, minimum_bytes, named_type, page_bytes};
 ghost use Rattle.wasmi_region.specs.Memory.{made_in, memory_in};
 ghost use Rattle.wasmi_c.specs.Host.{is_about, memory_growth};
 ghost use Rattle.wasmi_c.specs.MemoryCalls.{AsksEmbedded, CopiesBytesEmbedded, CountsEmbedded, IsNoType, MakesEmbedded, ReadsEmbedded, WritesBytesEmbedded, WritesEmbedded, by_pages, copied_range, filled_range, of_memory};
 ghost use Rattle.wasmi_c.specs.Placement.{GrowsAs, GrowsBy, IsNone, SettlesBy, status_of, written_number};
-ghost use Rattle.wasmi_c.specs.Numbers.{embedded, limiter_of, metered_region, placed, IsState, KeepsQuota};
+ghost use Rattle.wasmi_c.specs.Numbers.{embedded, limiter_of, metered_region, placed, settings_of, IsState, KeepsQuota};
 
 use crate::host::{HostAnswers, Question};
 use crate::numbers::{MemoryNumbers, MeterNumbers, QuotaNumbers, Range, type_or_return};
@@ -45,6 +45,8 @@ pub fn make(memory: &mut MemoryNumbers, region: &mut [u8], quota: &mut QuotaNumb
         (placed memory.new region.new) (limiter_of quota.new) }
     ensures quota { KeepsQuota quota.old quota.new }
     ensures invalid { IsNoType memory.old → quota.new ≡ quota.old }
+    ensures unasked { (ty : MemoryTypeValue) → named_type (settings_of memory.old) ≡ Some ty
+        → 2 ^ 64 ≤ minimum_bytes ty → quota.new ≡ quota.old }
 {
     let Some(ty) = memory.ty() else {
         return INVALID_STATE;
@@ -104,7 +106,7 @@ pub fn grow(
     ensures quota { KeepsQuota quota.old quota.new }
     ensures invalid { IsNone of_memory memory.old region.old → quota.new ≡ quota.old }
     ensures unasked { (ty : MemoryTypeValue) → IsState memory.old region.old ty
-        → in_bounds ty (memory.old.size / page_bytes ty.page + pages) ≡ false
+        → (pages ≡ 0) ⊎ (in_bounds ty (memory.old.size / page_bytes ty.page + pages) ≡ false)
         → quota.new ≡ quota.old }
 {
     type_or_return!(ty, memory, region);

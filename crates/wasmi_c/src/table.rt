@@ -1,6 +1,6 @@
 //! Tables whose elements are the first of a region of references that lies with C. `number` is set to
 //! the fuel that is needed where less is left.
-ghost use Rattle.std.specs.Prelude.{◌≡◌, ◌≤◌, ◌+◌, false, None, Some, OnErr, IfOk, length};
+ghost use Rattle.std.specs.Prelude.{◌≡◌, ◌≤◌, ◌+◌, ◌⊎◌, false, None, Some, OnErr, IfOk, length};
 ghost use Rattle.wasmi_meter.specs.Capped.{quota_rules};
 ghost use Rattle.wasmi_meter.specs.Limiter.{optional_rules};
 ghost use Rattle.wasmi_store.specs.Table.{IsSized, TableTypeValue, is_indexable, raw_filling_of, copy_of, initialization_of};
@@ -113,7 +113,8 @@ pub fn grow(
     ensures quota { KeepsQuota quota.old quota.new }
     ensures invalid { IsNone of_table table.old region.old → quota.new ≡ quota.old }
     ensures unasked { (ty : TableTypeValue) → IsTable table.old region.old ty
-        → is_indexable ty (table.old.size + delta) ≡ false → quota.new ≡ quota.old }
+        → (delta ≡ 0) ⊎ (is_indexable ty (table.old.size + delta) ≡ false)
+        → quota.new ≡ quota.old }
 {
     type_or_return!(ty, table, region);
     grow_under(table, ty, region, delta, reference, meter, quota, number)

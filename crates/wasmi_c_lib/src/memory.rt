@@ -1,10 +1,10 @@
 //! Memories in regions of the caller's, and fuel meters.
-ghost use Rattle.std.specs.Prelude.{◌≡◌, ◌+◌, ◌/◌, false, Some};
+ghost use Rattle.std.specs.Prelude.{◌≡◌, ◌≤◌, ◌+◌, ◌/◌, ◌^◌, ◌⊎◌, false, Some};
 ghost use Rattle.wasmi_c.specs.MemoryCalls.{AsksEmbedded, CopiesBytesEmbedded, CountsEmbedded, IsNoType, MakesEmbedded, ReadsEmbedded, WritesBytesEmbedded, WritesEmbedded, by_pages, copied_range, filled_range, of_memory};
 ghost use Rattle.wasmi_c.specs.Placement.{GrowsBy, IsNone, SettlesBy};
-ghost use Rattle.wasmi_c.specs.Numbers.{limiter_of, KeepsQuota, embedded, IsState, metered_region, meter_of, placed};
+ghost use Rattle.wasmi_c.specs.Numbers.{limiter_of, KeepsQuota, embedded, IsState, metered_region, meter_of, placed, settings_of};
 ghost use Rattle.wasmi_meter.specs.Capped.{quota_rules};
-ghost use Rattle.wasmi_store.specs.Memory.{MemoryTypeValue, in_bounds, page_bytes};
+ghost use Rattle.wasmi_store.specs.Memory.{MemoryTypeValue, in_bounds, minimum_bytes, named_type, page_bytes};
 ghost use Rattle.wasmi_c.specs.FuelCalls.{SetsFuel, TellsFuel, PaysFuel};
 ghost use Rattle.wasmi_meter.specs.Meter.{copy_cost};
 
@@ -23,6 +23,8 @@ pub extern "C" fn wasmi_memory_new(
         (placed memory.new region.new) (limiter_of quota.new) }
     ensures quota { KeepsQuota quota.old quota.new }
     ensures invalid { IsNoType memory.old → quota.new ≡ quota.old }
+    ensures unasked { (ty : MemoryTypeValue) → named_type (settings_of memory.old) ≡ Some ty
+        → 2 ^ 64 ≤ minimum_bytes ty → quota.new ≡ quota.old }
 {
     on_memory::make(memory, region, quota)
 }
@@ -42,7 +44,7 @@ pub extern "C" fn wasmi_memory_grow(
     ensures quota { KeepsQuota quota.old quota.new }
     ensures invalid { IsNone of_memory memory.old region.old → quota.new ≡ quota.old }
     ensures unasked { (ty : MemoryTypeValue) → IsState memory.old region.old ty
-        → in_bounds ty (memory.old.size / page_bytes ty.page + pages) ≡ false
+        → (pages ≡ 0) ⊎ (in_bounds ty (memory.old.size / page_bytes ty.page + pages) ≡ false)
         → quota.new ≡ quota.old }
 {
     on_memory::grow(memory, region, pages, meter, quota, number)

@@ -1,5 +1,5 @@
 //! Tables in regions of the caller's.
-ghost use Rattle.std.specs.Prelude.{◌≡◌, None, ◌+◌, false, Some};
+ghost use Rattle.std.specs.Prelude.{◌≡◌, None, ◌+◌, ◌⊎◌, false, Some};
 ghost use Rattle.wasmi_c.specs.Numbers.{limiter_of, table_type_of, KeepsQuota, embedded, IsTable, metered_region, placed};
 ghost use Rattle.wasmi_c.specs.TableCalls.{AsksTableEmbedded, CopiesEmbedded, CountsElements, GetsElement, MakesTableEmbedded, SetsElement, WritesTableEmbedded, by_elements, of_table};
 ghost use Rattle.wasmi_c.specs.Placement.{GrowsBy, IsNone, SettlesBy};
@@ -42,7 +42,8 @@ pub extern "C" fn wasmi_table_grow(
     ensures quota { KeepsQuota quota.old quota.new }
     ensures invalid { IsNone of_table table.old region.old → quota.new ≡ quota.old }
     ensures unasked { (ty : TableTypeValue) → IsTable table.old region.old ty
-        → is_indexable ty (table.old.size + delta) ≡ false → quota.new ≡ quota.old }
+        → (delta ≡ 0) ⊎ (is_indexable ty (table.old.size + delta) ≡ false)
+        → quota.new ≡ quota.old }
 {
     on_table::grow(table, region, delta, reference, meter, quota, number)
 }

@@ -1,7 +1,10 @@
-//! Callers of the laws of `wasmi_c`: of calls by a handle, of one quota over many, and of a limiter
-//! that only a host sees.
-ghost use Rattle.std.specs.Prelude.{◌≡◌, ◌≢◌, ℕ, Some, true, Option, length};
+//! Callers of the laws of `wasmi_c`: of calls by a handle, of one quota over many, of a limiter that
+//! only a host sees, and of the numbers of instructions.
+ghost use Rattle.std.specs.Prelude.{◌≡◌, ◌≢◌, ℕ, Some, true, Option, length, slice_get};
+ghost use Rattle.std.specs.Option.{option_map};
 ghost use Rattle.wasmi_core.specs.declared.calls.Call.{Call};
+ghost use Rattle.wasmi_c.specs.Instruction.{name_of_binary};
+ghost use Rattle.wasmi_c.specs.ReleasedNumbers.{binary_names};
 ghost use Rattle.wasmi_c.specs.Machine.CallStructs.{call_of};
 ghost use Rattle.wasmi_c.specs.Machine.Caps.{MachineValue};
 ghost use Rattle.wasmi_budget.specs.Pool.{PoolValue};
@@ -20,8 +23,10 @@ ghost use Rattle.wasmi_c.specs.MemoryCalls.{by_pages, of_memory};
 ghost use Rattle.wasmi_c.specs.TableCalls.{by_elements, of_table};
 
 use std::alloc::Global;
+use wasmi_c::instruction::binary::{Binary, binary_numbered};
 use wasmi_c::laws::{
-    calls_are_runs, one_quota_holds_all, settlements_are_creations, settlements_are_growths,
+    calls_are_runs, numbers_are_released, one_quota_holds_all, settlements_are_creations,
+    settlements_are_growths,
 };
 use wasmi_c::machine::call_struct::CallStruct;
 use wasmi_c::machine::handle::Handle;
@@ -168,4 +173,13 @@ pub fn make_table_as_answered<L: ResourceLimiter>(
     settlements_are_creations::<L>();
     answers.reset();
     host_table::make_under(ty, region, reference, answers)
+}
+
+/// The instruction of two operands that has a number. Its name is the one that the number was
+/// released with, and without such a name there is no instruction.
+pub fn binary_of_number(number: u16) -> Option<Binary>
+    ensures { option_map name_of_binary result ≡ slice_get binary_names number }
+{
+    numbers_are_released();
+    binary_numbered(number)
 }

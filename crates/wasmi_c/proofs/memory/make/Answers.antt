@@ -28,6 +28,7 @@ returns-in-Ok-clause-made c =
     inr (
       ty,
       named.0,
+      named.1,
       record {
         result = Ok c.in-Ok.size;
         makes = made_by_quota e (new_memory room ty) _ _ made;
@@ -42,6 +43,7 @@ returns-in-Err-clause-made c =
     inr (
       c.in-Some.ty,
       c.in-Some.ensures.0,
+      c.in-Some.ensures.1,
       record {
         result = Err c.in-Err.error;
         makes = made_by_quota (creation_of room c.in-Some.ty) (new_memory room c.in-Some.ty) _ _ c.in-Err.ensures.made;
