@@ -104,7 +104,13 @@
 //! - `sse2` (default): lanes of vectors in registers of x86-64, by the unsafe blocks of one file.
 //!   Without it, and on other processors, the crate has no unsafe code.
 #![no_std]
+#![cfg_attr(docsrs, feature(doc_cfg))]
 #![warn(missing_docs)]
+#![warn(
+    clippy::missing_errors_doc,
+    clippy::missing_panics_doc,
+    clippy::must_use_candidate
+)]
 #![cfg_attr(all(feature = "sse2", target_arch = "x86_64"), deny(unsafe_code))]
 #![cfg_attr(
     not(all(feature = "sse2", target_arch = "x86_64")),
@@ -123,6 +129,10 @@ extern crate std;
 mod docs;
 #[macro_use]
 mod examples;
+/// Exports functions of a module of the proved library, by their names and those of the standard.
+macro_rules! instructions {
+    ($part:ident $file:ident: $($name:ident),* $(,)?) => { $( instruction!($part $file $name); )* };
+}
 
 mod float;
 mod func_type;
@@ -157,9 +167,21 @@ mod memory;
     unused,
     unknown_lints,
     mismatched_lifetime_syntaxes,
-    reason = "contracts, which aren't here, use more than the code does"
+    clippy::complexity,
+    clippy::perf,
+    clippy::style,
+    reason = "contracts, which aren't here, use more than the code does, and the source has its own style"
 )]
 mod proved;
+#[allow(
+    clippy::missing_errors_doc,
+    clippy::missing_panics_doc,
+    clippy::must_use_candidate,
+    clippy::complexity,
+    clippy::perf,
+    clippy::style,
+    reason = "it has the form of Rattle's library, and loops of which LLVM makes vectors"
+)]
 pub mod rattle;
 #[cfg(feature = "simd")]
 pub mod simd;
@@ -212,9 +234,10 @@ mod trap;
 mod values;
 pub mod wasm;
 
+#[doc(alias = "gas")]
+pub use crate::proved::meter::Fuel;
 pub use crate::proved::meter::{
-    CustomFuelCosts, Fuel, FuelCosts, FuelCostsProvider, FuelError, LimiterError, MemoryError,
-    TableError,
+    CustomFuelCosts, FuelCosts, FuelCostsProvider, FuelError, LimiterError, MemoryError, TableError,
 };
 pub use crate::proved::raw::{F32, F64, RawRef, RawVal, V128};
 pub use crate::proved::store::{ElementSegmentRef, MemoryType, MemoryTypeBuilder, TableType};
@@ -226,7 +249,10 @@ pub use crate::proved::{budget as pool, ops, region};
 #[cfg(feature = "std")]
 pub use crate::proved::{grammar, script};
 pub use func_type::{FuncType, FuncTypeError};
-pub use limiter::{ResourceLimiter, ResourceLimiterRef};
+#[doc(alias = "limiter")]
+#[doc(alias = "limits")]
+pub use limiter::ResourceLimiter;
+pub use limiter::ResourceLimiterRef;
 pub use memory::Memory;
 pub use table::{ElementSegment, Table};
 pub use trap::{HostError, Trap};
