@@ -22,7 +22,7 @@ mod index {
     /// inverse = λ number. record { index = number }
     /// ```
     ///
-    /// Definitions: [`IsLaneCount`](crate::specs::lanes::Vector#IsLaneCount).
+    /// Definitions: [`IsLaneCount`](crate::specs::lanes::VectorSpecs#IsLaneCount).
     #[derive(Clone, Copy, Debug, PartialEq, Eq)]
     pub struct ImmLaneIdx<const N: usize> {
         index: u8,
@@ -48,7 +48,7 @@ mod index {
     /// is_lane_count: IsLaneCount N
     /// ```
     ///
-    /// Definitions: [`IsLaneCount`](crate::specs::lanes::Vector#IsLaneCount).
+    /// Definitions: [`IsLaneCount`](crate::specs::lanes::VectorSpecs#IsLaneCount).
     pub trait CountsLanes<const N: usize> {}
 
     impl CountsLanes<2> for ImmLaneIdx2 {}
@@ -163,7 +163,7 @@ mod item {
     /// laws: ReadsLanes width read image Fits ALL_ONES ALL_ZEROS
     /// ```
     ///
-    /// Definitions: [`lane`](crate::specs::lanes::Vector#lane), [`ReadsLanes`](crate::specs::lanes::Vector#ReadsLanes).
+    /// Definitions: [`lane`](crate::specs::lanes::VectorSpecs#lane), [`ReadsLanes`](crate::specs::lanes::VectorSpecs#ReadsLanes).
     pub trait LaneInteger: Copy {
         /// The item whose bits are all ones.
         const ALL_ONES: Self;
@@ -190,7 +190,7 @@ mod item {
         ///     → slice_index_or items.new i Self.ALL_ZEROS ≡ Self.read (lane Self.width vector i)
         /// ```
         ///
-        /// Definitions: [`lane`](crate::specs::lanes::Vector#lane).
+        /// Definitions: [`lane`](crate::specs::lanes::VectorSpecs#lane).
         fn read_into(vector: V128, items: &mut [Self; N]);
 
         /// The vector with these lanes, lane 0 first.
@@ -203,7 +203,7 @@ mod item {
         /// ensures in_range: result < 2 ^ 128
         /// ```
         ///
-        /// Definitions: [`lane`](crate::specs::lanes::Vector#lane).
+        /// Definitions: [`lane`](crate::specs::lanes::VectorSpecs#lane).
         fn write_from(items: &[Self; N]) -> V128;
     }
 
@@ -218,7 +218,7 @@ mod item {
     /// Fits = λ item. item < 2 ^ 8
     /// ```
     ///
-    /// Definitions: [`unsigned`](crate::specs::lanes::Vector#unsigned).
+    /// Definitions: [`unsigned`](crate::specs::lanes::VectorSpecs#unsigned).
     impl LaneInteger for u8 {
         const ALL_ONES: u8 = u8::MAX;
 
@@ -284,7 +284,7 @@ mod item {
     /// Fits = λ item. item < 2 ^ 16
     /// ```
     ///
-    /// Definitions: [`unsigned`](crate::specs::lanes::Vector#unsigned).
+    /// Definitions: [`unsigned`](crate::specs::lanes::VectorSpecs#unsigned).
     impl LaneInteger for u16 {
         const ALL_ONES: u16 = u16::MAX;
 
@@ -346,7 +346,7 @@ mod item {
     /// Fits = λ item. item < 2 ^ 32
     /// ```
     ///
-    /// Definitions: [`unsigned`](crate::specs::lanes::Vector#unsigned).
+    /// Definitions: [`unsigned`](crate::specs::lanes::VectorSpecs#unsigned).
     impl LaneInteger for u32 {
         const ALL_ONES: u32 = u32::MAX;
 
@@ -408,7 +408,7 @@ mod item {
     /// Fits = λ item. item < 2 ^ 64
     /// ```
     ///
-    /// Definitions: [`unsigned`](crate::specs::lanes::Vector#unsigned).
+    /// Definitions: [`unsigned`](crate::specs::lanes::VectorSpecs#unsigned).
     impl LaneInteger for u64 {
         const ALL_ONES: u64 = u64::MAX;
 
@@ -484,7 +484,7 @@ mod lanes {
     ///     Self.Item.ALL_ONES Self.Item.ALL_ZEROS
     /// ```
     ///
-    /// Definitions: [`lane`](crate::specs::lanes::Vector#lane), [`AreWholeLanes`](crate::specs::lanes::Vector#AreWholeLanes).
+    /// Definitions: [`lane`](crate::specs::lanes::VectorSpecs#lane), [`AreWholeLanes`](crate::specs::lanes::VectorSpecs#AreWholeLanes).
     pub trait Lanes: Copy {
         /// The integer of one lane.
         type Item: LaneInteger;
@@ -510,7 +510,7 @@ mod lanes {
         ///     → item result i ≡ Self.Item.read (lane Self.Item.width vector i)
         /// ```
         ///
-        /// Definitions: [`lane`](crate::specs::lanes::Vector#lane).
+        /// Definitions: [`lane`](crate::specs::lanes::VectorSpecs#lane).
         fn from_v128(vector: V128) -> Self;
 
         /// The vector with these lanes.
@@ -523,7 +523,7 @@ mod lanes {
         /// ensures in_range: result < 2 ^ 128
         /// ```
         ///
-        /// Definitions: [`lane`](crate::specs::lanes::Vector#lane).
+        /// Definitions: [`lane`](crate::specs::lanes::VectorSpecs#lane).
         fn into_v128(self) -> V128;
 
         /// The same item in all lanes.
@@ -544,7 +544,7 @@ mod lanes {
         /// ensures inside: Self.LaneIdx.number lane < LANES
         /// ```
         ///
-        /// Definitions: [`lane`](crate::specs::lanes::Vector#lane).
+        /// Definitions: [`lane`](crate::specs::lanes::VectorSpecs#lane).
         fn extract_lane(self, lane: Self::LaneIdx) -> Self::Item;
 
         /// The lanes with `value` in one of them.
@@ -556,7 +556,7 @@ mod lanes {
         ///     → item result i ≡ (if i == Self.LaneIdx.number lane then value else item self i)
         /// ```
         ///
-        /// Definitions: [`lane`](crate::specs::lanes::Vector#lane).
+        /// Definitions: [`lane`](crate::specs::lanes::VectorSpecs#lane).
         fn replace_lane(self, lane: Self::LaneIdx, value: Self::Item) -> Self;
 
         /// What `f` gives for each lane.
@@ -627,7 +627,7 @@ mod lanes {
         ///     result
         /// ```
         ///
-        /// Definitions: [`ReducesTo`](crate::specs::lanes::Vector#ReducesTo).
+        /// Definitions: [`ReducesTo`](crate::specs::lanes::VectorSpecs#ReducesTo).
         fn lanewise_reduce<T, F: Fn(u8, Self::Item, T) -> T>(self, acc: T, f: F) -> T;
     }
 
@@ -1039,6 +1039,7 @@ mod lanes {
     /// ```text
     /// ensures: result ≡ clamp_signed w8 number
     /// ```
+    #[must_use]
     #[inline]
     pub fn clamped_i8(number: i16) -> i8 {
         number.clamp(-128, 127) as i8
@@ -1051,6 +1052,7 @@ mod lanes {
     /// ```text
     /// ensures: result ≡ clamp_signed w16 number
     /// ```
+    #[must_use]
     #[inline]
     pub fn clamped_i16(number: i32) -> i16 {
         number.clamp(-32768, 32767) as i16
@@ -1070,6 +1072,7 @@ pub mod laws {
     /// ```text
     /// ensures same: (i : ℕ) → i < L.LANES → L.item result i ≡ L.item lanes i
     /// ```
+    #[must_use]
     #[inline]
     pub fn lanes_there_and_back<L: Lanes>(lanes: L) -> L {
         L::from_v128(lanes.into_v128())
@@ -1089,7 +1092,7 @@ pub mod laws {
     ///     → lane w (with_lane w v k n) i ≡ (if i == k then n else lane w v i)
     /// ```
     ///
-    /// Definitions: [`lane`](crate::specs::lanes::Vector#lane), [`from_lanes`](crate::specs::lanes::Vector#from_lanes), [`splat_of`](crate::specs::lanes::Vector#splat_of), [`with_lane`](crate::specs::lanes::Vector#with_lane).
+    /// Definitions: [`lane`](crate::specs::lanes::VectorSpecs#lane), [`from_lanes`](crate::specs::lanes::VectorSpecs#from_lanes), [`splat_of`](crate::specs::lanes::VectorSpecs#splat_of), [`with_lane`](crate::specs::lanes::VectorSpecs#with_lane).
     #[inline]
     pub fn lanes_of_made_vector() {}
 
@@ -1113,7 +1116,7 @@ pub mod laws {
     ///     (read (lane L.Item.width b i)) then 2 ^ bits L.Item.width - 1 else 0)
     /// ```
     ///
-    /// Definitions: [`lane`](crate::specs::lanes::Vector#lane), [`unary_of_lanes`](crate::specs::lanes::Vector#unary_of_lanes), [`binary_of_lanes`](crate::specs::lanes::Vector#binary_of_lanes), [`comparison_of_lanes`](crate::specs::lanes::Vector#comparison_of_lanes).
+    /// Definitions: [`lane`](crate::specs::lanes::VectorSpecs#lane), [`unary_of_lanes`](crate::specs::lanes::VectorSpecs#unary_of_lanes), [`binary_of_lanes`](crate::specs::lanes::VectorSpecs#binary_of_lanes), [`comparison_of_lanes`](crate::specs::lanes::VectorSpecs#comparison_of_lanes).
     #[inline]
     pub fn lanes_of_rows<L: Lanes>() {}
 
@@ -1126,7 +1129,7 @@ pub mod laws {
     ///     → word ≡ word_of_lanes (λ start width. field start width word) 0 widths
     /// ```
     ///
-    /// Definitions: [`word_of_lanes`](crate::specs::lanes::Words#word_of_lanes), [`field`](crate::specs::lanes::Words#field).
+    /// Definitions: [`word_of_lanes`](crate::specs::lanes::WordsSpecs#word_of_lanes), [`field`](crate::specs::lanes::WordsSpecs#field).
     #[inline]
     pub fn word_is_made_of_lanes(word: u64) {}
 
@@ -1140,7 +1143,8 @@ pub mod laws {
     ///     (λ start width. (field start width a + field start width b) % 2 ^ width) 0 widths
     /// ```
     ///
-    /// Definitions: [`AreLanes`](crate::specs::lanes::Words#AreLanes), [`word_of_lanes`](crate::specs::lanes::Words#word_of_lanes), [`field`](crate::specs::lanes::Words#field).
+    /// Definitions: [`AreLanes`](crate::specs::lanes::WordsSpecs#AreLanes), [`word_of_lanes`](crate::specs::lanes::WordsSpecs#word_of_lanes), [`field`](crate::specs::lanes::WordsSpecs#field).
+    #[must_use]
     #[inline]
     pub fn sums_of_lanes(a: u64, b: u64, tops: u64) -> u64 {
         word_add(a, b, tops)
@@ -1157,7 +1161,8 @@ pub mod laws {
     ///     widths
     /// ```
     ///
-    /// Definitions: [`AreLanes`](crate::specs::lanes::Words#AreLanes), [`word_of_lanes`](crate::specs::lanes::Words#word_of_lanes), [`field`](crate::specs::lanes::Words#field).
+    /// Definitions: [`AreLanes`](crate::specs::lanes::WordsSpecs#AreLanes), [`word_of_lanes`](crate::specs::lanes::WordsSpecs#word_of_lanes), [`field`](crate::specs::lanes::WordsSpecs#field).
+    #[must_use]
     #[inline]
     pub fn differences_of_lanes(a: u64, b: u64, tops: u64) -> u64 {
         word_sub(a, b, tops)
@@ -1174,7 +1179,8 @@ pub mod laws {
     ///     (width - 1)) 0 widths
     /// ```
     ///
-    /// Definitions: [`AreLanes`](crate::specs::lanes::Words#AreLanes), [`word_of_lanes`](crate::specs::lanes::Words#word_of_lanes), [`field`](crate::specs::lanes::Words#field).
+    /// Definitions: [`AreLanes`](crate::specs::lanes::WordsSpecs#AreLanes), [`word_of_lanes`](crate::specs::lanes::WordsSpecs#word_of_lanes), [`field`](crate::specs::lanes::WordsSpecs#field).
+    #[must_use]
     #[inline]
     pub fn tops_of_different_lanes(a: u64, b: u64, tops: u64) -> u64 {
         word_differ(a, b, tops)
@@ -1201,8 +1207,9 @@ pub mod on_vectors {
     ///     → result ≡ unary_of_lanes L.Item.width L.Item.read row a
     /// ```
     ///
-    /// Definitions: [`lane`](crate::specs::lanes::Vector#lane), [`ComputesLane`](crate::specs::lanes::Vector#ComputesLane), [`unary_of_lanes`](crate::specs::lanes::Vector#unary_of_lanes).
+    /// Definitions: [`lane`](crate::specs::lanes::VectorSpecs#lane), [`ComputesLane`](crate::specs::lanes::VectorSpecs#ComputesLane), [`unary_of_lanes`](crate::specs::lanes::VectorSpecs#unary_of_lanes).
     #[inline(always)]
+    #[must_use]
     pub fn unary<L: Lanes, F: Fn(L::Item) -> L::Item>(a: V128, f: F) -> V128 {
         L::from_v128(a).lanewise_unary(f).into_v128()
     }
@@ -1221,8 +1228,9 @@ pub mod on_vectors {
     ///     → result ≡ binary_of_lanes L.Item.width L.Item.read row a b
     /// ```
     ///
-    /// Definitions: [`lane`](crate::specs::lanes::Vector#lane), [`ComputesLaneOfTwo`](crate::specs::lanes::Vector#ComputesLaneOfTwo), [`binary_of_lanes`](crate::specs::lanes::Vector#binary_of_lanes).
+    /// Definitions: [`lane`](crate::specs::lanes::VectorSpecs#lane), [`ComputesLaneOfTwo`](crate::specs::lanes::VectorSpecs#ComputesLaneOfTwo), [`binary_of_lanes`](crate::specs::lanes::VectorSpecs#binary_of_lanes).
     #[inline(always)]
+    #[must_use]
     pub fn binary<L: Lanes, F: Fn(L::Item, L::Item) -> L::Item>(a: V128, b: V128, f: F) -> V128 {
         L::from_v128(a)
             .lanewise_binary(L::from_v128(b), f)
@@ -1239,8 +1247,9 @@ pub mod on_vectors {
     /// ensures image: result ≡ splat_of L.Item.width (L.Item.image value)
     /// ```
     ///
-    /// Definitions: [`splat_of`](crate::specs::lanes::Vector#splat_of).
+    /// Definitions: [`splat_of`](crate::specs::lanes::VectorSpecs#splat_of).
     #[inline(always)]
+    #[must_use]
     pub fn splat<L: Lanes>(value: L::Item) -> V128 {
         L::splat(value).into_v128()
     }
@@ -1265,7 +1274,7 @@ mod simd_lane {
     /// at: Self.Vector → ℕ → ℕ
     /// ```
     ///
-    /// Definitions: [`lane`](crate::specs::lanes::Vector#lane).
+    /// Definitions: [`lane`](crate::specs::lanes::VectorSpecs#lane).
     pub trait SimdLane: LaneInteger {
         /// The lanes that fill a vector.
         type Vector: Copy;
@@ -1279,7 +1288,7 @@ mod simd_lane {
         ///     → at result i ≡ lane Self.width vector i
         /// ```
         ///
-        /// Definitions: [`lane_count`](crate::specs::lanes::Vector#lane_count), [`lane`](crate::specs::lanes::Vector#lane).
+        /// Definitions: [`lane_count`](crate::specs::lanes::VectorSpecs#lane_count), [`lane`](crate::specs::lanes::VectorSpecs#lane).
         fn lanes_of(vector: V128) -> Self::Vector;
 
         /// The vector with these lanes.
@@ -1292,7 +1301,7 @@ mod simd_lane {
         /// ensures in_range: result < 2 ^ 128
         /// ```
         ///
-        /// Definitions: [`lane_count`](crate::specs::lanes::Vector#lane_count), [`lane`](crate::specs::lanes::Vector#lane).
+        /// Definitions: [`lane_count`](crate::specs::lanes::VectorSpecs#lane_count), [`lane`](crate::specs::lanes::VectorSpecs#lane).
         fn vector_of(items: Self::Vector) -> V128;
 
         /// The lanes moved by half of their range, so that as unsigned numbers they stand in the order
@@ -1305,7 +1314,7 @@ mod simd_lane {
         ///     → at result i ≡ (at items i + 2 ^ (bits Self.width - 1)) % 2 ^ bits Self.width
         /// ```
         ///
-        /// Definitions: [`lane_count`](crate::specs::lanes::Vector#lane_count).
+        /// Definitions: [`lane_count`](crate::specs::lanes::VectorSpecs#lane_count).
         fn biased(items: Self::Vector) -> Self::Vector;
 
         /// The lanes of `chosen` where that of `a` is less than that of `b`, else those of `other`.
@@ -1317,7 +1326,7 @@ mod simd_lane {
         ///     → at result i ≡ (if nat_lt (at a i) (at b i) then at chosen i else at other i)
         /// ```
         ///
-        /// Definitions: [`lane_count`](crate::specs::lanes::Vector#lane_count).
+        /// Definitions: [`lane_count`](crate::specs::lanes::VectorSpecs#lane_count).
         fn choose_if_less(
             a: Self::Vector,
             b: Self::Vector,
@@ -1451,8 +1460,9 @@ mod simd_lane {
     /// ensures lanes: (i : ℕ) → i < 16 → slice_index_or result i 0 ≡ lane w8 vector i
     /// ```
     ///
-    /// Definitions: [`lane`](crate::specs::lanes::Vector#lane).
+    /// Definitions: [`lane`](crate::specs::lanes::VectorSpecs#lane).
     #[inline(always)]
+    #[must_use]
     pub fn bytes_of(vector: V128) -> u8x16 {
         let (low, high) = vector.words();
         u64x2::from_array([low, high]).to_le_bytes()
@@ -1470,7 +1480,7 @@ mod simd_lane {
     /// ensures lanes: (i : ℕ) → i < 16 → slice_index_or result i 0 ≡ lane w8 vector i
     /// ```
     ///
-    /// Definitions: [`lane`](crate::specs::lanes::Vector#lane).
+    /// Definitions: [`lane`](crate::specs::lanes::VectorSpecs#lane).
     #[inline(always)]
     pub(crate) fn bytes_to_take_out(vector: V128) -> u8x16 {
         let (low, high) = vector.words();
@@ -1489,8 +1499,9 @@ mod simd_lane {
     /// ensures in_range: result < 2 ^ 128
     /// ```
     ///
-    /// Definitions: [`lane`](crate::specs::lanes::Vector#lane).
+    /// Definitions: [`lane`](crate::specs::lanes::VectorSpecs#lane).
     #[inline(always)]
+    #[must_use]
     pub fn from_bytes(bytes: u8x16) -> V128 {
         let [low, high] = u64x2::from_le_bytes(bytes).to_array();
         V128::from_word_pair(low, high)
@@ -1504,6 +1515,7 @@ mod simd_lane {
     /// ensures: result ≡ vector % 2 ^ 64 ∷ vector / 2 ^ 64 ∷ []
     /// ```
     #[inline(always)]
+    #[must_use]
     pub fn u64x2_of(vector: V128) -> u64x2 {
         let (low, high) = vector.words();
         u64x2::from_array([low, high])
@@ -1517,8 +1529,9 @@ mod simd_lane {
     /// ensures: (low high : ℕ) → words ≡ low ∷ high ∷ [] → result ≡ vector_of low high
     /// ```
     ///
-    /// Definitions: [`vector_of`](crate::specs::raw::RawVal#vector_of).
+    /// Definitions: [`vector_of`](crate::specs::raw::RawValSpecs#vector_of).
     #[inline(always)]
+    #[must_use]
     pub fn from_u64x2(words: u64x2) -> V128 {
         let [low, high] = words.to_array();
         V128::from_word_pair(low, high)
@@ -1542,7 +1555,7 @@ mod simd_lane {
         /// ensures: Self.image result ≡ lane Self.width vector (Self.LaneIdx.number at)
         /// ```
         ///
-        /// Definitions: [`lane`](crate::specs::lanes::Vector#lane).
+        /// Definitions: [`lane`](crate::specs::lanes::VectorSpecs#lane).
         fn lane_at(vector: V128, at: Self::LaneIdx) -> Self;
 
         /// The vector with `item` in the lane at an index.
@@ -1554,7 +1567,7 @@ mod simd_lane {
         ///     ≡ vectors.with_lane Self.width vector (Self.LaneIdx.number at) (Self.image item)
         /// ```
         ///
-        /// Definitions: [`with_lane`](crate::specs::lanes::Vector#with_lane).
+        /// Definitions: [`with_lane`](crate::specs::lanes::VectorSpecs#with_lane).
         fn with_lane(vector: V128, at: Self::LaneIdx, item: Self) -> V128;
     }
 
@@ -1631,7 +1644,7 @@ mod simd_lane {
     ///     → slice_index result i ≡ lane w8 vector (lane w8 indices i)
     /// ```
     ///
-    /// Definitions: [`lane`](crate::specs::lanes::Vector#lane).
+    /// Definitions: [`lane`](crate::specs::lanes::VectorSpecs#lane).
     #[inline(always)]
     fn bytes_at(vector: V128, indices: u32) -> u8x16 {
         let places = u32x4::from_array([indices, 0, 0, 0]).to_le_bytes();
@@ -1678,7 +1691,8 @@ pub mod words {
     ///     → field start width result ≡ (field start width a + field start width b) % 2 ^ width
     /// ```
     ///
-    /// Definitions: [`IsLane`](crate::specs::lanes::Words#IsLane), [`field`](crate::specs::lanes::Words#field), [`IsLastLane`](crate::specs::lanes::Words#IsLastLane).
+    /// Definitions: [`IsLane`](crate::specs::lanes::WordsSpecs#IsLane), [`field`](crate::specs::lanes::WordsSpecs#field), [`IsLastLane`](crate::specs::lanes::WordsSpecs#IsLastLane).
+    #[must_use]
     #[inline]
     pub fn word_add(a: u64, b: u64, tops: u64) -> u64 {
         let rest = !tops;
@@ -1698,7 +1712,8 @@ pub mod words {
     ///     ≡ (field start width a + (2 ^ width - field start width b)) % 2 ^ width
     /// ```
     ///
-    /// Definitions: [`IsLane`](crate::specs::lanes::Words#IsLane), [`field`](crate::specs::lanes::Words#field), [`IsLastLane`](crate::specs::lanes::Words#IsLastLane).
+    /// Definitions: [`IsLane`](crate::specs::lanes::WordsSpecs#IsLane), [`field`](crate::specs::lanes::WordsSpecs#field), [`IsLastLane`](crate::specs::lanes::WordsSpecs#IsLastLane).
+    #[must_use]
     #[inline]
     pub fn word_sub(a: u64, b: u64, tops: u64) -> u64 {
         (a | tops).wrapping_sub(b & !tops) ^ ((a ^ !b) & tops)
@@ -1715,7 +1730,8 @@ pub mod words {
     /// ensures tops_alone: bit_and result tops ≡ result
     /// ```
     ///
-    /// Definitions: [`IsLane`](crate::specs::lanes::Words#IsLane), [`field`](crate::specs::lanes::Words#field).
+    /// Definitions: [`IsLane`](crate::specs::lanes::WordsSpecs#IsLane), [`field`](crate::specs::lanes::WordsSpecs#field).
+    #[must_use]
     #[inline]
     pub fn word_differ(a: u64, b: u64, tops: u64) -> u64 {
         let rest = !tops;
@@ -1735,7 +1751,7 @@ pub mod words {
     /// laws: IsWordLane Self.width BITS TOPS ONES
     /// ```
     ///
-    /// Definitions: [`IsWordLane`](crate::specs::lanes::Words#IsWordLane).
+    /// Definitions: [`IsWordLane`](crate::specs::lanes::WordsSpecs#IsWordLane).
     pub trait WordLane: LaneInteger {
         /// The width of a lane.
         const BITS: u32;
