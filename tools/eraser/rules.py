@@ -16,6 +16,8 @@
 | a trait whose functions have `Result<Self, ..>` | the same with `Sized` |
 | a `pub fn` that returns something else than a `Result` or a `&mut`, and takes no `&mut` | `#[must_use]` |
 | a function without a hint | `#[inline]`, or `#[inline(always)]` if it returns a type of `INLINED_ALWAYS` |
+| types of one letter in a contract | a legend of the table `LEGENDS` below it |
+| fields that Rust hides | a list of them in the docs of their struct |
 | a variant that is named after an instruction, without docs | a link to the function |
 | `laws.rt` | under `cfg(any(doc, test))` |
 | a crate | a module of `crate::proved` |
@@ -26,7 +28,7 @@ A form that no rule knows ends the program. tools/eraser/edits.py lists what is 
 import re
 
 from .source import MARK, Source, Unknown, body, closing
-from .tables import (ATTRIBUTES, ATTRIBUTES_OF_TESTS, DERIVES, ERRORS, INLINED_ALWAYS, MACROS, MACROS_OF_TESTS, OF_TESTS, OF_TRAITS,
+from .tables import (ATTRIBUTES, ATTRIBUTES_OF_TESTS, DERIVES, ERRORS, HIDDEN_FIELDS, INLINED_ALWAYS, LEGENDS, MACROS, MACROS_OF_TESTS, OF_TESTS, OF_TRAITS,
                      PLACES_OF_ERRORS, REQUIRES, STD_KEPT, UNTESTED, module_of_instruction)
 
 ATTRIBUTES_OF_ITEM = r"(?P<attributes>(?:^ *#\[[^\]]*\]\n)*)"
@@ -46,6 +48,8 @@ ALLOCATORS = r"alloc: (?:Global|Allocator)\b|alloc|self\.alloc|machine\.store\.a
 # The shim's traits and types, and what a text has that needs them.
 NEEDED = {"ArrayExt": r"\.try_map_all\(", "SliceExt": r"\.try_to_vec\(", "StrExt": r"\.try_repeat\(", "TextExt": r"\.try_push_str\(|try_of\(",
           "TryClone": r"\.try_clone\(", "Vec": r"(?<![.\w])Vec\b"}
+# A type of one letter in a contract; `{S = T}` names an argument of a definition.
+LETTER = re.compile(r"(?<![\w.'{])([A-Z])(?![\w'])")
 INNER = re.compile(r"(?:(?://![^\n]*|#!\[[^\n]*|\s*)\n)*")
 
 
@@ -189,12 +193,31 @@ class File(Source):
         """A section of an item's docs, with the links of a contract."""
         if not lines:
             return ""
-        is_said = title in ("Errors", "Panics")
+        is_said = title not in ("Contract", "Model")
         made = ["", f"# {title}", "", *(lines if is_said else ["```text", *"\n".join(lines).split("\n"), "```"])]
         if not is_said and self.links:
-            made += self.links.of("\n".join(lines))
+            made += self.links.of("\n".join(lines)) + self.legend("\n".join(lines), found)
         has_docs = after or re.search(r"«d\d+»\n\Z", self.text[:found.start()])
         return "".join(f"{found['indent']}{self.mark('d', f'/// {line}'.rstrip())}\n" for line in made[not has_docs:])
+
+    def legend(self, contract, found):
+        """The lines below a contract that say what its types of one letter are, by their traits: the item has none of that name where
+        another calls it."""
+        heads = [it["head"] for it in ITEM.finditer(self.text, 0, found.start()) if closing(self.text, it.end() - 1) > found.start()]
+        heads += [found["head"] if "head" in found.re.groupindex else self.text[found.end():body(self.text, found.end())]]
+        bounds = {letter: bound for head in heads for letter, bound in re.findall(r"\b([A-Z])(?:: (?:\w+::)*(\w+))?(?=\W)", head) if bound}
+        said = []
+        for letter in sorted(set(LETTER.findall(contract))):
+            bound = bounds.get(letter)
+            said.append(f"`{letter}` is {LEGENDS.get(bound) or ('a type with the trait `' + bound + '`' if bound else 'any type')}.")
+        return ["", " ".join(said)] if said else []
+
+    def fields(self, head, inside):
+        """The fields of a struct that contracts see and Rust hides."""
+        if re.search(r"struct (\w+)|$", head)[1] not in HIDDEN_FIELDS:
+            return []
+        fields = re.findall(r"«d(\d+)»\n *pub (\w+):", inside)
+        return ["Contracts see these fields:", "", *(f"- `{name}`: {self.kept[int(mark)][4:]}" for mark, name in fields)]
 
     def items(self):
         """Shows ghost members in the docs of their items, and leaves out models and drops that Rust does itself."""
@@ -216,6 +239,7 @@ class File(Source):
             if found["kind"] == "trait" and re.search(r"<Self[,>]", inside):
                 head = re.sub(r"(trait \w+)(:)?", lambda it: f"{it[1]}: Sized{' +' * bool(it[2])}", head, count=1)
             docs = self.docs("Contract", [line for docs, text in ghosts for line in [*self.said(docs), *tidy(text).split("\n")]], found)
+            docs += self.docs("Fields in contracts", self.fields(head, inside), found)
             if found["kind"] in ("struct", "enum"):
                 docs += self.docs("Model", self.models.pop(re.search(r"(?:struct|enum) (\w+)", head)[1], []), found)
             self.text = self.text[:found.start()] + docs + found["attributes"] + found["indent"] + head + "{" + inside + self.text[end:]

@@ -89,6 +89,26 @@ ERRORS = {
 PLACES_OF_ERRORS = dict.fromkeys(("FuelError", "GlobalError", "MemoryError", "TableError", "TrapCode"), "crate") | {
     "AddError": "crate::pool", "ParseError": "crate::grammar", "PoolError": "crate::pool", "SegmentError": "crate::machine",
 }
+# What a type of one letter is, by the trait that it has, in the legend of a contract.
+LEGENDS = {
+    "ResourceLimiter": "the type of the limiter, a [`ResourceLimiter`](crate::machine::ResourceLimiter#contract)",
+    "Reserving": "the type of the limiter, a [`Reserving`](crate::machine::Reserving#contract)",
+    "LimiterByKind": "the type of the limiter, a [`LimiterByKind`](crate::machine::LimiterByKind#contract)",
+    "CappedLimiter": "the type of the limiter, a [`CappedLimiter`](crate::machine::CappedLimiter#contract)",
+    "Read": "the type of the reader",
+    "Lender": "the type of what lends the limiter, a [`Lender`](crate::machine::Lender#contract)",
+    "Region": "the type of what has the bytes, a [`Region`](crate::machine::Region#contract)",
+    "HostError": "the type of the host's error",
+    "Fn": "the type of the closure",
+    "FnOnce": "the type of the closure",
+    "IntoIterator": "the type of the items, an [`IntoIterator`]",
+    "Iterator": "the type of the items, an [`Iterator`]",
+    "BufRead": "the type of the reader",
+    "Write": "the type of the writer",
+    "usize": "a number",
+}
+# Structs whose fields contracts see, and Rust hides.
+HIDDEN_FIELDS = {"GlobalType", "RawVal", "TypedRawRef", "TypedRawVal"}
 # Instructions that upstream calls otherwise than the standard.
 STANDARD_NAMES = {"load_u32": "i32.load", "load_u64": "i64.load", "store32": "i32.store", "store64": "i64.store"}
 # Instructions of the wide-arithmetic proposal, which the engine and V8's list lack.
