@@ -183,7 +183,7 @@ mod proved;
     reason = "it has the form of Rattle's library, and loops of which LLVM makes vectors"
 )]
 pub mod rattle;
-#[cfg(feature = "simd")]
+#[cfg(any(doc, feature = "simd"))]
 pub mod simd;
 /// The words and signs of Rattle's own library that contracts use; each other word has a page below.
 ///
@@ -194,7 +194,7 @@ pub mod simd;
 /// | `P → Q`, `P ↔ Q` | if P, then Q; if and only if; `(x : T) → P` is P for every x; of types, the functions from P to Q |
 /// | `if b then x else y`, `MatchBool b P Q`, `IsTrue b` | by a Boolean; `==`, `&&`, `not`, `nat_eq`, `nat_le`, `nat_lt` give one |
 /// | `record { a = x; b = y }` | the value with these fields |
-/// | `⟦<T as Trait>⟧` | the implementation of a trait for a type |
+/// | `⟦<T as Trait>⟧`, `T.Trait`, `T.name` | the implementation of a trait for a type, and a member of it, such as the `rules` of a limiter |
 /// | `ℕ`, `m - n`, `m / n`, `m % n` | the whole numbers from 0 on: a difference is 0 where n is greater, a quotient is rounded down; `suc n` is n + 1 |
 /// | `ℤ`, `+ℤ`, `-ℤ`, `*ℤ`, `int_div`, .. | the numbers with a sign, whose quotient is rounded towards 0; `pos n` is n, and `negsuc n` is -(n + 1) |
 /// | `w8` .. `w128`, `bits w` | the widths of integers, and the number of bits of one |
@@ -223,6 +223,7 @@ pub mod simd;
 /// | `T.converts x y`, `T.try_from_gives x r`, `T.output x` | what `From` and `TryFrom` may give, and the bytes that `Display` prints |
 /// | `W.contents w`, `Appends old new text`, `R.remaining r` | the bytes of a writer, what it has after a text, the bytes that a reader still has |
 /// | `sem 𝓛 (Lends R T x r F)` | the result r borrows from x: what is written through r last, w, makes x the value F w; `LendsIf`: where r is a value |
+/// | `T.row`, `the_row ..` | which loans a value of a type has in it, as `Lends` names them; no value depends on it |
 /// | `vec_len v`, `vec_capacity v`, `non_zero_u8_get x` | the length and the capacity of a `Vec`, the number of a `NonZero` |
 #[cfg(doc)]
 #[path = "proved/specs.rs"]
