@@ -31,6 +31,8 @@ pub mod access {
         /// ```
         ///
         /// Definitions: [`wrap`](crate::specs::types::NumbersSpecs#wrap).
+        ///
+        /// `T` is a type with the trait `Number`.
         fn wrap_into(self) -> T;
     }
 
@@ -44,6 +46,8 @@ pub mod access {
         /// ```text
         /// ensures: result ≡ T.of_number (Self.number self)
         /// ```
+        ///
+        /// `T` is a type with the trait `Number`.
         fn extend_into(self) -> T;
     }
 
@@ -66,6 +70,8 @@ pub mod access {
     /// LEN = N
     /// bytes_of = λ bytes. bytes
     /// ```
+    ///
+    /// `N` is a number.
     impl<const N: usize> ByteArray for [u8; N] {}
 
     /// Bytes that are read from a memory. Upstream: `LoadInto`, private there.
@@ -138,6 +144,8 @@ pub mod access {
     /// ```
     ///
     /// Definitions: [`overwrite`](crate::specs::types::AccessSpecs#overwrite).
+    ///
+    /// `N` is a number.
     #[inline]
     fn put<const N: usize>(memory: &mut [u8], address: usize, bytes: &[u8; N]) {
         memory[address..][..N].copy_from_slice(bytes);
@@ -228,6 +236,8 @@ pub mod access {
     /// ```
     ///
     /// Definitions: [`loaded`](crate::specs::accesses::LoadStoreSpecs#loaded), [`number_of_bits`](crate::specs::raw::NumberSpecs#number_of_bits), [`GivesNumber`](crate::specs::accesses::LoadStoreSpecs#GivesNumber).
+    ///
+    /// `T` is a type with the trait `LittleEndianConvert`.
     #[inline]
     pub fn load<T>(memory: &[u8], ptr: u64, offset: u64) -> Result<T, TrapCode>
     where
@@ -252,6 +262,8 @@ pub mod access {
     /// ```
     ///
     /// Definitions: [`loaded`](crate::specs::accesses::LoadStoreSpecs#loaded), [`number_of_bits`](crate::specs::raw::NumberSpecs#number_of_bits), [`GivesNumber`](crate::specs::accesses::LoadStoreSpecs#GivesNumber).
+    ///
+    /// `T` is a type with the trait `LittleEndianConvert`.
     #[inline]
     pub fn load_at<T>(memory: &[u8], address: usize) -> Result<T, TrapCode>
     where
@@ -273,6 +285,8 @@ pub mod access {
     /// ```
     ///
     /// Definitions: [`loaded`](crate::specs::accesses::LoadStoreSpecs#loaded), [`number_of_bits`](crate::specs::raw::NumberSpecs#number_of_bits).
+    ///
+    /// `T` is a type with the trait `Number`. `U` is a type with the trait `LittleEndianConvert`.
     #[inline]
     pub fn load_extend<T, U>(memory: &[u8], ptr: u64, offset: u64) -> Result<T, TrapCode>
     where
@@ -293,6 +307,8 @@ pub mod access {
     /// ```
     ///
     /// Definitions: [`loaded`](crate::specs::accesses::LoadStoreSpecs#loaded), [`number_of_bits`](crate::specs::raw::NumberSpecs#number_of_bits).
+    ///
+    /// `T` is a type with the trait `Number`. `U` is a type with the trait `LittleEndianConvert`.
     #[inline]
     pub fn load_extend_at<T, U>(memory: &[u8], address: usize) -> Result<T, TrapCode>
     where
@@ -316,6 +332,8 @@ pub mod access {
     /// ```
     ///
     /// Definitions: [`IsStore`](crate::specs::accesses::LoadStoreSpecs#IsStore), [`le_bytes`](crate::specs::types::NumbersSpecs#le_bytes), [`wrap`](crate::specs::types::NumbersSpecs#wrap).
+    ///
+    /// `T` is a type with the trait `LittleEndianConvert`.
     #[inline]
     pub fn store<T>(memory: &mut [u8], ptr: u64, offset: u64, value: T) -> Result<(), TrapCode>
     where
@@ -338,6 +356,8 @@ pub mod access {
     /// ```
     ///
     /// Definitions: [`IsStore`](crate::specs::accesses::LoadStoreSpecs#IsStore), [`le_bytes`](crate::specs::types::NumbersSpecs#le_bytes), [`wrap`](crate::specs::types::NumbersSpecs#wrap).
+    ///
+    /// `T` is a type with the trait `LittleEndianConvert`.
     #[inline]
     pub fn store_at<T>(memory: &mut [u8], address: usize, value: T) -> Result<(), TrapCode>
     where
@@ -360,6 +380,8 @@ pub mod access {
     /// ```
     ///
     /// Definitions: [`IsStore`](crate::specs::accesses::LoadStoreSpecs#IsStore), [`le_bytes`](crate::specs::types::NumbersSpecs#le_bytes), [`wrap`](crate::specs::types::NumbersSpecs#wrap).
+    ///
+    /// `T` is a type with the trait `WrapInto`. `U` is a type with the trait `LittleEndianConvert`.
     #[inline]
     pub fn store_wrap<T, U>(
         memory: &mut [u8],
@@ -388,6 +410,8 @@ pub mod access {
     /// ```
     ///
     /// Definitions: [`IsStore`](crate::specs::accesses::LoadStoreSpecs#IsStore), [`le_bytes`](crate::specs::types::NumbersSpecs#le_bytes), [`wrap`](crate::specs::types::NumbersSpecs#wrap).
+    ///
+    /// `T` is a type with the trait `WrapInto`. `U` is a type with the trait `LittleEndianConvert`.
     #[inline]
     pub fn store_wrap_at<T, U>(memory: &mut [u8], address: usize, value: T) -> Result<(), TrapCode>
     where
@@ -715,6 +739,8 @@ pub mod laws {
     /// ```text
     /// ensures: T.Bytes.bytes_of result ≡ T.Bytes.bytes_of bytes
     /// ```
+    ///
+    /// `T` is a type with the trait `LittleEndianConvert`.
     #[must_use]
     #[inline]
     pub fn bytes_of_their_value<T: LittleEndianConvert>(bytes: T::Bytes) -> T::Bytes {

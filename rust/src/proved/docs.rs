@@ -234,6 +234,8 @@ ensures value: result.now ≡ self.old.bytes
 ```
 
 Definitions: [`memory_of`](crate::specs::store::MemorySpecs#memory_of), [`with_bytes`](crate::specs::store::BufferSpecs#with_bytes), [`buffer_of`](crate::specs::store::MemorySpecs#buffer_of).
+
+`R` is the type of what has the bytes, a [`Region`](crate::machine::Region#contract).
 "#### };
     (store LinearMemory.data_size) => { r####"The size in bytes: whole pages, as many as its type allows.
 
@@ -310,6 +312,8 @@ ensures grown: GrowsMemory (optional_rules L.rules) additional
 ```
 
 Definitions: [`KeepsLoan`](crate::specs::meter::LimiterSpecs#KeepsLoan), [`GrowsMemory`](crate::specs::store::MemorySpecs#GrowsMemory), [`optional_rules`](crate::specs::meter::LimiterSpecs#optional_rules), [`metered_value`](crate::specs::store::GrowthSpecs#metered_value), [`meter_at_entry`](crate::specs::meter::MeterSpecs#meter_at_entry), [`lent_limiter`](crate::specs::meter::LimiterSpecs#lent_limiter), [`meter_at_exit`](crate::specs::meter::MeterSpecs#meter_at_exit).
+
+`L` is the type of the limiter, a [`ResourceLimiter`](crate::machine::ResourceLimiter#contract).
 "#### };
     (store LinearMemory.init) => { r####"Copies `len` bytes of a data segment, from `src` on, over the bytes from `dst` on. A segment
 that was dropped has no bytes.
@@ -348,6 +352,8 @@ ensures made: MakesMemory (optional_rules L.rules) Owned ty
 ```
 
 Definitions: [`KeepsLoan`](crate::specs::meter::LimiterSpecs#KeepsLoan), [`MakesMemory`](crate::specs::store::MemorySpecs#MakesMemory), [`optional_rules`](crate::specs::meter::LimiterSpecs#optional_rules), [`Owned`](crate::specs::store::BufferSpecs#Owned), [`lent_limiter`](crate::specs::meter::LimiterSpecs#lent_limiter).
+
+`L` is the type of the limiter, a [`ResourceLimiter`](crate::machine::ResourceLimiter#contract).
 "#### };
     (store LinearMemory.new_static) => { r####"A memory of zeros at the front of a borrowed buffer, at the minimum of its type. It takes no
 fuel and allocates nothing, and the bytes past the minimum stay as they are.
@@ -368,6 +374,8 @@ ensures made: MakesMemory (optional_rules L.rules) (Lent region.entry.now) ty
 ```
 
 Definitions: [`KeepsLoan`](crate::specs::meter::LimiterSpecs#KeepsLoan), [`MakesMemory`](crate::specs::store::MemorySpecs#MakesMemory), [`optional_rules`](crate::specs::meter::LimiterSpecs#optional_rules), [`Lent`](crate::specs::store::BufferSpecs#Lent), [`lent_limiter`](crate::specs::meter::LimiterSpecs#lent_limiter).
+
+`L` is the type of the limiter, a [`ResourceLimiter`](crate::machine::ResourceLimiter#contract).
 "#### };
     (store LinearMemory.read) => { r####"Fills a buffer with the bytes from an offset on.
 
@@ -538,6 +546,8 @@ ensures grown: GrowsTable (optional_rules L.rules) delta init
 ```
 
 Definitions: [`KeepsLoan`](crate::specs::meter::LimiterSpecs#KeepsLoan), [`GrowsTable`](crate::specs::store::TableSpecs#GrowsTable), [`optional_rules`](crate::specs::meter::LimiterSpecs#optional_rules), [`metered_value`](crate::specs::store::GrowthSpecs#metered_value), [`meter_at_entry`](crate::specs::meter::MeterSpecs#meter_at_entry), [`lent_limiter`](crate::specs::meter::LimiterSpecs#lent_limiter), [`meter_at_exit`](crate::specs::meter::MeterSpecs#meter_at_exit).
+
+`L` is the type of the limiter, a [`ResourceLimiter`](crate::machine::ResourceLimiter#contract).
 "#### };
     (store Table.grow_raw) => { r####"Grows by `delta` elements, each the given reference, and returns the old size. A growth by 0
 changes nothing and asks no limiter.
@@ -566,6 +576,8 @@ ensures grown: GrowsTableRaw (optional_rules L.rules) delta init
 ```
 
 Definitions: [`KeepsLoan`](crate::specs::meter::LimiterSpecs#KeepsLoan), [`GrowsTableRaw`](crate::specs::store::TableSpecs#GrowsTableRaw), [`optional_rules`](crate::specs::meter::LimiterSpecs#optional_rules), [`metered_value`](crate::specs::store::GrowthSpecs#metered_value), [`meter_at_entry`](crate::specs::meter::MeterSpecs#meter_at_entry), [`lent_limiter`](crate::specs::meter::LimiterSpecs#lent_limiter), [`meter_at_exit`](crate::specs::meter::MeterSpecs#meter_at_exit).
+
+`L` is the type of the limiter, a [`ResourceLimiter`](crate::machine::ResourceLimiter#contract).
 "#### };
     (store Table.init) => { r####"Copies `len` items of an element segment, from `src` on, over the elements from `dst` on.
 Copying no items costs no fuel.
@@ -603,6 +615,8 @@ ensures made: MakesTable (optional_rules L.rules) ty init (lent_limiter limiter.
 ```
 
 Definitions: [`KeepsLoan`](crate::specs::meter::LimiterSpecs#KeepsLoan), [`MakesTable`](crate::specs::store::TableSpecs#MakesTable), [`optional_rules`](crate::specs::meter::LimiterSpecs#optional_rules), [`lent_limiter`](crate::specs::meter::LimiterSpecs#lent_limiter).
+
+`L` is the type of the limiter, a [`ResourceLimiter`](crate::machine::ResourceLimiter#contract).
 "#### };
     (store Table.set) => { r####"Sets the element at an index.
 
@@ -699,6 +713,8 @@ ensures reading: IsReadingOf P.into_iter_gives P.IntoIter.next_gives R.into_iter
 ```
 
 Definitions: [`EachBecomes`](crate::specs::types::ReadingSpecs#EachBecomes), [`AfterAll`](crate::specs::types::ReadingSpecs#AfterAll), [`IsReadingOf`](crate::specs::types::ReadingSpecs#IsReadingOf).
+
+`P` is the type of the items, an [`IntoIterator`]. `R` is the type of the items, an [`IntoIterator`].
 "#### };
     (types FuncType.params) => { r####"The types of the parameters.
 
@@ -731,6 +747,8 @@ ensures: result.now ≡ self.now.results
 Value = TrapReason H
 view = λ trap. trap.reason
 ```
+
+`H` is any type.
 "#### };
     (types Trap.downcast.contract) => { r####"# Contract
 
@@ -749,6 +767,8 @@ ensures value: option_copied_mut result ≡ host_error_of self.old
 ```
 
 Definitions: [`with_host_error`](crate::specs::types::TrapSpecs#with_host_error), [`host_error_of`](crate::specs::types::TrapSpecs#host_error_of).
+
+`H` is the type of the host's error.
 "#### };
     (types Trap.downcast_ref.contract) => { r####"# Contract
 

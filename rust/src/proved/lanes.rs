@@ -23,6 +23,8 @@ mod index {
     /// ```
     ///
     /// Definitions: [`IsLaneCount`](crate::specs::lanes::VectorSpecs#IsLaneCount).
+    ///
+    /// `N` is a number.
     #[derive(Clone, Copy, Debug, PartialEq, Eq)]
     pub struct ImmLaneIdx<const N: usize> {
         index: u8,
@@ -49,6 +51,8 @@ mod index {
     /// ```
     ///
     /// Definitions: [`IsLaneCount`](crate::specs::lanes::VectorSpecs#IsLaneCount).
+    ///
+    /// `A` is any type. `N` is a number.
     pub trait CountsLanes<const N: usize> {}
 
     impl CountsLanes<2> for ImmLaneIdx2 {}
@@ -66,6 +70,8 @@ mod index {
     /// ```text
     /// from_gives = λ lane number. (number ≡ lane) × (number < N)
     /// ```
+    ///
+    /// `N` is a number.
     impl<const N: usize> From<ImmLaneIdx<N>> for u8 {
         #[inline]
         fn from(lane: ImmLaneIdx<N>) -> u8 {
@@ -78,6 +84,8 @@ mod index {
     /// ```text
     /// try_from_gives = λ number lane. OkIff lane (number < N) number
     /// ```
+    ///
+    /// `N` is a number.
     impl<const N: usize> TryFrom<u8> for ImmLaneIdx<N>
     where
         ImmLaneIdx<N>: CountsLanes<N>,
@@ -113,6 +121,8 @@ mod index {
     /// -- A number that makes no index is `COUNT` or more.
     /// refused: (n : ℕ) (error : _) → Self.try_from_gives n (Err error) → COUNT ≤ n
     /// ```
+    ///
+    /// `A` is any type.
     pub trait LaneIndex: Copy + Into<u8> + TryFrom<u8, Error = OutOfBoundsLaneIdx> {}
 
     /// # Contract
@@ -121,6 +131,8 @@ mod index {
     /// COUNT = N
     /// number = λ lane. lane
     /// ```
+    ///
+    /// `N` is a number.
     impl<const N: usize> LaneIndex for ImmLaneIdx<N> where ImmLaneIdx<N>: CountsLanes<N> {}
 
     /// An integer with the index of one of its lanes in a vector, of which there are 128 divided by its
@@ -180,6 +192,8 @@ mod item {
     /// -- `N` lanes make 128 bits.
     /// filled: N * bits Self.width ≡ 128
     /// ```
+    ///
+    /// `N` is a number.
     pub trait LaneItem<const N: usize>: LaneInteger {
         /// Fills `items` with the lanes of a vector, lane 0 first.
         ///
@@ -191,6 +205,8 @@ mod item {
         /// ```
         ///
         /// Definitions: [`lane`](crate::specs::lanes::VectorSpecs#lane).
+        ///
+        /// `N` is a number.
         fn read_into(vector: V128, items: &mut [Self; N]);
 
         /// The vector with these lanes, lane 0 first.
@@ -204,6 +220,8 @@ mod item {
         /// ```
         ///
         /// Definitions: [`lane`](crate::specs::lanes::VectorSpecs#lane).
+        ///
+        /// `N` is a number.
         fn write_from(items: &[Self; N]) -> V128;
     }
 
@@ -567,6 +585,8 @@ mod lanes {
         /// requires callable: F.IsAlwaysCallable f
         /// ensures lanes: (i : ℕ) → i < LANES → F.post f (item self i) (item result i)
         /// ```
+        ///
+        /// `F` is the type of the closure.
         fn lanewise_unary<F: Fn(Self::Item) -> Self::Item>(self, f: F) -> Self;
 
         /// What `f` gives for the lanes of two vectors at each index.
@@ -578,6 +598,8 @@ mod lanes {
         /// ensures lanes: (i : ℕ) → i < LANES
         ///     → F.post f (item self i) (item other i) (item result i)
         /// ```
+        ///
+        /// `F` is the type of the closure.
         fn lanewise_binary<F: Fn(Self::Item, Self::Item) -> Self::Item>(
             self,
             other: Self,
@@ -593,6 +615,8 @@ mod lanes {
         /// ensures lanes: (i : ℕ) → i < LANES
         ///     → F.post f (item self i) (item b i) (item c i) (item result i)
         /// ```
+        ///
+        /// `F` is the type of the closure.
         fn lanewise_ternary<F: Fn(Self::Item, Self::Item, Self::Item) -> Self::Item>(
             self,
             b: Self,
@@ -610,6 +634,8 @@ mod lanes {
         ///     → (holds : Bool) × F.post f (item self i) (item other i) holds
         ///     × (item result i ≡ (if holds then ALL_ONES else ALL_ZEROS))
         /// ```
+        ///
+        /// `F` is the type of the closure.
         fn lanewise_comparison<F: Fn(Self::Item, Self::Item) -> bool>(
             self,
             other: Self,
@@ -628,6 +654,8 @@ mod lanes {
         /// ```
         ///
         /// Definitions: [`ReducesTo`](crate::specs::lanes::VectorSpecs#ReducesTo).
+        ///
+        /// `F` is the type of the closure.
         fn lanewise_reduce<T, F: Fn(u8, Self::Item, T) -> T>(self, acc: T, f: F) -> T;
     }
 
@@ -643,6 +671,8 @@ mod lanes {
     /// ```text
     /// ensures: result ≡ (if holds then T.ALL_ONES else T.ALL_ZEROS)
     /// ```
+    ///
+    /// `T` is a type with the trait `LaneInteger`.
     #[inline(always)]
     fn ones_if<T: LaneInteger>(holds: bool) -> T {
         if holds { T::ALL_ONES } else { T::ALL_ZEROS }
@@ -656,6 +686,8 @@ mod lanes {
     /// ALL_ONES = T.ALL_ONES
     /// ALL_ZEROS = T.ALL_ZEROS
     /// ```
+    ///
+    /// `N` is a number. `T` is a type with the trait `LaneItem`.
     impl<T: LaneItem<N>, const N: usize> Lanes for LaneArray<T, N>
     where
         ImmLaneIdx<N>: CountsLanes<N>,
@@ -832,6 +864,8 @@ mod lanes {
     /// -- There are twice as many as of `U`.
     /// twice: N ≡ 2 * M
     /// ```
+    ///
+    /// `M` is a number. `N` is a number. `U` is a type with the trait `LaneItem`.
     pub trait Narrower<U: LaneItem<M>, const N: usize, const M: usize>: LaneItem<N> {}
 
     impl Narrower<u16, 16, 8> for u8 {}
@@ -854,6 +888,8 @@ mod lanes {
     /// -- There are twice as many lanes as wide ones.
     /// twice: Self.LANES ≡ 2 * W.LANES
     /// ```
+    ///
+    /// `W` is a type with the trait `Lanes`.
     pub trait FromWide<W: Lanes>: Lanes {
         /// Lanes made of each lane of `low`, then of each lane of `high`.
         ///
@@ -865,6 +901,8 @@ mod lanes {
         /// ensures high: (i : ℕ) → i < W.LANES
         ///     → F.post f (W.item high i) (Self.item result (W.LANES + i))
         /// ```
+        ///
+        /// `F` is the type of the closure. `W` is a type with the trait `Lanes`.
         fn from_low_high<F: Fn(W::Item) -> Self::Item>(low: W, high: W, f: F) -> Self;
     }
 
@@ -897,6 +935,8 @@ mod lanes {
         /// ensures lanes: (i : ℕ) → i < Self.LANES
         ///     → F.post f (S.item narrow (2 * i)) (S.item narrow (2 * i + 1)) (Self.item result i)
         /// ```
+        ///
+        /// `F` is the type of the closure. `S` is a type with the trait `FromWide`.
         fn pairwise_unary<F: Fn(S::Item, S::Item) -> Self::Item>(narrow: S, f: F) -> Self;
 
         /// Lane i is made of the narrow lanes 2i and 2i + 1 of both operands.
@@ -909,6 +949,8 @@ mod lanes {
         ///     → F.post f (S.item a (2 * i) ∷ S.item a (2 * i + 1) ∷ [])
         ///     (S.item b (2 * i) ∷ S.item b (2 * i + 1) ∷ []) (Self.item result i)
         /// ```
+        ///
+        /// `F` is the type of the closure. `S` is a type with the trait `FromWide`.
         fn pairwise_binary<F: Fn([S::Item; 2], [S::Item; 2]) -> Self::Item>(
             a: S,
             b: S,
@@ -924,6 +966,8 @@ mod lanes {
         /// ensures lanes: (i : ℕ) → i < Self.LANES
         ///     → F.post f (S.item narrow i) (Self.item result i)
         /// ```
+        ///
+        /// `F` is the type of the closure. `S` is a type with the trait `FromWide`.
         fn low_unary<F: Fn(S::Item) -> Self::Item>(narrow: S, f: F) -> Self;
 
         /// Lane i is made of the narrow lane i of the upper half.
@@ -935,6 +979,8 @@ mod lanes {
         /// ensures lanes: (i : ℕ) → i < Self.LANES
         ///     → F.post f (S.item narrow (Self.LANES + i)) (Self.item result i)
         /// ```
+        ///
+        /// `F` is the type of the closure. `S` is a type with the trait `FromWide`.
         fn high_unary<F: Fn(S::Item) -> Self::Item>(narrow: S, f: F) -> Self;
 
         /// Lane i is made of the narrow lanes i of both operands.
@@ -946,6 +992,8 @@ mod lanes {
         /// ensures lanes: (i : ℕ) → i < Self.LANES
         ///     → F.post f (S.item a i) (S.item b i) (Self.item result i)
         /// ```
+        ///
+        /// `F` is the type of the closure. `S` is a type with the trait `FromWide`.
         fn low_binary<F: Fn(S::Item, S::Item) -> Self::Item>(a: S, b: S, f: F) -> Self;
 
         /// Lane i is made of the narrow lanes i of the upper halves of both operands.
@@ -958,6 +1006,8 @@ mod lanes {
         ///     → F.post f (S.item a (Self.LANES + i)) (S.item b (Self.LANES + i))
         ///     (Self.item result i)
         /// ```
+        ///
+        /// `F` is the type of the closure. `S` is a type with the trait `FromWide`.
         fn high_binary<F: Fn(S::Item, S::Item) -> Self::Item>(a: S, b: S, f: F) -> Self;
     }
 
@@ -1072,6 +1122,8 @@ pub mod laws {
     /// ```text
     /// ensures same: (i : ℕ) → i < L.LANES → L.item result i ≡ L.item lanes i
     /// ```
+    ///
+    /// `L` is a type with the trait `Lanes`.
     #[must_use]
     #[inline]
     pub fn lanes_there_and_back<L: Lanes>(lanes: L) -> L {
@@ -1117,6 +1169,8 @@ pub mod laws {
     /// ```
     ///
     /// Definitions: [`lane`](crate::specs::lanes::VectorSpecs#lane), [`unary_of_lanes`](crate::specs::lanes::VectorSpecs#unary_of_lanes), [`binary_of_lanes`](crate::specs::lanes::VectorSpecs#binary_of_lanes), [`comparison_of_lanes`](crate::specs::lanes::VectorSpecs#comparison_of_lanes).
+    ///
+    /// `L` is a type with the trait `Lanes`.
     #[inline]
     pub fn lanes_of_rows<L: Lanes>() {}
 
@@ -1208,6 +1262,8 @@ pub mod on_vectors {
     /// ```
     ///
     /// Definitions: [`lane`](crate::specs::lanes::VectorSpecs#lane), [`ComputesLane`](crate::specs::lanes::VectorSpecs#ComputesLane), [`unary_of_lanes`](crate::specs::lanes::VectorSpecs#unary_of_lanes).
+    ///
+    /// `F` is the type of the closure. `L` is a type with the trait `Lanes`.
     #[inline(always)]
     #[must_use]
     pub fn unary<L: Lanes, F: Fn(L::Item) -> L::Item>(a: V128, f: F) -> V128 {
@@ -1229,6 +1285,8 @@ pub mod on_vectors {
     /// ```
     ///
     /// Definitions: [`lane`](crate::specs::lanes::VectorSpecs#lane), [`ComputesLaneOfTwo`](crate::specs::lanes::VectorSpecs#ComputesLaneOfTwo), [`binary_of_lanes`](crate::specs::lanes::VectorSpecs#binary_of_lanes).
+    ///
+    /// `F` is the type of the closure. `L` is a type with the trait `Lanes`.
     #[inline(always)]
     #[must_use]
     pub fn binary<L: Lanes, F: Fn(L::Item, L::Item) -> L::Item>(a: V128, b: V128, f: F) -> V128 {
@@ -1248,6 +1306,8 @@ pub mod on_vectors {
     /// ```
     ///
     /// Definitions: [`splat_of`](crate::specs::lanes::VectorSpecs#splat_of).
+    ///
+    /// `L` is a type with the trait `Lanes`.
     #[inline(always)]
     #[must_use]
     pub fn splat<L: Lanes>(value: L::Item) -> V128 {

@@ -48,6 +48,8 @@ pub mod shift {
     /// ```
     ///
     /// Definitions: [`shl`](crate::specs::lanewise::VectorTableSpecs#shl).
+    ///
+    /// `T` is a type with the trait `NarrowLane`.
     #[inline(always)]
     #[must_use]
     pub fn shifted_left<T: NarrowLane>(v: V128, amount: u32) -> V128 {
@@ -65,6 +67,8 @@ pub mod shift {
     /// ```
     ///
     /// Definitions: [`shr_u`](crate::specs::lanewise::VectorTableSpecs#shr_u).
+    ///
+    /// `T` is a type with the trait `NarrowLane`.
     #[inline(always)]
     #[must_use]
     pub fn shifted_right<T: NarrowLane>(v: V128, amount: u32) -> V128 {
@@ -157,6 +161,8 @@ pub mod simd {
         /// ```
         ///
         /// Definitions: [`lt_u`](crate::specs::lanewise::VectorTableSpecs#lt_u).
+        ///
+        /// `T` is a type with the trait `SimdLane`.
         #[inline(always)]
         pub(super) fn less_u<T: SimdLane>(lhs: V128, rhs: V128) -> V128 {
             ones_if_less::<T>(T::lanes_of(lhs), T::lanes_of(rhs))
@@ -171,6 +177,8 @@ pub mod simd {
         /// ```
         ///
         /// Definitions: [`le_u`](crate::specs::lanewise::VectorTableSpecs#le_u).
+        ///
+        /// `T` is a type with the trait `SimdLane`.
         #[inline(always)]
         pub(super) fn at_most_u<T: SimdLane>(lhs: V128, rhs: V128) -> V128 {
             v128_not(less_u::<T>(rhs, lhs))
@@ -185,6 +193,8 @@ pub mod simd {
         /// ```
         ///
         /// Definitions: [`lt_s`](crate::specs::lanewise::VectorTableSpecs#lt_s).
+        ///
+        /// `T` is a type with the trait `SimdLane`.
         #[inline(always)]
         pub(super) fn less_s<T: SimdLane>(lhs: V128, rhs: V128) -> V128 {
             ones_if_less::<T>(T::biased(T::lanes_of(lhs)), T::biased(T::lanes_of(rhs)))
@@ -199,6 +209,8 @@ pub mod simd {
         /// ```
         ///
         /// Definitions: [`le_s`](crate::specs::lanewise::VectorTableSpecs#le_s).
+        ///
+        /// `T` is a type with the trait `SimdLane`.
         #[inline(always)]
         pub(super) fn at_most_s<T: SimdLane>(lhs: V128, rhs: V128) -> V128 {
             v128_not(less_s::<T>(rhs, lhs))
@@ -213,6 +225,8 @@ pub mod simd {
         /// ```
         ///
         /// Definitions: [`min_u`](crate::specs::lanewise::VectorTableSpecs#min_u).
+        ///
+        /// `T` is a type with the trait `SimdLane`.
         #[inline(always)]
         pub(super) fn smaller_u<T: SimdLane>(lhs: V128, rhs: V128) -> V128 {
             let (a, b) = (T::lanes_of(lhs), T::lanes_of(rhs));
@@ -228,6 +242,8 @@ pub mod simd {
         /// ```
         ///
         /// Definitions: [`max_u`](crate::specs::lanewise::VectorTableSpecs#max_u).
+        ///
+        /// `T` is a type with the trait `SimdLane`.
         #[inline(always)]
         pub(super) fn larger_u<T: SimdLane>(lhs: V128, rhs: V128) -> V128 {
             let (a, b) = (T::lanes_of(lhs), T::lanes_of(rhs));
@@ -243,6 +259,8 @@ pub mod simd {
         /// ```
         ///
         /// Definitions: [`min_s`](crate::specs::lanewise::VectorTableSpecs#min_s).
+        ///
+        /// `T` is a type with the trait `SimdLane`.
         #[inline(always)]
         pub(super) fn smaller_s<T: SimdLane>(lhs: V128, rhs: V128) -> V128 {
             let (a, b) = (T::lanes_of(lhs), T::lanes_of(rhs));
@@ -258,6 +276,8 @@ pub mod simd {
         /// ```
         ///
         /// Definitions: [`max_s`](crate::specs::lanewise::VectorTableSpecs#max_s).
+        ///
+        /// `T` is a type with the trait `SimdLane`.
         #[inline(always)]
         pub(super) fn larger_s<T: SimdLane>(lhs: V128, rhs: V128) -> V128 {
             let (a, b) = (T::lanes_of(lhs), T::lanes_of(rhs));
@@ -274,6 +294,8 @@ pub mod simd {
         /// ```
         ///
         /// Definitions: [`lane_count`](crate::specs::lanes::VectorSpecs#lane_count), [`lane`](crate::specs::lanes::VectorSpecs#lane).
+        ///
+        /// `T` is a type with the trait `SimdLane`.
         #[inline(always)]
         fn ones_if_less<T: SimdLane>(a: T::Vector, b: T::Vector) -> V128 {
             let ones = T::lanes_of(V128::from_word_pair(u64::MAX, u64::MAX));
@@ -302,6 +324,8 @@ pub mod simd {
         /// ```
         ///
         /// Definitions: [`in_each_lane`](crate::specs::lanes::WordsSpecs#in_each_lane).
+        ///
+        /// `T` is a type with the trait `WordLane`.
         #[inline(always)]
         fn inner_tops<T: WordLane>() -> u64 {
             T::TOPS % (1 << 63)
@@ -316,6 +340,8 @@ pub mod simd {
         /// ```
         ///
         /// Definitions: [`add`](crate::specs::lanewise::VectorTableSpecs#add).
+        ///
+        /// `T` is a type with the trait `WordLane`.
         #[inline(always)]
         pub(super) fn sums<T: WordLane>(lhs: V128, rhs: V128) -> V128 {
             let tops = inner_tops::<T>();
@@ -335,6 +361,8 @@ pub mod simd {
         /// ```
         ///
         /// Definitions: [`sub`](crate::specs::lanewise::VectorTableSpecs#sub).
+        ///
+        /// `T` is a type with the trait `WordLane`.
         #[inline(always)]
         pub(super) fn differences<T: WordLane>(lhs: V128, rhs: V128) -> V128 {
             let tops = inner_tops::<T>();
@@ -356,6 +384,8 @@ pub mod simd {
         /// ```
         ///
         /// Definitions: [`neg`](crate::specs::lanewise::VectorTableSpecs#neg).
+        ///
+        /// `T` is a type with the trait `WordLane`.
         #[inline(always)]
         pub(super) fn negations<T: WordLane>(v: V128) -> V128 {
             let tops = inner_tops::<T>();
@@ -375,6 +405,8 @@ pub mod simd {
         /// ```
         ///
         /// Definitions: [`eq`](crate::specs::lanewise::VectorTableSpecs#eq).
+        ///
+        /// `T` is a type with the trait `WordLane`.
         #[inline(always)]
         pub(super) fn equal<T: WordLane>(lhs: V128, rhs: V128) -> V128 {
             let tops = T::TOPS;
@@ -395,6 +427,8 @@ pub mod simd {
         /// ```
         ///
         /// Definitions: [`ne`](crate::specs::lanewise::VectorTableSpecs#ne).
+        ///
+        /// `T` is a type with the trait `WordLane`.
         #[inline(always)]
         pub(super) fn different<T: WordLane>(lhs: V128, rhs: V128) -> V128 {
             let tops = T::TOPS;
@@ -420,6 +454,8 @@ pub mod simd {
         /// ```
         ///
         /// Definitions: [`AreMarks`](crate::specs::lanes::WordsSpecs#AreMarks), [`vector_of`](crate::specs::raw::RawValSpecs#vector_of), [`AreFilled`](crate::specs::lanes::WordsSpecs#AreFilled).
+        ///
+        /// `T` is a type with the trait `WordLane`.
         #[inline(always)]
         fn filled<T: WordLane>(low: u64, high: u64) -> V128 {
             let marks = u64x2::from_array([low, high]);
@@ -436,6 +472,8 @@ pub mod simd {
         /// ```
         ///
         /// Definitions: [`avgr_u`](crate::specs::lanewise::VectorTableSpecs#avgr_u).
+        ///
+        /// `T` is a type with the trait `WordLane`.
         #[inline(always)]
         pub(super) fn averages<T: WordLane>(lhs: V128, rhs: V128) -> V128 {
             let tops = T::TOPS;

@@ -15,6 +15,8 @@ use crate::proved::machine::{Quota, ResourceLimiter, laws};
 /// ```
 ///
 /// Definitions: [`RunsAreCut`](crate::specs::laws::RunsSpecs#RunsAreCut), [`optional_rules`](crate::specs::meter::LimiterSpecs#optional_rules), [`RunsOfCallsAreCut`](crate::specs::laws::RunsSpecs#RunsOfCallsAreCut).
+///
+/// `L` is the type of the limiter, a [`ResourceLimiter`](crate::machine::ResourceLimiter#contract).
 #[inline]
 pub fn runs_are_cut<L: ResourceLimiter>() {}
 
@@ -29,6 +31,8 @@ pub fn runs_are_cut<L: ResourceLimiter>() {}
 /// ```
 ///
 /// Definitions: [`SizesNeverShrink`](crate::specs::laws::RunsSpecs#SizesNeverShrink), [`optional_rules`](crate::specs::meter::LimiterSpecs#optional_rules), [`TotalsNeverShrink`](crate::specs::laws::RunsSpecs#TotalsNeverShrink).
+///
+/// `L` is the type of the limiter, a [`ResourceLimiter`](crate::machine::ResourceLimiter#contract).
 #[inline]
 pub fn sizes_never_shrink<L: ResourceLimiter>() {}
 
@@ -46,6 +50,8 @@ pub fn sizes_never_shrink<L: ResourceLimiter>() {}
 /// ```
 ///
 /// Definitions: [`PlainRefusalsChangeNothing`](crate::specs::laws::RunsSpecs#PlainRefusalsChangeNothing), [`optional_rules`](crate::specs::meter::LimiterSpecs#optional_rules), [`OtherRefusalsChangeNothing`](crate::specs::laws::RunsSpecs#OtherRefusalsChangeNothing), [`PlainlyRefusedRunsChangeNothing`](crate::specs::laws::RunsSpecs#PlainlyRefusedRunsChangeNothing).
+///
+/// `L` is the type of the limiter, a [`ResourceLimiter`](crate::machine::ResourceLimiter#contract).
 #[inline]
 pub fn plain_refusals_change_nothing<L: ResourceLimiter>() {}
 
@@ -77,6 +83,8 @@ pub fn caps_hold_in_runs() {
 /// ```
 ///
 /// Definitions: [`CostsAreKept`](crate::specs::laws::RunsSpecs#CostsAreKept), [`optional_rules`](crate::specs::meter::LimiterSpecs#optional_rules), [`SwitchIsKept`](crate::specs::laws::RunsSpecs#SwitchIsKept), [`FuelNeverRises`](crate::specs::laws::RunsSpecs#FuelNeverRises).
+///
+/// `L` is the type of the limiter, a [`ResourceLimiter`](crate::machine::ResourceLimiter#contract).
 #[inline]
 pub fn meters_are_kept<L: ResourceLimiter>() {}
 
@@ -91,6 +99,8 @@ pub fn meters_are_kept<L: ResourceLimiter>() {}
 /// ```
 ///
 /// Definitions: [`MoreFuelChangesNothing`](crate::specs::laws::RunsSpecs#MoreFuelChangesNothing).
+///
+/// `L` is the type of the limiter, a [`ResourceLimiter`](crate::machine::ResourceLimiter#contract).
 #[inline]
 pub fn more_fuel_changes_nothing<L: ResourceLimiter>() {}
 
@@ -106,6 +116,8 @@ pub fn more_fuel_changes_nothing<L: ResourceLimiter>() {}
 /// ```
 ///
 /// Definitions: [`OthersStay`](crate::specs::laws::PlacesSpecs#OthersStay), [`optional_rules`](crate::specs::meter::LimiterSpecs#optional_rules), [`OthersStayInRuns`](crate::specs::laws::PlacesSpecs#OthersStayInRuns).
+///
+/// `L` is the type of the limiter, a [`ResourceLimiter`](crate::machine::ResourceLimiter#contract).
 #[inline]
 pub fn others_stay<L: ResourceLimiter>() {}
 
@@ -123,6 +135,8 @@ pub fn others_stay<L: ResourceLimiter>() {}
 /// ```
 ///
 /// Definitions: [`IndicesLast`](crate::specs::laws::PlacesSpecs#IndicesLast), [`optional_rules`](crate::specs::meter::LimiterSpecs#optional_rules), [`LiveUntilDropped`](crate::specs::laws::PlacesSpecs#LiveUntilDropped).
+///
+/// `L` is the type of the limiter, a [`ResourceLimiter`](crate::machine::ResourceLimiter#contract).
 #[inline]
 pub fn indices_last<L: ResourceLimiter>() {}
 
@@ -138,6 +152,8 @@ pub fn indices_last<L: ResourceLimiter>() {}
 /// ```
 ///
 /// Definitions: [`StoresAreReadBack`](crate::specs::laws::PlacesSpecs#StoresAreReadBack), [`optional_rules`](crate::specs::meter::LimiterSpecs#optional_rules), [`StoresKeepOtherBytes`](crate::specs::laws::PlacesSpecs#StoresKeepOtherBytes).
+///
+/// `L` is the type of the limiter, a [`ResourceLimiter`](crate::machine::ResourceLimiter#contract).
 #[inline]
 pub fn stores_are_read_back<L: ResourceLimiter>() {}
 
@@ -152,6 +168,8 @@ pub fn stores_are_read_back<L: ResourceLimiter>() {}
 /// ```
 ///
 /// Definitions: [`IndependentTurnsSwap`](crate::specs::laws::PlacesSpecs#IndependentTurnsSwap), [`optional_rules`](crate::specs::meter::LimiterSpecs#optional_rules).
+///
+/// `L` is the type of the limiter, a [`ResourceLimiter`](crate::machine::ResourceLimiter#contract).
 #[inline]
 pub fn independent_calls_commute<L: ResourceLimiter>() {}
 
@@ -169,5 +187,7 @@ pub fn independent_calls_commute<L: ResourceLimiter>() {}
 /// ```
 ///
 /// Definitions: [`MemoriesGrowAlike`](crate::specs::laws::PlacesSpecs#MemoriesGrowAlike), [`optional_rules`](crate::specs::meter::LimiterSpecs#optional_rules), [`TablesGrowAlike`](crate::specs::laws::PlacesSpecs#TablesGrowAlike), [`MemoriesReadAlike`](crate::specs::laws::PlacesSpecs#MemoriesReadAlike), [`MemoriesWriteAlike`](crate::specs::laws::PlacesSpecs#MemoriesWriteAlike).
+///
+/// `L` is the type of the limiter, a [`ResourceLimiter`](crate::machine::ResourceLimiter#contract).
 #[inline]
 pub fn machines_do_alike<L: ResourceLimiter>() {}

@@ -393,6 +393,8 @@ pub mod laws {
     /// ```
     ///
     /// Definitions: [`RunsJoin`](crate::specs::machine::LawsSpecs#RunsJoin), [`optional_rules`](crate::specs::meter::LimiterSpecs#optional_rules), [`RunsOfCallsJoin`](crate::specs::machine::LawsSpecs#RunsOfCallsJoin).
+    ///
+    /// `L` is the type of the limiter, a [`ResourceLimiter`](crate::machine::ResourceLimiter#contract).
     #[inline]
     pub fn runs_join<L: ResourceLimiter>() {}
 
@@ -411,6 +413,8 @@ pub mod laws {
     /// ```
     ///
     /// Definitions: [`RefusalsKeepContents`](crate::specs::machine::LawsSpecs#RefusalsKeepContents), [`optional_rules`](crate::specs::meter::LimiterSpecs#optional_rules), [`RefusalsInRunsKeepContents`](crate::specs::machine::LawsSpecs#RefusalsInRunsKeepContents), [`RefusedRunsKeepContents`](crate::specs::machine::LawsSpecs#RefusedRunsKeepContents).
+    ///
+    /// `L` is the type of the limiter, a [`ResourceLimiter`](crate::machine::ResourceLimiter#contract).
     #[inline]
     pub fn refusals_keep_contents<L: ResourceLimiter>() {}
 
@@ -431,6 +435,8 @@ pub mod laws {
     /// ```
     ///
     /// Definitions: [`GrowsAsPermitted`](crate::specs::machine::LawsSpecs#GrowsAsPermitted), [`optional_rules`](crate::specs::meter::LimiterSpecs#optional_rules), [`RunsGrowAsPermitted`](crate::specs::machine::LawsSpecs#RunsGrowAsPermitted).
+    ///
+    /// `L` is the type of the limiter, a [`ResourceLimiter`](crate::machine::ResourceLimiter#contract).
     #[inline]
     pub fn growths_are_permitted<L: ResourceLimiter>() {}
 
@@ -444,6 +450,8 @@ pub mod laws {
     /// ```
     ///
     /// Definitions: [`FuelBalances`](crate::specs::machine::LawsSpecs#FuelBalances), [`optional_rules`](crate::specs::meter::LimiterSpecs#optional_rules).
+    ///
+    /// `L` is the type of the limiter, a [`ResourceLimiter`](crate::machine::ResourceLimiter#contract).
     #[inline]
     pub fn fuel_balances<L: ResourceLimiter>() {}
 
@@ -459,6 +467,8 @@ pub mod laws {
     /// ```
     ///
     /// Definitions: [`ChargesAreSpent`](crate::specs::machine::LawsSpecs#ChargesAreSpent), [`optional_rules`](crate::specs::meter::LimiterSpecs#optional_rules).
+    ///
+    /// `L` is the type of the limiter, a [`ResourceLimiter`](crate::machine::ResourceLimiter#contract).
     #[inline]
     pub fn charges_are_spent<L: ResourceLimiter>() {}
 
@@ -487,6 +497,8 @@ pub mod laws {
     /// ```
     ///
     /// Definitions: [`RunsKeepValidity`](crate::specs::machine::LawsSpecs#RunsKeepValidity), [`optional_rules`](crate::specs::meter::LimiterSpecs#optional_rules).
+    ///
+    /// `L` is the type of the limiter, a [`ResourceLimiter`](crate::machine::ResourceLimiter#contract).
     #[inline]
     pub fn runs_keep_validity<L: ResourceLimiter>() {}
 
@@ -500,6 +512,8 @@ pub mod laws {
     /// ```
     ///
     /// Definitions: [`RepliesPermit`](crate::specs::machine::LawsSpecs#RepliesPermit), [`optional_rules`](crate::specs::meter::LimiterSpecs#optional_rules).
+    ///
+    /// `L` is the type of the limiter, a [`ResourceLimiter`](crate::machine::ResourceLimiter#contract).
     #[inline]
     pub fn replies_permit<L: ResourceLimiter>() {}
 
@@ -539,6 +553,8 @@ pub mod laws {
     /// ```
     ///
     /// Definitions: [`HoldsTotalsAlways`](crate::specs::machine::LawsSpecs#HoldsTotalsAlways).
+    ///
+    /// `L` is the type of the limiter, a [`Reserving`](crate::machine::Reserving#contract).
     #[inline]
     pub fn totals_are_held<L: Reserving>() {}
 
@@ -553,6 +569,8 @@ pub mod laws {
     /// ```
     ///
     /// Definitions: [`FuelBoundsWriting`](crate::specs::machine::LawsSpecs#FuelBoundsWriting), [`optional_rules`](crate::specs::meter::LimiterSpecs#optional_rules).
+    ///
+    /// `L` is the type of the limiter, a [`ResourceLimiter`](crate::machine::ResourceLimiter#contract).
     #[inline]
     pub fn fuel_bounds_writing<L: ResourceLimiter>() {}
 
@@ -567,6 +585,8 @@ pub mod laws {
     /// ```
     ///
     /// Definitions: [`LentRunsAreOwned`](crate::specs::machine::LawsSpecs#LentRunsAreOwned), [`optional_rules`](crate::specs::meter::LimiterSpecs#optional_rules).
+    ///
+    /// `L` is the type of the limiter, a [`ResourceLimiter`](crate::machine::ResourceLimiter#contract).
     #[inline]
     pub fn lent_runs_are_owned<L: ResourceLimiter>() {}
 
@@ -580,6 +600,8 @@ pub mod laws {
     /// ```
     ///
     /// Definitions: [`LentCreationsAreOwned`](crate::specs::machine::LawsSpecs#LentCreationsAreOwned), [`optional_rules`](crate::specs::meter::LimiterSpecs#optional_rules).
+    ///
+    /// `L` is the type of the limiter, a [`ResourceLimiter`](crate::machine::ResourceLimiter#contract).
     #[inline]
     pub fn lent_creations_are_owned<L: ResourceLimiter>() {}
 
@@ -593,6 +615,8 @@ pub mod laws {
     /// ```
     ///
     /// Definitions: [`LentGrowthsSucceed`](crate::specs::machine::LawsSpecs#LentGrowthsSucceed), [`optional_rules`](crate::specs::meter::LimiterSpecs#optional_rules).
+    ///
+    /// `L` is the type of the limiter, a [`ResourceLimiter`](crate::machine::ResourceLimiter#contract).
     #[inline]
     pub fn lent_growths_succeed<L: ResourceLimiter>() {}
 
@@ -606,6 +630,8 @@ pub mod laws {
     /// ```
     ///
     /// Definitions: [`RunsAreOne`](crate::specs::machine::LawsSpecs#RunsAreOne).
+    ///
+    /// `L` is the type of the limiter, a [`ResourceLimiter`](crate::machine::ResourceLimiter#contract).
     #[inline]
     pub fn runs_are_one<L: ResourceLimiter>() {}
 
@@ -619,6 +645,8 @@ pub mod laws {
     /// ```
     ///
     /// Definitions: [`RepliesTell`](crate::specs::machine::LawsSpecs#RepliesTell).
+    ///
+    /// `L` is the type of the limiter, a [`ResourceLimiter`](crate::machine::ResourceLimiter#contract).
     #[inline]
     pub fn replies_tell<L: ResourceLimiter>() {}
 
@@ -633,6 +661,8 @@ pub mod laws {
     /// ```
     ///
     /// Definitions: [`RepliesAreOne`](crate::specs::machine::LawsSpecs#RepliesAreOne).
+    ///
+    /// `L` is the type of the limiter, a [`ResourceLimiter`](crate::machine::ResourceLimiter#contract).
     #[inline]
     pub fn replies_are_one<L: ResourceLimiter>() {}
 
@@ -978,6 +1008,8 @@ mod memories {
         /// ```
         ///
         /// Definitions: [`KeepsLoan`](crate::specs::meter::LimiterSpecs#KeepsLoan), [`Creates`](crate::specs::machine::EffectsSpecs#Creates), [`MakesMemory`](crate::specs::store::MemorySpecs#MakesMemory), [`optional_rules`](crate::specs::meter::LimiterSpecs#optional_rules), [`Owned`](crate::specs::store::BufferSpecs#Owned), [`lent_limiter`](crate::specs::meter::LimiterSpecs#lent_limiter).
+        ///
+        /// `L` is the type of the limiter, a [`ResourceLimiter`](crate::machine::ResourceLimiter#contract).
         #[inline(always)]
         pub(crate) fn create<L: ResourceLimiter>(
             &mut self,
@@ -1008,6 +1040,8 @@ mod memories {
         /// ```
         ///
         /// Definitions: [`KeepsLoan`](crate::specs::meter::LimiterSpecs#KeepsLoan), [`CreatesLent`](crate::specs::machine::MemoryEffectsSpecs#CreatesLent), [`optional_rules`](crate::specs::meter::LimiterSpecs#optional_rules), [`lent_limiter`](crate::specs::meter::LimiterSpecs#lent_limiter).
+        ///
+        /// `L` is the type of the limiter, a [`ResourceLimiter`](crate::machine::ResourceLimiter#contract).
         #[inline(always)]
         pub(crate) fn create_lent<L: ResourceLimiter>(
             &mut self,
@@ -1274,6 +1308,8 @@ mod running {
         /// ```
         ///
         /// Definitions: [`KeepsLoan`](crate::specs::meter::LimiterSpecs#KeepsLoan), [`RepliesWith`](crate::specs::machine::StepsSpecs#RepliesWith), [`optional_rules`](crate::specs::meter::LimiterSpecs#optional_rules), [`world`](crate::specs::machine::StateSpecs#world), [`lent_limiter`](crate::specs::meter::LimiterSpecs#lent_limiter), [`IsValid`](crate::specs::machine::StateSpecs#IsValid).
+        ///
+        /// `L` is the type of the limiter, a [`ResourceLimiter`](crate::machine::ResourceLimiter#contract).
         #[inline(always)]
         pub fn step<L: ResourceLimiter>(
             &mut self,
@@ -1297,6 +1333,8 @@ mod running {
         /// ```
         ///
         /// Definitions: [`RepliesWith`](crate::specs::machine::StepsSpecs#RepliesWith), [`optional_rules`](crate::specs::meter::LimiterSpecs#optional_rules), [`world`](crate::specs::machine::StateSpecs#world), [`IsValid`](crate::specs::machine::StateSpecs#IsValid).
+        ///
+        /// `L` is the type of the limiter, a [`ResourceLimiter`](crate::machine::ResourceLimiter#contract).
         #[inline(always)]
         pub fn grow_memory_lending<L: ResourceLimiter>(
             &mut self,
@@ -1322,6 +1360,8 @@ mod running {
         /// ```
         ///
         /// Definitions: [`RepliesWith`](crate::specs::machine::StepsSpecs#RepliesWith), [`optional_rules`](crate::specs::meter::LimiterSpecs#optional_rules), [`world`](crate::specs::machine::StateSpecs#world), [`IsValid`](crate::specs::machine::StateSpecs#IsValid).
+        ///
+        /// `L` is the type of the limiter, a [`ResourceLimiter`](crate::machine::ResourceLimiter#contract).
         #[inline(always)]
         pub fn step_lending<L: ResourceLimiter>(&mut self, call: &Call, limiter: &mut L) -> Reply {
             let mut lent = ResourceLimiterRef::from(limiter);
@@ -1350,6 +1390,8 @@ mod running {
     /// ```
     ///
     /// Definitions: [`KeepsLoan`](crate::specs::meter::LimiterSpecs#KeepsLoan), [`IsRunOf`](crate::specs::machine::StepsSpecs#IsRunOf), [`optional_rules`](crate::specs::meter::LimiterSpecs#optional_rules), [`world`](crate::specs::machine::StateSpecs#world), [`lent_limiter`](crate::specs::meter::LimiterSpecs#lent_limiter), [`IsValid`](crate::specs::machine::StateSpecs#IsValid).
+    ///
+    /// `L` is the type of the limiter, a [`ResourceLimiter`](crate::machine::ResourceLimiter#contract).
     #[inline]
     pub fn run<L: ResourceLimiter>(
         machine: &mut Machine,
@@ -1383,6 +1425,8 @@ mod running {
     /// ```
     ///
     /// Definitions: [`IsRunOf`](crate::specs::machine::StepsSpecs#IsRunOf), [`optional_rules`](crate::specs::meter::LimiterSpecs#optional_rules), [`world`](crate::specs::machine::StateSpecs#world), [`IsValid`](crate::specs::machine::StateSpecs#IsValid).
+    ///
+    /// `L` is the type of the limiter, a [`ResourceLimiter`](crate::machine::ResourceLimiter#contract).
     #[inline]
     pub fn run_lending<L: ResourceLimiter>(
         machine: &mut Machine,
@@ -1419,6 +1463,8 @@ mod running {
     /// ```
     ///
     /// Definitions: [`HoldsTotals`](crate::specs::machine::StateSpecs#HoldsTotals), [`IsRunOf`](crate::specs::machine::StepsSpecs#IsRunOf), [`optional_rules`](crate::specs::meter::LimiterSpecs#optional_rules), [`world`](crate::specs::machine::StateSpecs#world), [`IsValid`](crate::specs::machine::StateSpecs#IsValid).
+    ///
+    /// `L` is the type of the limiter, a [`Reserving`](crate::machine::Reserving#contract).
     #[inline]
     pub fn run_reserving<L: Reserving>(
         machine: &mut Machine,
@@ -1563,6 +1609,8 @@ mod slots {
         /// ```
         ///
         /// Definitions: [`live_value`](crate::specs::machine::StateSpecs#live_value).
+        ///
+        /// `T` is any type.
         #[inline]
         fn value_mut(&mut self) -> &mut T {
             match self {
@@ -1580,6 +1628,8 @@ mod slots {
         /// ```
         ///
         /// Definitions: [`slot_count`](crate::specs::machine::StateSpecs#slot_count).
+        ///
+        /// `T` is a type with the trait `Counted`.
         #[inline]
         fn count(&self) -> usize
         where
@@ -1638,6 +1688,8 @@ mod slots {
         /// ```
         ///
         /// Definitions: [`with_live`](crate::specs::machine::StateSpecs#with_live), [`live_at`](crate::specs::machine::StateSpecs#live_at).
+        ///
+        /// `T` is any type.
         #[inline]
         pub(crate) fn live_mut(&mut self, index: usize) -> Option<&mut T> {
             if self.live(index).is_some() {
@@ -1657,6 +1709,8 @@ mod slots {
         /// ```
         ///
         /// Definitions: [`live_at`](crate::specs::machine::StateSpecs#live_at), [`with_live`](crate::specs::machine::StateSpecs#with_live).
+        ///
+        /// `T` is any type.
         #[inline]
         fn value_mut(&mut self, index: usize) -> &mut T {
             self.slots[index].value_mut()
@@ -1690,6 +1744,8 @@ mod slots {
         /// ```
         ///
         /// Definitions: [`DropsAt`](crate::specs::machine::EffectsSpecs#DropsAt), [`reply_or_no_such`](crate::specs::machine::EffectsSpecs#reply_or_no_such).
+        ///
+        /// `T` is a type with the trait `Drop`.
         #[inline]
         pub(crate) fn drop_live(&mut self, index: usize) -> Option<Reply> {
             let last = self.live(index)?.count();
@@ -1706,6 +1762,8 @@ mod slots {
         /// ```
         ///
         /// Definitions: [`slot_count`](crate::specs::machine::StateSpecs#slot_count).
+        ///
+        /// `T` is a type with the trait `Counted`.
         #[inline]
         pub(crate) fn total(&self) -> u128 {
             let mut total = 0;
@@ -1776,6 +1834,8 @@ mod store {
         /// ```
         ///
         /// Definitions: [`KeepsLoan`](crate::specs::meter::LimiterSpecs#KeepsLoan), [`RepliesWith`](crate::specs::machine::StepsSpecs#RepliesWith), [`optional_rules`](crate::specs::meter::LimiterSpecs#optional_rules), [`world`](crate::specs::machine::StateSpecs#world), [`lent_limiter`](crate::specs::meter::LimiterSpecs#lent_limiter), [`reply_or_no_such`](crate::specs::machine::EffectsSpecs#reply_or_no_such).
+        ///
+        /// `L` is the type of the limiter, a [`ResourceLimiter`](crate::machine::ResourceLimiter#contract).
         #[inline(always)]
         pub(crate) fn grow_memory<L: ResourceLimiter>(
             &mut self,
@@ -1800,6 +1860,8 @@ mod store {
         /// ```
         ///
         /// Definitions: [`KeepsLoan`](crate::specs::meter::LimiterSpecs#KeepsLoan), [`RepliesWith`](crate::specs::machine::StepsSpecs#RepliesWith), [`optional_rules`](crate::specs::meter::LimiterSpecs#optional_rules), [`world`](crate::specs::machine::StateSpecs#world), [`lent_limiter`](crate::specs::meter::LimiterSpecs#lent_limiter).
+        ///
+        /// `L` is the type of the limiter, a [`ResourceLimiter`](crate::machine::ResourceLimiter#contract).
         #[inline(always)]
         pub(crate) fn step<L: ResourceLimiter>(
             &mut self,
@@ -1868,6 +1930,8 @@ mod store {
         /// ```
         ///
         /// Definitions: [`subject_of`](crate::specs::machine::StepsSpecs#subject_of), [`Memories`](crate::specs::machine::StepsSpecs#Memories), [`KeepsLoan`](crate::specs::meter::LimiterSpecs#KeepsLoan), [`RepliesWith`](crate::specs::machine::StepsSpecs#RepliesWith), [`optional_rules`](crate::specs::meter::LimiterSpecs#optional_rules), [`world`](crate::specs::machine::StateSpecs#world), [`lent_limiter`](crate::specs::meter::LimiterSpecs#lent_limiter), [`reply_or_no_such`](crate::specs::machine::EffectsSpecs#reply_or_no_such).
+        ///
+        /// `L` is the type of the limiter, a [`ResourceLimiter`](crate::machine::ResourceLimiter#contract).
         #[inline(always)]
         fn step_memory<L: ResourceLimiter>(
             &mut self,
@@ -1930,6 +1994,8 @@ mod store {
         /// ```
         ///
         /// Definitions: [`subject_of`](crate::specs::machine::StepsSpecs#subject_of), [`Tables`](crate::specs::machine::StepsSpecs#Tables), [`KeepsLoan`](crate::specs::meter::LimiterSpecs#KeepsLoan), [`RepliesWith`](crate::specs::machine::StepsSpecs#RepliesWith), [`optional_rules`](crate::specs::meter::LimiterSpecs#optional_rules), [`world`](crate::specs::machine::StateSpecs#world), [`lent_limiter`](crate::specs::meter::LimiterSpecs#lent_limiter), [`reply_or_no_such`](crate::specs::machine::EffectsSpecs#reply_or_no_such).
+        ///
+        /// `L` is the type of the limiter, a [`ResourceLimiter`](crate::machine::ResourceLimiter#contract).
         #[inline(always)]
         fn step_table<L: ResourceLimiter>(
             &mut self,
@@ -1999,6 +2065,8 @@ mod store {
         /// ```
         ///
         /// Definitions: [`subject_of`](crate::specs::machine::StepsSpecs#subject_of), [`RegisterFile`](crate::specs::machine::StepsSpecs#RegisterFile), [`RepliesWithoutLimiter`](crate::specs::machine::StepsSpecs#RepliesWithoutLimiter), [`optional_rules`](crate::specs::meter::LimiterSpecs#optional_rules), [`reply_or_no_such`](crate::specs::machine::EffectsSpecs#reply_or_no_such).
+        ///
+        /// `L` is the type of the limiter, a [`ResourceLimiter`](crate::machine::ResourceLimiter#contract).
         #[inline(always)]
         fn step_register<L: ResourceLimiter>(&mut self, call: &Call) -> Option<Reply> {
             match call {
@@ -2029,6 +2097,8 @@ mod store {
         /// ```
         ///
         /// Definitions: [`subject_of`](crate::specs::machine::StepsSpecs#subject_of), [`VectorAccesses`](crate::specs::machine::StepsSpecs#VectorAccesses), [`RepliesWithoutLimiter`](crate::specs::machine::StepsSpecs#RepliesWithoutLimiter), [`optional_rules`](crate::specs::meter::LimiterSpecs#optional_rules), [`reply_or_no_such`](crate::specs::machine::EffectsSpecs#reply_or_no_such).
+        ///
+        /// `L` is the type of the limiter, a [`ResourceLimiter`](crate::machine::ResourceLimiter#contract).
         #[inline(always)]
         fn step_vector_access<L: ResourceLimiter>(&mut self, call: &Call) -> Option<Reply> {
             match call {
@@ -2101,6 +2171,8 @@ mod tables {
         /// ```
         ///
         /// Definitions: [`KeepsLoan`](crate::specs::meter::LimiterSpecs#KeepsLoan), [`Creates`](crate::specs::machine::EffectsSpecs#Creates), [`MakesTable`](crate::specs::store::TableSpecs#MakesTable), [`optional_rules`](crate::specs::meter::LimiterSpecs#optional_rules), [`lent_limiter`](crate::specs::meter::LimiterSpecs#lent_limiter).
+        ///
+        /// `L` is the type of the limiter, a [`ResourceLimiter`](crate::machine::ResourceLimiter#contract).
         #[inline(always)]
         pub(crate) fn create<L: ResourceLimiter>(
             &mut self,
@@ -2132,6 +2204,8 @@ mod tables {
         /// ```
         ///
         /// Definitions: [`KeepsLoan`](crate::specs::meter::LimiterSpecs#KeepsLoan), [`WithCharge`](crate::specs::store::GrowthSpecs#WithCharge), [`ActsAt`](crate::specs::machine::EffectsSpecs#ActsAt), [`reply_of`](crate::specs::machine::EffectsSpecs#reply_of), [`GrowsTableCharging`](crate::specs::store::TableSpecs#GrowsTableCharging), [`optional_rules`](crate::specs::meter::LimiterSpecs#optional_rules), [`metered_value`](crate::specs::store::GrowthSpecs#metered_value), [`lent_limiter`](crate::specs::meter::LimiterSpecs#lent_limiter), [`reply_or_no_such`](crate::specs::machine::EffectsSpecs#reply_or_no_such).
+        ///
+        /// `L` is the type of the limiter, a [`ResourceLimiter`](crate::machine::ResourceLimiter#contract).
         #[inline(always)]
         pub(crate) fn grow<L: ResourceLimiter>(
             &mut self,

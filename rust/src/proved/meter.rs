@@ -207,6 +207,8 @@ mod capped {
     /// ```
     ///
     /// Definitions: [`Question`](crate::specs::meter::LimiterSpecs#Question), [`Answer`](crate::specs::meter::LimiterSpecs#Answer), [`Reserves`](crate::specs::meter::CappedSpecs#Reserves), [`Failure`](crate::specs::meter::LimiterSpecs#Failure), [`NoticeAnswer`](crate::specs::meter::LimiterSpecs#NoticeAnswer), [`GivesBack`](crate::specs::meter::CappedSpecs#GivesBack), [`kind_of`](crate::specs::meter::LimiterSpecs#kind_of).
+    ///
+    /// `A` is any type.
     pub trait Reserving: ResourceLimiter {
         /// The bytes that it permitted and that weren't given back.
         ///
@@ -281,6 +283,8 @@ mod capped {
     /// ```
     ///
     /// Definitions: [`capped_rules`](crate::specs::meter::CappedSpecs#capped_rules).
+    ///
+    /// `L` is the type of the limiter, a [`CappedLimiter`](crate::machine::CappedLimiter#contract).
     impl<L: CappedLimiter> LimiterByKind for L {
         /// # Panics
         ///
@@ -303,6 +307,8 @@ mod capped {
     /// ```text
     /// holdings = L.capped.holdings
     /// ```
+    ///
+    /// `L` is the type of the limiter, a [`CappedLimiter`](crate::machine::CappedLimiter#contract).
     impl<L: CappedLimiter> Reserving for L {
         #[inline]
         fn held_bytes(&self) -> u64 {
@@ -753,6 +759,8 @@ mod fuel {
         /// ```
         ///
         /// Definitions: [`copy_cost`](crate::specs::meter::MeterSpecs#copy_cost), [`costs_of`](crate::specs::meter::MeterSpecs#costs_of).
+        ///
+        /// `T` is a type with the trait `ValueSize`.
         #[must_use]
         #[inline]
         pub fn fuel_for_copying_values<T>(&self, len_values: u64) -> u64 {
@@ -1002,6 +1010,8 @@ mod fuel {
         /// ```
         ///
         /// Definitions: [`Computes`](crate::specs::meter::MeterSpecs#Computes), [`ConsumesFuel`](crate::specs::meter::MeterSpecs#ConsumesFuel), [`amount_left`](crate::specs::meter::MeterSpecs#amount_left).
+        ///
+        /// `C` is the type of the closure.
         #[inline]
         pub fn consume_fuel(
             &mut self,
@@ -1030,6 +1040,8 @@ mod fuel {
         /// ```
         ///
         /// Definitions: [`Computes`](crate::specs::meter::MeterSpecs#Computes), [`ConsumesFuel`](crate::specs::meter::MeterSpecs#ConsumesFuel).
+        ///
+        /// `C` is the type of the closure.
         #[inline]
         pub fn consume_fuel_if(
             &mut self,
@@ -1302,6 +1314,8 @@ mod limiter {
     /// ```
     ///
     /// Definitions: [`optional_rules`](crate::specs::meter::LimiterSpecs#optional_rules).
+    ///
+    /// `L` is the type of the limiter, a [`ResourceLimiter`](crate::machine::ResourceLimiter#contract).
     impl<L: ResourceLimiter> ResourceLimiter for Option<L> {
         #[inline]
         fn memory_growing(
@@ -1437,6 +1451,8 @@ mod limiter {
     /// ```text
     /// rules = L.kind_rules
     /// ```
+    ///
+    /// `L` is the type of the limiter, a [`LimiterByKind`](crate::machine::LimiterByKind#contract).
     impl<L: LimiterByKind> ResourceLimiter for L {
         #[inline]
         fn memory_growing(
@@ -1684,6 +1700,8 @@ mod limiter_ref {
         /// ```
         ///
         /// Definitions: [`LendsLimiter`](crate::specs::meter::LimiterSpecs#LendsLimiter), [`shown_of`](crate::specs::meter::LimiterSpecs#shown_of), [`loan`](crate::specs::meter::LimiterSpecs#loan).
+        ///
+        /// `R` is the type of what lends the limiter, a [`Lender`](crate::machine::Lender#contract).
         #[inline]
         pub fn as_resource_limiter(&mut self) -> Option<&mut R::Lent>
         where
@@ -1718,6 +1736,8 @@ mod limiter_ref {
         /// ```
         ///
         /// Definitions: [`loan`](crate::specs::meter::LimiterSpecs#loan), [`KeepsLoan`](crate::specs::meter::LimiterSpecs#KeepsLoan), [`optional_rules`](crate::specs::meter::LimiterSpecs#optional_rules), [`lent_limiter`](crate::specs::meter::LimiterSpecs#lent_limiter).
+        ///
+        /// `L` is the type of the limiter, a [`ResourceLimiter`](crate::machine::ResourceLimiter#contract).
         #[inline]
         pub fn memory_growing(
             &mut self,
@@ -1756,6 +1776,8 @@ mod limiter_ref {
         /// ```
         ///
         /// Definitions: [`loan`](crate::specs::meter::LimiterSpecs#loan), [`KeepsLoan`](crate::specs::meter::LimiterSpecs#KeepsLoan), [`optional_rules`](crate::specs::meter::LimiterSpecs#optional_rules), [`lent_limiter`](crate::specs::meter::LimiterSpecs#lent_limiter).
+        ///
+        /// `L` is the type of the limiter, a [`ResourceLimiter`](crate::machine::ResourceLimiter#contract).
         #[inline]
         pub fn table_growing(
             &mut self,
@@ -1788,6 +1810,8 @@ mod limiter_ref {
         /// ```
         ///
         /// Definitions: [`loan`](crate::specs::meter::LimiterSpecs#loan), [`KeepsLoan`](crate::specs::meter::LimiterSpecs#KeepsLoan), [`optional_rules`](crate::specs::meter::LimiterSpecs#optional_rules), [`lent_limiter`](crate::specs::meter::LimiterSpecs#lent_limiter), [`MemoryFailure`](crate::specs::meter::LimiterSpecs#MemoryFailure).
+        ///
+        /// `L` is the type of the limiter, a [`ResourceLimiter`](crate::machine::ResourceLimiter#contract).
         #[inline]
         pub fn memory_grow_failed(&mut self, error: &MemoryError) -> Result<(), LimiterError> {
             match &mut self.limiter {
@@ -1811,6 +1835,8 @@ mod limiter_ref {
         /// ```
         ///
         /// Definitions: [`loan`](crate::specs::meter::LimiterSpecs#loan), [`KeepsLoan`](crate::specs::meter::LimiterSpecs#KeepsLoan), [`optional_rules`](crate::specs::meter::LimiterSpecs#optional_rules), [`lent_limiter`](crate::specs::meter::LimiterSpecs#lent_limiter), [`TableFailure`](crate::specs::meter::LimiterSpecs#TableFailure).
+        ///
+        /// `L` is the type of the limiter, a [`ResourceLimiter`](crate::machine::ResourceLimiter#contract).
         #[inline]
         pub fn table_grow_failed(&mut self, error: &TableError) -> Result<(), LimiterError> {
             match &mut self.limiter {

@@ -18,6 +18,8 @@ mod decimal {
     /// ```
     ///
     /// Definitions: [`IsDecimal`](crate::specs::operands::LineWordsSpecs#IsDecimal), [`decimal_value`](crate::specs::operands::LineWordsSpecs#decimal_value).
+    ///
+    /// `T` is a type with the trait `TryFrom`.
     #[inline]
     pub fn number<T: TryFrom<u64>>(word: &str) -> Result<T, LineError> {
         T::try_from(decimal(word)?).map_err(|_| LineError::BadCommand)
@@ -608,6 +610,8 @@ pub mod operand {
     /// ```
     ///
     /// Definitions: [`Accepts`](crate::specs::operands::LineWordsSpecs#Accepts), [`word_at`](crate::specs::operands::LineWordsSpecs#word_at).
+    ///
+    /// `A` is a type with the trait `Operand`.
     #[inline]
     pub fn one<A: Operand>(words: &[&str]) -> Result<A, LineError> {
         let &[a] = words else {
@@ -626,6 +630,8 @@ pub mod operand {
     /// ```
     ///
     /// Definitions: [`Accepts`](crate::specs::operands::LineWordsSpecs#Accepts), [`word_at`](crate::specs::operands::LineWordsSpecs#word_at).
+    ///
+    /// `A` is a type with the trait `Operand`. `B` is a type with the trait `Operand`.
     #[inline]
     pub fn two<A: Operand, B: Operand>(words: &[&str]) -> Result<(A, B), LineError> {
         let &[a, b] = words else {
@@ -647,6 +653,8 @@ pub mod operand {
     /// ```
     ///
     /// Definitions: [`Accepts`](crate::specs::operands::LineWordsSpecs#Accepts), [`word_at`](crate::specs::operands::LineWordsSpecs#word_at).
+    ///
+    /// `A` is a type with the trait `Operand`. `B` is a type with the trait `Operand`. `C` is a type with the trait `Operand`.
     #[inline]
     pub fn three<A: Operand, B: Operand, C: Operand>(
         words: &[&str],
@@ -671,6 +679,8 @@ pub mod operand {
     /// ```
     ///
     /// Definitions: [`Accepts`](crate::specs::operands::LineWordsSpecs#Accepts), [`word_at`](crate::specs::operands::LineWordsSpecs#word_at).
+    ///
+    /// `A` is a type with the trait `Operand`. `B` is a type with the trait `Operand`. `C` is a type with the trait `Operand`. `D` is a type with the trait `Operand`.
     #[inline]
     pub fn four<A: Operand, B: Operand, C: Operand, D: Operand>(
         words: &[&str],
@@ -700,6 +710,8 @@ pub mod operand {
     /// ```
     ///
     /// Definitions: [`Accepts`](crate::specs::operands::LineWordsSpecs#Accepts), [`word_at`](crate::specs::operands::LineWordsSpecs#word_at).
+    ///
+    /// `A` is a type with the trait `Operand`. `B` is a type with the trait `Operand`. `C` is a type with the trait `Operand`. `D` is a type with the trait `Operand`. `E` is a type with the trait `Operand`.
     #[inline]
     pub fn five<A: Operand, B: Operand, C: Operand, D: Operand, E: Operand>(
         words: &[&str],
@@ -728,6 +740,8 @@ pub mod operand {
     /// ```
     ///
     /// Definitions: [`AcceptsWithMemory`](crate::specs::operands::LineWordsSpecs#AcceptsWithMemory), [`WritesEach`](crate::specs::operands::LineWordsSpecs#WritesEach).
+    ///
+    /// `T` is a type with the trait `Operand`.
     #[inline]
     pub fn list_of<T: Operand>(words: &[&str]) -> Result<Vec<T>, LineError> {
         let mut list = Vec::with_capacity(words.len())?;

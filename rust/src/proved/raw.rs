@@ -201,6 +201,8 @@ mod convert {
     /// ```
     ///
     /// Definitions: [`raw_of`](crate::specs::raw::RawValSpecs#raw_of).
+    ///
+    /// `T` is a type with the trait `OneWord`.
     impl<T: OneWord> From<T> for RawVal
     where
         RawVal: WriteAs<T>,
@@ -345,6 +347,8 @@ pub mod laws {
     /// ```text
     /// ensures: result ≡ T.read_back value
     /// ```
+    ///
+    /// `T` is a type with the trait `ReadBack`.
     #[inline]
     pub fn written_value_is_read<T: ReadBack, P: WriteAs<T>>(place: &mut P, value: T) -> T::Read {
         place.write_as(value);
@@ -408,6 +412,8 @@ mod number {
     /// ```
     ///
     /// Definitions: [`AreNumbers`](crate::specs::raw::NumberSpecs#AreNumbers).
+    ///
+    /// `A` is any type.
     pub trait Number: sealed::Sealed {}
 
     /// # Contract
@@ -418,6 +424,8 @@ mod number {
     /// number = T.numbers.number
     /// of_number = T.numbers.of_number
     /// ```
+    ///
+    /// `T` is a type with the trait `Sealed`.
     impl<T: sealed::Sealed> Number for T {}
 }
 mod raw {
@@ -427,6 +435,13 @@ mod raw {
     ///
     /// A value of up to 64 bits stands in `lo`, and a vector in both words. The order is that of `lo`,
     /// then of `hi`. C has it as a struct of the two. Upstream: `wasmi_core::RawVal`.
+    ///
+    /// # Fields in contracts
+    ///
+    /// Contracts see these fields:
+    ///
+    /// - `lo`: Bits 0 to 63.
+    /// - `hi`: Bits 64 to 127.
     #[doc = examples!(raw RawVal)]
     #[repr(C)]
     #[derive(Clone, Copy, Default, PartialEq, Eq, PartialOrd, Ord)]
@@ -478,6 +493,8 @@ mod raw {
     /// -- The `T` that `self` is read as.
     /// read: Self → T
     /// ```
+    ///
+    /// `T` is any type.
     pub trait ReadAs<T> {
         /// Reads `self` as a `T`.
         ///
@@ -517,6 +534,8 @@ mod raw {
     /// -- What `self` becomes when the `T` is written to it.
     /// written: Self → T → Self
     /// ```
+    ///
+    /// `T` is a type with the trait `ReadBack`.
     pub trait WriteAs<T: ReadBack>: ReadAs<T::Read> {
         /// Writes `value` to `self`.
         ///
@@ -526,6 +545,8 @@ mod raw {
         /// ensures written: self.new ≡ written self.old value
         /// ensures read_back: Self.read self.new ≡ T.read_back value
         /// ```
+        ///
+        /// `T` is a type with the trait `ReadBack`.
         fn write_as(&mut self, value: T);
     }
 

@@ -16,6 +16,8 @@ pub mod laws {
     /// ```
     ///
     /// Definitions: [`TableCreationsSucceed`](crate::specs::region::LawsSpecs#TableCreationsSucceed), [`optional_rules`](crate::specs::meter::LimiterSpecs#optional_rules).
+    ///
+    /// `L` is the type of the limiter, a [`ResourceLimiter`](crate::machine::ResourceLimiter#contract).
     #[inline]
     pub fn table_creations_succeed<L: ResourceLimiter>() {}
 
@@ -29,6 +31,8 @@ pub mod laws {
     /// ```
     ///
     /// Definitions: [`TableGrowthsSucceed`](crate::specs::region::LawsSpecs#TableGrowthsSucceed), [`optional_rules`](crate::specs::meter::LimiterSpecs#optional_rules).
+    ///
+    /// `L` is the type of the limiter, a [`ResourceLimiter`](crate::machine::ResourceLimiter#contract).
     #[inline]
     pub fn table_growths_succeed<L: ResourceLimiter>() {}
 
@@ -42,6 +46,8 @@ pub mod laws {
     /// ```
     ///
     /// Definitions: [`CreationsAreTables`](crate::specs::region::LawsSpecs#CreationsAreTables), [`optional_rules`](crate::specs::meter::LimiterSpecs#optional_rules), [`GrowthsAreTables`](crate::specs::region::LawsSpecs#GrowthsAreTables).
+    ///
+    /// `L` is the type of the limiter, a [`ResourceLimiter`](crate::machine::ResourceLimiter#contract).
     #[inline]
     pub fn region_tables_are_tables<L: ResourceLimiter>() {}
 }
@@ -117,6 +123,8 @@ pub mod memory {
     /// ```
     ///
     /// Definitions: [`KeepsLoan`](crate::specs::meter::LimiterSpecs#KeepsLoan), [`MakesMemory`](crate::specs::store::MemorySpecs#MakesMemory), [`optional_rules`](crate::specs::meter::LimiterSpecs#optional_rules), [`Lent`](crate::specs::store::BufferSpecs#Lent), [`lent_limiter`](crate::specs::meter::LimiterSpecs#lent_limiter), [`made_in`](crate::specs::region::MemorySpecs#made_in), [`IsSized`](crate::specs::store::MemorySpecs#IsSized).
+    ///
+    /// `L` is the type of the limiter, a [`ResourceLimiter`](crate::machine::ResourceLimiter#contract).
     #[doc = examples!(region make)]
     #[inline]
     pub fn make<L: ResourceLimiter>(
@@ -165,6 +173,8 @@ pub mod memory {
     /// ```
     ///
     /// Definitions: [`IsSized`](crate::specs::store::MemorySpecs#IsSized), [`KeepsLoan`](crate::specs::meter::LimiterSpecs#KeepsLoan), [`GrowsMemory`](crate::specs::store::MemorySpecs#GrowsMemory), [`optional_rules`](crate::specs::meter::LimiterSpecs#optional_rules), [`metered_value`](crate::specs::store::GrowthSpecs#metered_value), [`memory_in`](crate::specs::region::MemorySpecs#memory_in), [`lent_limiter`](crate::specs::meter::LimiterSpecs#lent_limiter).
+    ///
+    /// `L` is the type of the limiter, a [`ResourceLimiter`](crate::machine::ResourceLimiter#contract).
     #[inline]
     pub fn grow<L: ResourceLimiter>(
         ty: MemoryType,
@@ -386,6 +396,8 @@ pub mod table {
     /// ```
     ///
     /// Definitions: [`KeepsLoan`](crate::specs::meter::LimiterSpecs#KeepsLoan), [`MakesTableIn`](crate::specs::region::TableSpecs#MakesTableIn), [`optional_rules`](crate::specs::meter::LimiterSpecs#optional_rules), [`lent_limiter`](crate::specs::meter::LimiterSpecs#lent_limiter), [`made_in`](crate::specs::region::TableSpecs#made_in), [`IsSized`](crate::specs::store::TableSpecs#IsSized).
+    ///
+    /// `L` is the type of the limiter, a [`ResourceLimiter`](crate::machine::ResourceLimiter#contract).
     #[inline]
     pub fn make<L: ResourceLimiter>(
         ty: TableType,
@@ -437,6 +449,8 @@ pub mod table {
     /// ```
     ///
     /// Definitions: [`IsSized`](crate::specs::store::TableSpecs#IsSized), [`KeepsLoan`](crate::specs::meter::LimiterSpecs#KeepsLoan), [`GrowsTableIn`](crate::specs::region::TableSpecs#GrowsTableIn), [`optional_rules`](crate::specs::meter::LimiterSpecs#optional_rules), [`metered_value`](crate::specs::store::GrowthSpecs#metered_value), [`table_in`](crate::specs::region::TableSpecs#table_in), [`lent_limiter`](crate::specs::meter::LimiterSpecs#lent_limiter).
+    ///
+    /// `L` is the type of the limiter, a [`ResourceLimiter`](crate::machine::ResourceLimiter#contract).
     #[inline]
     pub fn grow<L: ResourceLimiter>(
         ty: TableType,

@@ -17,6 +17,8 @@ pub mod value {
         /// ```text
         /// ensures: result ≡ Self.of_number (int_wrap T.width (Self.number self))
         /// ```
+        ///
+        /// `T` is a type with the trait `Number`.
         fn sign_extend_from(self) -> Self;
     }
 

@@ -270,6 +270,8 @@ mod printing {
     /// ```
     ///
     /// Definitions: [`outcome_text`](crate::specs::script::OutcomesSpecs#outcome_text), [`AppendsFront`](crate::specs::script::PrintingSpecs#AppendsFront).
+    ///
+    /// `W` is the type of the writer.
     #[inline]
     pub fn print<W: io::Write>(
         writer: &mut W,
@@ -302,6 +304,8 @@ mod printing {
     /// ```
     ///
     /// Definitions: [`replies_text`](crate::specs::script::OutcomesSpecs#replies_text), [`AppendsFront`](crate::specs::script::PrintingSpecs#AppendsFront).
+    ///
+    /// `W` is the type of the writer.
     #[inline]
     pub fn print_lines<W: io::Write>(
         writer: &mut W,
@@ -328,6 +332,8 @@ mod printing {
     /// ```
     ///
     /// Definitions: [`PrintsText`](crate::specs::script::PrintingSpecs#PrintsText), [`outcome_text`](crate::specs::script::OutcomesSpecs#outcome_text).
+    ///
+    /// `W` is the type of the writer.
     #[inline]
     fn print_outcome<W: io::Write>(
         printer: &mut Printer<'_, W>,
@@ -353,6 +359,8 @@ mod printing {
     /// ```
     ///
     /// Definitions: [`PrintsText`](crate::specs::script::PrintingSpecs#PrintsText), [`replies_text`](crate::specs::script::OutcomesSpecs#replies_text).
+    ///
+    /// `W` is the type of the writer.
     #[inline]
     fn print_replies<W: io::Write>(
         printer: &mut Printer<'_, W>,
@@ -375,6 +383,8 @@ mod printing {
     /// ```
     ///
     /// Definitions: [`PrintsText`](crate::specs::script::PrintingSpecs#PrintsText), [`line`](crate::specs::script::PrintingSpecs#line), [`reply_text`](crate::specs::script::TextsSpecs#reply_text).
+    ///
+    /// `W` is the type of the writer.
     #[inline]
     fn print_reply<W: io::Write>(
         printer: &mut Printer<'_, W>,
@@ -415,6 +425,8 @@ mod printing {
     /// ```
     ///
     /// Definitions: [`PrintsText`](crate::specs::script::PrintingSpecs#PrintsText), [`held_text`](crate::specs::script::OutcomesSpecs#held_text).
+    ///
+    /// `W` is the type of the writer.
     #[inline]
     fn print_held<W: io::Write>(printer: &mut Printer<'_, W>, held: &Held) -> fmt::Result {
         match held {
@@ -436,6 +448,8 @@ mod printing {
     /// ```
     ///
     /// Definitions: [`PrintsText`](crate::specs::script::PrintingSpecs#PrintsText), [`tenants_text`](crate::specs::script::OutcomesSpecs#tenants_text).
+    ///
+    /// `W` is the type of the writer.
     #[inline]
     fn print_tenants<W: io::Write>(printer: &mut Printer<'_, W>, pool: &Pool) -> fmt::Result {
         for index in 0..pool.len() {
@@ -503,6 +517,8 @@ mod printing {
         /// ```
         ///
         /// Definitions: [`IsShort`](crate::specs::script::PrintingSpecs#IsShort), [`Prints`](crate::specs::script::PrintingSpecs#Prints), [`PrintsFront`](crate::specs::script::PrintingSpecs#PrintsFront).
+        ///
+        /// `D` is a type with the trait `Display`. `W` is the type of the writer.
         #[inline]
         pub fn print<D: Show>(&mut self, text: D) -> fmt::Result {
             self.make_room()?;
@@ -523,6 +539,8 @@ mod printing {
         /// ```
         ///
         /// Definitions: [`IsShort`](crate::specs::script::PrintingSpecs#IsShort), [`Prints`](crate::specs::script::PrintingSpecs#Prints), [`line`](crate::specs::script::PrintingSpecs#line), [`PrintsFront`](crate::specs::script::PrintingSpecs#PrintsFront).
+        ///
+        /// `D` is a type with the trait `Display`. `W` is the type of the writer.
         #[inline]
         pub fn print_line<D: Show>(&mut self, text: D) -> fmt::Result {
             self.make_room()?;
@@ -540,6 +558,8 @@ mod printing {
         /// ```
         ///
         /// Definitions: [`Prints`](crate::specs::script::PrintingSpecs#Prints), [`SendsFront`](crate::specs::script::PrintingSpecs#SendsFront).
+        ///
+        /// `W` is the type of the writer.
         #[inline]
         fn make_room(&mut self) -> fmt::Result {
             if self.chunk.remaining_capacity() < LONGEST {
@@ -557,6 +577,8 @@ mod printing {
         /// ```
         ///
         /// Definitions: [`Flushes`](crate::specs::script::PrintingSpecs#Flushes).
+        ///
+        /// `W` is the type of the writer.
         #[inline]
         pub fn flush(&mut self, printed: fmt::Result) -> fmt::Result {
             printed?;
@@ -575,6 +597,8 @@ mod printing {
         /// ```
         ///
         /// Definitions: [`Sends`](crate::specs::script::PrintingSpecs#Sends), [`SendsFront`](crate::specs::script::PrintingSpecs#SendsFront).
+        ///
+        /// `W` is the type of the writer.
         #[inline]
         fn send(&mut self) -> fmt::Result {
             send_all(self.writer, self.chunk.as_str())?;
@@ -593,6 +617,8 @@ mod printing {
     /// ```
     ///
     /// Definitions: [`AppendsFront`](crate::specs::script::PrintingSpecs#AppendsFront).
+    ///
+    /// `W` is the type of the writer.
     #[inline]
     fn send_all<W: io::Write>(writer: &mut W, text: &str) -> fmt::Result {
         let mut rest = text.as_bytes();
@@ -665,6 +691,8 @@ mod replaying {
     /// ```
     ///
     /// Definitions: [`Replays`](crate::specs::script::OutcomesSpecs#Replays).
+    ///
+    /// `R` is the type of the reader. `W` is the type of the writer.
     #[doc = examples!(script replay)]
     #[inline]
     pub fn replay<R: io::Read, W: io::Write>(reader: &mut R, writer: &mut W) -> Status {
@@ -684,6 +712,8 @@ mod replaying {
     /// ```
     ///
     /// Definitions: [`IsOutcomeOfReader`](crate::specs::script::OutcomesSpecs#IsOutcomeOfReader).
+    ///
+    /// `R` is the type of the reader.
     #[inline]
     fn outcome_of<R: io::Read>(reader: &mut R) -> Result<Replayed, ReplayError> {
         let bytes = read(&mut CountedReader { reader, taken: 0 })?;
@@ -734,6 +764,8 @@ mod replaying {
         /// ```
         ///
         /// Definitions: [`script_limit`](crate::specs::script::OutcomesSpecs#script_limit).
+        ///
+        /// `R` is the type of the reader.
         #[inline]
         fn turn(&mut self, buffer: &mut [u8]) -> io::Result<usize> {
             self.taken += 1;
@@ -755,6 +787,8 @@ mod replaying {
     /// ```
     ///
     /// Definitions: [`IsReadError`](crate::specs::script::OutcomesSpecs#IsReadError), [`script_limit`](crate::specs::script::OutcomesSpecs#script_limit).
+    ///
+    /// `R` is the type of the reader.
     #[inline]
     fn read<R: io::Read>(reader: &mut CountedReader<'_, R>) -> Result<Vec<u8>, ReplayError> {
         let mut script = Vec::new();

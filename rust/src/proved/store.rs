@@ -31,6 +31,8 @@ pub mod bulk {
     /// ```
     ///
     /// Definitions: [`WritesItems`](crate::specs::store::GrowthSpecs#WritesItems), [`filled`](crate::specs::store::GrowthSpecs#filled), [`item_price`](crate::specs::store::GrowthSpecs#item_price), [`metered`](crate::specs::store::GrowthSpecs#metered).
+    ///
+    /// `E` is a type with the trait `GrowthError`. `T` is a type with the trait `Copy`.
     #[inline]
     pub fn fill_items<T: Copy + ValueSize, E: GrowthError>(
         items: &mut [T],
@@ -65,6 +67,8 @@ pub mod bulk {
     /// ```
     ///
     /// Definitions: [`WritesItems`](crate::specs::store::GrowthSpecs#WritesItems), [`copied`](crate::specs::store::GrowthSpecs#copied), [`item_price`](crate::specs::store::GrowthSpecs#item_price), [`metered`](crate::specs::store::GrowthSpecs#metered).
+    ///
+    /// `E` is a type with the trait `GrowthError`. `T` is a type with the trait `Chunk`.
     #[inline]
     pub fn copy_items_within<T: Chunk + ValueSize, E: GrowthError>(
         items: &mut [T],
@@ -98,6 +102,8 @@ pub mod bulk {
     /// ```
     ///
     /// Definitions: [`WritesItems`](crate::specs::store::GrowthSpecs#WritesItems), [`copied`](crate::specs::store::GrowthSpecs#copied), [`item_price`](crate::specs::store::GrowthSpecs#item_price), [`metered`](crate::specs::store::GrowthSpecs#metered).
+    ///
+    /// `E` is a type with the trait `GrowthError`. `T` is a type with the trait `Copy`.
     #[inline]
     pub fn copy_items<T: Copy + ValueSize, E: GrowthError>(
         items: &mut [T],
@@ -133,6 +139,8 @@ pub mod bulk {
     /// ```
     ///
     /// Definitions: [`WritesItems`](crate::specs::store::GrowthSpecs#WritesItems), [`copied`](crate::specs::store::GrowthSpecs#copied), [`item_price`](crate::specs::store::GrowthSpecs#item_price), [`metered`](crate::specs::store::GrowthSpecs#metered).
+    ///
+    /// `T` is a type with the trait `Copy`.
     #[inline]
     pub fn init_elements<T: Copy + ValueSize>(
         elements: &mut [T],
@@ -232,6 +240,8 @@ pub mod growth {
         /// ```
         ///
         /// Definitions: [`KeepsLoan`](crate::specs::meter::LimiterSpecs#KeepsLoan), [`optional_rules`](crate::specs::meter::LimiterSpecs#optional_rules), [`lent_limiter`](crate::specs::meter::LimiterSpecs#lent_limiter).
+        ///
+        /// `L` is the type of the limiter, a [`ResourceLimiter`](crate::machine::ResourceLimiter#contract).
         fn notify<L: ResourceLimiter>(
             &self,
             limiter: &mut ResourceLimiterRef<L>,
@@ -298,6 +308,8 @@ pub mod growth {
     /// ```
     ///
     /// Definitions: [`KeepsLoan`](crate::specs::meter::LimiterSpecs#KeepsLoan), [`NoticeAnswer`](crate::specs::meter::LimiterSpecs#NoticeAnswer), [`optional_rules`](crate::specs::meter::LimiterSpecs#optional_rules), [`lent_limiter`](crate::specs::meter::LimiterSpecs#lent_limiter), [`error_of_failure`](crate::specs::meter::AttemptSpecs#error_of_failure).
+    ///
+    /// `E` is a type with the trait `GrowthError`. `L` is the type of the limiter, a [`ResourceLimiter`](crate::machine::ResourceLimiter#contract).
     #[inline]
     pub fn tell<L: ResourceLimiter, E: GrowthError>(
         limiter: &mut ResourceLimiterRef<L>,
@@ -325,6 +337,8 @@ pub mod growth {
     /// ```
     ///
     /// Definitions: [`Charges`](crate::specs::meter::MeterSpecs#Charges), [`due`](crate::specs::meter::MeterSpecs#due), [`copy_cost`](crate::specs::meter::MeterSpecs#copy_cost).
+    ///
+    /// `T` is a type with the trait `ValueSize`.
     #[inline]
     pub fn charge<T: ValueSize>(fuel: &mut Fuel, values: u64) -> Result<(), u64> {
         match fuel.consume_fuel_if(|costs| costs.fuel_for_copying_values::<T>(values)) {
@@ -350,6 +364,8 @@ pub mod growth {
     /// ```
     ///
     /// Definitions: [`KeepsLoan`](crate::specs::meter::LimiterSpecs#KeepsLoan), [`PermitsMinimum`](crate::specs::store::MemorySpecs#PermitsMinimum), [`optional_rules`](crate::specs::meter::LimiterSpecs#optional_rules), [`lent_limiter`](crate::specs::meter::LimiterSpecs#lent_limiter), [`IsSized`](crate::specs::store::MemorySpecs#IsSized).
+    ///
+    /// `L` is the type of the limiter, a [`ResourceLimiter`](crate::machine::ResourceLimiter#contract).
     #[inline]
     pub fn permitted_minimum<L: ResourceLimiter>(
         ty: MemoryType,
@@ -394,6 +410,8 @@ pub mod growth {
     /// ```
     ///
     /// Definitions: [`KeepsLoan`](crate::specs::meter::LimiterSpecs#KeepsLoan), [`optional_rules`](crate::specs::meter::LimiterSpecs#optional_rules), [`lent_limiter`](crate::specs::meter::LimiterSpecs#lent_limiter), [`size_question`](crate::specs::store::MemorySpecs#size_question), [`Charges`](crate::specs::meter::MeterSpecs#Charges), [`due`](crate::specs::meter::MeterSpecs#due), [`copy_cost`](crate::specs::meter::MeterSpecs#copy_cost), [`MemoryValue`](crate::specs::store::MemorySpecs#MemoryValue), [`IsAsked`](crate::specs::store::GrowthSpecs#IsAsked), [`growth_of`](crate::specs::store::MemorySpecs#growth_of), [`fits_room`](crate::specs::store::BufferSpecs#fits_room), [`GrowsMemory`](crate::specs::store::MemorySpecs#GrowsMemory), [`metered_value`](crate::specs::store::GrowthSpecs#metered_value).
+    ///
+    /// `L` is the type of the limiter, a [`ResourceLimiter`](crate::machine::ResourceLimiter#contract).
     #[inline]
     pub fn decide_growth<L: ResourceLimiter>(
         old_size: usize,
@@ -610,6 +628,8 @@ mod memory {
             /// ```
             ///
             /// Definitions: [`block`](crate::specs::store::BufferSpecs#block), [`block_refilled`](crate::specs::store::BufferSpecs#block_refilled).
+            ///
+            /// `R` is the type of what has the bytes, a [`Region`](crate::machine::Region#contract).
             #[inline]
             fn front_mut(&mut self, end: usize) -> &mut [u8] {
                 match self {
@@ -631,6 +651,8 @@ mod memory {
         /// ```
         ///
         /// Definitions: [`BufferValue`](crate::specs::store::BufferSpecs#BufferValue), [`view_of`](crate::specs::store::BufferSpecs#view_of), [`EndsWithin`](crate::specs::store::BufferSpecs#EndsWithin).
+        ///
+        /// `R` is the type of what has the bytes, a [`Region`](crate::machine::Region#contract).
         #[derive(Debug)]
         pub struct Buffer<R: Region> {
             storage: Storage<R>,
@@ -671,6 +693,8 @@ mod memory {
             /// ```
             ///
             /// Definitions: [`with_bytes`](crate::specs::store::BufferSpecs#with_bytes).
+            ///
+            /// `R` is the type of what has the bytes, a [`Region`](crate::machine::Region#contract).
             #[inline]
             pub fn data_mut(&mut self) -> &mut [u8] {
                 self.storage.front_mut(self.len)
@@ -1350,6 +1374,8 @@ mod memory {
         /// ```
         ///
         /// Definitions: [`KeepsLoan`](crate::specs::meter::LimiterSpecs#KeepsLoan), [`MakesMemory`](crate::specs::store::MemorySpecs#MakesMemory), [`optional_rules`](crate::specs::meter::LimiterSpecs#optional_rules), [`Owned`](crate::specs::store::BufferSpecs#Owned), [`lent_limiter`](crate::specs::meter::LimiterSpecs#lent_limiter).
+        ///
+        /// `L` is the type of the limiter, a [`ResourceLimiter`](crate::machine::ResourceLimiter#contract).
         #[inline]
         pub fn new<L: ResourceLimiter>(
             ty: MemoryType,
@@ -1381,6 +1407,8 @@ mod memory {
         /// ```
         ///
         /// Definitions: [`KeepsLoan`](crate::specs::meter::LimiterSpecs#KeepsLoan), [`MakesMemory`](crate::specs::store::MemorySpecs#MakesMemory), [`optional_rules`](crate::specs::meter::LimiterSpecs#optional_rules), [`Lent`](crate::specs::store::BufferSpecs#Lent), [`lent_limiter`](crate::specs::meter::LimiterSpecs#lent_limiter).
+        ///
+        /// `L` is the type of the limiter, a [`ResourceLimiter`](crate::machine::ResourceLimiter#contract).
         #[inline]
         pub fn new_static<L: ResourceLimiter>(
             ty: MemoryType,
@@ -1408,6 +1436,8 @@ mod memory {
         /// ```
         ///
         /// Definitions: [`MakesMemory`](crate::specs::store::MemorySpecs#MakesMemory), [`optional_rules`](crate::specs::meter::LimiterSpecs#optional_rules), [`Owned`](crate::specs::store::BufferSpecs#Owned).
+        ///
+        /// `L` is the type of the limiter, a [`ResourceLimiter`](crate::machine::ResourceLimiter#contract).
         #[inline]
         pub fn new_lending<L: ResourceLimiter>(
             ty: MemoryType,
@@ -1507,6 +1537,8 @@ mod memory {
         /// ```
         ///
         /// Definitions: [`memory_of`](crate::specs::store::MemorySpecs#memory_of), [`with_bytes`](crate::specs::store::BufferSpecs#with_bytes), [`buffer_of`](crate::specs::store::MemorySpecs#buffer_of).
+        ///
+        /// `R` is the type of what has the bytes, a [`Region`](crate::machine::Region#contract).
         #[inline]
         pub fn data_mut(&mut self) -> &mut [u8] {
             self.buffer.data_mut()
@@ -1543,6 +1575,8 @@ mod memory {
         /// ```
         ///
         /// Definitions: [`KeepsLoan`](crate::specs::meter::LimiterSpecs#KeepsLoan), [`GrowsMemory`](crate::specs::store::MemorySpecs#GrowsMemory), [`optional_rules`](crate::specs::meter::LimiterSpecs#optional_rules), [`metered_value`](crate::specs::store::GrowthSpecs#metered_value), [`meter_at_entry`](crate::specs::meter::MeterSpecs#meter_at_entry), [`lent_limiter`](crate::specs::meter::LimiterSpecs#lent_limiter), [`meter_at_exit`](crate::specs::meter::MeterSpecs#meter_at_exit).
+        ///
+        /// `L` is the type of the limiter, a [`ResourceLimiter`](crate::machine::ResourceLimiter#contract).
         #[inline]
         pub fn grow<L: ResourceLimiter>(
             &mut self,
@@ -1569,6 +1603,8 @@ mod memory {
         /// ```
         ///
         /// Definitions: [`KeepsLoan`](crate::specs::meter::LimiterSpecs#KeepsLoan), [`GrowsMemory`](crate::specs::store::MemorySpecs#GrowsMemory), [`optional_rules`](crate::specs::meter::LimiterSpecs#optional_rules), [`metered_value`](crate::specs::store::GrowthSpecs#metered_value), [`lent_limiter`](crate::specs::meter::LimiterSpecs#lent_limiter).
+        ///
+        /// `L` is the type of the limiter, a [`ResourceLimiter`](crate::machine::ResourceLimiter#contract).
         #[inline]
         pub fn grow_metered<L: ResourceLimiter>(
             &mut self,
@@ -1608,6 +1644,8 @@ mod memory {
         /// ```
         ///
         /// Definitions: [`GrowsMemory`](crate::specs::store::MemorySpecs#GrowsMemory), [`optional_rules`](crate::specs::meter::LimiterSpecs#optional_rules), [`metered_value`](crate::specs::store::GrowthSpecs#metered_value).
+        ///
+        /// `L` is the type of the limiter, a [`ResourceLimiter`](crate::machine::ResourceLimiter#contract).
         #[inline]
         pub fn grow_lending<L: ResourceLimiter>(
             &mut self,
@@ -1894,6 +1932,8 @@ pub mod range {
     ///     ≡ take start elements.old ++ replicate (end - start) value ++ drop end elements.old
     /// ensures len: length elements.new ≡ length elements.old
     /// ```
+    ///
+    /// `T` is a type with the trait `Copy`.
     #[inline]
     pub fn fill_range<T: Copy>(elements: &mut [T], start: usize, end: usize, value: T) {
         let part = &mut elements[start..end];
@@ -2093,6 +2133,8 @@ mod table {
             /// ```
             ///
             /// Definitions: [`EachBecomes`](crate::specs::types::ReadingSpecs#EachBecomes), [`IsReadingOf`](crate::specs::store::SegmentSpecs#IsReadingOf).
+            ///
+            /// `I` is the type of the items, an [`IntoIterator`].
             #[inline]
             pub fn new<I>(ty: RefType, items: I) -> Result<Self, SegmentError>
             where
@@ -2119,6 +2161,8 @@ mod table {
             /// ```
             ///
             /// Definitions: [`IsReading`](crate::specs::store::SegmentSpecs#IsReading).
+            ///
+            /// `I` is the type of the items, an [`Iterator`].
             #[inline]
             pub fn read<I>(ty: RefType, items: &mut I) -> Result<Self, SegmentError>
             where
@@ -2628,6 +2672,8 @@ mod table {
         /// ```
         ///
         /// Definitions: [`KeepsLoan`](crate::specs::meter::LimiterSpecs#KeepsLoan), [`MakesTable`](crate::specs::store::TableSpecs#MakesTable), [`optional_rules`](crate::specs::meter::LimiterSpecs#optional_rules), [`lent_limiter`](crate::specs::meter::LimiterSpecs#lent_limiter).
+        ///
+        /// `L` is the type of the limiter, a [`ResourceLimiter`](crate::machine::ResourceLimiter#contract).
         #[inline]
         pub fn new<L: ResourceLimiter>(
             ty: TableType,
@@ -2658,6 +2704,8 @@ mod table {
         /// ```
         ///
         /// Definitions: [`MakesTable`](crate::specs::store::TableSpecs#MakesTable), [`optional_rules`](crate::specs::meter::LimiterSpecs#optional_rules).
+        ///
+        /// `L` is the type of the limiter, a [`ResourceLimiter`](crate::machine::ResourceLimiter#contract).
         #[inline]
         pub fn new_lending<L: ResourceLimiter>(
             ty: TableType,
@@ -2733,6 +2781,8 @@ mod table {
         /// ```
         ///
         /// Definitions: [`KeepsLoan`](crate::specs::meter::LimiterSpecs#KeepsLoan), [`GrowsTable`](crate::specs::store::TableSpecs#GrowsTable), [`optional_rules`](crate::specs::meter::LimiterSpecs#optional_rules), [`metered_value`](crate::specs::store::GrowthSpecs#metered_value), [`meter_at_entry`](crate::specs::meter::MeterSpecs#meter_at_entry), [`lent_limiter`](crate::specs::meter::LimiterSpecs#lent_limiter), [`meter_at_exit`](crate::specs::meter::MeterSpecs#meter_at_exit).
+        ///
+        /// `L` is the type of the limiter, a [`ResourceLimiter`](crate::machine::ResourceLimiter#contract).
         #[inline]
         pub fn grow<L: ResourceLimiter>(
             &mut self,
@@ -2760,6 +2810,8 @@ mod table {
         /// ```
         ///
         /// Definitions: [`KeepsLoan`](crate::specs::meter::LimiterSpecs#KeepsLoan), [`GrowsTable`](crate::specs::store::TableSpecs#GrowsTable), [`optional_rules`](crate::specs::meter::LimiterSpecs#optional_rules), [`metered_value`](crate::specs::store::GrowthSpecs#metered_value), [`lent_limiter`](crate::specs::meter::LimiterSpecs#lent_limiter).
+        ///
+        /// `L` is the type of the limiter, a [`ResourceLimiter`](crate::machine::ResourceLimiter#contract).
         #[inline]
         pub fn grow_metered<L: ResourceLimiter>(
             &mut self,
@@ -2787,6 +2839,8 @@ mod table {
         /// ```
         ///
         /// Definitions: [`GrowsTable`](crate::specs::store::TableSpecs#GrowsTable), [`optional_rules`](crate::specs::meter::LimiterSpecs#optional_rules), [`metered_value`](crate::specs::store::GrowthSpecs#metered_value).
+        ///
+        /// `L` is the type of the limiter, a [`ResourceLimiter`](crate::machine::ResourceLimiter#contract).
         #[inline]
         pub fn grow_lending<L: ResourceLimiter>(
             &mut self,
@@ -2828,6 +2882,8 @@ mod table {
         /// ```
         ///
         /// Definitions: [`KeepsLoan`](crate::specs::meter::LimiterSpecs#KeepsLoan), [`GrowsTableRaw`](crate::specs::store::TableSpecs#GrowsTableRaw), [`optional_rules`](crate::specs::meter::LimiterSpecs#optional_rules), [`metered_value`](crate::specs::store::GrowthSpecs#metered_value), [`meter_at_entry`](crate::specs::meter::MeterSpecs#meter_at_entry), [`lent_limiter`](crate::specs::meter::LimiterSpecs#lent_limiter), [`meter_at_exit`](crate::specs::meter::MeterSpecs#meter_at_exit).
+        ///
+        /// `L` is the type of the limiter, a [`ResourceLimiter`](crate::machine::ResourceLimiter#contract).
         #[inline]
         pub fn grow_raw<L: ResourceLimiter>(
             &mut self,
@@ -2849,6 +2905,8 @@ mod table {
         /// ```
         ///
         /// Definitions: [`KeepsLoan`](crate::specs::meter::LimiterSpecs#KeepsLoan), [`GrowsTableRaw`](crate::specs::store::TableSpecs#GrowsTableRaw), [`optional_rules`](crate::specs::meter::LimiterSpecs#optional_rules), [`metered_value`](crate::specs::store::GrowthSpecs#metered_value), [`lent_limiter`](crate::specs::meter::LimiterSpecs#lent_limiter).
+        ///
+        /// `L` is the type of the limiter, a [`ResourceLimiter`](crate::machine::ResourceLimiter#contract).
         #[inline]
         fn grow_raw_metered<L: ResourceLimiter>(
             &mut self,

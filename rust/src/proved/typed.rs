@@ -99,6 +99,13 @@ mod global {
     /// The type of a global variable.
     ///
     /// Core specification 2.3, global types. Upstream: `wasmi_core::GlobalType`.
+    ///
+    /// # Fields in contracts
+    ///
+    /// Contracts see these fields:
+    ///
+    /// - `content`: The type of its value.
+    /// - `mutability`: Whether it can be written.
     #[derive(Clone, Copy, Debug, PartialEq, Eq)]
     pub struct GlobalType {
         /// The type of its value.
@@ -633,6 +640,13 @@ mod typed {
     /// A raw value with its type.
     ///
     /// Upstream: `wasmi_core::TypedRawVal`.
+    ///
+    /// # Fields in contracts
+    ///
+    /// Contracts see these fields:
+    ///
+    /// - `ty`: The type.
+    /// - `raw`: The value.
     #[doc = examples!(typed TypedRawVal)]
     #[derive(Clone, Copy, PartialEq, Eq)]
     pub struct TypedRawVal {
@@ -688,6 +702,8 @@ mod typed {
     /// ```text
     /// from_gives = λ value typed. (typed.ty ≡ T.TY) × (T.converts value typed.raw)
     /// ```
+    ///
+    /// `T` is a type with the trait `Typed`.
     impl<T: Typed + Into<RawVal>> From<T> for TypedRawVal {
         #[inline]
         fn from(value: T) -> TypedRawVal {
@@ -861,6 +877,13 @@ mod typed_ref {
     /// A raw reference with its type.
     ///
     /// Upstream: `wasmi_core::TypedRawRef`.
+    ///
+    /// # Fields in contracts
+    ///
+    /// Contracts see these fields:
+    ///
+    /// - `raw`: The reference.
+    /// - `ty`: The type.
     #[derive(Clone, Copy, Debug, PartialEq, Eq)]
     pub struct TypedRawRef {
         /// The reference.

@@ -95,6 +95,8 @@ mod func_type {
         /// ```
         ///
         /// Definitions: [`EachBecomes`](crate::specs::types::ReadingSpecs#EachBecomes), [`AfterAll`](crate::specs::types::ReadingSpecs#AfterAll), [`IsReadingOf`](crate::specs::types::ReadingSpecs#IsReadingOf).
+        ///
+        /// `P` is the type of the items, an [`IntoIterator`]. `R` is the type of the items, an [`IntoIterator`].
         #[inline]
         pub fn new<P, R>(params: P, results: R) -> Result<Self, FuncTypeError>
         where
@@ -128,6 +130,8 @@ mod func_type {
         /// ```
         ///
         /// Definitions: [`AfterAll`](crate::specs::types::ReadingSpecs#AfterAll), [`IsReading`](crate::specs::types::ReadingSpecs#IsReading).
+        ///
+        /// `P` is the type of the items, an [`Iterator`]. `R` is the type of the items, an [`Iterator`].
         #[inline]
         pub fn read<P, R>(params: &mut P, results: &mut R) -> Result<Self, FuncTypeError>
         where
@@ -477,6 +481,8 @@ mod func_type {
         /// ```
         ///
         /// Definitions: [`ReadsNextType`](crate::specs::types::ReadingSpecs#ReadsNextType).
+        ///
+        /// `I` is the type of the items, an [`Iterator`].
         #[inline]
         fn push_next<I>(&mut self, types: &mut I) -> Result<bool, AllocError>
         where
@@ -504,6 +510,8 @@ mod func_type {
         /// ```
         ///
         /// Definitions: [`ReadsTypes`](crate::specs::types::ReadingSpecs#ReadsTypes), [`IsReadingRefusal`](crate::specs::types::ReadingSpecs#IsReadingRefusal).
+        ///
+        /// `I` is the type of the items, an [`Iterator`].
         #[inline]
         fn read<I>(&mut self, types: &mut I, too_many: FuncTypeError) -> Result<u16, FuncTypeError>
         where
@@ -676,6 +684,8 @@ mod trap {
     /// Value = TrapReason H
     /// view = λ trap. trap.reason
     /// ```
+    ///
+    /// `H` is any type.
     #[derive(Debug)]
     pub struct Trap<H> {
         reason: TrapReason<H>,
@@ -783,6 +793,8 @@ mod trap {
         /// ```
         ///
         /// Definitions: [`with_host_error`](crate::specs::types::TrapSpecs#with_host_error), [`host_error_of`](crate::specs::types::TrapSpecs#host_error_of).
+        ///
+        /// `H` is the type of the host's error.
         #[inline]
         pub fn downcast_mut(&mut self) -> Option<&mut H> {
             match &mut self.reason {
@@ -817,6 +829,8 @@ mod trap {
     /// ```
     ///
     /// Definitions: [`text_of`](crate::specs::types::TrapSpecs#text_of).
+    ///
+    /// `H` is the type of the host's error.
     impl<H: HostError> fmt::Display for Trap<H> {
         #[inline]
         fn fmt(&self, f: &mut fmt::Formatter<'_>) -> fmt::Result {

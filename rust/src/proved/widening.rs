@@ -23,6 +23,8 @@ pub mod laws {
     /// ```
     ///
     /// Definitions: [`lane_count`](crate::specs::lanes::VectorSpecs#lane_count), [`lane`](crate::specs::lanes::VectorSpecs#lane), [`half_unary`](crate::specs::widening::WideningTableSpecs#half_unary), [`half_binary`](crate::specs::widening::WideningTableSpecs#half_binary).
+    ///
+    /// `A` is any type.
     #[inline]
     pub fn lanes_of_halves<A>() {}
 
@@ -81,6 +83,8 @@ pub mod laws {
     /// ```
     ///
     /// Definitions: [`lane_count`](crate::specs::lanes::VectorSpecs#lane_count), [`lane`](crate::specs::lanes::VectorSpecs#lane), [`pairwise_unary`](crate::specs::widening::WideningTableSpecs#pairwise_unary), [`pairwise_binary`](crate::specs::widening::WideningTableSpecs#pairwise_binary).
+    ///
+    /// `A` is any type.
     #[inline]
     pub fn pairwise_lanes<A>() {}
 
@@ -102,6 +106,8 @@ pub mod laws {
     /// ```
     ///
     /// Definitions: [`lane_count`](crate::specs::lanes::VectorSpecs#lane_count), [`lane`](crate::specs::lanes::VectorSpecs#lane), [`from_low_high`](crate::specs::widening::WideningTableSpecs#from_low_high).
+    ///
+    /// `A` is any type.
     #[inline]
     pub fn lanes_of_wide_lanes<A>() {}
 
@@ -121,6 +127,8 @@ pub mod laws {
     /// ```
     ///
     /// Definitions: [`lane_count`](crate::specs::lanes::VectorSpecs#lane_count), [`lane_bits`](crate::specs::widening::WideningTableSpecs#lane_bits), [`lane`](crate::specs::lanes::VectorSpecs#lane), [`first_bits`](crate::specs::widening::WideningTableSpecs#first_bits).
+    ///
+    /// `A` is any type.
     #[inline]
     pub fn bits_of_lanes<A>() {}
 
@@ -138,6 +146,8 @@ pub mod laws {
     /// ```
     ///
     /// Definitions: [`every_lane`](crate::specs::widening::WideningTableSpecs#every_lane), [`lane_count`](crate::specs::lanes::VectorSpecs#lane_count), [`lane`](crate::specs::lanes::VectorSpecs#lane), [`holds_below`](crate::specs::widening::WideningTableSpecs#holds_below).
+    ///
+    /// `A` is any type.
     #[inline]
     pub fn tests_of_lanes<A>() {}
 }
@@ -811,6 +821,8 @@ pub mod simd {
     /// ```
     ///
     /// Definitions: [`extend_low_s`](crate::specs::widening::WideningTableSpecs#extend_low_s).
+    ///
+    /// `T` is a type with the trait `ExtendedLane`.
     #[inline(always)]
     fn extended_low_s<T: ExtendedLane>(v: V128) -> V128 {
         T::Wide::vector_of(T::low_signed(v))
@@ -823,6 +835,8 @@ pub mod simd {
     /// ```
     ///
     /// Definitions: [`extend_low_u`](crate::specs::widening::WideningTableSpecs#extend_low_u).
+    ///
+    /// `T` is a type with the trait `ExtendedLane`.
     #[inline(always)]
     fn extended_low_u<T: ExtendedLane>(v: V128) -> V128 {
         T::Wide::vector_of(T::low(v))
@@ -835,6 +849,8 @@ pub mod simd {
     /// ```
     ///
     /// Definitions: [`extend_high_s`](crate::specs::widening::WideningTableSpecs#extend_high_s).
+    ///
+    /// `T` is a type with the trait `ExtendedLane`.
     #[inline(always)]
     fn extended_high_s<T: ExtendedLane>(v: V128) -> V128 {
         T::Wide::vector_of(T::high_signed(v))
@@ -847,6 +863,8 @@ pub mod simd {
     /// ```
     ///
     /// Definitions: [`extend_high_u`](crate::specs::widening::WideningTableSpecs#extend_high_u).
+    ///
+    /// `T` is a type with the trait `ExtendedLane`.
     #[inline(always)]
     fn extended_high_u<T: ExtendedLane>(v: V128) -> V128 {
         T::Wide::vector_of(T::high(v))
@@ -926,6 +944,8 @@ pub mod simd {
     /// ```
     ///
     /// Definitions: [`from_low_high`](crate::specs::widening::WideningTableSpecs#from_low_high).
+    ///
+    /// `F` is the type of the closure. `L` is a type with the trait `FromWide`. `W` is a type with the trait `Lanes`.
     #[inline(always)]
     fn from_low_high<W: Lanes, L: FromWide<W>, F: Fn(W::Item) -> L::Item>(
         low: V128,
@@ -1214,6 +1234,8 @@ pub mod simd {
     /// ```
     ///
     /// Definitions: [`extmul_low_s`](crate::specs::widening::WideningTableSpecs#extmul_low_s).
+    ///
+    /// `T` is a type with the trait `ExtendedLane`.
     #[inline(always)]
     fn products_low_s<T: ExtendedLane>(lhs: V128, rhs: V128) -> V128 {
         T::Wide::vector_of(T::products(T::low_signed(lhs), T::low_signed(rhs)))
@@ -1226,6 +1248,8 @@ pub mod simd {
     /// ```
     ///
     /// Definitions: [`extmul_low_u`](crate::specs::widening::WideningTableSpecs#extmul_low_u).
+    ///
+    /// `T` is a type with the trait `ExtendedLane`.
     #[inline(always)]
     fn products_low_u<T: ExtendedLane>(lhs: V128, rhs: V128) -> V128 {
         T::Wide::vector_of(T::products(T::low(lhs), T::low(rhs)))
@@ -1238,6 +1262,8 @@ pub mod simd {
     /// ```
     ///
     /// Definitions: [`extmul_high_s`](crate::specs::widening::WideningTableSpecs#extmul_high_s).
+    ///
+    /// `T` is a type with the trait `ExtendedLane`.
     #[inline(always)]
     fn products_high_s<T: ExtendedLane>(lhs: V128, rhs: V128) -> V128 {
         T::Wide::vector_of(T::products(T::high_signed(lhs), T::high_signed(rhs)))
@@ -1250,6 +1276,8 @@ pub mod simd {
     /// ```
     ///
     /// Definitions: [`extmul_high_u`](crate::specs::widening::WideningTableSpecs#extmul_high_u).
+    ///
+    /// `T` is a type with the trait `ExtendedLane`.
     #[inline(always)]
     fn products_high_u<T: ExtendedLane>(lhs: V128, rhs: V128) -> V128 {
         T::Wide::vector_of(T::products(T::high(lhs), T::high(rhs)))
@@ -1262,6 +1290,8 @@ pub mod simd {
     /// ```
     ///
     /// Definitions: [`extadd_pairwise_s`](crate::specs::widening::WideningTableSpecs#extadd_pairwise_s).
+    ///
+    /// `T` is a type with the trait `PairedLane`.
     #[inline(always)]
     fn neighbours_s<T: PairedLane>(v: V128) -> V128 {
         T::Wide::vector_of(T::sums(T::even_signed(v), T::odd_signed(v)))
@@ -1274,6 +1304,8 @@ pub mod simd {
     /// ```
     ///
     /// Definitions: [`extadd_pairwise_u`](crate::specs::widening::WideningTableSpecs#extadd_pairwise_u).
+    ///
+    /// `T` is a type with the trait `PairedLane`.
     #[inline(always)]
     fn neighbours_u<T: PairedLane>(v: V128) -> V128 {
         T::Wide::vector_of(T::sums(T::even(v), T::odd(v)))
@@ -1286,6 +1318,8 @@ pub mod simd {
     /// ```
     ///
     /// Definitions: [`dot_s`](crate::specs::widening::WideningTableSpecs#dot_s).
+    ///
+    /// `T` is a type with the trait `PairedLane`.
     #[inline(always)]
     fn dots<T: PairedLane>(lhs: V128, rhs: V128) -> V128 {
         let evens = T::products(T::even_signed(lhs), T::even_signed(rhs));
@@ -1646,6 +1680,8 @@ pub mod simd {
     /// ```
     ///
     /// Definitions: [`all_true`](crate::specs::widening::WideningTableSpecs#all_true).
+    ///
+    /// `T` is a type with the trait `WordLane`.
     #[inline(always)]
     fn no_zero<T: WordLane>(v: V128) -> bool {
         let (low, high) = v.words();
@@ -1663,6 +1699,8 @@ pub mod simd {
     /// ```
     ///
     /// Definitions: [`holds_below`](crate::specs::widening::WideningTableSpecs#holds_below), [`lanes_in_word`](crate::specs::lanes::WordsSpecs#lanes_in_word), [`field`](crate::specs::lanes::WordsSpecs#field).
+    ///
+    /// `T` is a type with the trait `WordLane`.
     #[inline(always)]
     fn no_zero_in_word<T: WordLane>(word: u64) -> bool {
         word.wrapping_sub(T::ONES) & !word & T::TOPS == 0
