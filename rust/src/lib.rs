@@ -104,17 +104,17 @@
 //! - `sse2` (default): lanes of vectors in registers of x86-64, by the unsafe blocks of one file.
 //!   Without it, and on other processors, the crate has no unsafe code.
 #![no_std]
-#![cfg_attr(docsrs, feature(doc_cfg))]
 #![warn(missing_docs)]
-#![warn(
-    clippy::missing_errors_doc,
-    clippy::missing_panics_doc,
-    clippy::must_use_candidate
-)]
 #![cfg_attr(all(feature = "sse2", target_arch = "x86_64"), deny(unsafe_code))]
 #![cfg_attr(
     not(all(feature = "sse2", target_arch = "x86_64")),
     forbid(unsafe_code)
+)]
+#![cfg_attr(docsrs, feature(doc_cfg))]
+#![warn(
+    clippy::missing_errors_doc,
+    clippy::missing_panics_doc,
+    clippy::must_use_candidate
 )]
 
 #[cfg(not(target_pointer_width = "64"))]
@@ -167,10 +167,7 @@ mod memory;
     unused,
     unknown_lints,
     mismatched_lifetime_syntaxes,
-    clippy::complexity,
-    clippy::perf,
-    clippy::style,
-    reason = "contracts, which aren't here, use more than the code does, and the source has its own style"
+    reason = "contracts, which aren't here, use more than the code does"
 )]
 mod proved;
 #[allow(
